@@ -112,6 +112,7 @@ fn lacks_symbol(bytes: &[u8], index: u32, entry: u32) -> bool
     symbols_in(bytes, section_at(bytes, index).link) <= rela_of(bytes, index, entry).symbol
 }
 
+#[tactic(auto, using(crate::proofs::Searches::any_below_zero, crate::proofs::Searches::any_below_more))]
 fn some_lacks_symbol(bytes: &[u8], index: u32) -> bool
     requires ranges { HasRanges bytes.now }
     requires kept { is_kept bytes.now index ≡ true }
@@ -126,7 +127,6 @@ fn some_lacks_symbol(bytes: &[u8], index: u32) -> bool
     false
 }
 
-#[tactic(auto)]
 fn names_no_section(bytes: &[u8], index: u32) -> bool
     requires header { HasTable bytes.now }
     requires index { index < count_of bytes.now }
@@ -148,6 +148,7 @@ fn is_bad(bytes: &[u8], index: u32) -> bool
 }
 
 /// Whether some relocation section is refused.
+#[tactic(auto, using(crate::proofs::Searches::any_below_zero, crate::proofs::Searches::any_below_more))]
 pub fn some_rela_is_bad(bytes: &[u8]) -> bool
     requires { HasRanges bytes.now }
     ensures { result ≡ any_below (is_bad_rela bytes.now) (count_of bytes.now) }

@@ -111,6 +111,7 @@ fn passes(bytes: &[u8], index: u32) -> bool
 }
 
 /// Whether the content of some section passes the file's end.
+#[tactic(auto, using(crate::proofs::Searches::any_below_zero, crate::proofs::Searches::any_below_more))]
 pub fn some_passes(bytes: &[u8]) -> bool
     requires { HasTable bytes.now }
     ensures { result ≡ any_below (passes_end bytes.now) (count_of bytes.now) }

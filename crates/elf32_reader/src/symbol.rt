@@ -4,7 +4,7 @@ ghost use Rattle.std.specs.Prelude.{◌≡◌, ℕ, ◌+◌, ◌*◌, ◌<◌, �
 ghost use Rattle.std.specs.List.{before_first};
 ghost use Rattle.elf32_reader.specs.Search.{any_below};
 ghost use Rattle.elf32_reader.specs.Header.{count_of};
-ghost use Rattle.elf32_reader.specs.Sections.{section};
+ghost use Rattle.elf32_reader.specs.Sections.{section, content};
 ghost use Rattle.elf32_reader.specs.Symbols.{is_symtab, symbol_count, symbol_place, symbol, name_of};
 ghost use Rattle.elf32_reader.specs.Faults.{is_nameless, has_symbol_shape, is_bad_symtab};
 ghost use Rattle.elf32_reader.specs.Tables.{HasTable, HasRanges, IsSymtab};
@@ -52,7 +52,7 @@ pub fn symbols_in(bytes: &[u8], table: u32) -> u32
 }
 
 /// The place of a symbol.
-#[tactic(auto, using(crate::proofs::Places::is_symtab_below))]
+#[tactic(auto, using(crate::proofs::Places::is_symtab_below), unfolding(crate::specs::Symbols::symbol_place))]
 fn place_of_symbol(bytes: &[u8], table: u32, index: u32) -> usize
     requires header { HasTable bytes.now }
     requires table { is_symtab bytes.now table ≡ true }
@@ -80,6 +80,7 @@ pub fn symbol_of(bytes: &[u8], table: u32, index: u32) -> Symbol
 }
 
 /// The size of the string table that the table's link names.
+#[tactic(auto, using(crate::proofs::Places::is_symtab_below, crate::proofs::Places::link_below))]
 fn strings_size(bytes: &[u8], table: u32) -> u32
     requires header { HasTable bytes.now }
     requires table { is_symtab bytes.now table ≡ true }
@@ -89,7 +90,7 @@ fn strings_size(bytes: &[u8], table: u32) -> u32
     section_at(bytes, section_at(bytes, table).link).size
 }
 
-#[tactic(auto, unfolding(crate::specs::Faults::has_symbol_shape))]
+#[tactic(auto, using(crate::proofs::Places::is_symtab_below), unfolding(crate::specs::Faults::has_symbol_shape))]
 fn has_shape(bytes: &[u8], table: u32) -> bool
     requires header { HasTable bytes.now }
     requires table { is_symtab bytes.now table ≡ true }
@@ -112,6 +113,7 @@ fn lacks_name(bytes: &[u8], table: u32, index: u32) -> bool
     strings_size(bytes, table) <= symbol_of(bytes, table, index).name
 }
 
+#[tactic(auto, using(crate::proofs::Searches::any_below_zero, crate::proofs::Searches::any_below_more))]
 fn some_lacks_name(bytes: &[u8], table: u32) -> bool
     requires ranges { HasRanges bytes.now }
     requires table { is_symtab bytes.now table ≡ true }
@@ -135,6 +137,7 @@ fn is_bad(bytes: &[u8], table: u32) -> bool
 }
 
 /// Whether some symbol table is misshapen, or has a symbol whose name isn't in its string table.
+#[tactic(auto, using(crate::proofs::Searches::any_below_zero, crate::proofs::Searches::any_below_more))]
 pub fn some_symtab_is_bad(bytes: &[u8]) -> bool
     requires { HasRanges bytes.now }
     ensures { result ≡ any_below (is_bad_symtab bytes.now) (count_of bytes.now) }
@@ -163,6 +166,19 @@ fn before_zero(text: &[u8]) -> &[u8]
     }
 }
 
+/// The string table that the table's link names.
+#[tactic(auto, using(crate::proofs::Places::is_symtab_below, crate::proofs::Places::link_below, crate::proofs::Places::strings_fit, crate::proofs::Places::length_content))]
+fn strings_of(bytes: &[u8], table: u32) -> &[u8]
+    requires ranges { HasRanges bytes.now }
+    requires table { is_symtab bytes.now table ≡ true }
+    requires shape { has_symbol_shape bytes.now table ≡ true }
+    ensures value { result.now ≡ content bytes.now (section bytes.now (section bytes.now table).link) }
+    ensures len { length result.now ≡ (section bytes.now (section bytes.now table).link).size }
+{
+    let strings = section_at(bytes, section_at(bytes, table).link);
+    content_at(bytes, &strings)
+}
+
 #[tactic(auto, unfolding(crate::specs::Symbols::name_of))]
 pub fn name_in(bytes: &[u8], table: u32, index: u32) -> &[u8]
     requires ranges { HasRanges bytes.now }
@@ -171,7 +187,6 @@ pub fn name_in(bytes: &[u8], table: u32, index: u32) -> &[u8]
     requires index { index < symbol_count bytes.now table }
     ensures { result.now ≡ name_of bytes.now table index }
 {
-    let strings = section_at(bytes, section_at(bytes, table).link);
-    let at = symbol_of(bytes, table, index).name;
-    before_zero(content_at(bytes, &strings).split_at(at as usize).1)
+    let at = symbol_of(bytes, table, index).name as usize;
+    before_zero(strings_of(bytes, table).split_at(at).1)
 }
