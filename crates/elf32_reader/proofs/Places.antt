@@ -31,7 +31,11 @@ pub has_content_of_kind : (s : Section) (k : ℕ) → s.kind ≡ k → nat_eq k 
 unfolding has_content
 has_content_of_kind s k is null nobits =
     and_from _ _ (subst (λ n. not (nat_eq n 0) ≡ true) (sym is) (ap not null))
-      (subst (λ n. not (nat_eq n 8) ≡ true) (sym is) (ap not nobits))
+    (subst (λ n. not (nat_eq n 8) ≡ true) (sym is) (ap not nobits))
+
+pub allocated_has_content : (s : Section) → is_allocated s ≡ true → is_stored s ≡ true → has_content s ≡ true
+unfolding is_allocated is_stored has_content
+allocated_has_content s allocated stored = and_from _ _ (and_parts _ _ allocated).0 stored
 
 pub symbol_fits : (e : List ℕ) (t j : ℕ) → HasRanges e → is_symtab e t ≡ true → j < symbol_count e t → symbol_place e t j + 16 ≤ length e
 unfolding symbol_place symbol_count
@@ -60,8 +64,8 @@ pub has_content_static : (s : Section) → is_static_relocation s ≡ true → h
 unfolding is_static_relocation
 has_content_static s is =
     elim (or_cases _ _ (and_parts _ _ is).0) [
-      inl rela ↦ has_content_of_kind s 4 (eqb-true _ _ rela) refl refl
-    | inr rel ↦ has_content_of_kind s 9 (eqb-true _ _ rel) refl refl
+      | inl rela ↦ has_content_of_kind s 4 (eqb-true _ _ rela) refl refl
+      | inr rel ↦ has_content_of_kind s 9 (eqb-true _ _ rel) refl refl
     ]
 
 pub rela_fits : (e : List ℕ) (i j : ℕ) → HasRanges e → is_kept e i ≡ true → j < rela_count e i → rela_place e i j + 12 ≤ length e
@@ -84,7 +88,7 @@ link_below e t shape = is_of_kind_below e _ 3 (link_is_strtab e t shape)
 
 -- the string table of a symbol table lies in the file
 pub strings_fit : (e : List ℕ) (t : ℕ) → HasRanges e → has_symbol_shape e t ≡ true
-  → (section e (section e t).link).offset + (section e (section e t).link).size ≤ length e
+    → (section e (section e t).link).offset + (section e (section e t).link).size ≤ length e
 strings_fit e t ranges shape =
     let is = link_is_strtab e t shape in
     let content = has_content_of_kind (section e (section e t).link) 3 (is_of_kind_kind e _ 3 is) refl refl in

@@ -37,8 +37,8 @@ unfolding any_below
 any_below_none p zero i none below = absurd (omega arith)
 any_below_none p (suc n) i none below =
     elim (cases_lt i n) [
-      inl less ↦ any_below_none p n i (or_parts _ _ none).0 less
-    | inr least ↦ (let same : i ≡ n = omega arith in rw same (or_parts _ _ none).1)
+      | inl less ↦ any_below_none p n i (or_parts _ _ none).0 less
+      | inr least ↦ (let same : i ≡ n = omega arith in rw same (or_parts _ _ none).1)
     ]
 
 -- i passes, so some below n does
@@ -47,8 +47,8 @@ unfolding any_below
 any_below_found p zero i below here = absurd (omega arith)
 any_below_found p (suc n) i below here =
     elim (cases_lt i n) [
-      inl less ↦ or_left (any_below p n) (p n) (any_below_found p n i less here)
-    | inr least ↦ (let same : n ≡ i = omega arith in or_right (any_below p n) (p n) (ap p same ∙ here))
+      | inl less ↦ or_left (any_below p n) (p n) (any_below_found p n i less here)
+      | inr least ↦ (let same : n ≡ i = omega arith in or_right (any_below p n) (p n) (ap p same ∙ here))
     ]
 
 -- the same, as a search finds it

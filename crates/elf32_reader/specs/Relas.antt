@@ -35,5 +35,5 @@ rela e i j = record {
   offset = u32_at e (rela_place e i j);
   symbol = u32_at e (rela_place e i j + 4) / 256;
   kind = u32_at e (rela_place e i j + 4) % 256;
-  addend = cast_signed w32 (addend_word e i j)
+  addend = cast_signed w32 (addend_word e i j);
 }

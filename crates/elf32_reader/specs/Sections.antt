@@ -17,7 +17,7 @@ header_at e at = record {
   link = u32_at e (at + 24);
   info = u32_at e (at + 28);
   addralign = u32_at e (at + 32);
-  entsize = u32_at e (at + 36)
+  entsize = u32_at e (at + 36);
 }
 
 -- section i

@@ -21,7 +21,7 @@ symbol_at e at = record {
   size = u32_at e (at + 8);
   info = u8_at e (at + 12);
   other = u8_at e (at + 13);
-  shndx = u16_at e (at + 14)
+  shndx = u16_at e (at + 14);
 }
 
 -- the place of symbol j of table t

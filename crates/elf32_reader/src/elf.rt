@@ -141,7 +141,8 @@ impl<'a> Elf<'a> {
     /// The number of entries of a kept relocation section.
     pub fn relas(&self, index: u32) -> u32
         requires { is_kept self.now index ≡ true }
-        ensures { result ≡ rela_count self.now index }
+        ensures accepted { IsAccepted self.now }
+        ensures count { result ≡ rela_count self.now index }
     {
         relas_in(self.bytes, index)
     }
@@ -152,6 +153,9 @@ impl<'a> Elf<'a> {
         requires entry { entry < rela_count self.now index }
         ensures value { result ≡ rela self.now index entry }
         ensures addend { cast_unsigned w32 result.addend ≡ addend_word self.now index entry }
+        // Its symbol is one of the table that the section's link names.
+        ensures table { is_symtab self.now (section self.now index).link ≡ true }
+        ensures symbol { result.symbol < symbol_count self.now (section self.now index).link }
     {
         rela_of(self.bytes, index, entry)
     }

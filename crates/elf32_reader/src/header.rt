@@ -13,7 +13,9 @@ pub const HEADER_LEN: usize = 52;
 pub const SECTION_HEADER_LEN: u16 = 40;
 
 const MAX_SECTIONS: u32 = 4096;
+
 const ET_EXEC: u16 = 2;
+
 const EM_RISCV: u16 = 243;
 /// The flags of e_flags that are refused: RVC, the float ABI and RVE.
 const REFUSED_FLAGS: u32 = 15;
@@ -58,7 +60,10 @@ fn begins_with_magic(bytes: &[u8]) -> bool
     requires { 52 ≤ length bytes.now }
     ensures { result ≡ has_magic bytes.now }
 {
-    byte(bytes, 0) == 0x7f && byte(bytes, 1) == 0x45 && byte(bytes, 2) == 0x4c && byte(bytes, 3) == 0x46
+    byte(bytes, 0) == 0x7f
+        && byte(bytes, 1) == 0x45
+        && byte(bytes, 2) == 0x4c
+        && byte(bytes, 3) == 0x46
 }
 
 #[tactic(auto, unfolding(crate::specs::Faults::is_current))]

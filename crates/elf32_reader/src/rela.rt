@@ -15,6 +15,7 @@ use crate::section::{Section, section_at};
 use crate::symbol::{is_symbol_table, symbols_in};
 
 const SHT_RELA: u32 = 4;
+
 const SHT_REL: u32 = 9;
 /// The bytes of an entry.
 const RELA_LEN: u32 = 12;

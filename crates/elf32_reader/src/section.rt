@@ -11,7 +11,9 @@ use crate::header::{header_place, section_count};
 use crate::numbers::word;
 
 const SHT_NULL: u32 = 0;
+
 const SHT_NOBITS: u32 = 8;
+
 const SHF_ALLOC: u32 = 2;
 
 /// A section header. Its fields are those of Elf32_Shdr, without the prefix `sh_`.

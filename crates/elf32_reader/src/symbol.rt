@@ -14,6 +14,7 @@ use crate::numbers::{byte, half, word};
 use crate::section::{content_at, has_kind, section_at};
 
 const SHT_SYMTAB: u32 = 2;
+
 const SHT_STRTAB: u32 = 3;
 /// The bytes of a symbol.
 const SYMBOL_LEN: u32 = 16;
