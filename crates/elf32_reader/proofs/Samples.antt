@@ -58,26 +58,25 @@ the_rela = refl
 
 -- it has no fault, and one byte makes each of these
 no_fault : elf_fault one_word ≡ None
-unfolding section_fault header_fault has_magic is_current has_table passes_end is_bad_symtab has_symbol_shape is_nameless is_bad_rela is_symbolless has_rela_shape is_static_relocation is_kept is_symtab symbol_count symbol symbol_place rela_count rela rela_place addend_word is_of_kind is_allocated has_content section table_of count_of any_below u32_at u16_at u8_at
+unfolding elf_fault section_fault header_fault has_magic is_current has_table passes_end is_bad_symtab has_symbol_shape is_nameless is_bad_rela is_symbolless has_rela_shape is_static_relocation is_kept is_symtab symbol_count symbol symbol_place rela_count rela rela_place addend_word is_of_kind is_allocated has_content section table_of count_of any_below u32_at u16_at u8_at
 no_fault = refl
 
 other_machine : elf_fault (set one_word 18 62) ≡ Some Machine
-unfolding section_fault header_fault has_magic is_current has_table passes_end is_bad_symtab has_symbol_shape is_nameless is_bad_rela is_symbolless has_rela_shape is_static_relocation is_kept is_symtab symbol_count symbol symbol_place rela_count rela rela_place addend_word is_of_kind is_allocated has_content section table_of count_of any_below u32_at u16_at u8_at
+unfolding elf_fault section_fault header_fault has_magic is_current has_table passes_end is_bad_symtab has_symbol_shape is_nameless is_bad_rela is_symbolless has_rela_shape is_static_relocation is_kept is_symtab symbol_count symbol symbol_place rela_count rela rela_place addend_word is_of_kind is_allocated has_content section table_of count_of any_below u32_at u16_at u8_at
 other_machine = refl
 
 table_passes : elf_fault (set one_word 32 117) ≡ Some SectionTable
-unfolding section_fault header_fault has_magic is_current has_table passes_end is_bad_symtab has_symbol_shape is_nameless is_bad_rela is_symbolless has_rela_shape is_static_relocation is_kept is_symtab symbol_count symbol symbol_place rela_count rela rela_place addend_word is_of_kind is_allocated has_content section table_of count_of any_below u32_at u16_at u8_at
+unfolding elf_fault section_fault header_fault has_magic is_current has_table passes_end is_bad_symtab has_symbol_shape is_nameless is_bad_rela is_symbolless has_rela_shape is_static_relocation is_kept is_symtab symbol_count symbol symbol_place rela_count rela rela_place addend_word is_of_kind is_allocated has_content section table_of count_of any_below u32_at u16_at u8_at
 table_passes = refl
 
 text_passes : elf_fault (set one_word 179 1) ≡ Some SectionRange
-unfolding section_fault header_fault has_magic is_current has_table passes_end is_bad_symtab has_symbol_shape is_nameless is_bad_rela is_symbolless has_rela_shape is_static_relocation is_kept is_symtab symbol_count symbol symbol_place rela_count rela rela_place addend_word is_of_kind is_allocated has_content section table_of count_of any_below u32_at u16_at u8_at
+unfolding elf_fault section_fault header_fault has_magic is_current has_table passes_end is_bad_symtab has_symbol_shape is_nameless is_bad_rela is_symbolless has_rela_shape is_static_relocation is_kept is_symtab symbol_count symbol symbol_place rela_count rela rela_place addend_word is_of_kind is_allocated has_content section table_of count_of any_below u32_at u16_at u8_at
 text_passes = refl
 
 no_name : elf_fault (set one_word 80 7) ≡ Some SymbolRange
-unfolding section_fault header_fault has_magic is_current has_table passes_end is_bad_symtab has_symbol_shape is_nameless is_bad_rela is_symbolless has_rela_shape is_static_relocation is_kept is_symtab symbol_count symbol symbol_place rela_count rela rela_place addend_word is_of_kind is_allocated has_content section table_of count_of any_below u32_at u16_at u8_at
+unfolding elf_fault section_fault header_fault has_magic is_current has_table passes_end is_bad_symtab has_symbol_shape is_nameless is_bad_rela is_symbolless has_rela_shape is_static_relocation is_kept is_symtab symbol_count symbol symbol_place rela_count rela rela_place addend_word is_of_kind is_allocated has_content section table_of count_of any_below u32_at u16_at u8_at
 no_name = refl
 
 no_symbol : elf_fault (set one_word 109 2) ≡ Some RelaShape
-unfolding section_fault header_fault has_magic is_current has_table passes_end is_bad_symtab has_symbol_shape is_nameless is_bad_rela is_symbolless has_rela_shape is_static_relocation is_kept is_symtab symbol_count symbol symbol_place rela_count rela rela_place addend_word is_of_kind is_allocated has_content section table_of count_of any_below u32_at u16_at u8_at
+unfolding elf_fault section_fault header_fault has_magic is_current has_table passes_end is_bad_symtab has_symbol_shape is_nameless is_bad_rela is_symbolless has_rela_shape is_static_relocation is_kept is_symtab symbol_count symbol symbol_place rela_count rela rela_place addend_word is_of_kind is_allocated has_content section table_of count_of any_below u32_at u16_at u8_at
 no_symbol = refl
-

@@ -55,6 +55,13 @@ fn fault_after(alloc: Global, edits: [(usize, u8); 2]) -> Result<Option<ElfFault
     Ok(fault_of(&edited(alloc, &ONE_WORD, &edits)?))
 }
 
+/// The file with the four bytes from a place all replaced by one.
+fn fault_with_word(alloc: Global, place: u8, byte: u8) -> Result<Option<ElfFault>, AllocError> {
+    let at = usize::from(place);
+    let edits = [(at, byte), (at + 1, byte), (at + 2, byte), (at + 3, byte)];
+    Ok(fault_of(&edited(alloc, &ONE_WORD, &edits)?))
+}
+
 /// The header of the table begins at 116 and ends with the file, so no shorter file is read.
 #[test]
 fn a_cut_file_is_refused(rt: HostRuntime) {
@@ -101,23 +108,16 @@ fn each_header_word_counts(rt: HostRuntime) -> Result<(), Fail> {
         ),
     ];
     for (place, at_zero, at_ones) in cases {
-        let zero = edited(
-            rt.alloc(),
-            &ONE_WORD,
-            &[(place, 0), (place + 1, 0), (place + 2, 0), (place + 3, 0)],
-        )?;
-        assert_eq!(rt; fault_of(&zero), at_zero, "0 at {place}");
-        let ones = edited(
-            rt.alloc(),
-            &ONE_WORD,
-            &[
-                (place, 255),
-                (place + 1, 255),
-                (place + 2, 255),
-                (place + 3, 255),
-            ],
-        )?;
-        assert_eq!(rt; fault_of(&ones), at_ones, "0xffffffff at {place}");
+        assert_eq!(rt;
+            fault_with_word(rt.alloc(), place, 0)?,
+            at_zero,
+            "0 at {place}"
+        );
+        assert_eq!(rt;
+            fault_with_word(rt.alloc(), place, 255)?,
+            at_ones,
+            "0xffffffff at {place}"
+        );
     }
     Ok(())
 }
