@@ -1,11 +1,16 @@
-//! The outside of the program: a host that keeps files by name, and sinks that take text.
+//! The outside of the program: a host that keeps files by name, and sinks that take bytes.
 //!
 //! Here stand the two traits, their memory forms and their forms over the real system.
 //! No format, no command and no text of the program stands here.
 #![tactic(auto)]
 
+mod calls;
 mod host;
+mod mem_host;
+mod mem_sink;
 mod sink;
 
 pub use host::{Host, HostError, Loaded};
+pub use mem_host::MemHost;
+pub use mem_sink::MemSink;
 pub use sink::{Sink, SinkError, write_whole};
