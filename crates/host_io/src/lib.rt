@@ -5,12 +5,16 @@
 #![tactic(auto)]
 
 mod calls;
+mod folder_host;
 mod host;
 mod mem_host;
 mod mem_sink;
 mod sink;
+mod stream_sink;
 
+pub use folder_host::FolderHost;
 pub use host::{Host, HostError, Loaded};
 pub use mem_host::MemHost;
 pub use mem_sink::MemSink;
 pub use sink::{Sink, SinkError, write_whole};
+pub use stream_sink::{ErrSink, OutSink, StreamSink};
