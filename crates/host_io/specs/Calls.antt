@@ -14,6 +14,10 @@ call_counts_code =
     code_by (set.FinSet nat_cmp × (ℕ × ℕ)) (coded× (set.code coded_ℕ) (coded× coded_ℕ coded_ℕ))
     (λ c. (c.failing, (c.made, c.faults))) (λ p. record { failing = p.0; made = p.1.0; faults = p.1.1 }) (λ _. refl)
 
+-- no call so far, and none that fails
+abbrev pub no_calls : CallCounts
+no_calls = record { failing = set.empty; made = 0; faults = 0 }
+
 -- one more, but no more than a 64-bit number holds
 abbrev pub one_more : ℕ → ℕ
 one_more n = min (n + 1) (2 ^ 64 - 1)

@@ -1,7 +1,6 @@
 //! The calls of a memory form: which of them fail, and how many there were.
 ghost use Rattle.std.specs.Prelude.{◌≡◌, ◌≤◌, OnOk, OnErr};
-ghost use Rattle.std.specs.FinSet as set;
-ghost use Rattle.host_io.specs.Calls.{is_failing, counted, with_fault, with_failing};
+ghost use Rattle.host_io.specs.Calls.{no_calls, is_failing, counted, with_fault, with_failing};
 
 use std::alloc::{AllocError, Global};
 use std::collections::BTreeSet;
@@ -27,7 +26,7 @@ impl Model for Calls {
 
 impl Calls {
     pub(crate) fn new(alloc: Global) -> Calls
-        ensures { result ≡ record { failing = set.empty; made = 0; faults = 0 } }
+        ensures { result ≡ no_calls }
     {
         Calls {
             failing: BTreeSet::new(alloc),

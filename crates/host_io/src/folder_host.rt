@@ -1,9 +1,6 @@
 //! The host over real files. It tells no content; its lines over std are trusted.
-ghost use Rattle.std.specs.Prelude.{◌≡◌, ◌≤◌, ℕ, [], length, OnErr, IfOk, None, Ok};
-ghost use Rattle.host_io.specs.Faults.{HasCause};
-ghost use Rattle.host_io.specs.Host.{LoadTold, StoreTold};
+ghost use Rattle.std.specs.Prelude.{◌≡◌, ◌≤◌, ℕ, [], length, None};
 ghost use Rattle.host_io.specs.declared.host.Loaded.{Loaded};
-ghost use Rattle.host_io.specs.declared.host.HostError.TheVariants as answer;
 
 use crate::host::{Host, HostError, Loaded};
 use std::alloc::{AllocError, Global};

@@ -1,8 +1,7 @@
 //! A host in memory.
-ghost use Rattle.std.specs.Prelude.{◌≡◌, ◌≤◌, ◌<◌, ◌⊎◌, [], ◌∷◌, ◌++◌, map, length, vec_len, vec_capacity, string_bytes, Option, option_map, IfOk, IfErr, OnOk, OnErr, Some, Ok, Err};
+ghost use Rattle.std.specs.Prelude.{◌≡◌, ◌≤◌, ◌<◌, ◌⊎◌, [], map, length, vec_len, vec_capacity, string_bytes, option_map, IfOk, OnOk, OnErr};
 ghost use Rattle.std.specs.FinMap as fin;
-ghost use Rattle.std.specs.FinSet as set;
-ghost use Rattle.host_io.specs.Calls.{with_failing};
+ghost use Rattle.host_io.specs.Calls.{no_calls, with_failing};
 ghost use Rattle.host_io.specs.Faults.{HasCause};
 ghost use Rattle.host_io.specs.Host.{LoadTold, StoreTold};
 ghost use Rattle.host_io.specs.MemHost.{files_of, told_of, load_found, load_answer, store_answer, after_load, after_store};
@@ -93,7 +92,7 @@ fn room_for(alloc: Global, asked: &mut Vec<String>, name: &str) -> Result<String
 
 impl MemHost {
     pub fn new(alloc: Global) -> Result<MemHost, AllocError>
-        ensures { IfOk result (λ host. host ≡ record { files = fin.empty; asked = []; calls = record { failing = set.empty; made = 0; faults = 0 } }) }
+        ensures { IfOk result (λ host. host ≡ record { files = fin.empty; asked = []; calls = no_calls }) }
     {
         Ok(MemHost {
             alloc,

@@ -1,7 +1,6 @@
 //! A sink in memory.
-ghost use Rattle.std.specs.Prelude.{◌≡◌, ◌≤◌, ◌⊎◌, [], length, IfOk, OnOk, OnErr, Some, Err};
-ghost use Rattle.std.specs.FinSet as set;
-ghost use Rattle.host_io.specs.Calls.{with_failing};
+ghost use Rattle.std.specs.Prelude.{◌≡◌, ◌≤◌, ◌⊎◌, [], length, IfOk, OnOk, OnErr, Some};
+ghost use Rattle.host_io.specs.Calls.{no_calls, with_failing};
 ghost use Rattle.host_io.specs.MemSink.{write_answer, after_write};
 ghost use Rattle.host_io.specs.Sink.{Takes, bytes_taken, HasWriteCause};
 ghost use Rattle.host_io.specs.declared.sink.SinkError.TheVariants.{Memory};
@@ -30,7 +29,7 @@ impl Model for MemSink {
 
 impl MemSink {
     pub fn new(alloc: Global) -> Result<MemSink, AllocError>
-        ensures { IfOk result (λ sink. sink ≡ record { bytes = []; calls = record { failing = set.empty; made = 0; faults = 0 } }) }
+        ensures { IfOk result (λ sink. sink ≡ record { bytes = []; calls = no_calls }) }
     {
         Ok(MemSink {
             bytes: Vec::new(alloc),

@@ -1,5 +1,5 @@
 //! Sinks over real streams. They tell no content; their lines over std are trusted.
-ghost use Rattle.std.specs.Prelude.{◌≡◌, ◌≤◌, ℕ, length, Some, None, IfSome};
+ghost use Rattle.std.specs.Prelude.{◌≡◌, ◌≤◌, ℕ, length, None, IfSome};
 
 use crate::sink::{Sink, SinkError};
 use std::alloc::Global;
