@@ -36,8 +36,8 @@ unfoldable pub is_table_bad : List ℕ → Bool
 is_table_bad y = nat_lt 0 (reloc_count y) && (nat_lt (reloc_start y) (data_end y) || nat_lt (length y) (reloc_start y + 4 * reloc_count y))
 
 -- rows 1 to 9, of the header
-unfoldable pub header_fault : List ℕ → Option FlatFault
-header_fault y = first
+abbrev pub header_rows : List ℕ → List (Bool × FlatFault)
+header_rows y =
     ((nat_lt (length y) 64, Short)
     ∷ (not (magic y == 0x62464c54), Magic)
     ∷ (not (revision y == 4), Revision)
@@ -48,6 +48,9 @@ header_fault y = first
     ∷ (nat_lt 1048576 (stack_size y), StackSize)
     ∷ (is_table_bad y, RecordTable)
     ∷ [])
+
+unfoldable pub header_fault : List ℕ → Option FlatFault
+header_fault y = first (header_rows y)
 
 -- two words of four bytes have a byte in common: their places are less than 4 apart
 unfoldable pub is_near : ℕ → ℕ → Bool
@@ -66,12 +69,15 @@ unfoldable pub targets_past : ℕ → List ℕ → List ℕ → ℕ → Bool
 targets_past limit body records k = nat_lt limit (big_at body (slice_index records k))
 
 -- rows 10 to 12, of the records: of a body of `stored` bytes in an image of `size`
-unfoldable pub record_fault : ℕ → ℕ → List ℕ → List ℕ → Option FlatFault
-record_fault stored size body records = first
+abbrev pub record_rows : ℕ → ℕ → List ℕ → List ℕ → List (Bool × FlatFault)
+record_rows stored size body records =
     ((any_below (passes_data stored records) (length records), RecordRange)
     ∷ (any_below (meets_earlier records) (length records), RecordOverlap)
     ∷ (any_below (targets_past size body records) (length records), TargetRange)
     ∷ [])
+
+unfoldable pub record_fault : ℕ → ℕ → List ℕ → List ℕ → Option FlatFault
+record_fault stored size body records = first (record_rows stored size body records)
 
 abbrev pub values_fault : Values → Option FlatFault
 values_fault f = record_fault (stored f) (image_size f) f.body f.records

@@ -7,3 +7,4 @@ pub mod Fault
 pub mod Spelling
 pub mod Image
 pub mod Flat
+pub mod Laws

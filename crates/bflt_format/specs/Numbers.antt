@@ -1,6 +1,10 @@
 -- Big-endian numbers in a list of bytes, and tests of each number below a bound.
-use Rattle.std.specs.Prelude.{ℕ, zero, suc, Bool, false, ◌||◌, List, drop}
+use Rattle.std.specs.Prelude.{ℕ, zero, suc, ◌<◌, Bool, false, ◌||◌, List, drop, slice_index}
 use Rattle.byteorder.specs.Endian.{big_number}
+
+-- each number is a byte
+abbrev pub IsBytes : List ℕ → Type 0
+IsBytes y = (i : ℕ) → slice_index y i < 256
 
 -- the four bytes from place `at`, the highest first
 unfoldable pub big_at : List ℕ → ℕ → ℕ

@@ -6,6 +6,7 @@
 mod fault;
 mod flat;
 mod header;
+mod laws;
 mod reading;
 mod records;
 mod words;
@@ -13,3 +14,4 @@ mod writing;
 
 pub use fault::FlatFault;
 pub use flat::Flat;
+pub use laws::{spells_come_back, texts_come_back};

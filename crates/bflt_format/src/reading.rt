@@ -17,6 +17,7 @@ impl Flat {
     /// Reads a flat file, or says its first fault. The records may stand in any order, and keep it;
     /// bytes between the data and the records and behind the records, the build date and the
     /// fillers are not looked at.
+    #[tactic(auto, using(crate::proofs::Headers::is_header), unfolding(crate::specs::Fault::flat_fault, crate::specs::Header::flat_values))]
     pub fn read(alloc: Global, bytes: &[u8]) -> Result<Flat, FlatFault>
         ensures { MatchResult result
             (λ flat. (flat_fault bytes.now ≡ None) × (flat ≡ flat_values bytes.now))

@@ -1,6 +1,6 @@
 //! The relocation records: the places of the words that are relocated.
 
-ghost use Rattle.std.specs.Prelude.{◌≡◌, ℕ, ◌+◌, ◌*◌, ◌<◌, ◌≤◌, [], ◌∷◌, length, map, slice_index, IfOk};
+ghost use Rattle.std.specs.Prelude.{◌≡◌, ℕ, ◌+◌, ◌*◌, ◌<◌, ◌≤◌, [], ◌∷◌, ◌||◌, nat_lt, length, map, slice_index, IfOk};
 ghost use Rattle.std.specs.List.{range_with_len};
 ghost use Rattle.bflt_format.specs.Numbers.{big_at, any_below};
 ghost use Rattle.bflt_format.specs.Patches.{laid};
@@ -19,11 +19,12 @@ pub fn records_of(alloc: Global, bytes: &[u8]) -> Result<Vec<u32>, AllocError>
     ensures { IfOk result (λ v. v.items ≡ map (record_at bytes.now) (range_with_len 0 (reloc_count bytes.now))) }
 {
     let count = word(bytes, RELOC_COUNT) as usize;
-    let mut records = vec![in alloc; 0; count]?;
-    if count > 0 {
-        let start = word(bytes, RELOC_START) as usize;
-        BigEndian::read_u32_into(&bytes[start..start + 4 * count], &mut records);
+    if count == 0 {
+        return Ok(Vec::new(alloc));
     }
+    let start = word(bytes, RELOC_START) as usize;
+    let mut records = vec![in alloc; 0; count]?;
+    BigEndian::read_u32_into(&bytes[start..start + 4 * count], &mut records);
     Ok(records)
 }
 
@@ -50,7 +51,7 @@ pub fn record_fault_of(
 }
 
 /// Some record's word does not lie in the first `stored` bytes.
-#[tactic(auto, unfolding(crate::specs::Fault::passes_data))]
+#[tactic(auto, using(crate::proofs::Below::any_below_more), unfolding(crate::specs::Fault::passes_data))]
 fn has_record_past(stored: usize, records: &[u32]) -> bool
     ensures { result ≡ any_below (passes_data stored records.now) (length records.now) }
 {
@@ -68,15 +69,24 @@ fn has_overlap(alloc: Global, stored: usize, records: &[u32]) -> Result<bool, Al
     requires { (k : ℕ) → k < length records.now → slice_index records.now k + 4 ≤ stored }
     ensures { IfOk result (λ b. b ≡ any_below (meets_earlier records.now) (length records.now)) }
 {
-    let mut covered = vec![in alloc; 0u8; stored]?;
+    let mut marks = vec![in alloc; 0u8; stored]?;
+    let covered = marks.as_mut_slice();
     for record in records {
         let at = *record as usize;
-        if covered[at] != 0 || covered[at + 3] != 0 {
+        if is_covered(covered, at) {
             return Ok(true);
         }
-        cover(&mut covered, at);
+        cover(covered, at);
     }
     Ok(false)
+}
+
+/// One of the four bytes from `at` on is marked, where marks come in fours: the first or the last.
+fn is_covered(covered: &[u8], at: usize) -> bool
+    requires { at + 4 ≤ length covered.now }
+    ensures { result ≡ (nat_lt 0 (slice_index covered.now at) || nat_lt 0 (slice_index covered.now (at + 3))) }
+{
+    covered[at] > 0 || covered[at + 3] > 0
 }
 
 /// Marks the four bytes from `at` on.
@@ -88,7 +98,7 @@ fn cover(covered: &mut [u8], at: usize)
 }
 
 /// The number at some record is past the image's end.
-#[tactic(auto, unfolding(crate::specs::Fault::targets_past))]
+#[tactic(auto, using(crate::proofs::Below::any_below_more), unfolding(crate::specs::Fault::targets_past))]
 fn has_target_past(size: u32, body: &[u8], records: &[u32]) -> bool
     requires { (k : ℕ) → k < length records.now → slice_index records.now k + 4 ≤ length body.now }
     ensures { result ≡ any_below (targets_past size body.now records.now) (length records.now) }
