@@ -1,9 +1,11 @@
 -- Ascending lists of distinct numbers.
-use Rattle.std.proofs.Common.{◌≡◌, ℕ, zero, suc, ◌+◌, ◌<◌, ◌≤◌, Bool, true, false, ◌||◌, eqb, ltb, List, [], ◌∷◌, length, get_or, All, refl, sym, ap, ◌∙◌, arith, inl, inr, ◌⊎◌, add-one}
+use Rattle.std.proofs.Common.{◌≡◌, ℕ, zero, suc, ◌+◌, ◌<◌, ◌≤◌, Bool, true, false, ◌||◌, eqb, ltb, List, [], ◌∷◌, length, get_or, All, refl, sym, ap, subst, ◌∙◌, arith, inl, inr, ◌⊎◌, add-one}
 use Rattle.std.specs.List.{AllByRecursion}
 use Rattle.std.specs.Ordering.{nat_cmp}
 use Rattle.std.specs.BTreeSet.{insert_key}
-use Rattle.std.proofs.lemmas.Bool.{cases_lt, cases_order, lt-ltb, le-ltb, eq-eqb, ne_eqb, eqb-true, or_left, or_right, or_cases}
+use Rattle.std.proofs.lemmas.Bool.{cases_lt, cases_order, lt-ltb, le-ltb, eq-eqb, ne_eqb, eqb-true, or_left, or_right, or_cases, cases_eq, false≢true, false_from_ne_true}
+use Rattle.std.specs.List.Sorted.{IsStrictlyIncreasing}
+use Rattle.std.proofs.lemmas.Map.Keys.{sorted_from_strictly_increasing, below_from_sorted}
 use Rattle.bflt_format.specs.Rising.{rising_on, rising}
 
 -- the number is in the list
@@ -169,3 +171,44 @@ head_least n m ns above e = elim (or_cases (eqb n m) (has ns m) e) [
   | inl here ↦ omega (arith, eqb-true n m here)
   | inr later ↦ let place = stands_in ns m later in omega (arith, all_at (λ k. n < k) ns place.at above place.below, place.is)
 ]
+
+not_in : (n : ℕ) (ns : List ℕ) → AllByRecursion (λ k. n < k) ns → has ns n ≡ false
+not_in n ns above = false_from_ne_true (has ns n) (λ e. let place = stands_in ns n e in absurd (omega (arith, all_at (λ k. n < k) ns place.at above place.below, place.is)))
+
+tails_same : (n z : ℕ) (xs ys : List ℕ) → AllByRecursion (λ k. n < k) xs → AllByRecursion (λ k. n < k) ys → (eqb n z || has xs z) ≡ (eqb n z || has ys z) → has xs z ≡ has ys z
+tails_same n z xs ys above_x above_y same = elim (cases_eq n z) [
+  | inl here ↦ ap (has xs) (sym here) ∙ not_in n xs above_x ∙ sym (not_in n ys above_y) ∙ ap (has ys) here
+  | inr other ↦ let off : eqb n z ≡ false = ne_eqb n z other in rw off at same
+]
+
+pub rises_same : (xs ys : List ℕ) → Rises xs → Rises ys → ((x : ℕ) → has xs x ≡ has ys x) → xs ≡ ys
+rises_same [] [] rises_x rises_y same = refl
+rises_same [] (y ∷ ys) rises_x rises_y same = absurd (false≢true (same y ∙ or_left (eqb y y) (has ys y) (eq-eqb y y refl)))
+rises_same (x ∷ xs) [] rises_x rises_y same = absurd (false≢true (sym (same x) ∙ or_left (eqb x x) (has xs x) (eq-eqb x x refl)))
+rises_same (x ∷ xs) (y ∷ ys) rises_x rises_y same =
+    let x_in_y : has (y ∷ ys) x ≡ true = sym (same x) ∙ or_left (eqb x x) (has xs x) (eq-eqb x x refl) in
+    let y_in_x : has (x ∷ xs) y ≡ true = same y ∙ or_left (eqb y y) (has ys y) (eq-eqb y y refl) in
+    let up = head_least x y xs rises_x.0 y_in_x in
+    let down = head_least y x ys rises_y.0 x_in_y in
+    let heads : x ≡ y = omega arith in
+    let above : AllByRecursion (λ k. x < k) ys = subst (λ n. AllByRecursion (λ k. n < k) ys) (sym heads) rises_y.0 in
+    let tails = rises_same xs ys rises_x.1 rises_y.1 (λ z. tails_same x z xs ys rises_x.0 above (same z ∙ ap (λ n. eqb n z || has ys z) (sym heads))) in
+    ap (λ n. n ∷ xs) heads ∙ ap (λ ns. y ∷ ns) tails
+
+-- so an ascending list with the members of ns is `rising ns`, however it was made
+pub rising_is : (ns xs : List ℕ) → Rises xs → ((x : ℕ) → has xs x ≡ has ns x) → xs ≡ rising ns
+rising_is ns xs rises same = rises_same xs (rising ns) rises (rising_rises ns) (λ x. same x ∙ sym (rising_has ns x))
+
+all_places : (P : ℕ → Type 0) (ns : List ℕ) → ((k : ℕ) → k < length ns → P (get_or ns k 0)) → AllByRecursion P ns
+all_places P [] each = tt
+all_places P (n ∷ ns) each = (each 0 (omega arith), all_places P ns (λ k lt. each (suc k) (omega arith)))
+
+-- ascending by places
+pub rises_by_places : (ns : List ℕ) → ((j k : ℕ) → j < k → k < length ns → get_or ns j 0 < get_or ns k 0) → Rises ns
+rises_by_places [] below = tt
+rises_by_places (n ∷ ns) below =
+    (all_places (λ m. n < m) ns (λ k lt. below 0 (suc k) (omega arith) (omega arith)), rises_by_places ns (λ j k before lt. below (suc j) (suc k) (omega arith) (omega arith)))
+
+-- ascending by neighbours, as a sort and a removal of repetitions leave a list
+pub rises_by_neighbours : (ns : List ℕ) → IsStrictlyIncreasing ns → Rises ns
+rises_by_neighbours ns increasing = rises_by_places ns (λ j k before lt. below_from_sorted ns j k 0 (sorted_from_strictly_increasing ns increasing) before lt)
