@@ -1,5 +1,5 @@
 -- Tests of each number below a bound.
-use Rattle.std.proofs.Common.{◌≡◌, ℕ, zero, suc, ◌+◌, ◌<◌, Bool, true, false, ◌||◌, refl, ap, arith, inl, inr, add-one}
+use Rattle.std.proofs.Common.{◌≡◌, ℕ, zero, suc, ◌+◌, ◌<◌, Bool, true, false, ◌||◌, refl, arith, inl, inr, add-one}
 use Rattle.std.proofs.lemmas.Bool.{cases_eq, or_left, or_right, or_parts, or_from}
 use Rattle.bflt_format.specs.Numbers.{any_below}
 

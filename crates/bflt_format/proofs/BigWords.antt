@@ -1,7 +1,7 @@
 -- Big-endian words in lists of bytes.
-use Rattle.std.proofs.Common.{◌≡◌, ℕ, zero, suc, ◌+◌, ◌-◌, ◌*◌, ◌/◌, ◌%◌, ◌^◌, ◌<◌, ◌≤◌, List, [], ◌∷◌, ◌++◌, length, map, take, drop, get_or, refl, sym, ap, ◌∙◌, append_assoc, arith}
-use Rattle.std.specs.List.{range_with_len, flat_map}
-use Rattle.std.proofs.lemmas.List.{length-append, get_or-take, get_or-drop, get_or_append_left, get_or-append-add, take_at, drop_at}
+use Rattle.std.proofs.Common.{◌≡◌, ℕ, zero, suc, ◌+◌, ◌*◌, ◌%◌, ◌^◌, ◌<◌, ◌≤◌, List, [], ◌∷◌, ◌++◌, length, map, take, drop, get_or, refl, ap, ◌∙◌, append_assoc, arith}
+use Rattle.std.specs.List.{range_with_len}
+use Rattle.std.proofs.lemmas.List.{length-append, get_or-take, get_or-drop, get_or_append_left, get_or-append-add}
 use Rattle.std.proofs.lemmas.List.Concat.{flat_map-cons}
 use Rattle.std.proofs.lemmas.List.FromFn.{fill_by_all}
 use Rattle.byteorder.specs.Endian.{big_number, big_bytes, IsRead}
@@ -43,7 +43,7 @@ big_number_part y start n at fits =
     let part = take n (drop start y) in
     let whole : big_number 4 (drop at part) ≡ big_at part at = omega (arith, big_at_is part at, zeroth part at, get_or-drop at part 1 0, get_or-drop at part 2 0, get_or-drop at part 3 0) in
     whole ∙ big_at_same part at y (start + at)
-        (λ i lt. get_or-take n (drop start y) (at + i) 0 (omega arith) ∙ get_or-drop start y (at + i) 0 ∙ ap (λ k. get_or y k 0) (let e : start + (at + i) ≡ (start + at) + i = omega arith in e))
+    (λ i lt. get_or-take n (drop start y) (at + i) 0 (omega arith) ∙ get_or-drop start y (at + i) 0 ∙ ap (λ k. get_or y k 0) (let e : start + (at + i) ≡ (start + at) + i = omega arith in e))
   where
     zeroth : (part : List ℕ) (at : ℕ) → get_or (drop at part) 0 0 ≡ get_or part at 0
     zeroth part at = get_or-drop at part 0 0 ∙ ap (λ k. get_or part k 0) (let e : at + 0 ≡ at = omega arith in e)

@@ -1,10 +1,9 @@
 -- What bytes without a fault are known to be.
-use Rattle.std.proofs.Common.{◌≡◌, ℕ, ◌+◌, ◌-◌, ◌*◌, ◌%◌, ◌<◌, ◌≤◌, Bool, true, false, not, ◌&&◌, ◌||◌, ◌==◌, eqb, ltb, leb, List, [], ◌∷◌, length, Option, Some, None, refl, sym, ap, arith, inl, inr}
+use Rattle.std.proofs.Common.{◌≡◌, ℕ, ◌+◌, ◌-◌, ◌*◌, ◌%◌, ◌<◌, ◌≤◌, Bool, true, false, not, ◌&&◌, ◌||◌, ◌==◌, ltb, leb, List, [], ◌∷◌, length, None, refl, arith, inl, inr}
 use Rattle.std.proofs.lemmas.Bool.{ltb-false, leb-true, eqb-true, and_parts, and_cases, or_parts, not-false, lt-ltb, both_ways}
-use Rattle.std.proofs.lemmas.Bool.Decides.{nat_tests}
 use Rattle.bflt_format.specs.declared.fault.FlatFault.{FlatFault}
-use Rattle.bflt_format.specs.Header.{magic, revision, entry, data_start, data_end, bss_end, stack_size, reloc_start, reloc_count, flags}
-use Rattle.bflt_format.specs.Fault.{first, is_known, is_in_order, is_out_of_bounds, is_entry, is_table_bad, header_rows, header_fault, IsHeader}
+use Rattle.bflt_format.specs.Header.{entry, data_start, data_end, bss_end, reloc_start, reloc_count}
+use Rattle.bflt_format.specs.Fault.{first, is_in_order, is_out_of_bounds, is_entry, is_table_bad, header_rows, header_fault, IsHeader}
 
 -- no row holds
 abbrev pub AreClear : List (Bool × FlatFault) → Type 0

@@ -1,20 +1,19 @@
 -- Words that are linked, without a word of where they come from: places ps, the number `target p` that each place
 -- points at, and the bytes `bare` under them. A flat file's body has the numbers big-endian, a loaded image has the
 -- addresses little-endian.
-use Rattle.std.proofs.Common.{◌≡◌, ℕ, zero, suc, ◌+◌, ◌-◌, ◌*◌, ◌%◌, ◌^◌, ◌<◌, ◌≤◌, Bool, true, false, ◌&&◌, ◌||◌, ◌==◌, eqb, ltb, leb, List, [], ◌∷◌, ◌++◌, length, map, get_or, Option, Some, None, refl, sym, ap, subst, ◌∙◌, arith, inl, inr, ◌⊎◌}
-use Rattle.std.proofs.lemmas.Bool.{cases_Bool, cases_lt, and_parts, and_from, leb-true, ltb-true, le-leb, lt-ltb, ne_eqb, eqb-true, eq-eqb, or_left, or_right, or_cases, or_from, false≢true, both_ways, false_from_ne_true}
-use Rattle.std.proofs.lemmas.List.{append-nil, get_or_past, length-map}
-use Rattle.byteorder.specs.Endian.{big_bytes, little_bytes}
+use Rattle.std.proofs.Common.{◌≡◌, ℕ, ◌+◌, ◌-◌, ◌%◌, ◌^◌, ◌<◌, ◌≤◌, true, false, eqb, ltb, leb, List, [], ◌∷◌, ◌++◌, length, map, get_or, refl, sym, ap, ◌∙◌, arith, inl, inr, ◌⊎◌}
+use Rattle.std.proofs.lemmas.Bool.{cases_Bool, cases_lt, and_parts, and_from, leb-true, ltb-true, le-leb, lt-ltb, ne_eqb, eqb-true, eq-eqb, or_left, or_right, or_cases, or_from, false≢true, false_from_ne_true}
+use Rattle.std.proofs.lemmas.List.{append-nil}
+use Rattle.byteorder.specs.Endian.{big_bytes}
 use Rattle.bflt_format.specs.Numbers.{big_at}
-use Rattle.bflt_format.specs.Patches.{Patch, spans, patched, painted, bytes_below, from_base, big_word, little_word}
+use Rattle.bflt_format.specs.Patches.{Patch, spans, painted, bytes_below, from_base, big_word, little_word}
 use Rattle.bflt_format.specs.Values.{Values, stored, image_size}
 use Rattle.bflt_format.specs.Fault.{is_near}
 use Rattle.bflt_format.specs.Image.{link, flat_image}
-use Rattle.bflt_format.specs.Spelling.{Spells}
 use Rattle.bflt_format.specs.Rising.{rising}
 use Rattle.bflt_format.proofs.BigWords.{big_at_same, big_at_bytes}
 use Rattle.bflt_format.proofs.Overlap.{covers}
-use Rattle.bflt_format.proofs.Painting.{Within, within, AllShow, is_spanned, painted_at, painted_none, byte_below, byte_past, length-bytes_below}
+use Rattle.bflt_format.proofs.Painting.{AllShow, is_spanned, painted_at, painted_none, byte_below, byte_past}
 use Rattle.bflt_format.proofs.Rising.{has, has_at, rising_has, rising_rises, rises_at, length-rising_below}
 
 -- ---- one patch for each place of a list
@@ -41,8 +40,8 @@ pub word_at : (f : ℕ → Patch) (ps : List ℕ) (m : ℕ → ℕ) (i x : ℕ) 
     → painted (map f ps) m i ≡ get_or (f x).bytes (i - (f x).at) 0
 word_at f ps m i x member on only =
     painted_at (map f ps) m i (get_or (f x).bytes (i - (f x).at) 0)
-        (shows f ps i (get_or (f x).bytes (i - (f x).at) 0) (λ p there spans_it. ap (λ q. get_or (f q).bytes (i - (f q).at) 0) (only p there spans_it)))
-        (inr (spanned f ps i x member on))
+    (shows f ps i (get_or (f x).bytes (i - (f x).at) 0) (λ p there spans_it. ap (λ q. get_or (f q).bytes (i - (f q).at) 0) (only p there spans_it)))
+    (inr (spanned f ps i x member on))
 
 pub word_none : (f : ℕ → Patch) (ps : List ℕ) (m : ℕ → ℕ) (i : ℕ) → ((p : ℕ) → has ps p ≡ true → spans (f p) i ≡ false) → painted (map f ps) m i ≡ m i
 word_none f ps m i each = painted_none (map f ps) m i (unspanned f ps i each)
@@ -60,12 +59,12 @@ find_cover [] i = inr (λ p member. absurd (false≢true member))
 find_cover (p ∷ ps) i = elim (cases_Bool (covers p i)) [
   | inl on ↦ inl (record { place = p; member = or_left (eqb p p) (has ps p) (eq-eqb p p refl); covered = on })
   | inr off ↦ elim (find_cover ps i) [
-      | inl found ↦ inl (record { place = found.place; member = or_right (eqb p found.place) (has ps found.place) found.member; covered = found.covered })
-      | inr none ↦ inr (λ q member. elim (or_cases (eqb p q) (has ps q) member) [
-          | inl here ↦ ap (λ r. covers r i) (sym (eqb-true p q here)) ∙ off
-          | inr later ↦ none q later
-        ])
-    ]
+    | inl found ↦ inl (record { place = found.place; member = or_right (eqb p found.place) (has ps found.place) found.member; covered = found.covered })
+    | inr none ↦ inr (λ q member. elim (or_cases (eqb p q) (has ps q) member) [
+      | inl here ↦ ap (λ r. covers r i) (sym (eqb-true p q here)) ∙ off
+      | inr later ↦ none q later
+    ])
+  ]
 ]
 
 near_by_byte : (p q i : ℕ) → covers p i ≡ true → covers q i ≡ true → is_near p q ≡ true
@@ -122,7 +121,7 @@ body_byte : (target : ℕ → ℕ) (ps : List ℕ) (bare : ℕ → ℕ) (size : 
 body_byte target ps bare size words x j member lt =
     byte_below size (painted (map (numbered target) ps) bare) (x + j) (omega (arith, words.inside x member))
     ∙ word_at (numbered target) ps bare (x + j) x member (numbered_covers target x (x + j) ∙ covers_from x j lt)
-        (λ p there on. words.apart p x there member (near_by_byte p x (x + j) (sym (numbered_covers target p (x + j)) ∙ on) (covers_from x j lt)))
+    (λ p there on. words.apart p x there member (near_by_byte p x (x + j) (sym (numbered_covers target p (x + j)) ∙ on) (covers_from x j lt)))
     ∙ numbered_byte target x j
 
 -- the big-endian word at a place is the number that the place points at
@@ -130,8 +129,8 @@ pub body_number : (target : ℕ → ℕ) (ps : List ℕ) (bare : ℕ → ℕ) (s
 body_number target ps bare size words x member =
     let text = big_bytes 4 (target x) in
     let word : big_at (body_of target ps bare size) x ≡ big_at (text ++ []) 0 =
-        big_at_same (body_of target ps bare size) x (text ++ []) 0
-            (λ j lt. body_byte target ps bare size words x j member lt ∙ ap (λ k. get_or text k 0) (let e : j ≡ 0 + j = omega arith in e) ∙ ap (λ y. get_or y (0 + j) 0) (sym (append-nil text))) in
+    big_at_same (body_of target ps bare size) x (text ++ []) 0
+    (λ j lt. body_byte target ps bare size words x j member lt ∙ ap (λ k. get_or text k 0) (let e : j ≡ 0 + j = omega arith in e) ∙ ap (λ y. get_or y (0 + j) 0) (sym (append-nil text))) in
     omega (arith, word, big_at_bytes (target x) [], words.fits x member)
 
 -- ---- the loaded image
@@ -148,9 +147,9 @@ same_byte target ps qs bare size b words members zero_past i =
       | inl found ↦
           let x = found.place in
           let left = word_at (link body b) qs held i x (members x ∙ found.member) (ap (λ p. spans p i) (linked x found.member) ∙ addressed_covers target b x i ∙ found.covered)
-              (λ p there on. words.apart p x (sym (members p) ∙ there) found.member (near_by_byte p x i (sym (addressed_covers target b p i) ∙ ap (λ q. spans q i) (sym (linked p (sym (members p) ∙ there))) ∙ on) found.covered)) in
+          (λ p there on. words.apart p x (sym (members p) ∙ there) found.member (near_by_byte p x i (sym (addressed_covers target b p i) ∙ ap (λ q. spans q i) (sym (linked p (sym (members p) ∙ there))) ∙ on) found.covered)) in
           let right = word_at (addressed target b) ps bare i x found.member (addressed_covers target b x i ∙ found.covered)
-              (λ p there on. words.apart p x there found.member (near_by_byte p x i (sym (addressed_covers target b p i) ∙ on) found.covered)) in
+          (λ p there on. words.apart p x there found.member (near_by_byte p x i (sym (addressed_covers target b p i) ∙ on) found.covered)) in
           left ∙ ap (λ q. get_or q.bytes (i - q.at) 0) (linked x found.member) ∙ sym right
       | inr none ↦
           let left = word_none (link body b) qs held i (λ p there. ap (λ q. spans q i) (linked p (sym (members p) ∙ there)) ∙ addressed_covers target b p i ∙ none p (sym (members p) ∙ there)) in
@@ -160,10 +159,13 @@ same_byte target ps qs bare size b words members zero_past i =
   where
     body : List ℕ
     body = body_of target ps bare size
+
     held : ℕ → ℕ
     held k = get_or body k 0
+
     linked : (x : ℕ) → has ps x ≡ true → link body b x ≡ addressed target b x
     linked x member = link_word body b x (target x) (body_number target ps bare size words x member) (words.above x member)
+
     under : ((p : ℕ) → has ps p ≡ true → covers p i ≡ false) → held i ≡ bare i
     under none = elim (cases_lt i size) [
       | inl lt ↦ byte_below size (painted (map (numbered target) ps) bare) i lt ∙ word_none (numbered target) ps bare i (λ p there. numbered_covers target p i ∙ none p there)
@@ -199,5 +201,6 @@ has_records target ps bare f words bound small body records = record {
   where
     member : (k : ℕ) → k < length f.records → has ps (get_or f.records k 0) ≡ true
     member k lt = sym (rising_has ps (get_or f.records k 0)) ∙ ap (λ rs. has rs (get_or f.records k 0)) (sym records) ∙ has_at f.records k lt
+
     below : (j k : ℕ) → j < k → k < length f.records → get_or f.records j 0 < get_or f.records k 0
     below j k before lt = rw records (rises_at (rising ps) j k (rising_rises ps) before (omega (arith, ap length records)))

@@ -1,12 +1,12 @@
 -- Overlap of records by marks: the byte at p is marked where an earlier record's word covers it.
 use Rattle.std.proofs.Common.{◌≡◌, ℕ, zero, suc, ◌+◌, ◌-◌, ◌<◌, ◌≤◌, Bool, true, false, ◌&&◌, ◌||◌, ltb, leb, List, [], ◌∷◌, length, get_or, replicate, refl, sym, ap, ◌∙◌, arith, inl, inr}
-use Rattle.std.proofs.lemmas.Bool.{cases_Bool, cases_lt, lt-ltb, le-ltb, lt-leb, le-leb, and_from, and_left, and_right, or_left, or_right, or_from}
+use Rattle.std.proofs.lemmas.Bool.{cases_Bool}
 use Rattle.std.proofs.lemmas.Bool.Decides.{nat_tests}
 use Rattle.bflt_format.specs.Numbers.{any_below}
 use Rattle.bflt_format.specs.Patches.{Patch, spans, patched, laid}
 use Rattle.bflt_format.specs.Fault.{is_near, meets_earlier}
 use Rattle.bflt_format.proofs.Below.{any_below_more, any_below_same, any_below_or}
-use Rattle.bflt_format.proofs.Painting.{Within, within, spans_within, patched_on, patched_off, laid_is_patched}
+use Rattle.bflt_format.proofs.Painting.{within, patched_on, patched_off, laid_is_patched}
 
 -- the word at place r has the byte at p
 abbrev pub covers : ℕ → ℕ → Bool

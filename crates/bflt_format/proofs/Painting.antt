@@ -1,7 +1,6 @@
 -- Bytes under patches.
-use Rattle.std.proofs.Common.{◌≡◌, ℕ, zero, suc, ◌+◌, ◌-◌, ◌<◌, ◌≤◌, Bool, true, false, ◌&&◌, ◌||◌, cond, ltb, leb, List, [], ◌∷◌, ◌++◌, length, map, take, drop, get_or, refl, sym, ap, ◌∙◌, arith, inl, inr, ◌⊎◌, All}
-use Rattle.std.specs.List.{range_with_len}
-use Rattle.std.proofs.lemmas.Bool.{cases_lt, ltb-true, ltb-false, leb-true, leb-false, lt-ltb, le-ltb, le-leb, lt-leb, and_parts, and_from, and_left, and_right, false≢true, or_parts, or_cases, cases_Bool, both_ways}
+use Rattle.std.proofs.Common.{◌≡◌, ℕ, ◌+◌, ◌-◌, ◌<◌, ◌≤◌, Bool, true, false, ◌||◌, ltb, leb, List, [], ◌∷◌, ◌++◌, length, take, drop, get_or, refl, sym, ap, ◌∙◌, arith, inl, inr, ◌⊎◌}
+use Rattle.std.proofs.lemmas.Bool.{cases_lt, ltb-true, leb-true, lt-ltb, le-ltb, le-leb, lt-leb, and_parts, and_from, and_left, and_right, false≢true, or_parts, or_cases, cases_Bool, both_ways}
 use Rattle.std.proofs.lemmas.List.{length-take, length-append, length-drop, get_or_append_left, get_or-append_right, get_or-take, get_or-drop, get_or_past, ext_get_or}
 use Rattle.std.proofs.lemmas.List.FromFn.{fill_by_all, length-map-range_with_len, get_or-map-range_with_len}
 use Rattle.bflt_format.specs.Patches.{Patch, spans, patched, painted, bytes_below, laid}
@@ -81,7 +80,7 @@ byte_past n m i le = get_or_past (bytes_below n m) i 0 (omega (arith, length-byt
 pub bytes_below_same : (n : ℕ) (m w : ℕ → ℕ) → ((i : ℕ) → i < n → m i ≡ w i) → bytes_below n m ≡ bytes_below n w
 bytes_below_same n m w same =
     ext_get_or 0 (bytes_below n m) (bytes_below n w) (omega (arith, length-bytes_below n m, length-bytes_below n w))
-        (λ i lt. let below : i < n = omega (arith, length-bytes_below n m) in byte_below n m i below ∙ same i below ∙ sym (byte_below n w i below))
+    (λ i lt. let below : i < n = omega (arith, length-bytes_below n m) in byte_below n m i below ∙ same i below ∙ sym (byte_below n w i below))
 
 -- bytes written over a list, as a picture
 pub laid_picture : (old : List ℕ) (p : Patch) → p.at + length p.bytes ≤ length old → (λ i. get_or (laid old p.at p.bytes) i 0) ≡ patched p (λ i. get_or old i 0)
@@ -124,9 +123,9 @@ painted_at (p ∷ ps) m i v show known = elim (cases_Bool (spans p i)) [
     still p ps m i v off known = elim known [
       | inl was ↦ inl (patched_off p m i off ∙ was)
       | inr spanned ↦ elim (or_cases (spans p i) (is_spanned ps i) spanned) [
-          | inl on ↦ absurd (both_ways (spans p i) off on)
-          | inr later ↦ inr later
-        ]
+        | inl on ↦ absurd (both_ways (spans p i) off on)
+        | inr later ↦ inr later
+      ]
     ]
 
 -- two pictures that agree at a byte agree there after the same patches

@@ -1,5 +1,5 @@
 -- The laws of the format.
-use Rattle.bflt_format.specs.Laws.{ComesBack, TextsComeBack, SpellsComeBack, ComeBackSpells}
+use Rattle.bflt_format.specs.Laws.{TextsComeBack, SpellsComeBack, ComeBackSpells}
 use Rattle.bflt_format.specs.Header.{flat_values}
 use Rattle.bflt_format.proofs.Spelled.{values_back, no_fault, spells_bytes, spells_given}
 

@@ -1,9 +1,9 @@
 -- Ascending lists of distinct numbers.
-use Rattle.std.proofs.Common.{◌≡◌, ℕ, zero, suc, ◌+◌, ◌<◌, ◌≤◌, Bool, true, false, ◌||◌, eqb, ltb, List, [], ◌∷◌, length, get_or, All, refl, sym, ap, subst, ◌∙◌, arith, inl, inr, ◌⊎◌, add-one}
+use Rattle.std.proofs.Common.{◌≡◌, ℕ, zero, suc, ◌+◌, ◌<◌, ◌≤◌, Bool, true, false, ◌||◌, eqb, List, [], ◌∷◌, length, get_or, refl, sym, ap, subst, ◌∙◌, arith, inl, inr}
 use Rattle.std.specs.List.{AllByRecursion}
 use Rattle.std.specs.Ordering.{nat_cmp}
 use Rattle.std.specs.BTreeSet.{insert_key}
-use Rattle.std.proofs.lemmas.Bool.{cases_lt, cases_order, lt-ltb, le-ltb, eq-eqb, ne_eqb, eqb-true, or_left, or_right, or_cases, cases_eq, false≢true, false_from_ne_true}
+use Rattle.std.proofs.lemmas.Bool.{cases_order, lt-ltb, le-ltb, eq-eqb, ne_eqb, eqb-true, or_left, or_right, or_cases, cases_eq, false≢true, false_from_ne_true}
 use Rattle.std.specs.List.Sorted.{IsStrictlyIncreasing}
 use Rattle.std.proofs.lemmas.Map.Keys.{sorted_from_strictly_increasing, below_from_sorted}
 use Rattle.bflt_format.specs.Rising.{rising_on, rising}
@@ -33,9 +33,9 @@ all_insert P [] k here all = (here, tt)
 all_insert P (n ∷ ns) k here all = elim (cases_order k n) [
   | inl same ↦ rw (insert_same k n ns same) all
   | inr other ↦ elim other [
-      | inl lt ↦ rw (insert_less k n ns lt) (here, all)
-      | inr gt ↦ rw (insert_more k n ns gt) (all.0, all_insert P ns k here all.1)
-    ]
+    | inl lt ↦ rw (insert_less k n ns lt) (here, all)
+    | inr gt ↦ rw (insert_more k n ns gt) (all.0, all_insert P ns k here all.1)
+  ]
 ]
 
 all_above : (k n : ℕ) (ns : List ℕ) → k < n → AllByRecursion (λ m. n < m) ns → AllByRecursion (λ m. k < m) ns
@@ -47,9 +47,9 @@ rises_insert [] k rises = (tt, tt)
 rises_insert (n ∷ ns) k rises = elim (cases_order k n) [
   | inl same ↦ rw (insert_same k n ns same) rises
   | inr other ↦ elim other [
-      | inl lt ↦ rw (insert_less k n ns lt) ((lt, all_above k n ns lt rises.0), rises)
-      | inr gt ↦ rw (insert_more k n ns gt) (all_insert (λ m. n < m) ns k gt rises.0, rises_insert ns k rises.1)
-    ]
+    | inl lt ↦ rw (insert_less k n ns lt) ((lt, all_above k n ns lt rises.0), rises)
+    | inr gt ↦ rw (insert_more k n ns gt) (all_insert (λ m. n < m) ns k gt rises.0, rises_insert ns k rises.1)
+  ]
 ]
 
 length_insert : (ns : List ℕ) (k : ℕ) → length (insert_key nat_cmp ns k) ≤ length ns + 1
@@ -57,9 +57,9 @@ length_insert [] k = omega arith
 length_insert (n ∷ ns) k = elim (cases_order k n) [
   | inl same ↦ rw (insert_same k n ns same) (omega arith)
   | inr other ↦ elim other [
-      | inl lt ↦ rw (insert_less k n ns lt) (omega arith)
-      | inr gt ↦ rw (insert_more k n ns gt) (omega (arith, length_insert ns k))
-    ]
+    | inl lt ↦ rw (insert_less k n ns lt) (omega arith)
+    | inr gt ↦ rw (insert_more k n ns gt) (omega (arith, length_insert ns k))
+  ]
 ]
 
 turn_or : (a b c : Bool) → (a || (b || c)) ≡ (b || (a || c))
@@ -76,9 +76,9 @@ has_insert [] k x = refl
 has_insert (n ∷ ns) k x = elim (cases_order k n) [
   | inl same ↦ rw (insert_same k n ns same, same) (once (eqb n x) (has ns x))
   | inr other ↦ elim other [
-      | inl lt ↦ rw (insert_less k n ns lt) refl
-      | inr gt ↦ rw (insert_more k n ns gt, has_insert ns k x) (turn_or (eqb n x) (eqb k x) (has ns x))
-    ]
+    | inl lt ↦ rw (insert_less k n ns lt) refl
+    | inr gt ↦ rw (insert_more k n ns gt, has_insert ns k x) (turn_or (eqb n x) (eqb k x) (has ns x))
+  ]
 ]
 
 rises_on : (ks ns : List ℕ) → Rises ks → Rises (rising_on ks ns)

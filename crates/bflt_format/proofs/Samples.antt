@@ -1,7 +1,6 @@
 -- The definitions, computed on the file 'convert-one-word': 8 bytes of text behind 64 zeros, one word of data that
 -- points at the text's first byte, one record.
-use Rattle.std.proofs.Common.{◌≡◌, ℕ, List, [], ◌∷◌, ◌++◌, take, drop, refl, Option, Some, None, slice_set, length}
-use Rattle.bflt_format.specs.declared.fault.FlatFault.{FlatFault}
+use Rattle.std.proofs.Common.{◌≡◌, ℕ, List, [], ◌∷◌, ◌++◌, take, refl, Some, None, slice_set}
 use Rattle.bflt_format.specs.declared.fault.FlatFault.TheVariants.{Short, Flags, RecordRange, RecordOverlap, TargetRange}
 use Rattle.bflt_format.specs.Numbers.{big_at, any_below}
 use Rattle.bflt_format.specs.Patches.{spans, patched, from_base, little_word}

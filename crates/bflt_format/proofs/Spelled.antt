@@ -1,11 +1,11 @@
 -- The text of values says these values, and has no fault; and what bytes without a fault say has a text.
-use Rattle.std.proofs.Common.{◌≡◌, ℕ, zero, suc, ◌+◌, ◌-◌, ◌*◌, ◌%◌, ◌^◌, ◌<◌, ◌≤◌, Bool, true, false, not, ◌&&◌, ◌||◌, ◌==◌, ltb, leb, List, [], ◌∷◌, ◌++◌, length, map, take, drop, get_or, Option, Some, None, refl, sym, ap, subst, ◌∙◌, append_assoc, arith, inl, inr}
+use Rattle.std.proofs.Common.{◌≡◌, ℕ, ◌+◌, ◌-◌, ◌*◌, ◌%◌, ◌^◌, ◌<◌, ◌≤◌, true, false, not, ◌&&◌, ◌||◌, ◌==◌, ltb, leb, List, [], ◌++◌, length, map, take, drop, get_or, Option, Some, None, refl, sym, ap, subst, ◌∙◌, append_assoc, arith, inl, inr}
 use Rattle.std.specs.List.{range_with_len}
-use Rattle.std.proofs.lemmas.Bool.{lt-ltb, le-ltb, le-leb, eq-eqb, ltb-false, and_from, and_left, or_from, not_from_true, and_right, or_cases, eqb-true}
+use Rattle.std.proofs.lemmas.Bool.{le-ltb, le-leb, eq-eqb, ltb-false, and_from, or_from, not_from_true, and_right, or_cases, eqb-true}
 use Rattle.std.proofs.lemmas.List.{append-nil, length-append, length-take, length-drop, take_at, drop_at}
 use Rattle.std.proofs.lemmas.List.FromFn.{fill_by_all, length-map-range_with_len}
 use Rattle.bflt_format.specs.declared.fault.FlatFault.{FlatFault}
-use Rattle.bflt_format.specs.Numbers.{IsBytes, big_at, any_below}
+use Rattle.bflt_format.specs.Numbers.{IsBytes, big_at}
 use Rattle.bflt_format.specs.Values.{Values, stored, image_size, ram_values}
 use Rattle.bflt_format.specs.Header.{magic, revision, entry, data_start, data_end, bss_end, stack_size, reloc_start, reloc_count, flags, record_at, flat_values}
 use Rattle.bflt_format.specs.Fault.{is_known, is_in_order, is_out_of_bounds, is_entry, is_table_bad, header_rows, header_fault, is_near, passes_data, meets_earlier, targets_past, record_rows, record_fault, values_fault, flat_fault, or_else, IsHeader}
@@ -90,16 +90,16 @@ unfolding flat_values
 values_back f s =
     let w = has_words f s in
     let table : map (record_at (spell f)) (range_with_len 0 (length f.records)) ≡ f.records =
-        sym (fill_by_all (record_at (spell f)) f.records (length f.records) 0 refl (λ k lt. sym (rw w.reloc_start (record_back f s k lt)))) in
+    sym (fill_by_all (record_at (spell f)) f.records (length f.records) 0 refl (λ k lt. sym (rw w.reloc_start (record_back f s k lt)))) in
     same_values (flat_values (spell f)) f
-        w.entry
-        (omega (arith, w.data_start))
-        (omega (arith, w.data_start, w.data_end))
-        (omega (arith, w.data_end, w.bss_end))
-        w.stack
-        w.flags
-        (rw w.data_end (body_back f s.body))
-        (rw w.reloc_count table)
+    w.entry
+    (omega (arith, w.data_start))
+    (omega (arith, w.data_start, w.data_end))
+    (omega (arith, w.data_end, w.bss_end))
+    w.stack
+    w.flags
+    (rw w.data_end (body_back f s.body))
+    (rw w.reloc_count table)
 
 -- ---- the text has no fault
 
@@ -118,30 +118,48 @@ header_clear f s =
     let size : bss_end (spell f) - 64 ≤ 16777216 = omega (arith, w.bss_end, s.size) in
     let entry_to : entry (spell f) + 4 ≤ data_end (spell f) = omega (arith, w.entry, w.data_end, s.entry_to) in
     let order : is_in_order (spell f) ≡ true =
-        and_from (leb 64 (data_start (spell f)) && leb (data_start (spell f)) (data_end (spell f))) (leb (data_end (spell f)) (bss_end (spell f)))
-            (and_from (leb 64 (data_start (spell f))) (leb (data_start (spell f)) (data_end (spell f))) (le-leb _ _ text) (le-leb _ _ more)) (le-leb _ _ bss) in
+    and_from (leb 64 (data_start (spell f)) && leb (data_start (spell f)) (data_end (spell f))) (leb (data_end (spell f)) (bss_end (spell f)))
+    (and_from (leb 64 (data_start (spell f))) (leb (data_start (spell f)) (data_end (spell f))) (le-leb _ _ text) (le-leb _ _ more)) (le-leb _ _ bss) in
     let bounds : is_out_of_bounds (spell f) ≡ false =
-        or_from (not (is_in_order (spell f)) || ltb (length (spell f)) (data_end (spell f))) (ltb 16777216 (bss_end (spell f) - 64))
-            (or_from (not (is_in_order (spell f))) (ltb (length (spell f)) (data_end (spell f))) (not_from_true _ order) (le-ltb _ _ fits)) (le-ltb _ _ size) in
+    or_from (not (is_in_order (spell f)) || ltb (length (spell f)) (data_end (spell f))) (ltb 16777216 (bss_end (spell f) - 64))
+    (or_from (not (is_in_order (spell f))) (ltb (length (spell f)) (data_end (spell f))) (not_from_true _ order) (le-ltb _ _ fits)) (le-ltb _ _ size) in
     let place : is_entry (spell f) ≡ true =
-        and_from (entry (spell f) % 4 == 0 && leb 64 (entry (spell f))) (leb (entry (spell f) + 4) (data_end (spell f)))
-            (and_from (entry (spell f) % 4 == 0) (leb 64 (entry (spell f))) (eq-eqb _ _ (rw w.entry s.entry_aligned)) (le-leb _ _ (rw w.entry s.entry_from))) (le-leb _ _ entry_to) in
+    and_from (entry (spell f) % 4 == 0 && leb 64 (entry (spell f))) (leb (entry (spell f) + 4) (data_end (spell f)))
+    (and_from (entry (spell f) % 4 == 0) (leb 64 (entry (spell f))) (eq-eqb _ _ (rw w.entry s.entry_aligned)) (le-leb _ _ (rw w.entry s.entry_from))) (le-leb _ _ entry_to) in
     let table : is_table_bad (spell f) ≡ false =
-        and_right (ltb 0 (reloc_count (spell f))) (ltb (reloc_start (spell f)) (data_end (spell f)) || ltb (length (spell f)) (reloc_start (spell f) + 4 * reloc_count (spell f)))
-            (or_from (ltb (reloc_start (spell f)) (data_end (spell f))) (ltb (length (spell f)) (reloc_start (spell f) + 4 * reloc_count (spell f))) (le-ltb _ _ start) (le-ltb _ _ end)) in
+    and_right (ltb 0 (reloc_count (spell f))) (ltb (reloc_start (spell f)) (data_end (spell f)) || ltb (length (spell f)) (reloc_start (spell f) + 4 * reloc_count (spell f)))
+    (or_from (ltb (reloc_start (spell f)) (data_end (spell f))) (ltb (length (spell f)) (reloc_start (spell f) + 4 * reloc_count (spell f))) (le-ltb _ _ start) (le-ltb _ _ end)) in
     let long : 64 ≤ length (spell f) = omega (arith, len) in
-    first_of_clear (header_rows (spell f))
-        (le-ltb _ _ long, (not_from_true _ (eq-eqb _ _ w.magic), (not_from_true _ (eq-eqb _ _ w.revision), (not_from_true _ (rw w.flags s.flags), (bounds,
-        (not_from_true _ (eq-eqb _ _ aligned), (not_from_true _ place, (le-ltb _ _ (rw w.stack s.stack), (table, tt)))))))))
+    first_of_clear (header_rows (spell f)) (
+      le-ltb _ _ long,
+      (
+        not_from_true _ (eq-eqb _ _ w.magic),
+        (
+          not_from_true _ (eq-eqb _ _ w.revision),
+          (
+            not_from_true _ (rw w.flags s.flags),
+            (
+              bounds,
+              (not_from_true _ (eq-eqb _ _ aligned), (not_from_true _ place, (le-ltb _ _ (rw w.stack s.stack), (table, tt)))),
+            ),
+          ),
+        ),
+      ),
+    )
 
 records_clear : (f : Values) → Spells f → values_fault f ≡ None
 unfolding record_fault passes_data meets_earlier targets_past
 records_clear f s =
-    first_of_clear (record_rows (stored f) (image_size f) f.body f.records)
-        ( none_below (passes_data (stored f) f.records) (length f.records) (λ k lt. le-ltb _ _ (s.inside k lt))
-        , ( none_below (meets_earlier f.records) (length f.records) (λ k lt. none_below (λ j. is_near (get_or f.records j 0) (get_or f.records k 0)) k (λ j before. s.apart j k before lt))
-        , ( none_below (targets_past (image_size f) f.body f.records) (length f.records) (λ k lt. le-ltb _ _ (s.targets k lt))
-        , tt)))
+    first_of_clear (record_rows (stored f) (image_size f) f.body f.records) (
+      none_below (passes_data (stored f) f.records) (length f.records) (λ k lt. le-ltb _ _ (s.inside k lt)),
+      (
+        none_below (meets_earlier f.records) (length f.records) (λ k lt. none_below (λ j. is_near (get_or f.records j 0) (get_or f.records k 0)) k (λ j before. s.apart j k before lt)),
+        (
+          none_below (targets_past (image_size f) f.body f.records) (length f.records) (λ k lt. le-ltb _ _ (s.targets k lt)),
+          tt,
+        ),
+      ),
+    )
 
 pub no_fault : (f : Values) → Spells f → flat_fault (spell f) ≡ None
 unfolding flat_fault
@@ -185,6 +203,17 @@ spells_bytes y bytes none = spells_of y (big_at_fits y 32 bytes) none
 
 pub spells_given : (f : Values) → flat_fault (spell f) ≡ None → flat_values (spell f) ≡ f → Spells f
 spells_given f none back = subst Spells back (spells_of (spell f) (count_fits f) none)
+
+-- the two conditions of `Flat::of`, from the plain ones
+pub ram_fault : (f : Values) → Spells f → (g : Values) → g ≡ f → flat_fault (spell g) ≡ None
+ram_fault f s g same = rw same (no_fault f s)
+
+pub ram_back : (f : Values) → Spells f → (g : Values) → g ≡ f → flat_values (spell g) ≡ g
+ram_back f s g same = rw same (values_back f s)
+
+pub ram_values_are : (f : Values) (entry text data_len bss stack : ℕ) (body records : List ℕ) → f.flags ≡ 1 → entry ≡ f.entry → text ≡ f.text → data_len ≡ f.data_len → bss ≡ f.bss → stack ≡ f.stack → body ≡ f.body → records ≡ f.records
+    → ram_values entry text data_len bss stack body records ≡ f
+ram_values_are f entry text data_len bss stack body records ram e t d b s y r = same_values (ram_values entry text data_len bss stack body records) f e t d b s (sym ram) y r
 
 -- ---- what the reader makes of its fields
 

@@ -1,6 +1,6 @@
 -- The header of a flat file of version 4 ("flat.h" of uClinux, struct flat_hdr): sixteen big-endian words of four bytes.
 -- All places count from the start of the file.
-use Rattle.std.specs.Prelude.{ℕ, ◌+◌, ◌-◌, ◌*◌, ◌%◌, ◌<◌, ◌≤◌, List, length, map, take, drop}
+use Rattle.std.specs.Prelude.{ℕ, ◌+◌, ◌-◌, ◌*◌, List, map, take, drop}
 use Rattle.std.specs.List.{range_with_len}
 use Rattle.bflt_format.specs.Numbers.{big_at}
 use Rattle.bflt_format.specs.Values.{Values}

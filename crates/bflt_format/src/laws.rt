@@ -6,12 +6,10 @@ ghost use Rattle.bflt_format.specs.Laws.{TextsComeBack, SpellsComeBack, ComeBack
 /// text has no fault.
 pub fn texts_come_back()
     ensures { TextsComeBack }
-{
-}
+{}
 
 /// The plain conditions `Spells` on values are exactly that their text says them and has no fault.
 pub fn spells_come_back()
     ensures there { SpellsComeBack }
     ensures back { ComeBackSpells }
-{
-}
+{}

@@ -17,7 +17,12 @@ impl Flat {
     {
         let len = LEN as usize + self.body.len() + 4 * self.records.len();
         let mut out = vec![in alloc; 0u8; len]?;
-        fill(out.as_mut_slice(), &self.header(), &self.body, &self.records);
+        fill(
+            out.as_mut_slice(),
+            &self.header(),
+            &self.body,
+            &self.records,
+        );
         Ok(out)
     }
 
@@ -29,7 +34,8 @@ impl Flat {
         let bss_end = data_end + self.bss;
         let count = self.records.len() as u32;
         [
-            MAGIC, REVISION, self.entry, data_start, data_end, bss_end, self.stack, data_end, count, self.flags, 0, 0, 0, 0, 0, 0,
+            MAGIC, REVISION, self.entry, data_start, data_end, bss_end, self.stack, data_end,
+            count, self.flags, 0, 0, 0, 0, 0, 0,
         ]
     }
 }

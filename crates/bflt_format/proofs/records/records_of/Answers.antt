@@ -1,6 +1,5 @@
-use Rattle.std.proofs.Common.{◌≡◌, ℕ, ◌+◌, ◌*◌, ◌<◌, ◌++◌, length, take, drop, get_or, refl, sym, ap, ◌∙◌, arith}
-use Rattle.std.proofs.lemmas.List.{take_at, length-replicate}
-use Rattle.bflt_format.specs.Header.{reloc_count, record_at}
+use Rattle.std.proofs.Common.{◌≡◌, length, drop, refl, ◌∙◌, arith}
+use Rattle.std.proofs.lemmas.List.{take_at}
 use Rattle.bflt_format.proofs.BigWords.{numbers_of_part}
 use Rattle.bflt_format.proofs.records.records_of.Goals as goal
 
