@@ -4,7 +4,7 @@ use Rattle.elf32_reader.specs.Header.{count_of, entry_of}
 use Rattle.elf32_reader.specs.Sections.{section}
 use Rattle.flat_layout.specs.declared.layout.Layout.{Layout}
 use Rattle.flat_layout.specs.Extremes.{least_below, greatest_below}
-use Rattle.flat_layout.specs.Numbering.{is_laid_out, has_bytes, is_writable, end_of, highest, distance, start_of}
+use Rattle.flat_layout.specs.Numbering.{has_bytes, is_written, end_of, highest, distance, start_of}
 
 -- the number of an address: (a - V0) mod 2^32
 unfoldable pub off : Layout → ℕ → ℕ
@@ -21,7 +21,7 @@ stored_end e = greatest_below (λ i. has_bytes (section e i)) (λ i. distance e 
 -- the lower of E and W, the lowest number of a writable section
 unfoldable pub written_from : List ℕ → ℕ
 written_from e =
-    least_below (λ i. is_laid_out (section e i) && is_writable (section e i)) (λ i. distance e (section e i).addr) (stored_end e) (count_of e)
+    least_below (λ i. is_written (section e i)) (λ i. distance e (section e i).addr) (stored_end e) (count_of e)
 
 -- T: text ends at a multiple of 32
 unfoldable pub text_of : List ℕ → ℕ

@@ -18,6 +18,10 @@ has_bytes s = is_laid_out s && is_stored s
 abbrev pub is_writable : Section → Bool
 is_writable s = not (bit_and s.flags 1 == 0)
 
+-- a section of the image that the program writes
+abbrev pub is_written : Section → Bool
+is_written s = is_laid_out s && is_writable s
+
 -- SHF_EXECINSTR (4)
 abbrev pub is_executable : Section → Bool
 is_executable s = not (bit_and s.flags 4 == 0)

@@ -1,11 +1,11 @@
 //! The numbers of the image's bytes. Addresses and ends are whole numbers, since an end may be 2^32 and the
 //! image may begin below address 0.
 
-ghost use Rattle.std.specs.Prelude.{◌≡◌, ℕ, ◌+◌, ◌-◌, ◌≤◌, ◌^◌, ◌==◌, ◌&&◌};
+ghost use Rattle.std.specs.Prelude.{◌≡◌, ℕ, ◌+◌, ◌-◌, ◌≤◌, ◌^◌, min, max};
 ghost use Rattle.elf32_reader.specs.Header.{count_of};
 ghost use Rattle.elf32_reader.specs.Sections.{section};
 ghost use Rattle.flat_layout.specs.Extremes.{least_below, greatest_below};
-ghost use Rattle.flat_layout.specs.Numbering.{is_laid_out, has_bytes, is_writable, is_executable, end_of, lowest, highest, raised_start, distance};
+ghost use Rattle.flat_layout.specs.Numbering.{is_laid_out, has_bytes, is_written, is_executable, end_of, lowest, highest, raised_start, distance};
 ghost use Rattle.flat_layout.specs.Layout.{stored_end, written_from};
 
 use elf32_reader::{Elf, Section};
@@ -33,11 +33,11 @@ pub fn has_bytes(section: &Section) -> bool
     is_laid_out(section) && section.is_stored()
 }
 
-/// Whether a section has the flag SHF_WRITE.
-pub fn is_writable(section: &Section) -> bool
-    ensures { result ≡ is_writable section.now }
+/// Whether a section has a place in the image, and the flag SHF_WRITE.
+fn is_written(section: &Section) -> bool
+    ensures { result ≡ is_written section.now }
 {
-    section.flags & SHF_WRITE != 0
+    is_laid_out(section) && section.flags & SHF_WRITE != 0
 }
 
 /// Whether a section has the flag SHF_EXECINSTR.
@@ -54,6 +54,18 @@ pub fn end_of(section: &Section) -> u64
     u64::from(section.addr) + u64::from(section.size)
 }
 
+fn lower(a: u64, b: u64) -> u64
+    ensures { result ≡ min a b }
+{
+    a.min(b)
+}
+
+fn higher(a: u64, b: u64) -> u64
+    ensures { result ≡ max a b }
+{
+    a.max(b)
+}
+
 /// The lowest address of a section in the image, or 2^32.
 fn lowest(elf: &Elf<'_>) -> u64
     ensures value { result ≡ lowest elf.now }
@@ -63,7 +75,7 @@ fn lowest(elf: &Elf<'_>) -> u64
     for index in 0..elf.sections() {
         let section = elf.section(index);
         if is_laid_out(&section) {
-            least = least.min(u64::from(section.addr));
+            least = lower(least, u64::from(section.addr));
         }
     }
     least
@@ -78,7 +90,7 @@ pub fn highest(elf: &Elf<'_>) -> u64
     for index in 0..elf.sections() {
         let section = elf.section(index);
         if is_laid_out(&section) {
-            greatest = greatest.max(end_of(&section));
+            greatest = higher(greatest, end_of(&section));
         }
     }
     greatest
@@ -110,7 +122,7 @@ pub fn stored_end(elf: &Elf<'_>, raised: u64) -> u64
     for index in 0..elf.sections() {
         let section = elf.section(index);
         if has_bytes(&section) {
-            greatest = greatest.max(distance(raised, end_of(&section)));
+            greatest = higher(greatest, distance(raised, end_of(&section)));
         }
     }
     greatest
@@ -125,8 +137,8 @@ pub fn written_from(elf: &Elf<'_>, raised: u64, stored: u64) -> u64
     let mut least = stored;
     for index in 0..elf.sections() {
         let section = elf.section(index);
-        if is_laid_out(&section) && is_writable(&section) {
-            least = least.min(distance(raised, u64::from(section.addr)));
+        if is_written(&section) {
+            least = lower(least, distance(raised, u64::from(section.addr)));
         }
     }
     least
