@@ -9,7 +9,7 @@ use Rattle.flat_layout.specs.Extremes.{least_below, greatest_below}
 use Rattle.flat_layout.specs.Numbering.{is_laid_out, has_bytes, is_written, end_of, lowest, highest, raised_start, distance, start_of}
 use Rattle.flat_layout.specs.Layout.{off, size_of, stored_end, written_from, text_of, layout}
 use Rattle.flat_layout.specs.Fault.{has_sections, ends_too_high, some_ends_too_high, is_too_large, has_overlap, has_dynamic, has_tls, is_entry_outside, layout_fault}
-use Rattle.flat_layout.proofs.Below.{any_below_none}
+use Rattle.elf32_reader.proofs.Searches.{or_parts}
 use Rattle.flat_layout.proofs.Bounds.{greatest_at, greatest_le, least_at, least_le_none}
 
 -- no row of the fault table holds
@@ -36,10 +36,6 @@ unfolding layout_fault
 has_no_row e none =
     let rows = no_row (not (has_sections e)) (is_too_large e) (has_overlap e) (has_dynamic e) (has_tls e) (is_entry_outside e) none in
     record { sections = not-false (has_sections e) rows.0; small = rows.1; apart = rows.2; static = rows.3; shared = rows.4; entry = rows.5 }
-
-or_parts : (x y : Bool) → (x || y) ≡ false → (x ≡ false) × (y ≡ false)
-or_parts true y h = absurd (cc)
-or_parts false y h = (refl, h)
 
 lowest_fits : (e : List ℕ) → lowest e ≤ 2 ^ 32
 unfolding lowest
@@ -95,3 +91,31 @@ small_from e h = ltb-false 16777216 (distance e (highest e)) (or_parts (some_end
 
 pub has_sizes : (e : List ℕ) → layout_fault e ≡ None → HasSizes e
 has_sizes e none = record { written = written_le e; stored = stored_le e; small = small_from e (has_no_row e none).small }
+
+-- T is a multiple of 32, and not above E
+pub text-multiple : (e : List ℕ) → (layout e).text % 32 ≡ 0
+unfolding layout text_of
+text-multiple e = omega arith
+
+pub text_le : (e : List ℕ) → (layout e).text ≤ stored_end e
+unfolding layout text_of
+text_le e = let written = written_le e in omega arith
+
+-- T + D is E
+pub text-data : (e : List ℕ) → (layout e).text + (layout e).data_len ≡ stored_end e
+unfolding layout text_of
+text-data e = let written = written_le e in omega arith
+
+-- T + D + B is how far the highest end lies behind V0
+pub size_of-layout : (e : List ℕ) → size_of (layout e) ≡ distance e (highest e)
+unfolding layout text_of
+size_of-layout e = let written = written_le e in let stored = stored_le e in omega arith
+
+-- an image has at most 16 MiB
+pub size_le : (e : List ℕ) → layout_fault e ≡ None → size_of (layout e) ≤ 16777216
+size_le e none = let size = size_of-layout e in let sizes = has_sizes e none in omega arith
+
+-- V0 modulo 2^32 is a number of 32 bits
+pub start_fits : (e : List ℕ) → (layout e).v0 < 2 ^ 32
+unfolding layout start_of
+start_fits e = omega arith

@@ -1,14 +1,8 @@
-use Rattle.std.proofs.Common.{◌≡◌, ◌<◌, true, sym, arith}
-use Rattle.elf32_reader.specs.Header.{count_of}
-use Rattle.elf32_reader.specs.Sections.{section}
-use Rattle.flat_layout.specs.Numbering.{is_laid_out}
+use Rattle.std.proofs.Common.{arith}
+use Rattle.elf32_reader.proofs.Searches.{any_below_at}
 use Rattle.flat_layout.specs.Fault.{has_sections}
-use Rattle.flat_layout.proofs.Below.{any_below_found}
 use Rattle.flat_layout.proofs.fault.has_sections.Goals as goal
 
 pub returns-then-is_laid_out : goal.returns-then-is_laid_out
 unfolding has_sections
-returns-then-is_laid_out c =
-    let inside : c.loop-index.index < count_of c.args.elf.now = omega arith in
-    let passes : is_laid_out (section c.args.elf.now c.loop-index.index) ≡ true = cc in
-    sym (any_below_found (λ i. is_laid_out (section c.args.elf.now i)) (count_of c.args.elf.now) c.loop-index.index inside passes)
+returns-then-is_laid_out c = any_below_at _ _ c.loop-index.index (omega arith) (cc)
