@@ -11,3 +11,6 @@ mod numbering;
 
 pub use fault::LayoutFault;
 pub use layout::Layout;
+
+#[cfg(test)]
+mod tests;

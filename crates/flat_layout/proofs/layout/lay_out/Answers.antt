@@ -1,6 +1,6 @@
 use Rattle.std.proofs.Common.{arith}
 use Rattle.flat_layout.specs.Numbering.{distance}
-use Rattle.flat_layout.proofs.Facts.{HasSizes, has_sizes}
+use Rattle.flat_layout.proofs.Facts.{has_sizes}
 use Rattle.flat_layout.proofs.layout.lay_out.Goals as goal
 
 pub overflow_cast-result : goal.overflow_cast-result

@@ -1,10 +1,10 @@
-use Rattle.std.proofs.Common.{◌≡◌, ◌≤◌, ◌^◌, ℕ, true, false, min, max, sym, ◌∙◌, ap, arith}
+use Rattle.std.proofs.Common.{◌≡◌, ℕ, true, false, max, sym, ◌∙◌, ap, arith}
 use Rattle.elf32_reader.specs.declared.section.Section.{Section}
 use Rattle.elf32_reader.specs.Header.{count_of}
 use Rattle.elf32_reader.specs.Sections.{section}
 use Rattle.flat_layout.specs.Numbering.{is_laid_out, end_of, highest}
 use Rattle.flat_layout.specs.Extremes.{greatest_below}
-use Rattle.flat_layout.proofs.Bounds.{greatest_zero, greatest_taken_to, greatest_passed_to, distance_is}
+use Rattle.flat_layout.proofs.Bounds.{greatest_zero, greatest_taken_to, greatest_passed_to}
 use Rattle.flat_layout.proofs.numbering.highest.Goals as goal
 use Rattle.flat_layout.proofs.numbering.highest.Goals.{then-is_laid_out, else-is_laid_out}
 

@@ -1,10 +1,10 @@
-use Rattle.std.proofs.Common.{◌≡◌, ◌≤◌, ◌^◌, ℕ, true, false, min, max, sym, ◌∙◌, ap, arith}
+use Rattle.std.proofs.Common.{◌≡◌, ◌^◌, ℕ, true, false, min, sym, ◌∙◌, ap, arith}
 use Rattle.elf32_reader.specs.declared.section.Section.{Section}
 use Rattle.elf32_reader.specs.Header.{count_of}
 use Rattle.elf32_reader.specs.Sections.{section}
 use Rattle.flat_layout.specs.Numbering.{is_laid_out, lowest}
 use Rattle.flat_layout.specs.Extremes.{least_below}
-use Rattle.flat_layout.proofs.Bounds.{least_zero, least_taken_to, least_passed_to, distance_is}
+use Rattle.flat_layout.proofs.Bounds.{least_zero, least_taken_to, least_passed_to}
 use Rattle.flat_layout.proofs.numbering.lowest.Goals as goal
 use Rattle.flat_layout.proofs.numbering.lowest.Goals.{then-is_laid_out, else-is_laid_out}
 

@@ -1,4 +1,4 @@
-use Rattle.std.proofs.Common.{◌≡◌, ◌≤◌, ◌^◌, ℕ, true, false, min, max, sym, ◌∙◌, ap, arith}
+use Rattle.std.proofs.Common.{◌≡◌, ℕ, true, false, max, sym, ◌∙◌, ap, arith}
 use Rattle.elf32_reader.specs.declared.section.Section.{Section}
 use Rattle.elf32_reader.specs.Header.{count_of}
 use Rattle.elf32_reader.specs.Sections.{section}
