@@ -1,4 +1,4 @@
--- The first reason why the sections of an ELF file make no image.
+-- The first reason why the sections of an ELF file make no image. Flags and types: System V ABI, ELF32, "Sections".
 use Rattle.std.specs.Prelude.{ℕ, ◌+◌, ◌%◌, ◌^◌, Bool, not, ◌&&◌, ◌||◌, nat_lt, nat_le, ◌==◌, List, [], ◌∷◌, Option}
 use Rattle.std.specs.Int.Bits.{bit_and}
 use Rattle.elf32_reader.specs.declared.section.Section.{Section}

@@ -1,4 +1,4 @@
--- The layout of an image: its bytes have the numbers from 0 up; text, data and bss follow each other.
+-- The layout of an image: its bytes have the numbers from 0 up; text, data and bss follow each other (this project's own).
 use Rattle.std.specs.Prelude.{ℕ, ◌+◌, ◌-◌, ◌*◌, ◌/◌, ◌%◌, ◌^◌, List}
 use Rattle.elf32_reader.specs.Header.{count_of, entry_of}
 use Rattle.elf32_reader.specs.Sections.{section}

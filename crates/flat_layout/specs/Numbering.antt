@@ -1,4 +1,5 @@
 -- V0, and the numbers that the layout gives to the bytes of the laid-out sections. Addresses and ends are whole numbers.
+-- The flags and types are those of the System V ABI, ELF32, "Sections"; the numbering is this project's own.
 use Rattle.std.specs.Prelude.{ℕ, ◌+◌, ◌-◌, ◌*◌, ◌/◌, ◌%◌, ◌^◌, Bool, not, ◌&&◌, nat_lt, ◌==◌, List}
 use Rattle.std.specs.Int.Bits.{bit_and}
 use Rattle.elf32_reader.specs.declared.section.Section.{Section}

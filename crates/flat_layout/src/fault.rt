@@ -1,7 +1,7 @@
 //! Which sections make no image.
 
-ghost use Rattle.std.specs.Prelude.{◌≡◌, ℕ, ◌<◌, ◌^◌, ◌==◌, ◌&&◌, nat_lt};
-ghost use Rattle.elf32_reader.specs.Header.{count_of, entry_of};
+ghost use Rattle.std.specs.Prelude.{◌≡◌, ◌<◌};
+ghost use Rattle.elf32_reader.specs.Header.{count_of};
 ghost use Rattle.elf32_reader.specs.Sections.{section};
 ghost use Rattle.elf32_reader.specs.Search.{any_below};
 ghost use Rattle.flat_layout.specs.Fault.{has_sections, ends_too_high, some_ends_too_high, is_too_large, meets, meets_below, has_overlap, is_dynamic, has_dynamic, is_tls, has_tls, holds_code, is_entry_outside, layout_fault};

@@ -1,6 +1,6 @@
 //! The sizes of an image, and where its program begins.
 
-ghost use Rattle.std.specs.Prelude.{◌≡◌, ℕ, ◌<◌, ◌^◌, None, MatchResult, Some};
+ghost use Rattle.std.specs.Prelude.{◌≡◌, MatchResult};
 ghost use Rattle.flat_layout.specs.Fault.{layout_fault};
 ghost use Rattle.flat_layout.specs.Layout.{layout, off};
 

@@ -1,11 +1,8 @@
 //! The numbers of the image's bytes. Addresses and ends are whole numbers, since an end may be 2^32 and the
 //! image may begin below address 0.
 
-ghost use Rattle.std.specs.Prelude.{◌≡◌, ℕ, ◌+◌, ◌-◌, ◌≤◌, ◌^◌, min, max};
-ghost use Rattle.elf32_reader.specs.Header.{count_of};
-ghost use Rattle.elf32_reader.specs.Sections.{section};
-ghost use Rattle.flat_layout.specs.Extremes.{least_below, greatest_below};
-ghost use Rattle.flat_layout.specs.Numbering.{is_laid_out, has_bytes, is_written, is_executable, end_of, lowest, highest, raised_start, distance};
+ghost use Rattle.std.specs.Prelude.{◌≡◌, ◌+◌, ◌-◌, ◌≤◌, ◌^◌, min, max};
+ghost use Rattle.flat_layout.specs.Numbering.{is_laid_out, has_bytes, is_written, is_executable, end_of, lowest, highest, raised_start};
 ghost use Rattle.flat_layout.specs.Layout.{stored_end, written_from};
 
 use elf32_reader::{Elf, Section};
@@ -16,6 +13,7 @@ pub const ADDRESS_END: u64 = 1 << 32;
 const SHF_WRITE: u32 = 1;
 
 const SHF_EXECINSTR: u32 = 4;
+
 /// V0 is a multiple of it.
 const ALIGNMENT: u64 = 64;
 
