@@ -33,9 +33,11 @@ option_or-none None b e = (refl, e)
 option_or-none (Some x) b e = absurd (cc)
 
 pub header_clear : (e : List ℕ) → elf_fault e ≡ None → header_fault e ≡ None
+unfolding elf_fault
 header_clear e clear = (option_or-none (header_fault e) (section_fault e) clear).0
 
 pub sections_clear : (e : List ℕ) → elf_fault e ≡ None → section_fault e ≡ None
+unfolding elf_fault
 sections_clear e clear = (option_or-none (header_fault e) (section_fault e) clear).1
 
 header_long : (e : List ℕ) → header_fault e ≡ None → nat_lt (length e) 52 ≡ false

@@ -85,5 +85,5 @@ section_fault e = first (
     ∷ [])
 
 -- the first fault of a file
-abbrev pub elf_fault : List ℕ → Option ElfFault
+unfoldable pub elf_fault : List ℕ → Option ElfFault
 elf_fault e = option_or (header_fault e) (section_fault e)

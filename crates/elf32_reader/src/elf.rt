@@ -52,6 +52,7 @@ fn section_fault_of(bytes: &[u8]) -> Option<ElfFault>
     None
 }
 
+#[tactic(auto, unfolding(crate::specs::Faults::elf_fault))]
 fn fault_of(bytes: &[u8]) -> Option<ElfFault>
     ensures { result ≡ elf_fault bytes.now }
 {
@@ -64,7 +65,9 @@ fn fault_of(bytes: &[u8]) -> Option<ElfFault>
 impl<'a> Elf<'a> {
     /// Reads a file in one walk over its sections, symbols and relocations. It takes no memory.
     pub fn read(bytes: &'a [u8]) -> Result<Elf<'a>, ElfFault>
-        ensures { MatchResult result (λ elf. (elf_fault bytes.now ≡ None) × (elf ≡ bytes.now)) (λ fault. elf_fault bytes.now ≡ Some fault) }
+        ensures { MatchResult result
+            (λ elf. (elf_fault bytes.now ≡ None) × (elf ≡ bytes.now))
+            (λ fault. elf_fault bytes.now ≡ Some fault) }
     {
         match fault_of(bytes) {
             Some(fault) => Err(fault),

@@ -19,3 +19,8 @@ pub use fault::ElfFault;
 pub use rela::Rela;
 pub use section::Section;
 pub use symbol::Symbol;
+
+#[cfg(test)]
+mod sample;
+#[cfg(test)]
+mod tests;

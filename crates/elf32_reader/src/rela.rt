@@ -131,7 +131,8 @@ fn some_lacks_symbol(bytes: &[u8], index: u32) -> bool
 fn names_no_section(bytes: &[u8], index: u32) -> bool
     requires header { HasTable bytes.now }
     requires index { index < count_of bytes.now }
-    ensures { result ≡ is_static_relocation (section bytes.now index) && nat_le (count_of bytes.now) (section bytes.now index).info }
+    ensures { let s = section bytes.now index in
+        result ≡ (is_static_relocation s && nat_le (count_of bytes.now) s.info) }
 {
     let section = section_at(bytes, index);
     is_for_linker(&section) && section_count(bytes) <= section.info
