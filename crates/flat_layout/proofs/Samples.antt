@@ -38,7 +38,7 @@ one_word base = words (
     ∷ [])
 
 one_word-read : elf_fault (one_word 0x10000) ≡ None
-unfolding u8_at u16_at u32_at any_below table_of count_of section is_allocated has_content is_of_kind is_symtab symbol_count symbol_place symbol is_static_relocation is_kept rela_count rela_place rela has_magic is_current has_table header_fault passes_end is_nameless has_symbol_shape is_bad_symtab is_symbolless has_rela_shape is_bad_rela section_fault
+unfolding u8_at u16_at u32_at any_below table_of count_of section is_allocated has_content is_of_kind is_symtab symbol_count symbol_place symbol is_static_relocation is_kept rela_count rela_place rela has_magic is_current has_table header_fault passes_end is_nameless has_symbol_shape is_bad_symtab is_symbolless has_rela_shape is_bad_rela section_fault elf_fault
 one_word-read = refl
 
 one_word-fault : layout_fault (one_word 0x10000) ≡ None
