@@ -1,6 +1,6 @@
 -- The immediates of the five formats: RISC-V unprivileged ISA, "Immediate Encoding Variants".
 -- A format lists its pieces once; reading and replacing both go by that list.
-use Rattle.std.specs.Prelude.{◌≡◌, ℕ, ◌+◌, ◌-◌, ◌*◌, ◌%◌, ◌^◌, ◌<◌, List, [], ◌∷◌, nat_lt, if◌then◌else◌}
+use Rattle.std.specs.Prelude.{◌≡◌, ℕ, ◌+◌, ◌-◌, ◌*◌, ◌%◌, ◌^◌, List, [], ◌∷◌, nat_lt, if◌then◌else◌}
 use Rattle.rv32im_table.specs.Field.{bits}
 
 -- `width` bits that stand from bit `at` up in the word and from bit `value` up in the immediate

@@ -1,5 +1,5 @@
 -- The ranges of an instruction's fields: RISC-V unprivileged ISA, "Base Instruction Formats".
-use Rattle.std.specs.Prelude.{ℕ, ◌<◌}
+use Rattle.std.specs.Prelude.{◌<◌}
 use Rattle.rv32im_table.specs.declared.instr.Instr.{Instr}
 use Rattle.rv32im_table.specs.declared.instr.Instr.TheVariants.{Lui, Auipc, Jal, Jalr, Beq, Bne, Blt, Bge, Bltu, Bgeu, Lb, Lh, Lw, Lbu, Lhu, Sb, Sh, Sw, Addi, Slti, Sltiu, Xori, Ori, Andi, Slli, Srli, Srai, Add, Sub, Sll, Slt, Sltu, Xor, Srl, Sra, Or, And, Mul, Mulh, Mulhsu, Mulhu, Div, Divu, Rem, Remu, Fence, FenceI, Ecall, Ebreak}
 

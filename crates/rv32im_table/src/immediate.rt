@@ -46,7 +46,11 @@ pub fn imm_b(w: u32) -> u32
     ensures immediate { IsImmediate format_b result }
 {
     let low = (bits(w, 8, 4) << 1) + (bits(w, 25, 6) << 5) + (bits(w, 7, 1) << 11);
-    if bits(w, 31, 1) == 0 { low } else { low + 0xffff_f000 }
+    if bits(w, 31, 1) == 0 {
+        low
+    } else {
+        low + 0xffff_f000
+    }
 }
 
 /// The upper 20 bits of a U-type word, the low 12 bits zero.
@@ -67,7 +71,11 @@ pub fn imm_j(w: u32) -> u32
     ensures immediate { IsImmediate format_j result }
 {
     let low = (bits(w, 21, 10) << 1) + (bits(w, 20, 1) << 11) + (bits(w, 12, 8) << 12);
-    if bits(w, 31, 1) == 0 { low } else { low + 0xfff0_0000 }
+    if bits(w, 31, 1) == 0 {
+        low
+    } else {
+        low + 0xfff0_0000
+    }
 }
 
 /// The word with its I immediate replaced by `v`, of which bits 11 to 0 count.

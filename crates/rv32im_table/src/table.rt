@@ -17,7 +17,11 @@ fn jalr(word: u32) -> Option<Instr>
     ensures fields { IfSome result FieldsFit }
 {
     match funct3(word) {
-        0 => Some(Instr::Jalr { rd: rd(word), rs1: rs1(word), imm: imm_i(word) }),
+        0 => Some(Instr::Jalr {
+            rd: rd(word),
+            rs1: rs1(word),
+            imm: imm_i(word),
+        }),
         _ => None,
     }
 }
@@ -90,9 +94,21 @@ fn op_imm(word: u32) -> Option<Instr>
         (4, _) => Some(Instr::Xori { rd, rs1, imm }),
         (6, _) => Some(Instr::Ori { rd, rs1, imm }),
         (7, _) => Some(Instr::Andi { rd, rs1, imm }),
-        (1, 0x00) => Some(Instr::Slli { rd, rs1, imm: shamt(word) }),
-        (5, 0x00) => Some(Instr::Srli { rd, rs1, imm: shamt(word) }),
-        (5, 0x20) => Some(Instr::Srai { rd, rs1, imm: shamt(word) }),
+        (1, 0x00) => Some(Instr::Slli {
+            rd,
+            rs1,
+            imm: shamt(word),
+        }),
+        (5, 0x00) => Some(Instr::Srli {
+            rd,
+            rs1,
+            imm: shamt(word),
+        }),
+        (5, 0x20) => Some(Instr::Srai {
+            rd,
+            rs1,
+            imm: shamt(word),
+        }),
         _ => None,
     }
 }
@@ -165,9 +181,18 @@ pub fn decode(word: u32) -> Option<Instr>
     ensures fields { IfSome result FieldsFit }
 {
     match opcode(word) {
-        0x37 => Some(Instr::Lui { rd: rd(word), imm: imm_u(word) }),
-        0x17 => Some(Instr::Auipc { rd: rd(word), imm: imm_u(word) }),
-        0x6f => Some(Instr::Jal { rd: rd(word), imm: imm_j(word) }),
+        0x37 => Some(Instr::Lui {
+            rd: rd(word),
+            imm: imm_u(word),
+        }),
+        0x17 => Some(Instr::Auipc {
+            rd: rd(word),
+            imm: imm_u(word),
+        }),
+        0x6f => Some(Instr::Jal {
+            rd: rd(word),
+            imm: imm_j(word),
+        }),
         0x67 => jalr(word),
         0x63 => branch(word),
         0x03 => load(word),
