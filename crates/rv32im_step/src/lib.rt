@@ -1,13 +1,21 @@
-// A library with one function.
+//! One RV32IM instruction over the registers and a bus.
+//!
+//! Here stands what one instruction does, and what it asks of memory. No system calls, no processes, and
+//! no memory but the plain one of `ByteBus`.
 #![tactic(auto)]
 
-ghost use Rattle.std.specs.Prelude.{◌≡◌};
-ghost use Rattle.rv32im_step.specs.Echo.{echo_of};
+mod access;
+mod bus;
+mod hart;
+mod integer;
+mod memory;
+mod multiply;
+mod regs;
+mod stop;
+mod transfer;
 
-// The `ensures` clause is the contract: what `echo` returns is `echo_of` of its argument, a definition
-// in `specs/Echo.antt`, which a caller's clause can cite too.
-pub fn echo(x: usize) -> usize
-    ensures { result ≡ echo_of x }
-{
-    x
-}
+pub use access::{Access, AccessKind};
+pub use bus::Bus;
+pub use hart::step;
+pub use regs::Regs;
+pub use stop::Stop;
