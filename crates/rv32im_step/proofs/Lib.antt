@@ -1,1 +1,2 @@
+pub mod ByteBusLaws
 pub mod Products

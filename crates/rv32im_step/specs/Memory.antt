@@ -33,10 +33,13 @@ abbrev pub or_refused : Access → Option ℕ → Result ℕ Access
 or_refused access (Some n) = Ok n
 or_refused access None = Err access
 
--- what an access reads; a range that passes 2^32 is outside every memory
+-- the number that a range spells; a range that passes 2^32 is outside every memory
+abbrev pub reading : Bytes → ℕ → ℕ → Option ℕ
+reading m addr len = if nat_le (addr + len) (2 ^ 32) then number m addr len else None
+
+-- what an access reads, if its range is in the map
 unfoldable pub loaded : Bytes → Access → Result ℕ Access
-loaded m access =
-    if nat_le (access.addr + access.len) (2 ^ 32) then or_refused access (number m access.addr access.len) else Err access
+loaded m access = or_refused access (reading m access.addr access.len)
 
 -- the lowest bytes of a number, the lowest first
 abbrev pub little_bytes : ℕ → ℕ → List ℕ

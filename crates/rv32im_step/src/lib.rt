@@ -6,6 +6,7 @@
 
 mod access;
 mod bus;
+mod byte_bus;
 mod hart;
 mod integer;
 mod memory;
@@ -16,6 +17,7 @@ mod transfer;
 
 pub use access::{Access, AccessKind};
 pub use bus::Bus;
+pub use byte_bus::ByteBus;
 pub use hart::step;
 pub use regs::Regs;
 pub use stop::Stop;
