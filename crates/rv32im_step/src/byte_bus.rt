@@ -1,6 +1,7 @@
 //! A plain bus.
 
 ghost use Rattle.std.specs.Prelude.{◌≡◌, ◌⊎◌, ◌+◌, ◌^◌, ◌<◌, ◌≤◌, length, IfSome};
+ghost use Rattle.std.proofs.Common.{refl, ◌∙◌};
 ghost use Rattle.rv32im_step.specs.ByteBus.{byte_of, writable_of, place_of, little, overwritten};
 ghost use Rattle.rv32im_step.specs.Memory.{reading, little_bytes};
 

@@ -21,3 +21,6 @@ pub use byte_bus::ByteBus;
 pub use hart::step;
 pub use regs::Regs;
 pub use stop::Stop;
+
+#[cfg(test)]
+mod tests;
