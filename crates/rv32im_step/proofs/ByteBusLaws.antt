@@ -1,6 +1,6 @@
 -- What one array of bytes is as a map.
-use Rattle.std.proofs.Common.{◌≡◌, ℕ, zero, suc, ◌+◌, ◌-◌, ◌*◌, ◌/◌, ◌≤◌, ◌<◌, ◌^◌, length, List, [], ◌∷◌, arith, refl, ap, rules, ◌∙◌, sym, inl, inr, ◌≢◌, length-set}
-use Rattle.std.specs.Prelude.{Bool, true, false, ◌&&◌, ◌==◌, nat_le, nat_lt, is_some, if◌then◌else◌, Option, Some, None, Result, Ok, Err, slice_get, slice_index, slice_set}
+use Rattle.std.proofs.Common.{◌≡◌, ℕ, zero, suc, ◌+◌, ◌-◌, ◌/◌, ◌≤◌, ◌<◌, ◌^◌, length, List, [], ◌∷◌, arith, refl, ap, ◌∙◌, sym, inl, inr, ◌≢◌, length-set}
+use Rattle.std.specs.Prelude.{true, ◌&&◌, nat_le, is_some, Option, Some, None, Ok, Err, slice_get, slice_index, slice_set}
 use Rattle.std.proofs.lemmas.Bool.Decides.{nat_tests}
 use Rattle.std.proofs.lemmas.Grind.{common_steps}
 use Rattle.std.proofs.lemmas.Option.{slice_get_past, slice_get-get_or}
@@ -8,7 +8,7 @@ use Rattle.std.proofs.lemmas.List.{get_or-set_same, get_or-set_other}
 use Rattle.std.proofs.lemmas.Bool.{cases_lt}
 use Rattle.rv32im_step.specs.declared.access.Access.{Access}
 use Rattle.rv32im_step.specs.ByteBus.{byte_of, writable_of, place_of, little, overwritten}
-use Rattle.rv32im_step.specs.Memory.{Bytes, with_low, number, or_refused, reading, loaded, little_bytes, with_byte, with_bytes, all_writable, stored}
+use Rattle.rv32im_step.specs.Memory.{Bytes, with_low, number, reading, little_bytes, with_byte, with_bytes, all_writable, stored}
 
 -- ---- one byte
 

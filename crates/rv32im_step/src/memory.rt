@@ -88,12 +88,8 @@ pub fn store<B: Bus>(regs: &mut Regs, bus: &mut B, rs1: u8, rs2: u8, offset: u32
     ensures writable { B.writable bus.new ≡ B.writable bus.old }
     ensures keeps { B.keeps bus.old bus.new }
 {
-    match bus.store(
-        regs.pc,
-        regs.read(rs1).wrapping_add(offset),
-        len,
-        regs.read(rs2),
-    ) {
+    let addr = regs.read(rs1).wrapping_add(offset);
+    match bus.store(regs.pc, addr, len, regs.read(rs2)) {
         Ok(()) => regs.follow(),
         Err(access) => Stop::Refused(access),
     }
