@@ -21,22 +21,22 @@ starves old new outcome told faults = record {
   is_course = (outcome.asks, refl);
   told = told ∙ option_map-same old.told;
   counts = faults;
-  says = refl
+  says = refl;
 }
 
 -- nothing is asked
 pub ends : (old : Seen Told) (wanted said : Said) → wanted.status ≢ status.HostRead → OrMemory wanted said → Goes old old (record { asks = []; said = wanted }) said
 ends old wanted said other says =
-  elim says [
-    inl is ↦ record {
-    course = whole;
-    is_course = tt;
-    told = option_map-same old.told;
-    counts = refl;
-    says = (is, subst (λ (s : Said). s.status ≢ status.HostRead) (sym is) other)
-  }
-  | inr is ↦ subst (Goes old old (record { asks = []; said = wanted })) (sym is) (starves old old _ refl refl)
-  ]
+    elim says [
+      | inl is ↦ record {
+        course = whole;
+        is_course = tt;
+        told = option_map-same old.told;
+        counts = refl;
+        says = (is, subst (λ (s : Said). s.status ≢ status.HostRead) (sym is) other);
+      }
+      | inr is ↦ subst (Goes old old (record { asks = []; said = wanted })) (sym is) (starves old old _ refl refl)
+    ]
 
 -- the host fails at the first ask
 pub fails : (old new : Seen Told) (ask : Ask) (rest : Outcome) (said : Said) → new.told ≡ option_map (λ t. asked_in_vain t ask) old.told → Rose old.faults new.faults → OrMemory (cannot ask) said → Goes old new (after ask rest) said
@@ -45,7 +45,7 @@ fails old new ask rest said told rose says = record {
   is_course = (rest.asks, refl);
   told = told;
   counts = rose;
-  says = says
+  says = says;
 }
 
 with_front : Ask → Course → Course
@@ -86,5 +86,5 @@ answers old mid new ask rest said told faults goes = record {
   is_course = front_is_course ask rest said goes.course goes.is_course;
   told = goes.told ∙ ap (option_map (told_after rest.asks goes.course)) told ∙ front_told ask rest said goes.course old.told;
   counts = front_counts ask rest said goes.course old.faults mid.faults new.faults faults goes.counts;
-  says = front_says ask rest said goes.course goes.says
+  says = front_says ask rest said goes.course goes.says;
 }

@@ -53,7 +53,7 @@ module _ (old new : Seen Told) (name bytes : List ℕ) (wanted said : Said) wher
       → Goes old new (record { asks = store name bytes ∷ []; said = wanted }) said
   stores told cause other is =
       answers old new new (store name bytes) (record { asks = []; said = wanted }) said (store_answered _ _ _ _ told)
-          (stands {T = Unit {0}} error.Failed old.faults new.faults (Ok tt) cause (λ e. cc)) (ends new wanted said other (inl is))
+      (stands {T = Unit {0}} error.Failed old.faults new.faults (Ok tt) cause (λ e. cc)) (ends new wanted said other (inl is))
 
   pub fails_to_store : StoreTold {T = Unit {0}} old.told new.told name bytes (Err error.Failed) → HasCause {T = Unit {0}} error.Failed old.faults new.faults (Err error.Failed) → OrMemory (cannot (store name bytes)) said
       → Goes old new (record { asks = store name bytes ∷ []; said = wanted }) said
@@ -64,7 +64,7 @@ module _ (old new : Seen Told) (name bytes : List ℕ) (wanted said : Said) wher
       → Goes old new (record { asks = store name bytes ∷ []; said = wanted }) said
   starves_to_store told cause is =
       subst (Goes old new (record { asks = store name bytes ∷ []; said = wanted })) (sym is)
-          (starves old new _ (store_starved _ _ _ _ told) (stands {T = Unit {0}} error.Failed old.faults new.faults (Err error.Memory) cause (λ e. cc)))
+      (starves old new _ (store_starved _ _ _ _ told) (stands {T = Unit {0}} error.Failed old.faults new.faults (Err error.Memory) cause (λ e. cc)))
 
 -- ---- a load at the start
 
@@ -99,8 +99,8 @@ module _ (old mid new : Seen Told) (name into : List ℕ) (x : Loaded) (rest : L
       let faults : mid.faults ≡ old.faults = stands error.Failed old.faults mid.faults (Ok x) cause (λ e. cc) in
       let step = λ (o : Option (List ℕ)) (goes : Goes mid new (with_found name o rest) said). answers old mid new (load name) (with_found name o rest) said (load_answered _ _ _ _ _ x told) faults goes in
       (elim old.told as (λ (t : Option Told). LoadTold t mid.told name file_limit into (Ok x) → FollowsFrom t old new (λ finds. with_file name (finds 0 name) rest) said) [
-        None ↦ λ h. ((λ i n. Some some.0), step (Some some.0) (go some.0 some.1))
-      | Some t ↦ λ h. step (get t.files name) (found_goes (get t.files name) h.1 go)
+        | None ↦ λ h. ((λ i n. Some some.0), step (Some some.0) (go some.0 some.1))
+        | Some t ↦ λ h. step (get t.files name) (found_goes (get t.files name) h.1 go)
       ]) told
 
 -- the whole file: the rest goes on with its bytes
@@ -110,8 +110,8 @@ pub loads_all : (old mid new : Seen Told) (name into : List ℕ) (rest : List �
 loads_all old mid new name into rest said told cause short goes =
     let fits : nat_lt file_limit (length into) ≡ false = grind (arith, nat_tests) in
     loads_first old mid new name into loaded.All rest said told cause
-        (λ e h. let p = showing_all _ e into h in rw p.0 (subst (λ (b : List ℕ). Goes mid new (rest b) said) (sym p.1) goes))
-        (into, rw fits refl)
+    (λ e h. let p = showing_all _ e into h in rw p.0 (subst (λ (b : List ℕ). Goes mid new (rest b) said) (sym p.1) goes))
+    (into, rw fits refl)
 
 -- a file that is too long
 pub loads_too_long : (old mid : Seen Told) (name into : List ℕ) (rest : List ℕ → Outcome) (said : Said)
@@ -120,29 +120,29 @@ pub loads_too_long : (old mid : Seen Told) (name into : List ℕ) (rest : List �
 loads_too_long old mid name into rest said told cause empty says =
     let long = longer file_limit in
     loads_first old mid mid name into loaded.TooLong rest said told cause
-        (λ e h. let p = showing_long _ e into h in rw p (ends mid (refused_said too_long_tail) said (λ e. cc) says))
-        (long.0, rw (long.1, empty) refl)
+    (λ e h. let p = showing_long _ e into h in rw p (ends mid (refused_said too_long_tail) said (λ e. cc) says))
+    (long.0, rw (long.1, empty) refl)
 
 -- a course of any outcome that begins with this load
 follows : (old new : Seen Told) (outcome : Finds → Outcome) (said : Said) → ((finds : Finds) → Goes old new (outcome finds) said) → Follows old new outcome said
 follows old new outcome said go = elim old.told as (λ (t : Option Told). FollowsFrom t old new outcome said) [
-    None ↦ ((λ i n. None), go (λ i n. None))
+  | None ↦ ((λ i n. None), go (λ i n. None))
   | Some t ↦ go (finds_in t.files)
-  ]
+]
 
 pub fails_to_load : (old new : Seen Told) (name into : List ℕ) (rest : List ℕ → Outcome) (said : Said)
     → LoadTold old.told new.told name file_limit into (Err error.Failed) → HasCause {T = Loaded} error.Failed old.faults new.faults (Err error.Failed)
     → OrMemory (cannot (load name)) said → Follows old new (λ finds. with_file name (finds 0 name) rest) said
 fails_to_load old new name into rest said told cause says =
     follows old new (λ finds. with_file name (finds 0 name) rest) said
-        (λ finds. fails old new (load name) (with_found name (finds 0 name) rest) said (load_failed _ _ _ _ _ told) (cause.fault refl) says)
+    (λ finds. fails old new (load name) (with_found name (finds 0 name) rest) said (load_failed _ _ _ _ _ told) (cause.fault refl) says)
 
 pub starves_to_load : (old new : Seen Told) (name into : List ℕ) (rest : List ℕ → Outcome)
     → LoadTold old.told new.told name file_limit into (Err error.Memory) → HasCause {T = Loaded} error.Failed old.faults new.faults (Err error.Memory)
     → Follows old new (λ finds. with_file name (finds 0 name) rest) memory_said
 starves_to_load old new name into rest told cause =
     follows old new (λ finds. with_file name (finds 0 name) rest) memory_said
-        (λ finds. starves old new (with_file name (finds 0 name) rest) (load_starved _ _ _ _ _ told) (stands {T = Loaded} error.Failed old.faults new.faults (Err error.Memory) cause (λ e. cc)))
+    (λ finds. starves old new (with_file name (finds 0 name) rest) (load_starved _ _ _ _ _ told) (stands {T = Loaded} error.Failed old.faults new.faults (Err error.Memory) cause (λ e. cc)))
 
 -- nothing is asked
 pub asks_nothing : (old : Seen Told) (wanted said : Said) → wanted.status ≢ status.HostRead → OrMemory wanted said → Follows old old (λ finds. record { asks = []; said = wanted }) said

@@ -16,7 +16,7 @@ use Rattle.suite_top.proofs.Courses.{starves, ends}
 pub refuses : (old : Seen Told) (flt e : List ℕ) (first : Refusal) (said : Said) → (first ≡ refusal.Memory) ⊎ (fault e ≡ Some first)
     → (first ≡ refusal.Memory → said ≡ memory_said) → OrMemory (refused_said (refusal_tail first)) said → Goes old old (converted_outcome flt e) said
 refuses old flt e first said why missing says =
-  elim why [
-    inl is ↦ subst (Goes old old (converted_outcome flt e)) (sym (missing is)) (starves old old _ refl refl)
-  | inr is ↦ subst (λ (o : Option Refusal). Goes old old (judged_outcome flt e o) said) (sym is) (ends old (refused_said (refusal_tail first)) said (λ other. cc) says)
-  ]
+    elim why [
+      | inl is ↦ subst (Goes old old (converted_outcome flt e)) (sym (missing is)) (starves old old _ refl refl)
+      | inr is ↦ subst (λ (o : Option Refusal). Goes old old (judged_outcome flt e o) said) (sym is) (ends old (refused_said (refusal_tail first)) said (λ other. cc) says)
+    ]

@@ -18,7 +18,7 @@ stack = 4096
 abbrev pub stored_outcome : List ℕ → List ℕ → Outcome
 stored_outcome flt y = record {
   asks = store flt y ∷ [];
-  said = record { status = status.Done; out = convert_line (numbers_of y); report = [] }
+  said = record { status = status.Done; out = convert_line (numbers_of y); report = [] };
 }
 
 abbrev pub judged_outcome : List ℕ → List ℕ → Option Refusal → Outcome

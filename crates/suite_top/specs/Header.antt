@@ -11,5 +11,5 @@ numbers_of y = record {
   bss = bss_end y - data_end y;
   stack = stack_size y;
   records = reloc_count y;
-  entry = entry y
+  entry = entry y;
 }

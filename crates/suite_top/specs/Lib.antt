@@ -11,6 +11,7 @@
 -- Seen: what is known of the outside.
 -- Course: how far a host answered, and what is said then.
 -- Delivery: how far the sinks took what is said.
+-- Call: what a call of the top call does.
 pub mod Status
 pub mod Outcome
 pub mod Header
@@ -24,3 +25,4 @@ pub mod Answers
 pub mod Seen
 pub mod Course
 pub mod Delivery
+pub mod Call

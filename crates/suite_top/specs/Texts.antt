@@ -69,9 +69,9 @@ sizes_words n = joined (codes "text " ∷ decimal n.text ∷ codes " data " ∷ 
 
 abbrev pub convert_line : Numbers → List ℕ
 convert_line n = joined
-  ( sizes_words n
-  ∷ codes " stack " ∷ decimal n.stack
-  ∷ codes " records " ∷ decimal n.records
-  ∷ codes " entry " ∷ decimal n.entry
-  ∷ codes "\n"
-  ∷ [])
+    (sizes_words n
+    ∷ codes " stack " ∷ decimal n.stack
+    ∷ codes " records " ∷ decimal n.records
+    ∷ codes " entry " ∷ decimal n.entry
+    ∷ codes "\n"
+    ∷ [])

@@ -21,17 +21,29 @@ impl Answer {
         ensures { said_in result ≡ record { status = Status.Done; out = string_bytes out; report = [] } }
     {
         let report = String::new(alloc);
-        Answer { status: Status::Done, out, report }
+        Answer {
+            status: Status::Done,
+            out,
+            report,
+        }
     }
 
     /// The command ended early, and `report` takes this line if there was memory for it.
-    pub fn early(alloc: Global, status: Status, line: Result<String, AllocError>) -> Result<Answer, AllocError>
+    pub fn early(
+        alloc: Global,
+        status: Status,
+        line: Result<String, AllocError>,
+    ) -> Result<Answer, AllocError>
         ensures { SaysLine status line (said_of result) }
     {
         match line {
             Ok(report) => {
                 let out = String::new(alloc);
-                Ok(Answer { status, out, report })
+                Ok(Answer {
+                    status,
+                    out,
+                    report,
+                })
             }
             Err(error) => Err(error),
         }

@@ -20,7 +20,12 @@ const FILE_LIMIT: u32 = 67_108_864;
 const STACK: u32 = 4096;
 
 /// Loads the ELF file, converts it and stores its flat file.
-pub fn convert_file<H: Host>(alloc: Global, elf: &str, flt: &str, host: &mut H) -> Result<Answer, AllocError>
+pub fn convert_file<H: Host>(
+    alloc: Global,
+    elf: &str,
+    flt: &str,
+    host: &mut H,
+) -> Result<Answer, AllocError>
     ensures { Follows (seen H.told H.faults host.old) (seen H.told H.faults host.new) (convert_outcome elf.now flt.now) (said_of result) }
 {
     let mut bytes = Vec::new(alloc);
@@ -36,7 +41,12 @@ pub fn convert_file<H: Host>(alloc: Global, elf: &str, flt: &str, host: &mut H) 
     }
 }
 
-fn convert_bytes<H: Host>(alloc: Global, bytes: &[u8], flt: &str, host: &mut H) -> Result<Answer, AllocError>
+fn convert_bytes<H: Host>(
+    alloc: Global,
+    bytes: &[u8],
+    flt: &str,
+    host: &mut H,
+) -> Result<Answer, AllocError>
     ensures { Goes (seen H.told H.faults host.old) (seen H.told H.faults host.new) (converted_outcome flt.now bytes.now) (said_of result) }
 {
     match convert(alloc, bytes, STACK) {
@@ -48,7 +58,12 @@ fn convert_bytes<H: Host>(alloc: Global, bytes: &[u8], flt: &str, host: &mut H) 
     }
 }
 
-fn store_flat<H: Host>(alloc: Global, flt: &str, flat: &[u8], host: &mut H) -> Result<Answer, AllocError>
+fn store_flat<H: Host>(
+    alloc: Global,
+    flt: &str,
+    flat: &[u8],
+    host: &mut H,
+) -> Result<Answer, AllocError>
     requires { 64 ≤ length flat.now }
     ensures { Goes (seen H.told H.faults host.old) (seen H.told H.faults host.new) (stored_outcome flt.now flat.now) (said_of result) }
 {

@@ -20,7 +20,14 @@ fn write_text<S: Sink>(alloc: Global, sink: &mut S, text: &str) -> Result<(), St
 }
 
 /// Writes the text for `out` and then that for `report`, and gives the status that the call ends with.
-pub fn deliver<O: Sink, R: Sink>(alloc: Global, status: Status, out_text: &str, report_text: &str, out: &mut O, report: &mut R) -> Status
+pub fn deliver<O: Sink, R: Sink>(
+    alloc: Global,
+    status: Status,
+    out_text: &str,
+    report_text: &str,
+    out: &mut O,
+    report: &mut R,
+) -> Status
     ensures { Delivers (record { status = status; out = out_text.now; report = report_text.now })
         (seen O.told O.faults out.old) (seen O.told O.faults out.new)
         (seen R.told R.faults report.old) (seen R.told R.faults report.new) result }

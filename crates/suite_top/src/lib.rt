@@ -13,5 +13,10 @@ mod texts;
 mod top;
 mod words;
 
+pub use delivery::deliver;
 pub use status::Status;
+pub use texts::MEMORY_LINE;
 pub use top::suite;
+
+#[cfg(test)]
+mod tests;

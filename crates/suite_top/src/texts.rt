@@ -8,8 +8,8 @@ use elf32_reader::ElfFault;
 use flat_layout::LayoutFault;
 use std::alloc::{AllocError, Global};
 
-/// The one line of a call for which memory is missing. It is at hand without memory.
-pub const MEMORY: &str = "memory\n";
+/// The line of a call for which memory is missing. It is at hand without memory.
+pub const MEMORY_LINE: &str = "memory\n";
 
 /// The line for words that are no command.
 pub fn usage(alloc: Global) -> Result<String, AllocError>
@@ -94,7 +94,12 @@ pub fn refused_conversion(alloc: Global, refusal: &Refusal) -> Result<String, Al
 fn sizes_words(alloc: Global, numbers: &Numbers) -> Result<String, AllocError>
     ensures { IfOk result (λ words. string_bytes words ≡ sizes_words numbers.now) }
 {
-    let Numbers { text, data_len, bss, .. } = *numbers;
+    let Numbers {
+        text,
+        data_len,
+        bss,
+        ..
+    } = *numbers;
     format!(in alloc; "text {text} data {data_len} bss {bss}")
 }
 
@@ -103,6 +108,11 @@ pub fn convert_line(alloc: Global, numbers: &Numbers) -> Result<String, AllocErr
     ensures { IfOk result (λ line. string_bytes line ≡ convert_line numbers.now) }
 {
     let sizes = sizes_words(alloc, numbers)?;
-    let Numbers { stack, records, entry, .. } = *numbers;
+    let Numbers {
+        stack,
+        records,
+        entry,
+        ..
+    } = *numbers;
     format!(in alloc; "{sizes} stack {stack} records {records} entry {entry}\n")
 }

@@ -14,7 +14,10 @@ pub fn read_words(words: &[String]) -> Option<Command<'_>>
     ensures { option_map spoken result ≡ command_of (map string_bytes words.now) }
 {
     match words {
-        [word, elf, flt] if word.as_str() == "convert" => Some(Command::Convert { elf: elf.as_str(), flt: flt.as_str() }),
+        [word, elf, flt] if word.as_str() == "convert" => Some(Command::Convert {
+            elf: elf.as_str(),
+            flt: flt.as_str(),
+        }),
         _ => None,
     }
 }

@@ -18,4 +18,4 @@ returns-in-Err g c =
     let line = c.refused_conversion-line in
     let said = c.early.ensures in
     refuses _ c.args.flt.now c.args.bytes.now first _ c.in-Err.ensures (λ is. says_no_line status.Refused line.result _ (line.ensures.no_line is) said)
-        (says_line status.Refused line.result (refused_line (refusal_tail first)) _ line.ensures.line said)
+    (says_line status.Refused line.result (refused_line (refusal_tail first)) _ line.ensures.line said)

@@ -22,7 +22,7 @@ returns-in-Ok-TooLong g c =
     let cause = rw arm.field-0-is at arm.ensures.cause in
     let empty = rw arm.field-0-is at arm.ensures.too_long in
     loads_too_long _ _ c.args.elf.now _ (converted_outcome c.args.flt.now) _ told cause (empty refl)
-        (says_line status.Refused c.refused.result (refused_line too_long_tail) _ c.refused.ensures c.early.ensures)
+    (says_line status.Refused c.refused.result (refused_line too_long_tail) _ c.refused.ensures c.early.ensures)
 
 pub returns-in-Err-Failed : goal.returns-in-Err-Failed
 returns-in-Err-Failed g c =
@@ -30,7 +30,7 @@ returns-in-Err-Failed g c =
     let told = rw arm.field-0-is at arm.ensures.told in
     let cause = rw arm.field-0-is at arm.ensures.cause in
     fails_to_load _ _ c.args.elf.now _ (converted_outcome c.args.flt.now) _ told cause
-        (says_line status.HostRead c.cannot_read.result (cannot_read_line c.args.elf.now) _ c.cannot_read.ensures c.early-in-Err-Failed.ensures)
+    (says_line status.HostRead c.cannot_read.result (cannot_read_line c.args.elf.now) _ c.cannot_read.ensures c.early-in-Err-Failed.ensures)
 
 pub returns : goal.returns
 returns g c =
