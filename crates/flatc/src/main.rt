@@ -1,0 +1,22 @@
+//! The program `flatc`: its arguments, its two pages and its exit status.
+//!
+//! What a command does, and every text of a command, stands in `suite_top`; the real files and
+//! streams stand in `host_io`.
+#![tactic(auto)]
+
+mod pages;
+mod program;
+
+use host_io::{ErrSink, FolderHost, OutSink};
+use program::{end, read_arguments};
+use std::process::ExitCode;
+
+fn main(rt: HostRuntime) -> ExitCode {
+    let alloc = rt.alloc();
+    let words = read_arguments(&rt);
+    let mut out = OutSink::new(rt.stdout());
+    let mut report = ErrSink::new(rt.stderr());
+    let mut host = FolderHost::new(rt);
+    let status = end(alloc, words, &mut host, &mut out, &mut report);
+    ExitCode::from(status.code())
+}

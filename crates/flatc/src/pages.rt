@@ -1,0 +1,32 @@
+//! The pages that the program writes by itself.
+ghost use Rattle.std.specs.Prelude.{◌≡◌, map, option_map, string_bytes};
+ghost use Rattle.flatc.specs.Pages.{page_of};
+
+/// What the program is for, its commands and its statuses.
+pub const HELP: &str = "\
+flatc converts linked RV32IM ELF executables into bFLT version 4 flat files.
+
+usage: flatc COMMAND WORDS
+
+  convert ELF FLT   convert the file ELF, and store its flat file as FLT
+  --help            write this page
+  --version         write the version
+
+Exit status: 0 done, 1 wrong words, 2 a file can't be read, 3 a file is refused,
+7 standard output or error can't be written, 8 out of memory, 9 a file can't be written.
+
+Read on in README.md.
+";
+
+pub const VERSION: &str = "flatc 0.1.0\n";
+
+/// The page that these words ask for, if they do.
+pub fn page_of(words: &[String]) -> Option<&'static str>
+    ensures { option_map (λ page. page.now) result ≡ page_of HELP.now VERSION.now (map string_bytes words.now) }
+{
+    match words {
+        [word] if word.as_str() == "--help" => Some(HELP),
+        [word] if word.as_str() == "--version" => Some(VERSION),
+        _ => None,
+    }
+}

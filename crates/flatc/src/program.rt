@@ -1,0 +1,55 @@
+//! The program over any host and any sinks.
+ghost use Rattle.std.specs.Prelude.{◌≡◌, map, string_bytes};
+ghost use Rattle.flatc.specs.Pages.{page_of};
+ghost use Rattle.flatc.specs.Program.{Ends};
+ghost use Rattle.suite_top.specs.Seen.{seen};
+
+use crate::pages::{HELP, VERSION, page_of};
+use host_io::{Host, Sink};
+use std::alloc::Global;
+use std::env;
+use std::io;
+use std::rt::Env;
+use suite_top::{MEMORY_LINE, Status, deliver, suite};
+
+/// The words after the program's name. One that isn't text is an error.
+pub fn read_arguments(rt: &(impl Env + AllocGlobal)) -> io::Result<Vec<String>> {
+    let words = env::args(rt)?.skip(1).collect(rt.alloc())?;
+    Ok(words)
+}
+
+/// Writes a page of its own, or carries out the command that the words are.
+pub fn run<H: Host, O: Sink, R: Sink>(
+    alloc: Global,
+    words: &[String],
+    host: &mut H,
+    out: &mut O,
+    report: &mut R,
+) -> Status
+    ensures { Ends (page_of HELP.now VERSION.now (map string_bytes words.now)) (map string_bytes words.now)
+        (seen H.told H.faults host.old) (seen H.told H.faults host.new)
+        (seen O.told O.faults out.old) (seen O.told O.faults out.new)
+        (seen R.told R.faults report.old) (seen R.told R.faults report.new) result }
+{
+    match page_of(words) {
+        Some(page) => deliver(alloc, Status::Done, page, "", out, report),
+        None => suite(alloc, words, host, out, report),
+    }
+}
+
+/// Runs with the words that were read. Where one isn't text, the words are no command.
+pub fn end<H: Host, O: Sink, R: Sink>(
+    alloc: Global,
+    words: io::Result<Vec<String>>,
+    host: &mut H,
+    out: &mut O,
+    report: &mut R,
+) -> Status {
+    match words {
+        Ok(words) => run(alloc, &words, host, out, report),
+        Err(error) if error.kind() == io::ErrorKind::OutOfMemory => {
+            deliver(alloc, Status::Memory, "", MEMORY_LINE, out, report)
+        }
+        Err(_) => suite(alloc, &[], host, out, report),
+    }
+}

@@ -1,0 +1,149 @@
+-- What the answers of a host say as steps of a course.
+use Rattle.std.proofs.Common.{◌≡◌, ◌≢◌, ℕ, suc, ◌+◌, ◌<◌, ◌≤◌, Bool, true, false, cond, List, [], ◌∷◌, length, replicate, inl, Option, Some, None, Result, Ok, Err, refl, sym, ap, subst, ◌∙◌, arith}
+use Rattle.std.specs.Prelude.{option_map, nat_lt}
+use Rattle.std.specs.FinMap.{get}
+use Rattle.std.proofs.lemmas.List.{length-replicate}
+use Rattle.std.proofs.lemmas.Bool.Decides.{nat_tests}
+use Rattle.host_io.specs.Faults.{Rose, HasCause}
+use Rattle.host_io.specs.Host.{Files, Told, loads, LoadTold, StoreTold}
+use Rattle.host_io.specs.declared.host.Loaded.{Loaded}
+use Rattle.host_io.specs.declared.host.Loaded.TheVariants as loaded
+use Rattle.host_io.specs.declared.host.HostError.{HostError}
+use Rattle.host_io.specs.declared.host.HostError.TheVariants as error
+use Rattle.suite_top.specs.declared.status.Status.TheVariants as status
+use Rattle.suite_top.specs.Outcome.{Said, Ask, load, store, Outcome, Finds}
+use Rattle.suite_top.specs.Texts.{too_long_tail}
+use Rattle.suite_top.specs.Early.{cannot, refused_said, memory_said, OrMemory}
+use Rattle.suite_top.specs.Loading.{file_limit, with_found, with_file}
+use Rattle.suite_top.specs.Seen.{Seen}
+use Rattle.suite_top.specs.Course.{answered, asked_in_vain, finds_in, Goes, FollowsFrom, Follows}
+use Rattle.suite_top.proofs.Stops.{stands}
+use Rattle.suite_top.proofs.Courses.{starves, ends, fails, answers}
+
+-- ---- what a host tells after each answer
+
+load_answered : (old new : Option Told) (name : List ℕ) (limit : ℕ) (into : List ℕ) (x : Loaded) → LoadTold old new name limit into (Ok x) → new ≡ option_map (λ t. answered t (load name)) old
+load_answered None new name limit into x h = h
+load_answered (Some t) new name limit into x h = h.0
+
+load_failed : (old new : Option Told) (name : List ℕ) (limit : ℕ) (into : List ℕ) → LoadTold old new name limit into (Err error.Failed) → new ≡ option_map (λ t. asked_in_vain t (load name)) old
+load_failed None new name limit into h = h
+load_failed (Some t) new name limit into h = h.0
+
+load_starved : (old new : Option Told) (name : List ℕ) (limit : ℕ) (into : List ℕ) → LoadTold old new name limit into (Err error.Memory) → new ≡ old
+load_starved None new name limit into h = h
+load_starved (Some t) new name limit into h = h.0
+
+store_answered : (old new : Option Told) (name bytes : List ℕ) → StoreTold {T = Unit {0}} old new name bytes (Ok tt) → new ≡ option_map (λ t. answered t (store name bytes)) old
+store_answered None new name bytes h = h
+store_answered (Some t) new name bytes h = h
+
+store_failed : (old new : Option Told) (name bytes : List ℕ) → StoreTold {T = Unit {0}} old new name bytes (Err error.Failed) → new ≡ option_map (λ t. asked_in_vain t (store name bytes)) old
+store_failed None new name bytes h = h
+store_failed (Some t) new name bytes h = h
+
+store_starved : (old new : Option Told) (name bytes : List ℕ) → StoreTold {T = Unit {0}} old new name bytes (Err error.Memory) → new ≡ old
+store_starved None new name bytes h = h
+store_starved (Some t) new name bytes h = h
+
+-- ---- a store at the end
+
+module _ (old new : Seen Told) (name bytes : List ℕ) (wanted said : Said) where
+  pub stores : StoreTold {T = Unit {0}} old.told new.told name bytes (Ok tt) → HasCause {T = Unit {0}} error.Failed old.faults new.faults (Ok tt) → wanted.status ≢ status.HostRead → said ≡ wanted
+      → Goes old new (record { asks = store name bytes ∷ []; said = wanted }) said
+  stores told cause other is =
+      answers old new new (store name bytes) (record { asks = []; said = wanted }) said (store_answered _ _ _ _ told)
+      (stands {T = Unit {0}} error.Failed old.faults new.faults (Ok tt) cause (λ e. cc)) (ends new wanted said other (inl is))
+
+  pub fails_to_store : StoreTold {T = Unit {0}} old.told new.told name bytes (Err error.Failed) → HasCause {T = Unit {0}} error.Failed old.faults new.faults (Err error.Failed) → OrMemory (cannot (store name bytes)) said
+      → Goes old new (record { asks = store name bytes ∷ []; said = wanted }) said
+  fails_to_store told cause says =
+      fails old new (store name bytes) (record { asks = []; said = wanted }) said (store_failed _ _ _ _ told) (cause.fault refl) says
+
+  pub starves_to_store : StoreTold {T = Unit {0}} old.told new.told name bytes (Err error.Memory) → HasCause {T = Unit {0}} error.Failed old.faults new.faults (Err error.Memory) → said ≡ memory_said
+      → Goes old new (record { asks = store name bytes ∷ []; said = wanted }) said
+  starves_to_store told cause is =
+      subst (Goes old new (record { asks = store name bytes ∷ []; said = wanted })) (sym is)
+      (starves old new _ (store_starved _ _ _ _ told) (stands {T = Unit {0}} error.Failed old.faults new.faults (Err error.Memory) cause (λ e. cc)))
+
+-- ---- a load at the start
+
+-- a file that is longer than a limit
+longer : (limit : ℕ) → (e : List ℕ) × (nat_lt limit (length e) ≡ true)
+longer limit = (replicate (limit + 1) 0, rw (length-replicate {A = ℕ} (limit + 1) 0) (grind (arith, nat_tests)))
+
+abbrev showing : Bool → List ℕ → Loaded × List ℕ
+showing b e = cond b (loaded.TooLong, []) (loaded.All, e)
+
+abbrev sort_of : Loaded × List ℕ → Loaded
+sort_of shown = shown.0
+
+showing_all : (b : Bool) (e into : List ℕ) → showing b e ≡ (loaded.All, into) → (b ≡ false) × (e ≡ into)
+showing_all true e into h = let k : loaded.TooLong ≡ loaded.All = ap sort_of h in absurd cc
+showing_all false e into h = (refl, ap (λ (shown : Loaded × List ℕ). shown.1) h)
+
+showing_long : (b : Bool) (e into : List ℕ) → showing b e ≡ (loaded.TooLong, into) → b ≡ true
+showing_long true e into h = refl
+showing_long false e into h = let k : loaded.All ≡ loaded.TooLong = ap sort_of h in absurd cc
+
+-- a load that found a file, and what it leaves is shown by some file in any case
+module _ (old mid new : Seen Told) (name into : List ℕ) (x : Loaded) (rest : List ℕ → Outcome) (said : Said) where
+  found_goes : (o : Option (List ℕ)) → option_map (λ e. loads e file_limit) o ≡ Some (x, into) → ((e : List ℕ) → loads e file_limit ≡ (x, into) → Goes mid new (with_found name (Some e) rest) said) → Goes mid new (with_found name o rest) said
+  found_goes None h go = absurd cc
+  found_goes (Some e) h go = go e cc
+
+  pub loads_first : LoadTold old.told mid.told name file_limit into (Ok x) → HasCause error.Failed old.faults mid.faults (Ok x)
+      → ((e : List ℕ) → loads e file_limit ≡ (x, into) → Goes mid new (with_found name (Some e) rest) said) → (e : List ℕ) × (loads e file_limit ≡ (x, into))
+      → Follows old new (λ finds. with_file name (finds 0 name) rest) said
+  loads_first told cause go some =
+      let faults : mid.faults ≡ old.faults = stands error.Failed old.faults mid.faults (Ok x) cause (λ e. cc) in
+      let step = λ (o : Option (List ℕ)) (goes : Goes mid new (with_found name o rest) said). answers old mid new (load name) (with_found name o rest) said (load_answered _ _ _ _ _ x told) faults goes in
+      (elim old.told as (λ (t : Option Told). LoadTold t mid.told name file_limit into (Ok x) → FollowsFrom t old new (λ finds. with_file name (finds 0 name) rest) said) [
+        | None ↦ λ h. ((λ i n. Some some.0), step (Some some.0) (go some.0 some.1))
+        | Some t ↦ λ h. step (get t.files name) (found_goes (get t.files name) h.1 go)
+      ]) told
+
+-- the whole file: the rest goes on with its bytes
+pub loads_all : (old mid new : Seen Told) (name into : List ℕ) (rest : List ℕ → Outcome) (said : Said)
+    → LoadTold old.told mid.told name file_limit into (Ok loaded.All) → HasCause error.Failed old.faults mid.faults (Ok loaded.All) → length into ≤ file_limit
+    → Goes mid new (rest into) said → Follows old new (λ finds. with_file name (finds 0 name) rest) said
+loads_all old mid new name into rest said told cause short goes =
+    let fits : nat_lt file_limit (length into) ≡ false = grind (arith, nat_tests) in
+    loads_first old mid new name into loaded.All rest said told cause
+    (λ e h. let p = showing_all _ e into h in rw p.0 (subst (λ (b : List ℕ). Goes mid new (rest b) said) (sym p.1) goes))
+    (into, rw fits refl)
+
+-- a file that is too long
+pub loads_too_long : (old mid : Seen Told) (name into : List ℕ) (rest : List ℕ → Outcome) (said : Said)
+    → LoadTold old.told mid.told name file_limit into (Ok loaded.TooLong) → HasCause error.Failed old.faults mid.faults (Ok loaded.TooLong) → into ≡ []
+    → OrMemory (refused_said too_long_tail) said → Follows old mid (λ finds. with_file name (finds 0 name) rest) said
+loads_too_long old mid name into rest said told cause empty says =
+    let long = longer file_limit in
+    loads_first old mid mid name into loaded.TooLong rest said told cause
+    (λ e h. let p = showing_long _ e into h in rw p (ends mid (refused_said too_long_tail) said (λ e. cc) says))
+    (long.0, rw (long.1, empty) refl)
+
+-- a course of any outcome that begins with this load
+follows : (old new : Seen Told) (outcome : Finds → Outcome) (said : Said) → ((finds : Finds) → Goes old new (outcome finds) said) → Follows old new outcome said
+follows old new outcome said go = elim old.told as (λ (t : Option Told). FollowsFrom t old new outcome said) [
+  | None ↦ ((λ i n. None), go (λ i n. None))
+  | Some t ↦ go (finds_in t.files)
+]
+
+pub fails_to_load : (old new : Seen Told) (name into : List ℕ) (rest : List ℕ → Outcome) (said : Said)
+    → LoadTold old.told new.told name file_limit into (Err error.Failed) → HasCause {T = Loaded} error.Failed old.faults new.faults (Err error.Failed)
+    → OrMemory (cannot (load name)) said → Follows old new (λ finds. with_file name (finds 0 name) rest) said
+fails_to_load old new name into rest said told cause says =
+    follows old new (λ finds. with_file name (finds 0 name) rest) said
+    (λ finds. fails old new (load name) (with_found name (finds 0 name) rest) said (load_failed _ _ _ _ _ told) (cause.fault refl) says)
+
+pub starves_to_load : (old new : Seen Told) (name into : List ℕ) (rest : List ℕ → Outcome)
+    → LoadTold old.told new.told name file_limit into (Err error.Memory) → HasCause {T = Loaded} error.Failed old.faults new.faults (Err error.Memory)
+    → Follows old new (λ finds. with_file name (finds 0 name) rest) memory_said
+starves_to_load old new name into rest told cause =
+    follows old new (λ finds. with_file name (finds 0 name) rest) memory_said
+    (λ finds. starves old new (with_file name (finds 0 name) rest) (load_starved _ _ _ _ _ told) (stands {T = Loaded} error.Failed old.faults new.faults (Err error.Memory) cause (λ e. cc)))
+
+-- nothing is asked
+pub asks_nothing : (old : Seen Told) (wanted said : Said) → wanted.status ≢ status.HostRead → OrMemory wanted said → Follows old old (λ finds. record { asks = []; said = wanted }) said
+asks_nothing old wanted said other says = follows old old (λ finds. record { asks = []; said = wanted }) said (λ finds. ends old wanted said other says)

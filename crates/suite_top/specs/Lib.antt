@@ -1,0 +1,28 @@
+-- Status: the number of each status.
+-- Outcome: what a command asks of the host, and what it says.
+-- Header: the numbers of a flat file.
+-- Texts: every text that users see.
+-- Early: what a call says that ends early.
+-- Words: the table of commands.
+-- Loading: a command that begins with the load of a file.
+-- Convert: the command `convert`.
+-- Result: what each command line gives.
+-- Answers: what an answer of the code says.
+-- Seen: what is known of the outside.
+-- Course: how far a host answered, and what is said then.
+-- Delivery: how far the sinks took what is said.
+-- Call: what a call of the top call does.
+pub mod Status
+pub mod Outcome
+pub mod Header
+pub mod Texts
+pub mod Early
+pub mod Words
+pub mod Loading
+pub mod Convert
+pub mod Result
+pub mod Answers
+pub mod Seen
+pub mod Course
+pub mod Delivery
+pub mod Call

@@ -1,0 +1,77 @@
+-- Every text that users see, each with its newline. Numbers are decimal.
+use Rattle.std.specs.Prelude.{ℕ, List, [], ◌∷◌, ◌++◌, codes, decimal}
+use Rattle.elf32_reader.specs.declared.fault.ElfFault.{ElfFault}
+use Rattle.elf32_reader.specs.declared.fault.ElfFault.TheVariants as elf
+use Rattle.flat_layout.specs.declared.fault.LayoutFault.{LayoutFault}
+use Rattle.flat_layout.specs.declared.fault.LayoutFault.TheVariants as layout
+use Rattle.elf2flt_tool.specs.declared.refusal.Refusal.{Refusal}
+use Rattle.elf2flt_tool.specs.declared.refusal.Refusal.TheVariants as refusal
+use Rattle.suite_top.specs.declared.header.Numbers.{Numbers}
+
+abbrev pub usage_line : List ℕ
+usage_line = codes "usage: flatc COMMAND WORDS\n"
+
+abbrev pub memory_line : List ℕ
+memory_line = codes "memory\n"
+
+abbrev pub cannot_read_line : List ℕ → List ℕ
+cannot_read_line name = codes "host: cannot read " ++ name ++ codes "\n"
+
+abbrev pub cannot_write_line : List ℕ → List ℕ
+cannot_write_line name = codes "host: cannot write " ++ name ++ codes "\n"
+
+abbrev pub refused_line : List ℕ → List ℕ
+refused_line tail = codes "refused: " ++ tail ++ codes "\n"
+
+-- a fault of an ELF file: its number and its name
+abbrev pub elf_fault_words : ElfFault → List ℕ
+elf_fault_words elf.Short = codes "1 Short"
+elf_fault_words elf.Magic = codes "2 Magic"
+elf_fault_words elf.Class = codes "3 Class"
+elf_fault_words elf.Order = codes "4 Order"
+elf_fault_words elf.Version = codes "5 Version"
+elf_fault_words elf.FileType = codes "6 FileType"
+elf_fault_words elf.Machine = codes "7 Machine"
+elf_fault_words elf.Flags = codes "8 Flags"
+elf_fault_words elf.SectionTable = codes "9 SectionTable"
+elf_fault_words elf.SectionRange = codes "10 SectionRange"
+elf_fault_words elf.SymbolRange = codes "11 SymbolRange"
+elf_fault_words elf.RelaShape = codes "12 RelaShape"
+
+-- a fault of its layout
+abbrev pub layout_fault_words : LayoutFault → List ℕ
+layout_fault_words layout.NoSections = codes "1 NoSections"
+layout_fault_words layout.TooLarge = codes "2 TooLarge"
+layout_fault_words layout.Overlap = codes "3 Overlap"
+layout_fault_words layout.Dynamic = codes "4 Dynamic"
+layout_fault_words layout.Tls = codes "5 Tls"
+layout_fault_words layout.EntryOutside = codes "6 EntryOutside"
+
+-- what stands behind `refused:`; want of memory is no fault of a file, and has no such line
+abbrev pub refusal_tail : Refusal → List ℕ
+refusal_tail (refusal.Elf fault) = codes "elf " ++ elf_fault_words fault
+refusal_tail (refusal.Layout fault) = codes "layout " ++ layout_fault_words fault
+refusal_tail refusal.Form = codes "form"
+refusal_tail refusal.Memory = []
+
+-- of a file longer than the limit of its load
+abbrev pub too_long_tail : List ℕ
+too_long_tail = codes "too long"
+
+-- the pieces, one behind the other
+abbrev pub joined : List (List ℕ) → List ℕ
+joined [] = []
+joined (piece ∷ pieces) = piece ++ joined pieces
+
+-- the sizes of a flat file with these numbers
+abbrev pub sizes_words : Numbers → List ℕ
+sizes_words n = joined (codes "text " ∷ decimal n.text ∷ codes " data " ∷ decimal n.data_len ∷ codes " bss " ∷ decimal n.bss ∷ [])
+
+abbrev pub convert_line : Numbers → List ℕ
+convert_line n = joined
+    (sizes_words n
+    ∷ codes " stack " ∷ decimal n.stack
+    ∷ codes " records " ∷ decimal n.records
+    ∷ codes " entry " ∷ decimal n.entry
+    ∷ codes "\n"
+    ∷ [])

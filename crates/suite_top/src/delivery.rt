@@ -1,0 +1,42 @@
+//! The texts of a command go to the sinks.
+ghost use Rattle.std.specs.Prelude.{◌≡◌};
+ghost use Rattle.suite_top.specs.Outcome.{Said};
+ghost use Rattle.suite_top.specs.Seen.{seen};
+ghost use Rattle.suite_top.specs.Delivery.{Delivers, Wrote};
+
+use crate::status::Status;
+use host_io::{Sink, SinkError, write_whole};
+use std::alloc::Global;
+
+/// Writes a whole text. The error is the status that the call then ends with.
+fn write_text<S: Sink>(alloc: Global, sink: &mut S, text: &str) -> Result<(), Status>
+    ensures { Wrote (seen S.told S.faults sink.old) (seen S.told S.faults sink.new) text.now result }
+{
+    match write_whole(alloc, sink, text.as_bytes()) {
+        Ok(()) => Ok(()),
+        Err(SinkError::Failed) => Err(Status::SinkWrite),
+        Err(SinkError::Memory) => Err(Status::Memory),
+    }
+}
+
+/// Writes the text for `out` and then that for `report`, and gives the status that the call ends with.
+pub fn deliver<O: Sink, R: Sink>(
+    alloc: Global,
+    status: Status,
+    out_text: &str,
+    report_text: &str,
+    out: &mut O,
+    report: &mut R,
+) -> Status
+    ensures { Delivers (record { status = status; out = out_text.now; report = report_text.now })
+        (seen O.told O.faults out.old) (seen O.told O.faults out.new)
+        (seen R.told R.faults report.old) (seen R.told R.faults report.new) result }
+{
+    if let Err(stopped) = write_text(alloc, out, out_text) {
+        return stopped;
+    }
+    if let Err(stopped) = write_text(alloc, report, report_text) {
+        return stopped;
+    }
+    status
+}

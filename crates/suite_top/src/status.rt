@@ -1,0 +1,39 @@
+//! How a call ends.
+ghost use Rattle.std.specs.Prelude.{◌≡◌};
+ghost use Rattle.suite_top.specs.Status.{code_of};
+
+/// How a call of `suite` ended. Its code is the exit status of the program.
+#[derive(Clone, Copy, Debug, PartialEq, Eq)]
+pub enum Status {
+    /// The command was carried out.
+    Done,
+    /// The words are no command.
+    Usage,
+    /// The host failed at a load.
+    HostRead,
+    /// The input has a fault.
+    Refused,
+    /// A sink failed.
+    SinkWrite,
+    /// Want of memory.
+    Memory,
+    /// The host failed at a store.
+    HostWrite,
+}
+
+impl Status {
+    /// The exit status of the program.
+    pub fn code(self) -> u8
+        ensures { result ≡ code_of self }
+    {
+        match self {
+            Status::Done => 0,
+            Status::Usage => 1,
+            Status::HostRead => 2,
+            Status::Refused => 3,
+            Status::SinkWrite => 7,
+            Status::Memory => 8,
+            Status::HostWrite => 9,
+        }
+    }
+}

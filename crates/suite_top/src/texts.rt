@@ -1,0 +1,118 @@
+//! Every text that users see.
+ghost use Rattle.std.specs.Prelude.{◌≡◌, IfOk, IsErr, string_bytes};
+ghost use Rattle.suite_top.specs.Texts.{usage_line, cannot_read_line, cannot_write_line, refused_line, elf_fault_words, layout_fault_words, refusal_tail, sizes_words, convert_line};
+
+use crate::header::Numbers;
+use elf2flt_tool::Refusal;
+use elf32_reader::ElfFault;
+use flat_layout::LayoutFault;
+use std::alloc::{AllocError, Global};
+
+/// The line of a call for which memory is missing. It is at hand without memory.
+pub const MEMORY_LINE: &str = "memory\n";
+
+/// The line for words that are no command.
+pub fn usage(alloc: Global) -> Result<String, AllocError>
+    ensures { IfOk result (λ line. string_bytes line ≡ usage_line) }
+{
+    String::from_str(alloc, "usage: flatc COMMAND WORDS\n")
+}
+
+/// The line for a file that the host can't load.
+pub fn cannot_read(alloc: Global, name: &str) -> Result<String, AllocError>
+    ensures { IfOk result (λ line. string_bytes line ≡ cannot_read_line name.now) }
+{
+    format!(in alloc; "host: cannot read {name}\n")
+}
+
+/// The line for a file that the host can't store.
+pub fn cannot_write(alloc: Global, name: &str) -> Result<String, AllocError>
+    ensures { IfOk result (λ line. string_bytes line ≡ cannot_write_line name.now) }
+{
+    format!(in alloc; "host: cannot write {name}\n")
+}
+
+/// The line for input with a fault.
+pub fn refused(alloc: Global, tail: &str) -> Result<String, AllocError>
+    ensures { IfOk result (λ line. string_bytes line ≡ refused_line tail.now) }
+{
+    format!(in alloc; "refused: {tail}\n")
+}
+
+fn elf_fault_words(fault: ElfFault) -> &'static str
+    ensures { result.now ≡ elf_fault_words fault }
+{
+    match fault {
+        ElfFault::Short => "1 Short",
+        ElfFault::Magic => "2 Magic",
+        ElfFault::Class => "3 Class",
+        ElfFault::Order => "4 Order",
+        ElfFault::Version => "5 Version",
+        ElfFault::FileType => "6 FileType",
+        ElfFault::Machine => "7 Machine",
+        ElfFault::Flags => "8 Flags",
+        ElfFault::SectionTable => "9 SectionTable",
+        ElfFault::SectionRange => "10 SectionRange",
+        ElfFault::SymbolRange => "11 SymbolRange",
+        ElfFault::RelaShape => "12 RelaShape",
+    }
+}
+
+fn layout_fault_words(fault: LayoutFault) -> &'static str
+    ensures { result.now ≡ layout_fault_words fault }
+{
+    match fault {
+        LayoutFault::NoSections => "1 NoSections",
+        LayoutFault::TooLarge => "2 TooLarge",
+        LayoutFault::Overlap => "3 Overlap",
+        LayoutFault::Dynamic => "4 Dynamic",
+        LayoutFault::Tls => "5 Tls",
+        LayoutFault::EntryOutside => "6 EntryOutside",
+    }
+}
+
+/// The line for an ELF file that isn't converted. Want of memory has no such line.
+pub fn refused_conversion(alloc: Global, refusal: &Refusal) -> Result<String, AllocError>
+    ensures line { IfOk result (λ line. string_bytes line ≡ refused_line (refusal_tail refusal.now)) }
+    ensures no_line { refusal.now ≡ Refusal.Memory → IsErr result }
+{
+    match refusal {
+        Refusal::Elf(fault) => {
+            let words = elf_fault_words(*fault);
+            format!(in alloc; "refused: elf {words}\n")
+        }
+        Refusal::Layout(fault) => {
+            let words = layout_fault_words(*fault);
+            format!(in alloc; "refused: layout {words}\n")
+        }
+        Refusal::Form => refused(alloc, "form"),
+        Refusal::Memory => Err(AllocError),
+    }
+}
+
+/// The sizes of a flat file.
+fn sizes_words(alloc: Global, numbers: &Numbers) -> Result<String, AllocError>
+    ensures { IfOk result (λ words. string_bytes words ≡ sizes_words numbers.now) }
+{
+    let Numbers {
+        text,
+        data_len,
+        bss,
+        ..
+    } = *numbers;
+    format!(in alloc; "text {text} data {data_len} bss {bss}")
+}
+
+/// The line of a converted file.
+pub fn convert_line(alloc: Global, numbers: &Numbers) -> Result<String, AllocError>
+    ensures { IfOk result (λ line. string_bytes line ≡ convert_line numbers.now) }
+{
+    let sizes = sizes_words(alloc, numbers)?;
+    let Numbers {
+        stack,
+        records,
+        entry,
+        ..
+    } = *numbers;
+    format!(in alloc; "{sizes} stack {stack} records {records} entry {entry}\n")
+}
