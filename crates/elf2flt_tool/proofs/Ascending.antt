@@ -26,9 +26,9 @@ pub same_has : (xs ys : List ℕ) → ((x : ℕ) → Contains xs x → Contains 
 same_has xs ys there back x = elim (cases_Bool (has xs x)) [
   | inl is ↦ is ∙ sym (has_contained ys x (there x (contained xs x is)))
   | inr is ↦ elim (cases_Bool (has ys x)) [
-      | inl other ↦ has_contained xs x (back x (contained ys x other)) ∙ sym other
-      | inr other ↦ is ∙ sym other
-    ]
+    | inl other ↦ has_contained xs x (back x (contained ys x other)) ∙ sym other
+    | inr other ↦ is ∙ sym other
+  ]
 ]
 
 -- a test passes at a member
@@ -54,9 +54,9 @@ pub any_same : (f : ℕ → Bool) (xs ys : List ℕ) → ((x : ℕ) → has xs x
 any_same f xs ys same = elim (cases_Bool (list_any f xs)) [
   | inl found ↦ let p = passes_of f xs found in found ∙ sym (any_member f ys p.number (sym (same p.number) ∙ p.member) p.passes)
   | inr none ↦ elim (cases_Bool (list_any f ys)) [
-      | inl other ↦ let p = passes_of f ys other in any_member f xs p.number (same p.number ∙ p.member) p.passes ∙ sym other
-      | inr other ↦ none ∙ sym other
-    ]
+    | inl other ↦ let p = passes_of f ys other in any_member f xs p.number (same p.number ∙ p.member) p.passes ∙ sym other
+    | inr other ↦ none ∙ sym other
+  ]
 ]
 
 any_congr : (f g : ℕ → Bool) (xs : List ℕ) → ((x : ℕ) → f x ≡ g x) → list_any f xs ≡ list_any g xs
@@ -98,17 +98,17 @@ pair_apart : (xs : List ℕ) (i j : ℕ) → ApartBelow xs (length xs) → Rises
 pair_apart xs i j apart rises here there = elim (cases_order i j) [
   | inl same ↦ same_apart _ _ (ap (λ k. get_or xs k 0) same)
   | inr rest ↦ elim rest [
-      | inl before ↦ behind_apart _ _ (later_apart xs i j apart rises before there)
-      | inr after ↦ ahead_apart _ _ (later_apart xs j i apart rises after here)
-    ]
+    | inl before ↦ behind_apart _ _ (later_apart xs i j apart rises before there)
+    | inr after ↦ ahead_apart _ _ (later_apart xs j i apart rises after here)
+  ]
 ]
 
 -- ascending numbers whose neighbours are apart are apart
 pub none_overlaps : (xs : List ℕ) → ApartBelow xs (length xs) → Rises xs → any_overlap xs ≡ false
 none_overlaps xs apart rises =
     list_any_none (λ p. list_any (overlaps p) xs) xs (All-from_get_or (λ p. list_any (overlaps p) xs ≡ false) xs 0
-      (λ i here. list_any_none (overlaps (get_or xs i 0)) xs (All-from_get_or (λ q. overlaps (get_or xs i 0) q ≡ false) xs 0
-        (λ j there. pair_apart xs i j apart rises here there))))
+    (λ i here. list_any_none (overlaps (get_or xs i 0)) xs (All-from_get_or (λ q. overlaps (get_or xs i 0) q ≡ false) xs 0
+    (λ j there. pair_apart xs i j apart rises here there))))
 
 -- and two neighbours that are near overlap
 pub near_overlap : (xs : List ℕ) (i j : ℕ) → i < length xs → j < length xs → get_or xs i 0 < get_or xs j 0 → get_or xs j 0 < get_or xs i 0 + 4 → any_overlap xs ≡ true

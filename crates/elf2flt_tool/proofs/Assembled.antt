@@ -1,15 +1,15 @@
 -- The parts that the conversion makes are those of the definition.
-use Rattle.std.proofs.Common.{◌≡◌, ℕ, ◌+◌, ◌*◌, ◌/◌, ◌<◌, ◌≤◌, true, List, All, length, map, get_or, slice_index, refl, sym, ap, ◌∙◌, subst, arith}
+use Rattle.std.proofs.Common.{◌≡◌, ℕ, ◌+◌, ◌*◌, ◌/◌, ◌<◌, ◌≤◌, List, All, length, map, get_or, slice_index, refl, sym, ap, ◌∙◌, subst}
 use Rattle.std.specs.List.{list_any}
 use Rattle.std.specs.List.Sorted.{IsStrictlyIncreasing}
 use Rattle.std.proofs.lemmas.List.{length-map, get_or-map}
-use Rattle.bflt_format.specs.Patches.{Patch, painted, bytes_below}
+use Rattle.bflt_format.specs.Patches.{painted, bytes_below}
 use Rattle.bflt_format.specs.Values.{ram_values}
 use Rattle.bflt_format.specs.Rising.{rising}
 use Rattle.bflt_format.proofs.Painting.{bytes_below_same, byte_below, painted_same}
 use Rattle.bflt_format.proofs.Rising.{has, has_at, rising_has}
 use Rattle.flat_layout.specs.declared.layout.Layout.{Layout}
-use Rattle.flat_layout.specs.Layout.{layout, size_of, stored_end}
+use Rattle.flat_layout.specs.Layout.{layout, size_of}
 use Rattle.elf2flt_tool.specs.declared.word.Word.{Word}
 use Rattle.elf2flt_tool.specs.Image.{bare}
 use Rattle.elf2flt_tool.specs.Word.{words, places, points_outside, target_outside, word_overlap}
@@ -38,7 +38,7 @@ unfolding body_of
 body-painted e l ws image laid is linked =
     let n = (layout e).text + (layout e).data_len in
     rw (linked, laid, is) (bytes_below_same n (painted (map number_patch (words e)) (slice_index (bytes_below n (bare e)))) (painted (map number_patch (words e)) (bare e))
-      (λ i below. painted_same (map number_patch (words e)) (slice_index (bytes_below n (bare e))) (bare e) i (byte_below n (bare e) i below)))
+    (λ i below. painted_same (map number_patch (words e)) (slice_index (bytes_below n (bare e))) (bare e) i (byte_below n (bare e) i below)))
 
 -- each word of an accepted file stands in text or data
 pub words-inside : (e : List ℕ) (l : Layout) (ws : List Word) → IsClear e → l ≡ layout e → ws ≡ words e → All (λ w. w.place + 4 ≤ l.text + l.data_len) ws

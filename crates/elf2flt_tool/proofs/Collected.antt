@@ -1,5 +1,5 @@
 -- The words that a walk over entries and sections collects.
-use Rattle.std.proofs.Common.{◌≡◌, ℕ, ◌+◌, ◌<◌, Bool, true, false, not, ◌==◌, if◌then◌else◌, List, [], ◌∷◌, ◌++◌, map, flat_map, Option, Some, None, refl, sym, ap, zero-add, ◌∙◌, append_assoc, append-nil, map-id}
+use Rattle.std.proofs.Common.{◌≡◌, ℕ, ◌+◌, Bool, true, false, not, ◌==◌, if◌then◌else◌, List, [], ◌∷◌, ◌++◌, map, flat_map, Option, Some, None, refl, sym, ap, zero-add, ◌∙◌, append_assoc, append-nil, map-id}
 use Rattle.std.specs.List.{range_with_len}
 use Rattle.std.proofs.lemmas.Bool.{and_parts}
 use Rattle.std.proofs.lemmas.List.{map-append}
@@ -7,9 +7,7 @@ use Rattle.std.proofs.lemmas.List.Concat.{flat_map-append}
 use Rattle.std.proofs.lemmas.List.FromFn.{map-range_with_len_more}
 use Rattle.elf32_reader.specs.declared.section.Section.{Section}
 use Rattle.elf32_reader.specs.Search.{any_below}
-use Rattle.elf32_reader.specs.Sections.{section}
 use Rattle.elf32_reader.specs.Relas.{is_kept, rela_count}
-use Rattle.elf32_reader.proofs.Searches.{any_below_zero, any_below_more, any_below_found}
 use Rattle.flat_layout.specs.declared.layout.Layout.{Layout}
 use Rattle.elf2flt_tool.specs.declared.reloc.Reloc.{Reloc}
 use Rattle.elf2flt_tool.specs.declared.word.Word.{Word}

@@ -1,7 +1,6 @@
 -- When each fault comes, and which words the code collects.
 use Rattle.std.proofs.Common.{◌≡◌, ℕ, Bool, true, false, ◌||◌, not, List, [], ◌∷◌, ◌++◌, map, flat_map, Some, None, refl, sym, ap, ◌∙◌}
 use Rattle.std.specs.List.{range_with_len}
-use Rattle.std.proofs.lemmas.Bool.{or_left, or_right}
 use Rattle.std.proofs.lemmas.List.{map-append}
 use Rattle.std.proofs.lemmas.List.Concat.{flat_map-append}
 use Rattle.elf32_reader.specs.declared.fault.ElfFault.{ElfFault}
@@ -13,8 +12,6 @@ use Rattle.flat_layout.specs.declared.layout.Layout.{Layout}
 use Rattle.flat_layout.specs.Layout.{layout}
 use Rattle.flat_layout.specs.Fault.{layout_fault}
 use Rattle.elf2flt_tool.specs.declared.refusal.Refusal.TheVariants as refusals
-use Rattle.elf2flt_tool.specs.declared.reloc.Reloc.{Reloc}
-use Rattle.elf2flt_tool.specs.declared.word.Word.{Word}
 use Rattle.elf2flt_tool.specs.Reloc.{relocs_in, relocs}
 use Rattle.elf2flt_tool.specs.Field.{fields, fields_of}
 use Rattle.elf2flt_tool.specs.Word.{numbered, words_in, words, has_other, target_outside, word_overlap, is_word_only}
@@ -55,19 +52,19 @@ pub fault-targets : (e : List ℕ) → elf_fault e ≡ None → layout_fault e �
 fault-targets e clear laid targets =
     fault-form e clear laid
     ∙ other_form e (not_word_only e (any_below (has_other e) (count_of e)) true (word_overlap e) refl targets refl ∙ outside_form (any_below (has_other e) (count_of e)) (word_overlap e))
-    where
-      outside_form : (a c : Bool) → not (a || true || c) ≡ false
-      outside_form true c = refl
-      outside_form false c = refl
+  where
+    outside_form : (a c : Bool) → not (a || true || c) ≡ false
+    outside_form true c = refl
+    outside_form false c = refl
 
 pub fault-overlap : (e : List ℕ) → elf_fault e ≡ None → layout_fault e ≡ None → word_overlap e ≡ true → fault e ≡ Some refusals.Form
 fault-overlap e clear laid overlap =
     fault-form e clear laid
     ∙ other_form e (not_word_only e (any_below (has_other e) (count_of e)) (target_outside e) true refl refl overlap ∙ overlap_form (any_below (has_other e) (count_of e) || target_outside e))
-    where
-      overlap_form : (a : Bool) → not (a || true) ≡ false
-      overlap_form true = refl
-      overlap_form false = refl
+  where
+    overlap_form : (a : Bool) → not (a || true) ≡ false
+    overlap_form true = refl
+    overlap_form false = refl
 
 numbered_in : (l : Layout) (e : List ℕ) (is : List ℕ) → flat_map (words_in l e) is ≡ map (numbered l) (flat_map (fields 0) (flat_map (relocs_in e) is))
 unfolding words_in

@@ -1,5 +1,5 @@
 -- Bytes laid over a list of bytes, as a picture.
-use Rattle.std.proofs.Common.{◌≡◌, ℕ, ◌+◌, ◌<◌, ◌≤◌, true, false, List, inl, inr, [], ◌∷◌, ◌++◌, length, get_or, replicate, take, refl, sym, ap, ◌∙◌, arith}
+use Rattle.std.proofs.Common.{◌≡◌, ℕ, ◌+◌, ◌≤◌, true, false, List, inl, inr, [], ◌∷◌, ◌++◌, length, get_or, replicate, take, refl, sym, ap, ◌∙◌, arith}
 use Rattle.std.proofs.Math.Seq.{take-append_seam}
 use Rattle.std.proofs.lemmas.List.{length-replicate, get_or-replicate}
 use Rattle.std.proofs.lemmas.Bool.{cases_lt, and_parts}
@@ -31,7 +31,7 @@ pub laid-nothing : (old : List ℕ) (at : ℕ) → old ≡ bytes_below (length o
 laid-nothing old at =
     sym (bytes_below_list old)
     ∙ bytes_below_same (length old) (λ i. get_or old i 0) (patched (record { at = at; bytes = [] }) (λ i. get_or old i 0))
-      (λ i below. sym (patched_off (record { at = at; bytes = [] }) (λ k. get_or old k 0) i (spans_nothing at i)))
+    (λ i below. sym (patched_off (record { at = at; bytes = [] }) (λ k. get_or old k 0) i (spans_nothing at i)))
 
 pub section_patch-stored : (e : List ℕ) (i : ℕ) → has_bytes (section e i) ≡ true
     → section_patch e i ≡ record { at = off (layout e) (section e i).addr; bytes = content e (section e i) }
@@ -64,7 +64,7 @@ pub below-push : (n : ℕ) (ps : List Patch) (p : Patch) (m : ℕ → ℕ)
     → bytes_below n (patched p (λ i. get_or (bytes_below n (painted ps m)) i 0)) ≡ bytes_below n (painted (ps ++ p ∷ []) m)
 below-push n ps p m =
     bytes_below_same n (patched p (λ i. get_or (bytes_below n (painted ps m)) i 0)) (patched p (painted ps m))
-      (λ i below. painted_same (p ∷ []) (λ k. get_or (bytes_below n (painted ps m)) k 0) (painted ps m) i (byte_below n (painted ps m) i below))
+    (λ i below. painted_same (p ∷ []) (λ k. get_or (bytes_below n (painted ps m)) k 0) (painted ps m) i (byte_below n (painted ps m) i below))
     ∙ ap (bytes_below n) (sym (painted-push ps p m))
 
 pub below-zeros : (n : ℕ) → replicate n 0 ≡ bytes_below n (λ i. 0)

@@ -4,7 +4,6 @@ use Rattle.bflt_format.specs.Patches.{Patch, painted, bytes_below, big_word}
 use Rattle.bflt_format.specs.Values.{Values}
 use Rattle.bflt_format.specs.Spelling.{spell}
 use Rattle.bflt_format.specs.Rising.{rising}
-use Rattle.flat_layout.specs.declared.layout.Layout.{Layout}
 use Rattle.flat_layout.specs.Layout.{layout}
 use Rattle.elf2flt_tool.specs.declared.word.Word.{Word}
 use Rattle.elf2flt_tool.specs.Word.{words, places}
@@ -27,7 +26,7 @@ converted e stack = record {
   stack = (stack + 15) / 16 * 16;
   flags = 1;
   body = body_of e;
-  records = rising (places (words e))
+  records = rising (places (words e));
 }
 
 unfoldable pub flat : List ℕ → ℕ → List ℕ

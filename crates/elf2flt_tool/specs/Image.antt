@@ -1,6 +1,6 @@
 -- The image of an ELF file at a base: its sections' bytes, with every kept relocation computed anew there.
 -- RISC-V ELF psABI, "Relocations": a static relocation of all sections by one distance.
-use Rattle.std.specs.Prelude.{ℕ, ◌+◌, ◌-◌, List, [], map, Option, if◌then◌else◌}
+use Rattle.std.specs.Prelude.{ℕ, List, [], map, Option, if◌then◌else◌}
 use Rattle.std.specs.List.{range_with_len}
 use Rattle.bflt_format.specs.Patches.{Patch, painted, from_base, little_word}
 use Rattle.elf32_reader.specs.Header.{count_of}
@@ -14,7 +14,7 @@ use Rattle.elf2flt_tool.specs.Field.{Field, fields_of}
 unfoldable pub section_patch : List ℕ → ℕ → Patch
 section_patch e i = record {
   at = off (layout e) (section e i).addr;
-  bytes = if has_bytes (section e i) then content e (section e i) else []
+  bytes = if has_bytes (section e i) then content e (section e i) else [];
 }
 
 -- the linked bytes by number, zeros where no section stands

@@ -14,7 +14,7 @@ reloc e i j = record {
   place = (rela e i j).offset;
   value = value_of e (section e i).link (rela e i j).symbol;
   moves = is_moving (class e (section e i).link (rela e i j).symbol);
-  addend = addend_word e i j
+  addend = addend_word e i j;
 }
 
 unfoldable pub relocs_in : List ℕ → ℕ → List Reloc

@@ -37,7 +37,9 @@ fn some_target_outside(layout: &Layout, words: &[Word]) -> bool
     ensures { result ≡ list_any (points_outside (size_of layout.now)) words.now }
 {
     let size = layout.text + layout.data_len + layout.bss;
-    words.iter().any(|word| word.target == 0 || word.target > size)
+    words
+        .iter()
+        .any(|word| word.target == 0 || word.target > size)
 }
 
 /// What a file records, if each of its kept relocations can be recorded.
@@ -61,7 +63,12 @@ fn find_recorded(alloc: Global, elf: &Elf<'_>, layout: &Layout) -> Result<Record
 }
 
 /// The bytes of text and data, with the number of its target at each recorded place.
-fn body(alloc: Global, elf: &Elf<'_>, layout: &Layout, words: &[Word]) -> Result<Vec<u8>, AllocError>
+fn body(
+    alloc: Global,
+    elf: &Elf<'_>,
+    layout: &Layout,
+    words: &[Word],
+) -> Result<Vec<u8>, AllocError>
     requires no_fault { layout_fault elf.now ≡ None }
     requires layout { layout.now ≡ layout_of elf.now }
     requires words { words.now ≡ all_words elf.now }
@@ -74,7 +81,12 @@ fn body(alloc: Global, elf: &Elf<'_>, layout: &Layout, words: &[Word]) -> Result
 }
 
 /// The flat file of a linked file that was read and laid out.
-fn converted_flat(alloc: Global, elf: &Elf<'_>, layout: &Layout, stack: u32) -> Result<Flat, Refusal>
+fn converted_flat(
+    alloc: Global,
+    elf: &Elf<'_>,
+    layout: &Layout,
+    stack: u32,
+) -> Result<Flat, Refusal>
     requires accepted { IsAccepted elf.now }
     requires no_fault { layout_fault elf.now ≡ None }
     requires layout { layout.now ≡ layout_of elf.now }
@@ -87,7 +99,15 @@ fn converted_flat(alloc: Global, elf: &Elf<'_>, layout: &Layout, stack: u32) -> 
     let body = body(alloc, elf, layout, &found.words)?;
     let stack = stack.div_ceil(STACK_UNIT) * STACK_UNIT;
     let entry = HEADER_LEN + layout.entry;
-    Ok(Flat::of(entry, layout.text, layout.data_len, layout.bss, stack, body, found.records))
+    Ok(Flat::of(
+        entry,
+        layout.text,
+        layout.data_len,
+        layout.bss,
+        stack,
+        body,
+        found.records,
+    ))
 }
 
 /// The flat file of a linked ELF file, with `stack` bytes of stack, rounded up to 16.

@@ -44,7 +44,9 @@ fn linked_word(elf: &Elf<'_>, index: u32, place: u32) -> u32
     requires holds { holds_word (section elf.now index) place ≡ true }
     ensures { result ≡ word_in elf.now (section elf.now index) place }
 {
-    let (_, rest) = elf.content(index).split_at((place - elf.section(index).addr) as usize);
+    let (_, rest) = elf
+        .content(index)
+        .split_at((place - elf.section(index).addr) as usize);
     LittleEndian::read_u32(rest)
 }
 
@@ -70,7 +72,12 @@ fn recorded_word(elf: &Elf<'_>, layout: &Layout, index: u32, reloc: &Reloc) -> O
 }
 
 /// Adds the words of the kept section `section`.
-fn add_words(elf: &Elf<'_>, layout: &Layout, section: u32, words: &mut Vec<Word>) -> Result<(), Refusal>
+fn add_words(
+    elf: &Elf<'_>,
+    layout: &Layout,
+    section: u32,
+    words: &mut Vec<Word>,
+) -> Result<(), Refusal>
     requires { is_kept elf.now section ≡ true }
     ensures { MatchResult result
         (λ _. (words.new.items ≡ words.old.items ++ words_in layout.now elf.now section) × (has_other elf.now section ≡ false))

@@ -1,4 +1,4 @@
-use Rattle.std.proofs.Common.{◌≡◌, ◌+◌, ℕ, length, ◌∙◌, ap, sym}
+use Rattle.std.proofs.Common.{◌≡◌, ◌+◌, length, ◌∙◌, ap}
 use Rattle.bflt_format.proofs.Painting.{length-bytes_below}
 use Rattle.elf2flt_tool.specs.Image.{bare}
 use Rattle.elf2flt_tool.proofs.Painted.{written_back}
@@ -18,6 +18,6 @@ returns c =
     let linked = c.deref_mut.ensures.value ∙ c.in_ok-image.ensures in
     let len : length image ≡ n = ap length linked ∙ length-bytes_below n (bare c.args.elf.now) in
     let back = written_back c.in_ok-image.image.len c.write_numbers.new.image _
-      (ap length c.write_numbers.ensures ∙ length-bytes_below (length image) _ ∙ c.deref_mut.ensures.len) in
+    (ap length c.write_numbers.ensures ∙ length-bytes_below (length image) _ ∙ c.deref_mut.ensures.len) in
     let written = rw len at c.write_numbers.ensures in
     back ∙ written ∙ body-painted c.args.elf.now c.args.layout.now c.args.words.now image c.requires.layout c.requires.words linked

@@ -1,4 +1,4 @@
-use Rattle.std.proofs.Common.{◌≡◌, ◌∙◌, Some, sym, ap, inl, inr, arith}
+use Rattle.std.proofs.Common.{◌∙◌, Some, sym, ap, inl, inr, arith}
 use Rattle.std.proofs.lemmas.Result.{err_from_is_err_and}
 use Rattle.flat_layout.proofs.Facts.{size_le}
 use Rattle.bflt_format.specs.Rising.{rising}

@@ -1,4 +1,4 @@
-use Rattle.std.proofs.Common.{◌≡◌, ◌+◌, ◌<◌, ◌≤◌, ℕ, true, length, map, replicate, sym, ap, ◌∙◌, zero-add, arith, rules}
+use Rattle.std.proofs.Common.{◌≡◌, ◌+◌, ◌<◌, length, map, replicate, sym, ap, ◌∙◌, zero-add, arith, rules}
 use Rattle.std.specs.List.{range_with_len}
 use Rattle.std.proofs.lemmas.List.FromFn.{map-range_with_len_more}
 use Rattle.elf32_reader.specs.Header.{count_of}
@@ -32,7 +32,7 @@ lay_section-requires-clause-fits c = λ is.
     let whole = text-data e in
     let painted_so_far = painted (map (section_patch e) (range_with_len 0 i)) (λ n. 0) in
     let len : length c.deref_mut.result.now ≡ c.args.layout.now.text + c.args.layout.now.data_len =
-      ap length c.deref_mut.ensures.value ∙ ap length c.loop-index.invariant ∙ length-bytes_below _ painted_so_far in
+    ap length c.deref_mut.ensures.value ∙ ap length c.loop-index.invariant ∙ length-bytes_below _ painted_so_far in
     rw (len, c.requires.layout, section_patch-stored e i is, number, whole) inside
 
 pub loop-index-preserved : goal.loop-index-preserved
@@ -46,7 +46,7 @@ loop-index-preserved c =
     let len : length image ≡ n = ap length now ∙ length-bytes_below n (painted ps (λ k. 0)) in
     let laid_now = rw (len, now) at c.lay_section.ensures in
     let back = written_back c.loop-index.image.len c.lay_section.new.image _
-      (ap length c.lay_section.ensures ∙ length-bytes_below (length image) _ ∙ c.deref_mut.ensures.len) in
+    (ap length c.lay_section.ensures ∙ length-bytes_below (length image) _ ∙ c.deref_mut.ensures.len) in
     back ∙ laid_now ∙ below-push n ps (section_patch e i) (λ k. 0)
     ∙ ap (λ qs. bytes_below n (painted qs (λ k. 0))) (sym (map-range_with_len_more (section_patch e) 0 i i (zero-add i)))
 

@@ -1,8 +1,7 @@
-use Rattle.std.proofs.Common.{◌≡◌, ◌+◌, ◌≤◌, ℕ, List, ◌++◌, ◌∷◌, [], length, map, take, get_or, slice_index, sym, ap, ◌∙◌, arith}
+use Rattle.std.proofs.Common.{◌+◌, ◌≤◌, ◌∷◌, [], length, map, take, get_or, slice_index, sym, ap, ◌∙◌}
 use Rattle.std.proofs.lemmas.List.{take_more, map-append}
 use Rattle.bflt_format.specs.Patches.{painted, bytes_below, laid, big_word}
 use Rattle.bflt_format.proofs.Painting.{bytes_below_list}
-use Rattle.elf2flt_tool.specs.declared.word.Word.{Word}
 use Rattle.elf2flt_tool.specs.Converted.{number_patch}
 use Rattle.elf2flt_tool.proofs.Painted.{laid-push}
 use Rattle.elf2flt_tool.proofs.image.write_numbers.Goals as goal
@@ -25,4 +24,4 @@ loop-word-preserved c =
     ∙ ap (λ bytes. laid (bytes_below n (painted ps (slice_index old))) w.place bytes) c.to_be_bytes.ensures
     ∙ laid-push n ps (number_patch w) (slice_index old) fits
     ∙ ap (λ qs. bytes_below n (painted qs (slice_index old)))
-      (sym (map-append number_patch (take i ws) (w ∷ [])) ∙ ap (map number_patch) (sym (take_more ws i (record { place = 0; target = 0 }) c.loop-word-test.true)))
+    (sym (map-append number_patch (take i ws) (w ∷ [])) ∙ ap (map number_patch) (sym (take_more ws i (record { place = 0; target = 0 }) c.loop-word-test.true)))

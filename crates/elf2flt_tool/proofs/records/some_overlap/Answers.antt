@@ -1,4 +1,4 @@
-use Rattle.std.proofs.Common.{◌≡◌, ◌<◌, ◌≤◌, ◌+◌, sym, arith, length}
+use Rattle.std.proofs.Common.{sym, arith, length}
 use Rattle.bflt_format.proofs.Rising.{rises_by_neighbours}
 use Rattle.elf2flt_tool.proofs.Ascending.{ApartBelow, none_overlaps}
 use Rattle.elf2flt_tool.proofs.records.some_overlap.Goals as goal

@@ -1,4 +1,4 @@
-use Rattle.std.proofs.Common.{◌≡◌, ℕ, ◌++◌, ◌∷◌, [], true, false, not, sym, ap, ◌∙◌, subst, inr, refl, append-nil, arith}
+use Rattle.std.proofs.Common.{◌≡◌, ◌++◌, true, false, not, sym, ap, ◌∙◌, subst, inr, refl, append-nil, arith}
 use Rattle.elf32_reader.specs.Search.{any_below}
 use Rattle.elf32_reader.specs.Relas.{rela_count}
 use Rattle.elf32_reader.proofs.Searches.{any_below_zero, any_below_more, any_below_found}
@@ -40,8 +40,8 @@ loop-entry-preserved c =
     let is = is_recorded c.args.layout.now e (target_section e i) (reloc e i j) c.in-Some.word (sym found) in
     record {
       words =
-        c.in_ok-push-in-Some.ensures.items
-        ∙ pushed _ _ _ _ _ c.loop-entry.invariant.words (words_before-more c.args.layout.now e i j (target_section e i) c.in-Some.word is);
+          c.in_ok-push-in-Some.ensures.items
+          ∙ pushed _ _ _ _ _ c.loop-entry.invariant.words (words_before-more c.args.layout.now e i j (target_section e i) c.in-Some.word is);
       none = any_below_more (other_in e i) j c.loop-entry.invariant.none (ap not is.word);
     }
 
@@ -49,10 +49,9 @@ pub returns : goal.returns
 returns c =
     let e = c.args.elf.now in
     let i = c.args.section in
-    let all : c.loop-entry.entry ≡ rela_count e i = omega (arith, c.relas-entry-end.ensures.count) in
-    (
+    let all : c.loop-entry.entry ≡ rela_count e i = omega (arith, c.relas-entry-end.ensures.count) in (
       c.loop-entry.invariant.words
-      ∙ ap (λ n. c.args.words.now.items ++ words_before c.args.layout.now e i n) all
-      ∙ ap (λ ws. c.args.words.now.items ++ ws) (sym (words_in-kept c.args.layout.now e i c.requires)),
-      has_other-kept e i false c.requires (subst (λ n. any_below (other_in e i) n ≡ false) all c.loop-entry.invariant.none)
+          ∙ ap (λ n. c.args.words.now.items ++ words_before c.args.layout.now e i n) all
+          ∙ ap (λ ws. c.args.words.now.items ++ ws) (sym (words_in-kept c.args.layout.now e i c.requires)),
+      has_other-kept e i false c.requires (subst (λ n. any_below (other_in e i) n ≡ false) all c.loop-entry.invariant.none),
     )

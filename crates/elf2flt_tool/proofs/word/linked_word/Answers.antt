@@ -1,4 +1,4 @@
-use Rattle.std.proofs.Common.{◌≡◌, ℕ, ◌+◌, ◌-◌, ◌≤◌, length, arith}
+use Rattle.std.proofs.Common.{◌-◌, arith}
 use Rattle.elf32_reader.specs.Sections.{section}
 use Rattle.elf32_reader.proofs.Places.{allocated_has_content, length_content}
 use Rattle.elf32_reader.proofs.Facts.{stored_fits}
