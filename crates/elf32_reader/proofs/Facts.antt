@@ -1,23 +1,22 @@
 -- What is known of an accepted file.
-use Rattle.std.proofs.Common.{◌≡◌, ℕ, ◌+◌, ◌*◌, ◌/◌, ◌%◌, ◌^◌, ◌<◌, ◌≤◌, ◌⊎◌, inl, inr, Bool, true, false, not, ◌&&◌, ◌||◌, List, [], ◌∷◌, length, drop, Option, Some, None, slice_index, get_or, nat_eq, nat_lt, nat_le, refl, sym, ◌∙◌, ap, arith, subst}
+use Rattle.std.proofs.Common.{◌≡◌, ℕ, ◌+◌, ◌^◌, ◌<◌, ◌≤◌, Bool, true, false, List, ◌∷◌, length, drop, Option, Some, None, slice_index, nat_lt, refl, arith}
 use Rattle.std.specs.Option.{option_or}
-use Rattle.std.proofs.lemmas.Bool.{and_parts, and_from, or_cases, ltb-true, ltb-false, leb-true, leb-false, eqb-true, eqb-false, not-true, not-false, cases_Bool}
+use Rattle.std.proofs.lemmas.Bool.{and_parts, ltb-false, leb-true, leb-false, eqb-false, not-true, not-false}
 use Rattle.std.proofs.lemmas.Bool.Decides.{nat_tests}
 use Rattle.std.specs.Int.{w32, cast_unsigned}
 use Rattle.std.proofs.lemmas.Int.{of_z-to_z}
 use Rattle.std.proofs.lemmas.List.{get_or-drop}
 use Rattle.byteorder.specs.Numbers.{little_from-lt}
 use Rattle.elf32_reader.specs.Numbers.{u8_at, u16_at, u32_at}
-use Rattle.elf32_reader.specs.declared.fault.ElfFault.{ElfFault}
 use Rattle.elf32_reader.specs.declared.section.Section.{Section}
 use Rattle.elf32_reader.specs.declared.symbol.Symbol.{Symbol}
 use Rattle.elf32_reader.specs.declared.rela.Rela.{Rela}
 use Rattle.elf32_reader.specs.Search.{any_below, first}
-use Rattle.elf32_reader.specs.Header.{table_of, count_of}
-use Rattle.elf32_reader.specs.Sections.{section, is_allocated, is_stored, has_content, is_of_kind}
+use Rattle.elf32_reader.specs.Header.{count_of}
+use Rattle.elf32_reader.specs.Sections.{section, is_allocated, is_stored, has_content}
 use Rattle.elf32_reader.specs.Symbols.{is_symtab, symbol_count, symbol}
-use Rattle.elf32_reader.specs.Relas.{is_static_relocation, is_kept, rela_count, rela_place, addend_word, rela}
-use Rattle.elf32_reader.specs.Faults.{has_table, header_fault, passes_end, is_nameless, has_symbol_shape, is_bad_symtab, is_symbolless, has_rela_shape, is_bad_rela, section_fault, elf_fault}
+use Rattle.elf32_reader.specs.Relas.{is_kept, rela_count, rela_place, addend_word, rela}
+use Rattle.elf32_reader.specs.Faults.{has_table, header_fault, passes_end, is_nameless, is_bad_symtab, is_symbolless, is_bad_rela, section_fault, elf_fault}
 use Rattle.elf32_reader.specs.Accepted.{IsAccepted}
 use Rattle.elf32_reader.specs.Tables.{HasTable, HasRanges, IsSymtab, IsRelas, IsElf}
 use Rattle.elf32_reader.proofs.Searches.{or_parts, and_rest, any_below_none}

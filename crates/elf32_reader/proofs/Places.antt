@@ -1,14 +1,14 @@
 -- What lies in the file, by the index that names it.
-use Rattle.std.proofs.Common.{◌≡◌, ℕ, ◌+◌, ◌*◌, ◌/◌, ◌%◌, ◌<◌, ◌≤◌, ◌⊎◌, inl, inr, Bool, true, false, not, ◌&&◌, ◌||◌, List, length, nat_eq, nat_lt, nat_le, refl, sym, ◌∙◌, ap, arith, subst}
-use Rattle.std.proofs.lemmas.Bool.{and_parts, and_from, or_cases, ltb-true, lt-ltb, eqb-true, eq-eqb, not-true, cases_Bool}
+use Rattle.std.proofs.Common.{◌≡◌, ℕ, ◌+◌, ◌<◌, ◌≤◌, inl, inr, true, false, not, List, length, nat_eq, refl, sym, ap, arith, subst}
+use Rattle.std.proofs.lemmas.Bool.{and_parts, and_from, or_cases, ltb-true, eqb-true}
 use Rattle.std.proofs.lemmas.Grind.{common_steps}
 use Rattle.elf32_reader.specs.declared.section.Section.{Section}
-use Rattle.elf32_reader.specs.Header.{table_of, count_of}
+use Rattle.elf32_reader.specs.Header.{count_of}
 use Rattle.elf32_reader.specs.Sections.{section, is_allocated, is_stored, has_content, content, is_of_kind}
 use Rattle.elf32_reader.specs.Symbols.{is_symtab, symbol_count, symbol_place}
 use Rattle.elf32_reader.specs.Relas.{is_static_relocation, is_kept, rela_count, rela_place}
 use Rattle.elf32_reader.specs.Faults.{has_symbol_shape, has_rela_shape}
-use Rattle.elf32_reader.specs.Tables.{HasTable, HasRanges}
+use Rattle.elf32_reader.specs.Tables.{HasRanges}
 
 pub is_of_kind_below : (e : List ℕ) (i k : ℕ) → is_of_kind e i k ≡ true → i < count_of e
 unfolding is_of_kind

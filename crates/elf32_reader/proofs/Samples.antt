@@ -1,15 +1,11 @@
 -- The definitions, computed on the file of the example `convert-one-word`.
-use Rattle.std.proofs.Common.{◌≡◌, ℕ, Bool, true, false, List, [], ◌∷◌, Option, Some, None, set, refl}
+use Rattle.std.proofs.Common.{◌≡◌, ℕ, List, [], ◌∷◌, Some, None, set, refl}
 use Rattle.std.specs.Prelude.{pos}
-use Rattle.elf32_reader.specs.declared.section.Section.{Section}
-use Rattle.elf32_reader.specs.declared.symbol.Symbol.{Symbol}
-use Rattle.elf32_reader.specs.declared.rela.Rela.{Rela}
-use Rattle.elf32_reader.specs.declared.fault.ElfFault.{ElfFault}
 use Rattle.elf32_reader.specs.declared.fault.ElfFault.TheVariants.{Machine, SectionTable, SectionRange, SymbolRange, RelaShape}
 use Rattle.elf32_reader.specs.Numbers.{u8_at, u16_at, u32_at}
 use Rattle.elf32_reader.specs.Search.{any_below}
-use Rattle.elf32_reader.specs.Header.{entry_of, table_of, count_of}
-use Rattle.elf32_reader.specs.Sections.{section, is_allocated, is_stored, has_content, content, is_of_kind}
+use Rattle.elf32_reader.specs.Header.{table_of, count_of}
+use Rattle.elf32_reader.specs.Sections.{section, is_allocated, has_content, content, is_of_kind}
 use Rattle.elf32_reader.specs.Symbols.{is_symtab, symbol_count, symbol_place, symbol, name_of}
 use Rattle.elf32_reader.specs.Relas.{is_static_relocation, is_kept, rela_count, rela_place, addend_word, rela}
 use Rattle.elf32_reader.specs.Faults.{has_magic, is_current, has_table, header_fault, passes_end, is_nameless, has_symbol_shape, is_bad_symtab, is_symbolless, has_rela_shape, is_bad_rela, section_fault, elf_fault}

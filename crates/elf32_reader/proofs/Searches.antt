@@ -1,6 +1,6 @@
 -- Laws of `any_below`, and of a table of rows of which none holds.
-use Rattle.std.proofs.Common.{◌≡◌, ℕ, zero, suc, ◌+◌, ◌<◌, ◌≤◌, ◌⊎◌, inl, inr, Bool, true, false, ◌||◌, ◌&&◌, sym, ◌∙◌, ap, refl, arith, subst, add-one}
-use Rattle.std.proofs.lemmas.Bool.{cases_lt, cases_Bool}
+use Rattle.std.proofs.Common.{◌≡◌, ℕ, zero, suc, ◌+◌, ◌<◌, inl, inr, Bool, true, false, ◌||◌, ◌&&◌, sym, ◌∙◌, ap, refl, arith, add-one}
+use Rattle.std.proofs.lemmas.Bool.{cases_lt}
 use Rattle.elf32_reader.specs.Search.{any_below}
 
 pub or_parts : (x y : Bool) → (x || y) ≡ false → (x ≡ false) × (y ≡ false)

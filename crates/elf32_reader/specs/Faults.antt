@@ -8,7 +8,7 @@ use Rattle.elf32_reader.specs.declared.fault.ElfFault.TheVariants.{Short, Magic,
 use Rattle.elf32_reader.specs.Numbers.{u8_at, u16_at, u32_at}
 use Rattle.elf32_reader.specs.Search.{any_below, first}
 use Rattle.elf32_reader.specs.Header.{table_of, count_of}
-use Rattle.elf32_reader.specs.Sections.{section, is_allocated, has_content, is_of_kind}
+use Rattle.elf32_reader.specs.Sections.{section, has_content, is_of_kind}
 use Rattle.elf32_reader.specs.Symbols.{is_symtab, symbol_count, symbol}
 use Rattle.elf32_reader.specs.Relas.{is_static_relocation, is_kept, rela_count, rela}
 

@@ -1,6 +1,6 @@
 //! A file that was read.
 
-ghost use Rattle.std.specs.Prelude.{◌≡◌, ℕ, ◌<◌, List, length, true, None, Some, MatchResult};
+ghost use Rattle.std.specs.Prelude.{◌≡◌, ℕ, ◌<◌, List, true, None, Some, MatchResult};
 ghost use Rattle.std.specs.Int.{w32, cast_unsigned};
 ghost use Rattle.elf32_reader.specs.Header.{entry_of, count_of};
 ghost use Rattle.elf32_reader.specs.Sections.{section, has_content, content};
@@ -91,6 +91,7 @@ impl<'a> Elf<'a> {
         section_count(self.bytes)
     }
 
+    /// A section header. Index 0 is one like any other.
     pub fn section(&self, index: u32) -> Section
         requires { index < count_of self.now }
         ensures { result ≡ section self.now index }
@@ -124,6 +125,7 @@ impl<'a> Elf<'a> {
         symbols_in(self.bytes, table)
     }
 
+    /// A symbol of a symbol table. Index 0 is the undefined symbol.
     pub fn symbol(&self, table: u32, index: u32) -> Symbol
         requires table { is_symtab self.now table ≡ true }
         requires index { index < symbol_count self.now table }
@@ -132,7 +134,7 @@ impl<'a> Elf<'a> {
         symbol_of(self.bytes, table, index)
     }
 
-    /// The name of a symbol, without the zero that ends it.
+    /// The name of a symbol, without the zero that ends it. It is searched anew at each call.
     pub fn name(&self, table: u32, index: u32) -> &[u8]
         requires table { is_symtab self.now table ≡ true }
         requires index { index < symbol_count self.now table }

@@ -1,11 +1,10 @@
 //! Relocation sections (System V ABI, ELF32, "Relocation").
 
-ghost use Rattle.std.specs.Prelude.{◌≡◌, ℕ, ◌+◌, ◌*◌, ◌<◌, ◌≤◌, ◌&&◌, nat_le, length, true};
-ghost use Rattle.std.specs.Int.{w32, cast_signed};
+ghost use Rattle.std.specs.Prelude.{◌≡◌, ◌<◌, ◌&&◌, nat_le, true};
 ghost use Rattle.elf32_reader.specs.Search.{any_below};
 ghost use Rattle.elf32_reader.specs.Header.{count_of};
 ghost use Rattle.elf32_reader.specs.Sections.{section};
-ghost use Rattle.elf32_reader.specs.Relas.{is_static_relocation, is_kept, rela_count, rela_place, addend_word, rela};
+ghost use Rattle.elf32_reader.specs.Relas.{is_static_relocation, is_kept, rela_count, rela_place, rela};
 ghost use Rattle.elf32_reader.specs.Faults.{is_symbolless, has_rela_shape, is_bad_rela};
 ghost use Rattle.elf32_reader.specs.Tables.{HasTable, HasRanges};
 

@@ -1,6 +1,6 @@
 //! Symbol tables (System V ABI, ELF32, "Symbol Table" and "String Table").
 
-ghost use Rattle.std.specs.Prelude.{◌≡◌, ℕ, ◌+◌, ◌*◌, ◌<◌, ◌≤◌, ◌==◌, length, true, position};
+ghost use Rattle.std.specs.Prelude.{◌≡◌, ◌<◌, ◌==◌, length, true, position};
 ghost use Rattle.std.specs.List.{before_first};
 ghost use Rattle.elf32_reader.specs.Search.{any_below};
 ghost use Rattle.elf32_reader.specs.Header.{count_of};

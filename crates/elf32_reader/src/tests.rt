@@ -122,9 +122,10 @@ fn each_header_word_counts(rt: HostRuntime) -> Result<(), Fail> {
     Ok(())
 }
 
-/// One file for each fault of the header, and the first of two that stand together.
+/// One file for each fault, most with a second one of a later row.
 #[test]
-fn header_faults(rt: HostRuntime) -> Result<(), Fail> {
+fn one_file_for_each_fault(rt: HostRuntime) -> Result<(), Fail> {
+    assert_eq!(rt; fault_of(&ONE_WORD[..51]), Some(ElfFault::Short));
     let cases = [
         ([(0, 0x7e), (4, 2)], Some(ElfFault::Magic)),
         ([(4, 2), (5, 2)], Some(ElfFault::Class)),
@@ -133,7 +134,8 @@ fn header_faults(rt: HostRuntime) -> Result<(), Fail> {
         ([(16, 3), (18, 62)], Some(ElfFault::FileType)),
         ([(18, 62), (36, 1)], Some(ElfFault::Machine)),
         ([(36, 1), (46, 41)], Some(ElfFault::Flags)),
-        ([(36, 6), (36, 8)], Some(ElfFault::Flags)),
+        ([(36, 6), (36, 6)], Some(ElfFault::Flags)),
+        ([(36, 8), (36, 8)], Some(ElfFault::Flags)),
         ([(36, 16), (37, 255)], None),
         (
             [(46, 41), (TEXT + SIZE + 3, 1)],
@@ -141,6 +143,12 @@ fn header_faults(rt: HostRuntime) -> Result<(), Fail> {
         ),
         ([(48, 7), (48, 7)], Some(ElfFault::SectionTable)),
         ([(32, 117), (32, 117)], Some(ElfFault::SectionTable)),
+        (
+            [(TEXT + SIZE + 3, 1), (80, 7)],
+            Some(ElfFault::SectionRange),
+        ),
+        ([(80, 7), (109, 2)], Some(ElfFault::SymbolRange)),
+        ([(109, 2), (109, 2)], Some(ElfFault::RelaShape)),
     ];
     for (edits, want) in cases {
         assert_eq!(rt; fault_after(rt.alloc(), edits)?, want, "{edits:?}");
