@@ -1,0 +1,10 @@
+pub mod Samples
+pub mod Below
+pub mod Painting
+pub mod Overlap
+pub mod Headers
+pub mod BigWords
+pub mod Rising
+pub mod Spelled
+pub mod Links
+pub mod Returns

@@ -1,0 +1,32 @@
+use Rattle.std.proofs.Common.{◌≡◌, None, refl, sym, subst, ◌∙◌, arith, inr}
+use Rattle.bflt_format.specs.Fault.{header_fault, flat_fault}
+use Rattle.bflt_format.specs.Spelling.{Spells}
+use Rattle.bflt_format.proofs.Spelled.{spells_bytes, read_fault, read_values}
+use Rattle.bflt_format.proofs.flat.Flat.read.Goals as goal
+
+pub returns-in-Some-2 : goal.returns-in-Some-2
+returns-in-Some-2 c =
+    let y = c.args.bytes.now in
+    let clear : header_fault y ≡ None = cc in
+    let whole = read_fault y c.word-data_end.result c.word-bss_end.result c.deref.result.now clear c.word-data_end.ensures c.word-bss_end.ensures (c.deref.ensures.value ∙ c.in_ok-records.ensures) in
+    inr (whole ∙ sym c.in_ok-fault.ensures ∙ c.in-Some-2.is)
+
+pub invariant_of-result : goal.invariant_of-result
+invariant_of-result c =
+    let y = c.args.bytes.now in
+    let clear : header_fault y ≡ None = cc in
+    let whole = read_fault y c.word-data_end.result c.word-bss_end.result c.deref.result.now clear c.word-data_end.ensures c.word-bss_end.ensures (c.deref.ensures.value ∙ c.in_ok-records.ensures) in
+    let none : flat_fault y ≡ None = whole ∙ sym c.in_ok-fault.ensures ∙ c.in_default-2.is in
+    let same = read_values y c.word-data_start.result c.word-data_end.result c.word-bss_end.result _ c.word-data_start.ensures c.word-data_end.ensures c.word-bss_end.ensures
+    c.word.ensures refl refl refl c.word-2.ensures c.word-3.ensures c.in_ok-from_slice.ensures.items c.in_ok-records.ensures in
+    subst Spells (sym same) (spells_bytes y (λ i. omega (arith, c.type_inv.bytes i)) none)
+
+pub returns : goal.returns
+returns c =
+    let y = c.args.bytes.now in
+    let clear : header_fault y ≡ None = cc in
+    let whole = read_fault y c.word-data_end.result c.word-bss_end.result c.deref.result.now clear c.word-data_end.ensures c.word-bss_end.ensures (c.deref.ensures.value ∙ c.in_ok-records.ensures) in (
+      whole ∙ sym c.in_ok-fault.ensures ∙ c.in_default-2.is,
+      read_values y c.word-data_start.result c.word-data_end.result c.word-bss_end.result _ c.word-data_start.ensures c.word-data_end.ensures c.word-bss_end.ensures
+          c.word.ensures refl refl refl c.word-2.ensures c.word-3.ensures c.in_ok-from_slice.ensures.items c.in_ok-records.ensures,
+    )

@@ -1,0 +1,10 @@
+pub mod Numbers
+pub mod Patches
+pub mod Rising
+pub mod Values
+pub mod Header
+pub mod Fault
+pub mod Spelling
+pub mod Image
+pub mod Flat
+pub mod Laws

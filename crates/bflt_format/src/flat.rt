@@ -1,0 +1,130 @@
+//! A flat file's values.
+
+ghost use Rattle.std.specs.Prelude.{◌≡◌, Some, None};
+ghost use Rattle.bflt_format.specs.Values.{ram_values};
+ghost use Rattle.bflt_format.specs.Spelling.{spell, Spells};
+ghost use Rattle.bflt_format.specs.Header.{flat_values};
+ghost use Rattle.bflt_format.specs.Fault.{flat_fault};
+
+use std::marker::Model;
+
+/// What a flat file of version 4 says, with none of its faults.
+#[derive(Debug, Drop)]
+pub struct Flat {
+    pub(crate) entry: u32,
+    pub(crate) text: u32,
+    pub(crate) data_len: u32,
+    pub(crate) bss: u32,
+    pub(crate) stack: u32,
+    pub(crate) flags: u32,
+    pub(crate) body: Vec<u8>,
+    pub(crate) records: Vec<u32>,
+}
+
+impl Model for Flat {
+    ghost use Rattle.bflt_format.specs.Values.{Values};
+    ghost use Rattle.bflt_format.specs.Spelling.{Spells};
+
+    ghost Value = { Values };
+
+    ghost use Rattle.bflt_format.specs.Flat.{values_of};
+
+    ghost view = { values_of };
+
+    ghost invariant = { λ s. Spells (values_of s) };
+}
+
+impl Flat {
+    /// The flat file of these values, with the flags 1 (RAM).
+    ///
+    /// `entry` counts from the start of the file, `records` from the start of `body`.
+    pub fn of(
+        entry: u32,
+        text: u32,
+        data_len: u32,
+        bss: u32,
+        stack: u32,
+        body: Vec<u8>,
+        records: Vec<u32>,
+    ) -> Flat
+        requires no_fault { flat_fault (spell (ram_values entry text data_len bss stack body.items records.items)) ≡ None }
+        requires values { let f = ram_values entry text data_len bss stack body.items records.items in flat_values (spell f) ≡ f }
+        ensures { result ≡ ram_values entry text data_len bss stack body.items records.items }
+    {
+        Flat {
+            entry,
+            text,
+            data_len,
+            bss,
+            stack,
+            flags: 1,
+            body,
+            records,
+        }
+    }
+
+    /// Where the program starts, counted from the start of the file: the first byte of text is 64.
+    pub fn entry(&self) -> u32
+        ensures value { result ≡ self.now.entry }
+        ensures spells { Spells self.now }
+    {
+        self.entry
+    }
+
+    /// The bytes of text; a multiple of 32.
+    pub fn text(&self) -> u32
+        ensures value { result ≡ self.now.text }
+        ensures spells { Spells self.now }
+    {
+        self.text
+    }
+
+    /// The bytes of data.
+    pub fn data_len(&self) -> u32
+        ensures value { result ≡ self.now.data_len }
+        ensures spells { Spells self.now }
+    {
+        self.data_len
+    }
+
+    /// The bytes of bss.
+    pub fn bss(&self) -> u32
+        ensures value { result ≡ self.now.bss }
+        ensures spells { Spells self.now }
+    {
+        self.bss
+    }
+
+    /// The bytes of stack, as the header has them.
+    pub fn stack(&self) -> u32
+        ensures value { result ≡ self.now.stack }
+        ensures spells { Spells self.now }
+    {
+        self.stack
+    }
+
+    /// 1 (RAM) or 17 (RAM and KTRACE).
+    pub fn flags(&self) -> u32
+        ensures value { result ≡ self.now.flags }
+        ensures spells { Spells self.now }
+    {
+        self.flags
+    }
+
+    /// The bytes of text and data; the words at the records are big-endian.
+    pub fn body(&self) -> &[u8]
+        ensures value { result.now ≡ self.now.body }
+        ensures spells { Spells self.now }
+    {
+        &self.body
+    }
+
+    /// The places of the words that are relocated, counted from the start of the body, in the order
+    /// of the file.
+    pub fn records(&self) -> &[u32]
+        ensures value { result.now ≡ self.now.records }
+        ensures spells { Spells self.now }
+    {
+        &self.records
+    }
+}

@@ -1,0 +1,53 @@
+//! Writing a flat file.
+
+ghost use Rattle.std.specs.Prelude.{◌≡◌, ◌+◌, ◌*◌, ◌++◌, length, IfOk};
+ghost use Rattle.bflt_format.specs.Spelling.{spell, header_words, words_text};
+
+use crate::flat::Flat;
+use crate::header::{LEN, MAGIC, REVISION};
+use byteorder::{BigEndian, ByteOrder};
+use std::alloc::{AllocError, Global};
+
+impl Flat {
+    /// The bytes of the file: header, body, and the records right behind it. The build date and the
+    /// fillers are 0.
+    #[tactic(auto, unfolding(crate::specs::Spelling::spell))]
+    pub fn write(&self, alloc: Global) -> Result<Vec<u8>, AllocError>
+        ensures { IfOk result (λ v. v.items ≡ spell self.now) }
+    {
+        let len = LEN as usize + self.body.len() + 4 * self.records.len();
+        let mut out = vec![in alloc; 0u8; len]?;
+        fill(
+            out.as_mut_slice(),
+            &self.header(),
+            &self.body,
+            &self.records,
+        );
+        Ok(out)
+    }
+
+    fn header(&self) -> [u32; 16]
+        ensures { result ≡ header_words self.now }
+    {
+        let data_start = LEN + self.text;
+        let data_end = data_start + self.data_len;
+        let bss_end = data_end + self.bss;
+        let count = self.records.len() as u32;
+        [
+            MAGIC, REVISION, self.entry, data_start, data_end, bss_end, self.stack, data_end,
+            count, self.flags, 0, 0, 0, 0, 0, 0,
+        ]
+    }
+}
+
+/// Writes the three parts one after the other.
+fn fill(out: &mut [u8], header: &[u32], body: &[u8], records: &[u32])
+    requires { length out.old ≡ 4 * length header.now + length body.now + 4 * length records.now }
+    ensures { out.new ≡ words_text header.now ++ (body.now ++ words_text records.now) }
+{
+    let (front, back) = out.split_at_mut(4 * header.len());
+    let (middle, back) = back.split_at_mut(body.len());
+    BigEndian::write_u32_into(header, front);
+    middle.copy_from_slice(body);
+    BigEndian::write_u32_into(records, back);
+}

@@ -1,0 +1,42 @@
+//! Kept relocations (System V ABI, ELF32, "Relocation").
+
+ghost use Rattle.std.specs.Prelude.{◌≡◌, ◌<◌, true};
+ghost use Rattle.elf32_reader.specs.Relas.{is_kept, rela_count};
+ghost use Rattle.elf2flt_tool.specs.Reloc.{reloc};
+
+use crate::class::{class_of, value_at};
+use elf32_reader::Elf;
+
+/// An entry of a kept section, with its symbol.
+#[derive(Clone, Copy, Debug, PartialEq, Eq)]
+pub struct Reloc {
+    /// The relocation's type.
+    pub kind: u8,
+    /// P: the linked address of its field.
+    pub place: u32,
+    /// S: the symbol's value.
+    pub value: u32,
+    /// Whether the symbol moves with the sections.
+    pub moves: bool,
+    /// A: the addend modulo 2^32.
+    pub addend: u32,
+}
+
+/// Entry `entry` of the kept section `section`.
+#[tactic(auto, using(elf32_reader::proofs::Places::is_kept_below), unfolding(crate::specs::Reloc::reloc))]
+pub fn reloc_at(elf: &Elf<'_>, section: u32, entry: u32) -> Reloc
+    requires kept { is_kept elf.now section ≡ true }
+    requires entry { entry < rela_count elf.now section }
+    ensures { result ≡ reloc elf.now section entry }
+{
+    let rela = elf.rela(section, entry);
+    let table = elf.section(section).link;
+    let class = class_of(elf, table, rela.symbol);
+    Reloc {
+        kind: rela.kind,
+        place: rela.offset,
+        value: value_at(elf, table, rela.symbol, class),
+        moves: class.is_moving(),
+        addend: rela.addend.cast_unsigned(),
+    }
+}

@@ -1,0 +1,6 @@
+use Rattle.std.proofs.Common.{arith}
+use Rattle.elf32_reader.proofs.Searches.{any_below_at}
+use Rattle.elf32_reader.proofs.rela.some_rela_is_bad.Goals as goal
+
+pub returns-then-is_bad : goal.returns-then-is_bad
+returns-then-is_bad c = any_below_at _ _ c.loop-index.index (omega arith) c.if-is_bad.ensures

@@ -1,0 +1,19 @@
+-- What an ELF32 file says, read from its bytes e by place (System V ABI, ELF32).
+-- Numbers   u8_at e p, u16_at e p, u32_at e p: numbers by place
+-- Search    any_below p n: some index below n passes; first rows: the first row that holds
+-- Header    entry_of e, table_of e, count_of e
+-- Sections  section e i, is_allocated s, is_stored s, has_content s, content e s, is_of_kind e i k
+-- Symbols   is_symtab e t, symbol_count e t, symbol e t j, name_of e t j
+-- Relas     is_kept e i, rela_count e i, rela e i j, addend_word e i j
+-- Faults    elf_fault e, and each row of its table
+-- Accepted  IsAccepted e: what is known of a file that was read
+-- Tables    what follows from it, by parts
+pub mod Numbers
+pub mod Search
+pub mod Header
+pub mod Sections
+pub mod Symbols
+pub mod Relas
+pub mod Faults
+pub mod Accepted
+pub mod Tables

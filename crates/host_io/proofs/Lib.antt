@@ -1,0 +1,4 @@
+pub mod CallSet
+pub mod Faulted
+pub mod FilesOf
+pub mod Sending

@@ -1,0 +1,75 @@
+//! A sink in memory.
+ghost use Rattle.std.specs.Prelude.{◌≡◌, ◌≤◌, ◌⊎◌, [], length, IfOk, OnOk, OnErr, Some};
+ghost use Rattle.host_io.specs.Calls.{no_calls, with_failing};
+ghost use Rattle.host_io.specs.MemSink.{write_answer, after_write};
+ghost use Rattle.host_io.specs.Sink.{Takes, bytes_taken, HasWriteCause};
+ghost use Rattle.host_io.specs.declared.sink.SinkError.TheVariants.{Memory};
+
+use crate::calls::Calls;
+use crate::sink::{Sink, SinkError};
+use std::alloc::{AllocError, Global};
+use std::marker::Model;
+
+/// Keeps all bytes that it takes, and takes each piece whole.
+#[derive(Drop)]
+pub struct MemSink {
+    bytes: Vec<u8>,
+    calls: Calls,
+}
+
+impl Model for MemSink {
+    ghost use Rattle.host_io.specs.MemSink.{SinkState, sink_state_code};
+
+    ghost Value = { SinkState };
+
+    ghost coded = { sink_state_code };
+
+    ghost view = { λ s. record { bytes = s.bytes.items; calls = s.calls } };
+}
+
+impl MemSink {
+    pub fn new(alloc: Global) -> Result<MemSink, AllocError>
+        ensures { IfOk result (λ sink. sink ≡ record { bytes = []; calls = no_calls }) }
+    {
+        Ok(MemSink {
+            bytes: Vec::new(alloc),
+            calls: Calls::new(alloc),
+        })
+    }
+
+    /// The bytes taken so far.
+    pub fn bytes(&self) -> &[u8]
+        ensures { result.now ≡ self.now.bytes }
+    {
+        self.bytes.as_slice()
+    }
+
+    /// Makes the write of this number fail. Writes count from 0.
+    pub fn fail_at(&mut self, call: u32) -> Result<(), AllocError>
+        ensures ok { OnOk result (self.new ≡ record self.old { calls = with_failing self.old.calls call }) }
+        ensures err { OnErr result (self.new ≡ self.old) }
+    {
+        self.calls.fail_at(call)
+    }
+}
+
+impl Sink for MemSink {
+    ghost told = { λ s. Some s.bytes };
+
+    ghost faults = { λ s. s.calls.faults };
+
+    fn write(&mut self, _alloc: Global, piece: &[u8]) -> Result<usize, SinkError>
+        ensures answer { (result ≡ Err Memory) ⊎ (result ≡ write_answer self.old piece.now) }
+        ensures after { self.new ≡ after_write self.old piece.now result }
+        ensures fits { IfOk result (λ n. n ≤ length piece.now) }
+        ensures takes { Takes (Some self.old.bytes) (Some self.new.bytes) (bytes_taken result piece.now) }
+        ensures cause { HasWriteCause self.old.calls.faults self.new.calls.faults piece.now result }
+    {
+        if self.calls.begin() {
+            self.calls.fault();
+            return Err(SinkError::Failed);
+        }
+        self.bytes.extend_from_slice(piece)?;
+        Ok(piece.len())
+    }
+}

@@ -1,0 +1,2 @@
+pub mod ByteBusLaws
+pub mod Products

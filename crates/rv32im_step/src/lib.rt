@@ -1,0 +1,26 @@
+//! One RV32IM instruction over the registers and a bus.
+//!
+//! Here stands what one instruction does, and what it asks of memory. No system calls, no processes, and
+//! no memory but the plain one of `ByteBus`.
+#![tactic(auto)]
+
+mod access;
+mod bus;
+mod byte_bus;
+mod hart;
+mod integer;
+mod memory;
+mod multiply;
+mod regs;
+mod stop;
+mod transfer;
+
+pub use access::{Access, AccessKind};
+pub use bus::Bus;
+pub use byte_bus::ByteBus;
+pub use hart::step;
+pub use regs::Regs;
+pub use stop::Stop;
+
+#[cfg(test)]
+mod tests;

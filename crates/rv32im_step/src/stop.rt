@@ -1,0 +1,17 @@
+//! How one step ended.
+
+use crate::access::Access;
+
+/// How one step ended. Only after `Next` have registers or memory changed.
+#[derive(Clone, Copy, Debug, PartialEq, Eq)]
+pub enum Stop {
+    /// The instruction was carried out.
+    Next,
+    /// The instruction at pc is ECALL.
+    Call,
+    /// A signal: 4 for an illegal instruction, 5 for EBREAK, 7 for a jump to an address that isn't a
+    /// multiple of 4.
+    Trap(u32),
+    /// The bus refused this access.
+    Refused(Access),
+}

@@ -1,0 +1,2 @@
+pub mod ImmediateLaws
+mod Samples

@@ -1,0 +1,4 @@
+pub mod Field
+pub mod Immediate
+pub mod Instr
+pub mod Table
