@@ -5,3 +5,6 @@ pub mod HostSteps
 pub mod Stops
 pub mod Judged
 pub mod NoCommand
+pub mod Inputs
+pub mod StatusRows
+pub mod HostRows

@@ -12,6 +12,7 @@
 -- Course: how far a host answered, and what is said then.
 -- Delivery: how far the sinks took what is said.
 -- Call: what a call of the top call does.
+-- Rows: when each status comes, and what stands after it.
 pub mod Status
 pub mod Outcome
 pub mod Header
@@ -26,3 +27,4 @@ pub mod Seen
 pub mod Course
 pub mod Delivery
 pub mod Call
+pub mod Rows

@@ -8,12 +8,14 @@ mod answer;
 mod conversion;
 mod delivery;
 mod header;
+mod laws;
 mod status;
 mod texts;
 mod top;
 mod words;
 
 pub use delivery::deliver;
+pub use laws::{host_law, status_law};
 pub use status::Status;
 pub use texts::MEMORY_LINE;
 pub use top::suite;

@@ -1,0 +1,15 @@
+-- Each law by its proof over plain values.
+use Rattle.suite_top.proofs.Inputs.{usage_is_exact}
+use Rattle.suite_top.proofs.StatusRows.{answers_are_whole, completes, reads_fail, writes_fail, sinks_fail, memory_is_told}
+use Rattle.suite_top.proofs.laws.status_law.Goals as goal
+
+pub returns : goal.returns
+returns c = record {
+  answers = answers_are_whole;
+  complete = completes;
+  usage = usage_is_exact;
+  host_read = reads_fail;
+  host_write = writes_fail;
+  sink_write = sinks_fail;
+  memory = memory_is_told
+}
