@@ -143,6 +143,7 @@ fn class_in(
 }
 
 /// The class of a symbol of section 3, if that is a symbol table that has it.
+#[tactic(auto, unfolding(elf32_reader::specs::Symbols::is_symtab, elf32_reader::specs::Sections::is_of_kind))]
 fn class_at(elf: &Elf<'_>, symbol: u32) -> Option<Class> {
     let table = 3;
     if table < elf.sections() && elf.section(table).kind == 2 && symbol < elf.symbols(table) {
