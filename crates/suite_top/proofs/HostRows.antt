@@ -37,8 +37,8 @@ names_at asks (failed done last) t is = (
   map name_of done ++ name_of last ∷ [],
   map name_of is.0,
   ap (map name_of) is.1 ∙ names_append done (last ∷ is.0) ∙ sym (append_assoc (map name_of done) (name_of last ∷ []) (map name_of is.0)),
-  ap (λ (names : List (List ℕ)). names ++ name_of last ∷ []) (asked_after done t) ∙ append_assoc t.asked (map name_of done) (name_of last ∷ [])
-  )
+  ap (λ (names : List (List ℕ)). names ++ name_of last ∷ []) (asked_after done t) ∙ append_assoc t.asked (map name_of done) (name_of last ∷ []),
+)
 names_at asks (starved done) t is = (map name_of done, map name_of is.0, ap (map name_of) is.1 ∙ names_append done is.0, asked_after done t)
 
 pub names_are_a_front : NamesAreAFront
@@ -71,10 +71,10 @@ Stores old new flt found = (new ≡ old) ⊎ ((e : List ℕ) × (found ≡ Some 
 front_behind : (flt : List ℕ) (found : Option (List ℕ)) (asks front rest : List Ask) (t : Told) → Behind flt found asks → asks ≡ front ++ rest → Stores t.files (all_answered t front).files flt found
 front_behind flt found asks front rest t (inl none) is = inl (front_of_none front rest t (sym none ∙ is))
 front_behind flt found asks front rest t (inr (e, is_e, accepted, one)) is =
-  elim (front_of_store flt (flat e stack) front rest t (sym one ∙ is)) [
-    inl same ↦ inl same
-  | inr stored ↦ inr (e, is_e, accepted, stored)
-  ]
+    elim (front_of_store flt (flat e stack) front rest t (sym one ∙ is)) [
+      | inl same ↦ inl same
+      | inr stored ↦ inr (e, is_e, accepted, stored)
+    ]
 
 front_of_convert : (elf flt : List ℕ) (found : Option (List ℕ)) (front rest : List Ask) (t : Told) → load elf ∷ (with_found elf found (converted_outcome flt)).asks ≡ front ++ rest → Stores t.files (all_answered t front).files flt found
 front_of_convert elf flt found [] rest t is = inl refl

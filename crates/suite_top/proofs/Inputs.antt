@@ -18,7 +18,7 @@ use Rattle.suite_top.specs.Rows.{UsageIsExact}
 -- what holds of a refusal and of `rest` holds of what was found
 pub found_by : (P : Outcome → Type 0) (name : List ℕ) (rest : List ℕ → Outcome) (e : List ℕ) → P (record { asks = []; said = refused_said too_long_tail }) → P (rest e) → P (with_found name (Some e) rest)
 found_by P name rest e long fits =
-  elim (nat_lt file_limit (length e)) as (λ (b : Bool). P (cond b (record { asks = []; said = refused_said too_long_tail }) (rest e))) [ true ↦ long | false ↦ fits ]
+    elim (nat_lt file_limit (length e)) as (λ (b : Bool). P (cond b (record { asks = []; said = refused_said too_long_tail }) (rest e))) [ true ↦ long | false ↦ fits ]
 
 module _ (P : Status → Type 0) (read : P HostRead) (refused : P Refused) (done : P Done) where
   judged_status : (flt e : List ℕ) (o : Option Refusal) → P (judged_outcome flt e o).said.status
@@ -47,8 +47,8 @@ no_command (Some (convert elf flt)) finds is = absurd (convert_status (λ t. t �
 pub usage_is_exact : UsageIsExact
 usage_is_exact words finds = (
   no_command (command_of words) finds,
-  λ none. subst (λ (o : Option Spoken). ((command_outcome o finds).said.status ≡ Usage) × ((command_outcome o finds).asks ≡ [])) (sym none) (refl, refl)
-  )
+  λ none. subst (λ (o : Option Spoken). ((command_outcome o finds).said.status ≡ Usage) × ((command_outcome o finds).asks ≡ [])) (sym none) (refl, refl),
+)
 
 -- ---- what `convert` asks behind its load
 

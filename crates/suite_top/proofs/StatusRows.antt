@@ -48,7 +48,7 @@ module _ (c : Call) (said : Said) (t : IsTaken c said) where
     told = told;
     faults = faults;
     out = subst (λ (s : Said). Took c.out c.out_now s.out) is t.0;
-    report = subst (λ (s : Said). Took c.report c.report_now s.report) is t.1
+    report = subst (λ (s : Said). Took c.report c.report_now s.report) is t.1;
   }
 
   answer_at : (k : course.Course) → c.host_now.told ≡ option_map (course.told_after (outcome_of c).asks k) c.host.told → course.Counts k c.host.faults c.host_now.faults → course.SaysAfter (outcome_of c).said k said → IsAnswer said.status → IsWhole c
@@ -70,7 +70,7 @@ module _ (c : Call) (said : Said) (t : IsTaken c said) where
     rose = rose;
     told = told;
     out = subst (λ (text : List ℕ). Took c.out c.out_now text) (ap (λ (s : Said). s.out) is ∙ nothing) t.0;
-    report = subst (λ (s : Said). Took c.report c.report_now s.report) is t.1
+    report = subst (λ (s : Said). Took c.report c.report_now s.report) is t.1;
   }
 
   read_at : (k : course.Course) → course.IsCourseOf (outcome_of c).asks k → c.host_now.told ≡ option_map (course.told_after (outcome_of c).asks k) c.host.told → course.Counts k c.host.faults c.host_now.faults → course.SaysAfter (outcome_of c).said k said → said.status ≡ HostRead → (name : List ℕ) × FailsAt c (load name)

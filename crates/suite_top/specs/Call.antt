@@ -43,5 +43,5 @@ CarriesOut words host host_now out out_now report report_now status =
       out_now = out_now;
       report = report;
       report_now = report_now;
-      status = status
+      status = status;
     })

@@ -10,12 +10,10 @@ pub fn status_law()
     ensures host_write { WritesFail }
     ensures sink_write { SinksFail }
     ensures memory { MemoryIsTold }
-{
-}
+{}
 
 /// What the host was asked, and which file changed.
 pub fn host_law()
     ensures names { NamesAreAFront }
     ensures files { OneFileChanges }
-{
-}
+{}

@@ -1,7 +1,7 @@
-ghost use Rattle.std.specs.Prelude.{◌+◌, ◌≤◌};
+ghost use Rattle.std.specs.Prelude.{◌+◌, ◌≤◌, None};
 
 use super::*;
-use host_io::{MemHost, MemSink};
+use host_io::{Host, HostError, Loaded, MemHost, MemSink};
 use std::alloc::{AllocError, Global};
 use std::test::Fail;
 
@@ -71,7 +71,7 @@ const DATA: usize = 260;
 const LINE: &str = "text 64 data 12 bss 0 stack 4096 records 1 entry 128\n";
 
 /// The longest file that is loaded.
-const LIMIT: usize = 67_108_864;
+const LIMIT: u32 = 67_108_864;
 
 /// The ELF file with one word changed.
 fn with_word(mut elf: [u8; 448], at: usize, word: u32) -> [u8; 448]
@@ -102,14 +102,19 @@ fn with_elf(alloc: Global, elf: &[u8]) -> Result<Outside, AllocError> {
 
 const CONVERT: [&str; 3] = ["convert", "a.elf", "a.flt"];
 
-fn call(alloc: Global, words: &[&str], outside: &mut Outside) -> Result<Status, AllocError> {
+fn owned(alloc: Global, words: &[&str]) -> Result<Vec<String>, AllocError> {
     let mut owned = Vec::new(alloc);
     for word in words {
         owned.push(String::from_str(alloc, word)?)?;
     }
+    Ok(owned)
+}
+
+fn call(alloc: Global, words: &[&str], outside: &mut Outside) -> Result<Status, AllocError> {
+    let words = owned(alloc, words)?;
     Ok(suite(
         alloc,
-        &owned,
+        &words,
         &mut outside.host,
         &mut outside.out,
         &mut outside.report,
@@ -201,13 +206,53 @@ fn faults_are_refused(rt: HostRuntime) -> Result<(), Fail> {
     Ok(())
 }
 
-/// Zeros are no ELF file, and too many of them are too long.
+/// A host with one file of this many bytes. It tells nothing, and gives none of the bytes.
+#[derive(Drop)]
+struct SizeHost {
+    size: u32,
+}
+
+impl Host for SizeHost {
+    ghost told = { λ _. None };
+
+    ghost faults = { λ _. 0 };
+
+    fn load(
+        &mut self,
+        _alloc: Global,
+        _name: &str,
+        limit: u32,
+        into: &mut Vec<u8>,
+    ) -> Result<Loaded, HostError> {
+        into.clear();
+        if self.size > limit {
+            Ok(Loaded::TooLong)
+        } else {
+            Ok(Loaded::All)
+        }
+    }
+
+    fn store(&mut self, _alloc: Global, _name: &str, _bytes: &[u8]) -> Result<(), HostError> {
+        Ok(())
+    }
+}
+
+/// Of `convert` over a host with a file of this size: what `report` takes.
+fn report_at(alloc: Global, size: u32) -> Result<MemSink, AllocError> {
+    let mut host = SizeHost { size };
+    let mut out = MemSink::new(alloc)?;
+    let mut report = MemSink::new(alloc)?;
+    let words = owned(alloc, &CONVERT)?;
+    let _ = suite(alloc, &words, &mut host, &mut out, &mut report);
+    Ok(report)
+}
+
 #[test]
-fn long_files_are_refused(rt: HostRuntime) -> Result<(), Fail> {
-    let mut zeros = vec![in rt.alloc(); 0u8; LIMIT]?;
-    assert!(rt; is_refused(rt.alloc(), &zeros, "refused: elf 2 Magic\n")?);
-    zeros.push(0)?;
-    assert!(rt; is_refused(rt.alloc(), &zeros, "refused: too long\n")?);
+fn limit_is_exact(rt: HostRuntime) -> Result<(), Fail> {
+    let report = report_at(rt.alloc(), LIMIT)?;
+    assert_eq!(rt; report.bytes(), b"refused: elf 1 Short\n".as_slice());
+    let report = report_at(rt.alloc(), LIMIT + 1)?;
+    assert_eq!(rt; report.bytes(), b"refused: too long\n".as_slice());
     Ok(())
 }
 

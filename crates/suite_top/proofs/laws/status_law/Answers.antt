@@ -11,5 +11,5 @@ returns c = record {
   host_read = reads_fail;
   host_write = writes_fail;
   sink_write = sinks_fail;
-  memory = memory_is_told
+  memory = memory_is_told;
 }
