@@ -1,4 +1,4 @@
--- The bytes of a loaded flat file: what Linux's fs/binfmt_flat.c leaves in memory.
+-- The bytes of a loaded flat file, after Linux's fs/binfmt_flat.c.
 use Rattle.std.specs.Prelude.{ℕ, ◌+◌, ◌%◌, ◌^◌, ◌==◌, if◌then◌else◌, List, [], map, slice_index, Option}
 use Rattle.bflt_format.specs.Numbers.{big_at}
 use Rattle.bflt_format.specs.Patches.{Patch, painted, from_base, little_word}

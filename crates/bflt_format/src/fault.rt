@@ -26,7 +26,8 @@ pub enum FlatFault {
     Entry = 7,
     /// A stack of more than 1,048,576 bytes.
     StackSize = 8,
-    /// The table of records begins before the end of the data or passes the end of the file.
+    /// There are records, and their table begins before the end of the data or passes the end of
+    /// the file.
     RecordTable = 9,
     /// A record's word does not lie in text and data.
     RecordRange = 10,

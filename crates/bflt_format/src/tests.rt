@@ -63,7 +63,7 @@ fn example_is_read_and_written(rt: HostRuntime) -> Result<(), Fail> {
     assert_eq!(rt; flat.body(), &ONE_WORD[64..140]);
     assert_eq!(rt; flat.records(), [0x48].as_slice());
     let made = made_anew(rt.alloc(), &flat)?.ok_or("flags 1")?;
-    let written = made.write(rt.alloc())?;
+    let written = made.write()?;
     assert_eq!(rt; written.as_slice(), ONE_WORD.as_slice());
     Ok(())
 }
@@ -174,7 +174,7 @@ fn what_is_not_looked_at(rt: HostRuntime) -> Result<(), Fail> {
     let flat = Flat::read(rt.alloc(), &file)?;
     assert_eq!(rt; flat.flags(), 17);
     assert_eq!(rt; flat.records(), [0x48, 4].as_slice());
-    let written = flat.write(rt.alloc())?;
+    let written = flat.write()?;
     let want = changed(rt.alloc(), &[(32, 2), (36, 17)], &[0, 0, 0, 4])?;
     assert_eq!(rt; written.as_slice(), want.as_slice());
     Ok(())
@@ -191,7 +191,7 @@ fn hi_is_written(rt: HostRuntime) -> Result<(), Fail> {
     let hi = Flat::read(rt.alloc(), &file)?;
     assert_eq!(rt; (hi.text(), hi.data_len(), hi.entry()), (96, 12, 128));
     let made = made_anew(rt.alloc(), &hi)?.ok_or("flags 1")?;
-    let written = made.write(rt.alloc())?;
+    let written = made.write()?;
     assert_eq!(rt; written.as_slice(), file.as_slice());
     Ok(())
 }

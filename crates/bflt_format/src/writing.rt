@@ -6,17 +6,17 @@ ghost use Rattle.bflt_format.specs.Spelling.{spell, header_words, words_text};
 use crate::flat::Flat;
 use crate::header::{LEN, MAGIC, REVISION};
 use byteorder::{BigEndian, ByteOrder};
-use std::alloc::{AllocError, Global};
+use std::alloc::AllocError;
 
 impl Flat {
     /// The bytes of the file: header, body, and the records right behind it. The build date and the
     /// fillers are 0.
     #[tactic(auto, unfolding(crate::specs::Spelling::spell))]
-    pub fn write(&self, alloc: Global) -> Result<Vec<u8>, AllocError>
+    pub fn write(&self) -> Result<Vec<u8>, AllocError>
         ensures { IfOk result (λ v. v.items ≡ spell self.now) }
     {
         let len = LEN as usize + self.body.len() + 4 * self.records.len();
-        let mut out = vec![in alloc; 0u8; len]?;
+        let mut out = vec![in *self.body.allocator(); 0u8; len]?;
         fill(
             out.as_mut_slice(),
             &self.header(),

@@ -35,7 +35,7 @@ word_kind : (e : List ℕ) (s : Section) (r : Reloc) → is_word e s r ≡ true 
 unfolding is_word
 word_kind e s r is = (and_parts _ _ (and_parts _ _ (and_parts _ _ is).0).0).0
 
-fields-word : (d : ℕ) (r : Reloc) → (r.kind == type_word) ≡ true → fields d r ≡ record { place = r.place; value = absolute r d; recorded = r.moves } ∷ []
+fields-word : (d : ℕ) (r : Reloc) → (r.kind == type_word) ≡ true → fields d r ≡ record { place = r.place; value = absolute r d } ∷ []
 unfolding fields
 fields-word d r kind = rw kind refl
 

@@ -31,7 +31,7 @@ places_of e = map (λ r. off (layout e) r.place) (relocs e)
 
 -- the one field of a recorded relocation
 abbrev field : ℕ → Reloc → Field
-field d r = record { place = r.place; value = absolute r d; recorded = r.moves }
+field d r = record { place = r.place; value = absolute r d }
 
 one_field : (d : ℕ) (r : Reloc) → r.kind ≡ 1 → fields d r ≡ field d r ∷ []
 unfolding fields

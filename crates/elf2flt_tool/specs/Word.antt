@@ -37,7 +37,7 @@ numbered l f = record { place = off l f.place; target = off l f.value }
 
 -- the word that the relocation records, if it is one
 unfoldable pub word_of : Layout → List ℕ → Section → Reloc → Option Word
-word_of l e s r = if is_word e s r then Some (numbered l (record { place = r.place; value = absolute r 0; recorded = r.moves })) else None
+word_of l e s r = if is_word e s r then Some (numbered l (record { place = r.place; value = absolute r 0 })) else None
 
 unfoldable pub has_other : List ℕ → ℕ → Bool
 has_other e i = is_kept e i && any_below (λ j. not (is_word e (target_section e i) (reloc e i j))) (rela_count e i)

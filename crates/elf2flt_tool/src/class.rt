@@ -12,7 +12,8 @@ const SHN_UNDEF: u16 = 0;
 const SHN_ABS: u16 = 0xfff1;
 /// The binding of a weak symbol.
 const STB_WEAK: u8 = 2;
-/// The symbol that the linker puts at a fixed distance from the sections.
+/// The absolute symbol that is taken to stand at a fixed distance from the sections: this project's
+/// own rule.
 const GLOBAL_POINTER: &[u8] = b"__global_pointer$";
 
 /// What a symbol's value does when the image moves.

@@ -125,5 +125,5 @@ pub fn convert(alloc: Global, bytes: &[u8], stack: u32) -> Result<Vec<u8>, Refus
     let elf = Elf::read(bytes)?;
     let layout = Layout::of(&elf)?;
     let flat = converted_flat(alloc, &elf, &layout, stack)?;
-    Ok(flat.write(alloc)?)
+    Ok(flat.write()?)
 }

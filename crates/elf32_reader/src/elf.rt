@@ -63,7 +63,7 @@ fn fault_of(bytes: &[u8]) -> Option<ElfFault>
 }
 
 impl<'a> Elf<'a> {
-    /// Reads a file in one walk over its sections, symbols and relocations. It takes no memory.
+    /// Reads a file, or says its first fault. It takes no memory.
     pub fn read(bytes: &'a [u8]) -> Result<Elf<'a>, ElfFault>
         ensures { MatchResult result
             (λ elf. (elf_fault bytes.now ≡ None) × (elf ≡ bytes.now))
@@ -125,7 +125,7 @@ impl<'a> Elf<'a> {
         symbols_in(self.bytes, table)
     }
 
-    /// A symbol of a symbol table. Index 0 is the undefined symbol.
+    /// A symbol of a symbol table.
     pub fn symbol(&self, table: u32, index: u32) -> Symbol
         requires table { is_symtab self.now table ≡ true }
         requires index { index < symbol_count self.now table }

@@ -23,11 +23,11 @@ const ACCESS: u32 = 0o777;
 /// Files by their paths, from the current folder of the process on.
 ///
 /// A store writes a new file in the folder of its target, flushes it to the disk and renames it over
-/// the target. So after `Failed` the old file is as it was, and the new one is gone. The new file has
-/// the access bits of the old one. A target that may not be written is `Failed`. A symbolic link to a
-/// plain file, or to none, is itself replaced: the file that it leads to stays. A hard link's other
-/// names keep the old file. A target that is no plain file, such as a device or a pipe, is written
-/// straight, and keeps what it took.
+/// the target. So after `Failed` the old file is as it was; the new one is removed, if the system
+/// lets it. The new file has the access bits of the old one. A target that may not be written is
+/// `Failed`, and so is a symbolic link to a plain file, or to none, since a store changes the file of
+/// one name alone. A hard link's other names keep the old file. A target that is no plain file, such
+/// as a device or a pipe, is written straight, and keeps what it took.
 #[derive(Drop)]
 pub struct FolderHost<R: Files> {
     files: R,
@@ -121,10 +121,18 @@ fn write_file<R: Files>(
     how.write(true);
     match how.open(files, name) {
         Ok(target) => write_over(alloc, files, name, target, bytes),
-        Err(error) if error.kind() == ErrorKind::NotFound => {
+        Err(error) if error.kind() == ErrorKind::NotFound && !is_link(files, name) => {
             replace(alloc, files, name, None, bytes)
         }
         Err(_) => Err(HostError::Failed),
+    }
+}
+
+/// Whether a symbolic link stands at the name.
+fn is_link<R: Files>(files: &R, name: &str) -> bool {
+    match fs::symlink_metadata(files, name) {
+        Ok(about) => about.is_symlink(),
+        Err(_) => false,
     }
 }
 
@@ -140,6 +148,9 @@ fn write_over<R: Files>(
         return Err(HostError::Failed);
     };
     if about.is_file() {
+        if is_link(files, name) {
+            return Err(HostError::Failed);
+        }
         let access = about.permissions().mode() & ACCESS;
         return replace(
             alloc,

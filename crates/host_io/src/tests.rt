@@ -151,7 +151,7 @@ fn folder_host_loads(rt: HostRuntime) -> Result<(), Fail> {
     Ok(())
 }
 
-/// What stands in a folder after stores: a file of mode 0600, and what was a link to it.
+/// What stands in a folder after stores: a file of mode 0600, and a link to it.
 fn check_folder<R: Abort + Files + AllocGlobal + Clone + Drop>(
     rt: &R,
     folder: &str,
@@ -166,7 +166,7 @@ fn check_folder<R: Abort + Files + AllocGlobal + Clone + Drop>(
     );
     assert_eq!(rt;
         fs::read(rt, link.as_str())?.as_slice(),
-        b"linked".as_slice()
+        b"newer".as_slice()
     );
     assert_eq!(rt; count_names(rt, folder)?, 2);
     Ok(())
@@ -182,7 +182,7 @@ fn folder_host_stores(rt: HostRuntime) -> Result<(), Fail> {
     fs::set_permissions(&rt, file.as_str(), fs::Permissions::from_mode(0o600))?;
     symlink(&rt, file.as_str(), link.as_str())?;
     let stores = [
-        (link.as_str(), b"linked".as_slice(), Ok(())),
+        (link.as_str(), b"linked".as_slice(), Err(HostError::Failed)),
         (file.as_str(), b"newer", Ok(())),
         (folder.as_str(), b"x", Err(HostError::Failed)),
         ("/no such folder/a.flt", b"x", Err(HostError::Failed)),
