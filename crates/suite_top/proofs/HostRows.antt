@@ -17,7 +17,7 @@ use Rattle.suite_top.specs.Rows.{NamesAreAFront, OneFileChanges}
 use Rattle.suite_top.proofs.Inputs.{Behind, asks_behind}
 
 -- what a host tells in the end is what its course gives
-told_is : (k : Told → Told) (old new : Option Told) (t t_now : Told) → new ≡ option_map k old → old ≡ Some t → new ≡ Some t_now → t_now ≡ k t
+pub told_is : (k : Told → Told) (old new : Option Told) (t t_now : Told) → new ≡ option_map k old → old ≡ Some t → new ≡ Some t_now → t_now ≡ k t
 told_is k old new t t_now by is_old is_new = cc
 
 -- ---- names
@@ -49,7 +49,7 @@ names_are_a_front c t t_now (said, goes, delivers) is_old is_new =
 
 -- ---- files
 
-files_at : (asks : List Ask) (k : Course) (t : Told) → IsCourseOf asks k → (front : List Ask) × (rest : List Ask) × (asks ≡ front ++ rest) × ((told_after asks k t).files ≡ (all_answered t front).files)
+pub files_at : (asks : List Ask) (k : Course) (t : Told) → IsCourseOf asks k → (front : List Ask) × (rest : List Ask) × (asks ≡ front ++ rest) × ((told_after asks k t).files ≡ (all_answered t front).files)
 files_at asks whole t is = (asks, [], sym (append-nil asks), refl)
 files_at asks (failed done last) t is = (done, last ∷ is.0, is.1, refl)
 files_at asks (starved done) t is = (done, is.0, is.1, refl)
@@ -60,7 +60,7 @@ front_of_store flt bytes [] rest t is = inl refl
 front_of_store flt bytes (ask ∷ []) rest t is = let e : ask ≡ store flt bytes = cc in inr (ap (λ (a : Ask). (answered t a).files) e)
 front_of_store flt bytes (ask ∷ (other ∷ front)) rest t is = absurd cc
 
-front_of_none : (front rest : List Ask) (t : Told) → [] ≡ front ++ rest → (all_answered t front).files ≡ t.files
+pub front_of_none : (front rest : List Ask) (t : Told) → [] ≡ front ++ rest → (all_answered t front).files ≡ t.files
 front_of_none [] rest t is = refl
 front_of_none (ask ∷ front) rest t is = absurd cc
 

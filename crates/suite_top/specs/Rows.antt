@@ -91,3 +91,8 @@ UsageIsExact = (words : List (List ℕ)) (finds : Finds)
 abbrev pub OneFileChanges : Type 0
 OneFileChanges = (c : Call) (t t_now : Told) (elf flt : List ℕ) → Stands c → c.host.told ≡ Some t → c.host_now.told ≡ Some t_now → c.finds ≡ finds_in t.files → command_of c.words ≡ Some (convert elf flt)
     → (t_now.files ≡ t.files) ⊎ ((e : List ℕ) × (get t.files elf ≡ Some e) × (fault e ≡ None) × (t_now.files ≡ insert t.files flt (flat e stack)))
+
+-- after any other words the files are as before
+abbrev pub OthersChangeNoFile : Type 0
+OthersChangeNoFile = (c : Call) (t t_now : Told) → Stands c → c.host.told ≡ Some t → c.host_now.told ≡ Some t_now → ((elf flt : List ℕ) → command_of c.words ≡ Some (convert elf flt) → ⊥)
+    → t_now.files ≡ t.files

@@ -1,5 +1,5 @@
 //! Laws over every call of `suite`, by what its clause says. No code runs.
-ghost use Rattle.suite_top.specs.Rows.{AnswersAreWhole, Completes, ReadsFail, WritesFail, SinksFail, MemoryIsTold, NamesAreAFront, UsageIsExact, OneFileChanges};
+ghost use Rattle.suite_top.specs.Rows.{AnswersAreWhole, Completes, ReadsFail, WritesFail, SinksFail, MemoryIsTold, NamesAreAFront, UsageIsExact, OneFileChanges, OthersChangeNoFile};
 
 /// When each status comes.
 pub fn status_law()
@@ -16,4 +16,5 @@ pub fn status_law()
 pub fn host_law()
     ensures names { NamesAreAFront }
     ensures files { OneFileChanges }
+    ensures others { OthersChangeNoFile }
 {}
