@@ -8,4 +8,5 @@ pub mod NoCommand
 pub mod Inputs
 pub mod StatusRows
 pub mod HostRows
+pub mod Listed
 pub mod ListRows
