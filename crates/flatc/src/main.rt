@@ -20,3 +20,6 @@ fn main(rt: HostRuntime) -> ExitCode {
     let status = end(alloc, words, &mut host, &mut out, &mut report);
     ExitCode::from(status.code())
 }
+
+#[cfg(test)]
+mod tests;

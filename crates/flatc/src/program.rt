@@ -1,5 +1,6 @@
 //! The program over any host and any sinks.
-ghost use Rattle.std.specs.Prelude.{◌≡◌, map, string_bytes};
+ghost use Rattle.std.specs.Prelude.{map, option_map, Some, string_bytes};
+ghost use Rattle.std.specs.Result.{result_ok};
 ghost use Rattle.flatc.specs.Pages.{page_of};
 ghost use Rattle.flatc.specs.Program.{Ends};
 ghost use Rattle.suite_top.specs.Seen.{seen};
@@ -7,9 +8,8 @@ ghost use Rattle.suite_top.specs.Seen.{seen};
 use crate::pages::{HELP, VERSION, page_of};
 use host_io::{Host, Sink};
 use std::alloc::Global;
-use std::env;
-use std::io;
 use std::rt::Env;
+use std::{env, io};
 use suite_top::{MEMORY_LINE, Status, deliver, suite};
 
 /// The words after the program's name. One that isn't text is an error.
@@ -26,7 +26,7 @@ pub fn run<H: Host, O: Sink, R: Sink>(
     out: &mut O,
     report: &mut R,
 ) -> Status
-    ensures { Ends (page_of HELP.now VERSION.now (map string_bytes words.now)) (map string_bytes words.now)
+    ensures { Ends (page_of HELP.now VERSION.now) (Some (map string_bytes words.now))
         (seen H.told H.faults host.old) (seen H.told H.faults host.new)
         (seen O.told O.faults out.old) (seen O.told O.faults out.new)
         (seen R.told R.faults report.old) (seen R.told R.faults report.new) result }
@@ -44,7 +44,12 @@ pub fn end<H: Host, O: Sink, R: Sink>(
     host: &mut H,
     out: &mut O,
     report: &mut R,
-) -> Status {
+) -> Status
+    ensures { Ends (page_of HELP.now VERSION.now) (option_map (λ read. map string_bytes read.items) (result_ok words))
+        (seen H.told H.faults host.old) (seen H.told H.faults host.new)
+        (seen O.told O.faults out.old) (seen O.told O.faults out.new)
+        (seen R.told R.faults report.old) (seen R.told R.faults report.new) result }
+{
     match words {
         Ok(words) => run(alloc, &words, host, out, report),
         Err(error) if error.kind() == io::ErrorKind::OutOfMemory => {
