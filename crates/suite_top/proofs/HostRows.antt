@@ -49,7 +49,7 @@ names_are_a_front c t t_now (said, goes, delivers) is_old is_new =
 
 -- ---- files
 
-pub files_at : (asks : List Ask) (k : Course) (t : Told) → IsCourseOf asks k → (front : List Ask) × (rest : List Ask) × (asks ≡ front ++ rest) × ((told_after asks k t).files ≡ (all_answered t front).files)
+files_at : (asks : List Ask) (k : Course) (t : Told) → IsCourseOf asks k → (front : List Ask) × (rest : List Ask) × (asks ≡ front ++ rest) × ((told_after asks k t).files ≡ (all_answered t front).files)
 files_at asks whole t is = (asks, [], sym (append-nil asks), refl)
 files_at asks (failed done last) t is = (done, last ∷ is.0, is.1, refl)
 files_at asks (starved done) t is = (done, is.0, is.1, refl)
@@ -60,7 +60,7 @@ front_of_store flt bytes [] rest t is = inl refl
 front_of_store flt bytes (ask ∷ []) rest t is = let e : ask ≡ store flt bytes = cc in inr (ap (λ (a : Ask). (answered t a).files) e)
 front_of_store flt bytes (ask ∷ (other ∷ front)) rest t is = absurd cc
 
-pub front_of_none : (front rest : List Ask) (t : Told) → [] ≡ front ++ rest → (all_answered t front).files ≡ t.files
+front_of_none : (front rest : List Ask) (t : Told) → [] ≡ front ++ rest → (all_answered t front).files ≡ t.files
 front_of_none [] rest t is = refl
 front_of_none (ask ∷ front) rest t is = absurd cc
 

@@ -10,3 +10,4 @@ pub mod StatusRows
 pub mod HostRows
 pub mod Listed
 pub mod ListRows
+pub mod ListSamples
