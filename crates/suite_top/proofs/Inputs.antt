@@ -7,7 +7,7 @@ use Rattle.bflt_format.specs.Fault.{flat_fault}
 use Rattle.elf2flt_tool.specs.Fault.{fault}
 use Rattle.elf2flt_tool.specs.Converted.{flat}
 use Rattle.suite_top.specs.declared.status.Status.{Status}
-use Rattle.suite_top.specs.declared.status.Status.TheVariants.{Done, Usage, HostRead, Refused, SinkWrite, Memory, HostWrite}
+use Rattle.suite_top.specs.declared.status.Status.TheVariants.{Done, Usage, HostRead, Refused}
 use Rattle.suite_top.specs.Outcome.{Ask, store, Outcome, Finds}
 use Rattle.suite_top.specs.Texts.{too_long_tail}
 use Rattle.suite_top.specs.Early.{refused_said}
