@@ -9,6 +9,7 @@ flatc converts linked RV32IM ELF executables into bFLT version 4 flat files.
 usage: flatc COMMAND WORDS
 
   convert ELF FLT   convert the file ELF, and store its flat file as FLT
+  list FLT          write the listing of the flat file FLT
   --help            write this page
   --version         write the version
 

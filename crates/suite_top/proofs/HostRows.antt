@@ -6,18 +6,18 @@ use Rattle.std.proofs.lemmas.List.{append-nil}
 use Rattle.host_io.specs.Host.{Files, Told}
 use Rattle.elf2flt_tool.specs.Fault.{fault}
 use Rattle.elf2flt_tool.specs.Converted.{flat}
-use Rattle.suite_top.specs.Outcome.{Ask, load, store, Finds}
-use Rattle.suite_top.specs.Words.{Spoken, convert, command_of}
+use Rattle.suite_top.specs.Outcome.{Said, Ask, load, store, Finds}
+use Rattle.suite_top.specs.Words.{Spoken}
 use Rattle.suite_top.specs.Loading.{with_found}
 use Rattle.suite_top.specs.Convert.{converted_outcome, stack}
 use Rattle.suite_top.specs.Result.{command_outcome}
-use Rattle.suite_top.specs.Course.{Course, whole, failed, starved, IsCourseOf, answered, name_of, asked_in_vain, all_answered, told_after, finds_in}
-use Rattle.suite_top.specs.Call.{Call, outcome_of, Stands}
-use Rattle.suite_top.specs.Rows.{NamesAreAFront, OneFileChanges}
-use Rattle.suite_top.proofs.Inputs.{Behind, asks_behind}
+use Rattle.suite_top.specs.Course.{Course, whole, failed, starved, AreLoads, IsCourseOf, Counts, SaysAfter, answered, name_of, all_answered, told_after}
+use Rattle.suite_top.specs.Call.{outcome_of}
+use Rattle.suite_top.specs.Rows.{NamesAreAFront, NothingIsAsked, OneFileChanges}
+use Rattle.suite_top.proofs.Inputs.{Behind, usage_is_exact, asks_behind}
 
 -- what a host tells in the end is what its course gives
-told_is : (k : Told → Told) (old new : Option Told) (t t_now : Told) → new ≡ option_map k old → old ≡ Some t → new ≡ Some t_now → t_now ≡ k t
+pub told_is : (k : Told → Told) (old new : Option Told) (t t_now : Told) → new ≡ option_map k old → old ≡ Some t → new ≡ Some t_now → t_now ≡ k t
 told_is k old new t t_now by is_old is_new = cc
 
 -- ---- names
@@ -47,45 +47,55 @@ names_are_a_front c t t_now (said, goes, delivers) is_old is_new =
     let is = told_is (told_after (outcome_of c).asks goes.course) c.host.told c.host_now.told t t_now goes.told is_old is_new in
     (names.0, names.1, names.2, ap (λ (u : Told). u.asked) is ∙ names.3)
 
+-- ---- words that are no command
+
+untouched_at : (asks : List Ask) → asks ≡ [] → (k : Course) → IsCourseOf asks k → (old new : Option Told) → new ≡ option_map (told_after asks k) old → (before now : ℕ) → Counts k before now → (new ≡ old) × (now ≡ before)
+untouched_at (ask ∷ asks) none k is old new told before now counts = absurd cc
+untouched_at [] none whole is None new told before now counts = (told, counts)
+untouched_at [] none whole is (Some t) new told before now counts = (told, counts)
+untouched_at [] none (failed [] last) is old new told before now counts = absurd (let h : [] ≡ last ∷ is.0 = is.1 in cc)
+untouched_at [] none (failed (ask ∷ done) last) is old new told before now counts = absurd (let h : [] ≡ ask ∷ (done ++ last ∷ is.0) = is.1 in cc)
+untouched_at [] none (starved []) is None new told before now counts = (told, counts)
+untouched_at [] none (starved []) is (Some t) new told before now counts = (told, counts)
+untouched_at [] none (starved (ask ∷ done)) is old new told before now counts = absurd (let h : [] ≡ ask ∷ (done ++ is.0) = is.1 in cc)
+
+pub nothing_is_asked : NothingIsAsked
+nothing_is_asked c (said, goes, delivers) none =
+    untouched_at (outcome_of c).asks ((usage_is_exact c.words c.finds).1 none).1 goes.course goes.is_course c.host.told c.host_now.told goes.told c.host.faults c.host_now.faults goes.counts
+
 -- ---- files
 
-files_at : (asks : List Ask) (k : Course) (t : Told) → IsCourseOf asks k → (front : List Ask) × (rest : List Ask) × (asks ≡ front ++ rest) × ((told_after asks k t).files ≡ (all_answered t front).files)
-files_at asks whole t is = (asks, [], sym (append-nil asks), refl)
-files_at asks (failed done last) t is = (done, last ∷ is.0, is.1, refl)
-files_at asks (starved done) t is = (done, is.0, is.1, refl)
-
--- a front of at most one store
-front_of_store : (flt bytes : List ℕ) (front rest : List Ask) (t : Told) → store flt bytes ∷ [] ≡ front ++ rest → ((all_answered t front).files ≡ t.files) ⊎ ((all_answered t front).files ≡ insert t.files flt bytes)
-front_of_store flt bytes [] rest t is = inl refl
-front_of_store flt bytes (ask ∷ []) rest t is = let e : ask ≡ store flt bytes = cc in inr (ap (λ (a : Ask). (answered t a).files) e)
-front_of_store flt bytes (ask ∷ (other ∷ front)) rest t is = absurd cc
-
-front_of_none : (front rest : List Ask) (t : Told) → [] ≡ front ++ rest → (all_answered t front).files ≡ t.files
-front_of_none [] rest t is = refl
-front_of_none (ask ∷ front) rest t is = absurd cc
+pub loads_keep : (asks : List Ask) (t : Told) → AreLoads asks → (all_answered t asks).files ≡ t.files
+loads_keep [] t are = refl
+loads_keep (load name ∷ asks) t are = loads_keep asks (answered t (load name)) are
+loads_keep (store name bytes ∷ asks) t are = absurd are
 
 -- the file FLT alone, by the flat file of what was found
-abbrev Stores : Files → Files → List ℕ → Option (List ℕ) → Type 0
-Stores old new flt found = (new ≡ old) ⊎ ((e : List ℕ) × (found ≡ Some e) × (fault e ≡ None) × (new ≡ insert old flt (flat e stack)))
+abbrev Stored : Files → Files → List ℕ → Option (List ℕ) → Type 0
+Stored old new flt found = (e : List ℕ) × (found ≡ Some e) × (fault e ≡ None) × (new ≡ insert old flt (flat e stack))
 
-front_behind : (flt : List ℕ) (found : Option (List ℕ)) (asks front rest : List Ask) (t : Told) → Behind flt found asks → asks ≡ front ++ rest → Stores t.files (all_answered t front).files flt found
-front_behind flt found asks front rest t (inl none) is = inl (front_of_none front rest t (sym none ∙ is))
-front_behind flt found asks front rest t (inr (e, is_e, accepted, one)) is =
-    elim (front_of_store flt (flat e stack) front rest t (sym one ∙ is)) [
-      | inl same ↦ inl same
-      | inr stored ↦ inr (e, is_e, accepted, stored)
+all_behind : (flt : List ℕ) (found : Option (List ℕ)) (asks : List Ask) (t : Told) → Behind flt found asks → ((all_answered t asks).files ≡ t.files) ⊎ Stored t.files (all_answered t asks).files flt found
+all_behind flt found asks t (inl none) = inl (ap (λ (a : List Ask). (all_answered t a).files) none)
+all_behind flt found asks t (inr (e, is, accepted, one)) = inr (e, is, accepted, ap (λ (a : List Ask). (all_answered t a).files) one)
+
+abbrev asks_of_convert : List ℕ → List ℕ → Option (List ℕ) → List Ask
+asks_of_convert elf flt found = load elf ∷ (with_found elf found (converted_outcome flt)).asks
+
+abbrev Ends : Files → Files → List ℕ → Option (List ℕ) → Type 0 → Type 0
+Ends old new flt found Whole = (new ≡ old) ⊎ ((e : List ℕ) × (found ≡ Some e) × (fault e ≡ None) × (new ≡ insert old flt (flat e stack)) × Whole)
+
+files_at : (elf flt : List ℕ) (found : Option (List ℕ)) (asks : List Ask) → asks ≡ asks_of_convert elf flt found → (outcome said : Said) (k : Course) → IsCourseOf asks k → SaysAfter outcome k said → (t : Told) → Ends t.files (told_after asks k t).files flt found (said ≡ outcome)
+files_at elf flt found asks by outcome said whole is says t =
+    let same = ap (λ (a : List Ask). (all_answered t a).files) by in
+    elim (all_behind flt found (with_found elf found (converted_outcome flt)).asks (answered t (load elf)) (asks_behind elf flt found)) [
+      | inl kept ↦ inl (same ∙ kept)
+      | inr (e, is_e, accepted, new) ↦ inr (e, is_e, accepted, same ∙ new, says.0)
     ]
-
-front_of_convert : (elf flt : List ℕ) (found : Option (List ℕ)) (front rest : List Ask) (t : Told) → load elf ∷ (with_found elf found (converted_outcome flt)).asks ≡ front ++ rest → Stores t.files (all_answered t front).files flt found
-front_of_convert elf flt found [] rest t is = inl refl
-front_of_convert elf flt found (ask ∷ front) rest t is =
-    let head : ask ≡ load elf = cc in
-    let tail : (with_found elf found (converted_outcome flt)).asks ≡ front ++ rest = cc in
-    subst (λ (a : Ask). Stores t.files (all_answered (answered t a) front).files flt found) (sym head) (front_behind flt found _ front rest (answered t (load elf)) (asks_behind elf flt found) tail)
+files_at elf flt found asks by outcome said (failed done last) is says t = inl (loads_keep done t is.2)
+files_at elf flt found asks by outcome said (starved done) is says t = inl (loads_keep done t is.2)
 
 pub one_file_changes : OneFileChanges
 one_file_changes c t t_now elf flt (said, goes, delivers) is_old is_new finds command =
-    let f = files_at (outcome_of c).asks goes.course t goes.is_course in
     let is = told_is (told_after (outcome_of c).asks goes.course) c.host.told c.host_now.told t t_now goes.told is_old is_new in
-    let asks : (outcome_of c).asks ≡ load elf ∷ (with_found elf (get t.files elf) (converted_outcome flt)).asks = ap (λ (o : Option Spoken). (command_outcome o c.finds).asks) command ∙ ap (λ (g : Finds). load elf ∷ (with_found elf (g 0 elf) (converted_outcome flt)).asks) finds in
-    subst (λ (new : Files). Stores t.files new flt (get t.files elf)) (sym (ap (λ (u : Told). u.files) is ∙ f.3)) (front_of_convert elf flt (get t.files elf) f.0 f.1 t (sym asks ∙ f.2))
+    let asks : (outcome_of c).asks ≡ asks_of_convert elf flt (get t.files elf) = ap (λ (o : Option Spoken). (command_outcome o c.finds).asks) command ∙ ap (λ (g : Finds). asks_of_convert elf flt (g 0 elf)) finds in
+    (said, delivers, subst (λ (new : Files). Ends t.files new flt (get t.files elf) (said ≡ (outcome_of c).said)) (sym (ap (λ (u : Told). u.files) is)) (files_at elf flt (get t.files elf) (outcome_of c).asks asks (outcome_of c).said said goes.course goes.is_course goes.says t))

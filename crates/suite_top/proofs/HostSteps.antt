@@ -1,24 +1,24 @@
 -- What the answers of a host say as steps of a course.
-use Rattle.std.proofs.Common.{◌≡◌, ◌≢◌, ℕ, suc, ◌+◌, ◌<◌, ◌≤◌, Bool, true, false, cond, List, [], ◌∷◌, length, replicate, inl, Option, Some, None, Result, Ok, Err, refl, sym, ap, subst, ◌∙◌, arith}
+use Rattle.std.proofs.Common.{◌≡◌, ◌≢◌, ℕ, ◌+◌, ◌≤◌, Bool, true, false, cond, List, [], ◌∷◌, length, replicate, Option, Some, None, Ok, Err, refl, sym, ap, subst, arith}
 use Rattle.std.specs.Prelude.{option_map, nat_lt}
 use Rattle.std.specs.FinMap.{get}
 use Rattle.std.proofs.lemmas.List.{length-replicate}
 use Rattle.std.proofs.lemmas.Bool.Decides.{nat_tests}
-use Rattle.host_io.specs.Faults.{Rose, HasCause}
-use Rattle.host_io.specs.Host.{Files, Told, loads, LoadTold, StoreTold}
+use Rattle.host_io.specs.Faults.{HasCause}
+use Rattle.host_io.specs.Host.{Told, loads, LoadTold, StoreTold}
 use Rattle.host_io.specs.declared.host.Loaded.{Loaded}
 use Rattle.host_io.specs.declared.host.Loaded.TheVariants as loaded
-use Rattle.host_io.specs.declared.host.HostError.{HostError}
 use Rattle.host_io.specs.declared.host.HostError.TheVariants as error
 use Rattle.suite_top.specs.declared.status.Status.TheVariants as status
-use Rattle.suite_top.specs.Outcome.{Said, Ask, load, store, Outcome, Finds}
+use Rattle.suite_top.specs.Outcome.{Said, load, store, Outcome, Finds}
 use Rattle.suite_top.specs.Texts.{too_long_tail}
 use Rattle.suite_top.specs.Early.{cannot, refused_said, memory_said, OrMemory}
 use Rattle.suite_top.specs.Loading.{file_limit, with_found, with_file}
 use Rattle.suite_top.specs.Seen.{Seen}
 use Rattle.suite_top.specs.Course.{answered, asked_in_vain, finds_in, Goes, FollowsFrom, Follows}
 use Rattle.suite_top.proofs.Stops.{stands}
-use Rattle.suite_top.proofs.Courses.{starves, ends, fails, answers}
+use Rattle.suite_top.proofs.Courses as courses
+use Rattle.suite_top.proofs.Courses.{starves, ends, fails}
 
 -- ---- what a host tells after each answer
 
@@ -49,12 +49,6 @@ store_starved (Some t) new name bytes h = h
 -- ---- a store at the end
 
 module _ (old new : Seen Told) (name bytes : List ℕ) (wanted said : Said) where
-  pub stores : StoreTold {T = Unit {0}} old.told new.told name bytes (Ok tt) → HasCause {T = Unit {0}} error.Failed old.faults new.faults (Ok tt) → wanted.status ≢ status.HostRead → said ≡ wanted
-      → Goes old new (record { asks = store name bytes ∷ []; said = wanted }) said
-  stores told cause other is =
-      answers old new new (store name bytes) (record { asks = []; said = wanted }) said (store_answered _ _ _ _ told)
-      (stands {T = Unit {0}} error.Failed old.faults new.faults (Ok tt) cause (λ e. cc)) (ends new wanted said other (inl is))
-
   pub fails_to_store : StoreTold {T = Unit {0}} old.told new.told name bytes (Err error.Failed) → HasCause {T = Unit {0}} error.Failed old.faults new.faults (Err error.Failed) → OrMemory (cannot (store name bytes)) said
       → Goes old new (record { asks = store name bytes ∷ []; said = wanted }) said
   fails_to_store told cause says =
@@ -97,7 +91,7 @@ module _ (old mid new : Seen Told) (name into : List ℕ) (x : Loaded) (rest : L
       → Follows old new (λ finds. with_file name (finds 0 name) rest) said
   loads_first told cause go some =
       let faults : mid.faults ≡ old.faults = stands error.Failed old.faults mid.faults (Ok x) cause (λ e. cc) in
-      let step = λ (o : Option (List ℕ)) (goes : Goes mid new (with_found name o rest) said). answers old mid new (load name) (with_found name o rest) said (load_answered _ _ _ _ _ x told) faults goes in
+      let step = λ (o : Option (List ℕ)) (goes : Goes mid new (with_found name o rest) said). courses.loads old mid new name (with_found name o rest) said (load_answered _ _ _ _ _ x told) faults goes in
       (elim old.told as (λ (t : Option Told). LoadTold t mid.told name file_limit into (Ok x) → FollowsFrom t old new (λ finds. with_file name (finds 0 name) rest) said) [
         | None ↦ λ h. ((λ i n. Some some.0), step (Some some.0) (go some.0 some.1))
         | Some t ↦ λ h. step (get t.files name) (found_goes (get t.files name) h.1 go)

@@ -2,16 +2,19 @@
 use Rattle.std.proofs.Common.{◌≡◌, ℕ, Bool, true, false, cond, List, [], ◌∷◌, length, nat_lt, Option, Some, None, refl, sym, subst, inl, inr}
 use Rattle.std.specs.Prelude.{◌⊎◌}
 use Rattle.elf2flt_tool.specs.declared.refusal.Refusal.{Refusal}
+use Rattle.bflt_format.specs.declared.fault.FlatFault.{FlatFault}
+use Rattle.bflt_format.specs.Fault.{flat_fault}
 use Rattle.elf2flt_tool.specs.Fault.{fault}
 use Rattle.elf2flt_tool.specs.Converted.{flat}
 use Rattle.suite_top.specs.declared.status.Status.{Status}
-use Rattle.suite_top.specs.declared.status.Status.TheVariants.{Done, Usage, HostRead, Refused, SinkWrite, Memory, HostWrite}
+use Rattle.suite_top.specs.declared.status.Status.TheVariants.{Done, Usage, HostRead, Refused}
 use Rattle.suite_top.specs.Outcome.{Ask, store, Outcome, Finds}
 use Rattle.suite_top.specs.Texts.{too_long_tail}
 use Rattle.suite_top.specs.Early.{refused_said}
-use Rattle.suite_top.specs.Words.{Spoken, convert, command_of}
+use Rattle.suite_top.specs.Words.{Spoken, convert, list, command_of}
 use Rattle.suite_top.specs.Loading.{file_limit, with_found}
 use Rattle.suite_top.specs.Convert.{judged_outcome, converted_outcome, convert_outcome, stack}
+use Rattle.suite_top.specs.Listing.{judged_said, listed_outcome, list_outcome}
 use Rattle.suite_top.specs.Result.{command_outcome, result_of}
 use Rattle.suite_top.specs.Rows.{UsageIsExact}
 
@@ -32,9 +35,21 @@ module _ (P : Status → Type 0) (read : P HostRead) (refused : P Refused) (done
   pub convert_status : (elf flt : List ℕ) (finds : Finds) → P (convert_outcome elf flt finds).said.status
   convert_status elf flt finds = found_status elf flt (finds 0 elf)
 
+  listed_status : (y : List ℕ) (o : Option FlatFault) → P (judged_said y o).status
+  listed_status y None = done
+  listed_status y (Some first) = refused
+
+  list_found_status : (flt : List ℕ) (found : Option (List ℕ)) → P (with_found flt found listed_outcome).said.status
+  list_found_status flt None = read
+  list_found_status flt (Some y) = found_by (λ o. P o.said.status) flt listed_outcome y refused (listed_status y (flat_fault y))
+
+  pub list_status : (flt : List ℕ) (finds : Finds) → P (list_outcome flt finds).said.status
+  list_status flt finds = list_found_status flt (finds 0 flt)
+
 command_status : (P : Status → Type 0) → P HostRead → P Refused → P Done → P Usage → (o : Option Spoken) (finds : Finds) → P (command_outcome o finds).said.status
 command_status P read refused done usage None finds = usage
 command_status P read refused done usage (Some (convert elf flt)) finds = convert_status P read refused done elf flt finds
+command_status P read refused done usage (Some (list flt)) finds = list_status P read refused done flt finds
 
 -- a status that no outcome has
 pub never : (s : Status) → (HostRead ≡ s → ⊥) → (Refused ≡ s → ⊥) → (Done ≡ s → ⊥) → (Usage ≡ s → ⊥) → (words : List (List ℕ)) (finds : Finds) → (result_of words finds).said.status ≡ s → ⊥
@@ -43,6 +58,7 @@ never s read refused done usage words finds = command_status (λ t. t ≡ s → 
 no_command : (o : Option Spoken) (finds : Finds) → (command_outcome o finds).said.status ≡ Usage → o ≡ None
 no_command None finds is = refl
 no_command (Some (convert elf flt)) finds is = absurd (convert_status (λ t. t ≡ Usage → ⊥) (λ e. cc) (λ e. cc) (λ e. cc) elf flt finds is)
+no_command (Some (list flt)) finds is = absurd (list_status (λ t. t ≡ Usage → ⊥) (λ e. cc) (λ e. cc) (λ e. cc) flt finds is)
 
 pub usage_is_exact : UsageIsExact
 usage_is_exact words finds = (
@@ -62,3 +78,8 @@ judged_asks flt e (Some first) is = inl refl
 pub asks_behind : (elf flt : List ℕ) (found : Option (List ℕ)) → Behind flt found (with_found elf found (converted_outcome flt)).asks
 asks_behind elf flt None = inl refl
 asks_behind elf flt (Some e) = found_by (λ o. Behind flt (Some e) o.asks) elf (converted_outcome flt) e (inl refl) (judged_asks flt e (fault e) refl)
+
+-- `list` asks nothing behind its load
+pub list_asks : (flt : List ℕ) (found : Option (List ℕ)) → (with_found flt found listed_outcome).asks ≡ []
+list_asks flt None = refl
+list_asks flt (Some y) = found_by (λ o. o.asks ≡ []) flt listed_outcome y refl refl

@@ -8,3 +8,6 @@ pub mod NoCommand
 pub mod Inputs
 pub mod StatusRows
 pub mod HostRows
+pub mod Listed
+pub mod ListRows
+pub mod ListSamples

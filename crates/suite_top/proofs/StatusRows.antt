@@ -1,18 +1,17 @@
 -- When each status comes: each course of the host with each end of the delivery.
-use Rattle.std.proofs.Common.{◌≡◌, ℕ, List, [], ◌∷◌, Option, refl, sym, ap, subst, ◌∙◌, inl, inr}
+use Rattle.std.proofs.Common.{◌≡◌, ℕ, List, [], refl, sym, ap, subst, ◌∙◌, inl, inr}
 use Rattle.std.specs.Prelude.{◌⊎◌, option_map}
 use Rattle.host_io.specs.Faults.{Rose}
-use Rattle.host_io.specs.Host.{Told}
 use Rattle.suite_top.specs.declared.status.Status.{Status}
-use Rattle.suite_top.specs.declared.status.Status.TheVariants.{Done, Usage, HostRead, Refused, SinkWrite, Memory, HostWrite}
+use Rattle.suite_top.specs.declared.status.Status.TheVariants.{HostRead, SinkWrite, Memory, HostWrite}
 use Rattle.suite_top.specs.Outcome.{Said, Ask, load, store}
 use Rattle.suite_top.specs.Texts.{memory_line}
 use Rattle.suite_top.specs.Early.{cannot, memory_said, OrMemory}
 use Rattle.suite_top.specs.Course as course
 use Rattle.suite_top.specs.Course.{Goes}
 use Rattle.suite_top.specs.Delivery.{Stop, fault, want, status_at, Took, Delivery, whole, at_out, at_report, Delivered}
-use Rattle.suite_top.specs.Call.{Call, outcome_of, Stands}
-use Rattle.suite_top.specs.Rows.{IsAnswer, IsWhole, AnswersAreWhole, Completes, FailsAt, ReadsFail, WritesFail, StopsAtOut, StopsAtReport, SinksFail, MemoryIsTold}
+use Rattle.suite_top.specs.Call.{Call, outcome_of}
+use Rattle.suite_top.specs.Rows.{IsAnswer, IsWhole, AnswersAreWhole, Completes, FailsAt, ReadsFail, WritesFail, SinksFail, MemoryIsTold}
 use Rattle.suite_top.proofs.Inputs.{never}
 
 -- what was said was taken whole

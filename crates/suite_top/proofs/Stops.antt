@@ -1,6 +1,6 @@
 -- What a sink's answers leave.
-use Rattle.std.proofs.Common.{◌≡◌, ℕ, Result, Ok, Err, inl, inr}
-use Rattle.host_io.specs.Faults.{Rose, HasCause}
+use Rattle.std.proofs.Common.{◌≡◌, ℕ, Result, Err, inl, inr}
+use Rattle.host_io.specs.Faults.{HasCause}
 
 -- an answer that isn't this error raises no count
 pub stands : {T E : Type 0} (wrong : E) (before now : ℕ) (r : Result T E) → HasCause wrong before now r → (r ≡ Err wrong → ⊥) → now ≡ before

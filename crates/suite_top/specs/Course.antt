@@ -14,11 +14,17 @@ pub data Course : Type 0 where
   failed : (done : List Ask) (last : Ask) → Course
   starved : (done : List Ask) → Course
 
--- `done` is a front of the asks, and `last` the next one
+-- no file was stored
+abbrev pub AreLoads : List Ask → Type 0
+AreLoads [] = Unit {0}
+AreLoads (load name ∷ asks) = AreLoads asks
+AreLoads (store name bytes ∷ asks) = ⊥
+
+-- `done` is a front of the asks, and `last` the next one; behind a store neither the host fails nor memory is missing
 abbrev pub IsCourseOf : List Ask → Course → Type 0
 IsCourseOf asks whole = Unit {0}
-IsCourseOf asks (failed done last) = (rest : List Ask) × (asks ≡ done ++ last ∷ rest)
-IsCourseOf asks (starved done) = (rest : List Ask) × (asks ≡ done ++ rest)
+IsCourseOf asks (failed done last) = (rest : List Ask) × (asks ≡ done ++ last ∷ rest) × AreLoads done
+IsCourseOf asks (starved done) = (rest : List Ask) × (asks ≡ done ++ rest) × AreLoads done
 
 -- what a host tells after an ask that it answered, and after one at which it failed
 abbrev pub answered : Told → Ask → Told

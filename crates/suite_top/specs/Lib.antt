@@ -6,6 +6,7 @@
 -- Words: the table of commands.
 -- Loading: a command that begins with the load of a file.
 -- Convert: the command `convert`.
+-- Listing: the command `list`.
 -- Result: what each command line gives.
 -- Answers: what an answer of the code says.
 -- Seen: what is known of the outside.
@@ -21,6 +22,7 @@ pub mod Early
 pub mod Words
 pub mod Loading
 pub mod Convert
+pub mod Listing
 pub mod Result
 pub mod Answers
 pub mod Seen

@@ -1,6 +1,6 @@
 -- A command that begins with the load of a file.
 use Rattle.std.specs.Prelude.{ℕ, List, [], length, nat_lt, Option, Some, None, if◌then◌else◌}
-use Rattle.suite_top.specs.Outcome.{Ask, load, Outcome, after}
+use Rattle.suite_top.specs.Outcome.{load, Outcome, after}
 use Rattle.suite_top.specs.Texts.{too_long_tail}
 use Rattle.suite_top.specs.Early.{cannot, refused_said}
 

@@ -1,5 +1,5 @@
 -- What a command asks of the host, in order, and what it says in the end.
-use Rattle.std.specs.Prelude.{ℕ, List, [], ◌∷◌, Option}
+use Rattle.std.specs.Prelude.{ℕ, List, ◌∷◌, Option}
 use Rattle.suite_top.specs.declared.status.Status.{Status}
 
 -- the status, and the texts for `out` and for `report`

@@ -1,5 +1,5 @@
 -- When each status comes, and what stands after it: laws over every call.
-use Rattle.std.specs.Prelude.{◌≡◌, ◌⊎◌, ◌++◌, ℕ, List, [], ◌∷◌, map, Option, Some, None, option_map}
+use Rattle.std.specs.Prelude.{◌≡◌, ◌⊎◌, ◌++◌, ℕ, List, [], ◌∷◌, map, Some, None, option_map}
 use Rattle.std.specs.FinMap.{get, insert}
 use Rattle.host_io.specs.Faults.{Rose}
 use Rattle.host_io.specs.Host.{Told}
@@ -15,7 +15,7 @@ use Rattle.suite_top.specs.Words.{convert, command_of}
 use Rattle.suite_top.specs.Convert.{stack}
 use Rattle.suite_top.specs.Result.{result_of}
 use Rattle.suite_top.specs.Course.{name_of, asked_in_vain, all_answered, finds_in}
-use Rattle.suite_top.specs.Delivery.{Took}
+use Rattle.suite_top.specs.Delivery.{Took, Delivers}
 use Rattle.suite_top.specs.Call.{Call, outcome_of, Stands}
 
 -- the statuses that come of the input alone
@@ -87,7 +87,18 @@ abbrev pub UsageIsExact : Type 0
 UsageIsExact = (words : List (List ℕ)) (finds : Finds)
     → ((result_of words finds).said.status ≡ Usage → command_of words ≡ None) × (command_of words ≡ None → ((result_of words finds).said.status ≡ Usage) × ((result_of words finds).asks ≡ []))
 
--- after `convert`, however it ends, the files are as before, or FLT is exactly the flat file of ELF
+-- words that are no command leave the host untouched
+abbrev pub NothingIsAsked : Type 0
+NothingIsAsked = (c : Call) → Stands c → command_of c.words ≡ None → (c.host_now.told ≡ c.host.told) × (c.host_now.faults ≡ c.host.faults)
+
+-- after `convert`, however it ends, the files are as before; or FLT is exactly the flat file of ELF, and its line is what the sinks are given
 abbrev pub OneFileChanges : Type 0
 OneFileChanges = (c : Call) (t t_now : Told) (elf flt : List ℕ) → Stands c → c.host.told ≡ Some t → c.host_now.told ≡ Some t_now → c.finds ≡ finds_in t.files → command_of c.words ≡ Some (convert elf flt)
-    → (t_now.files ≡ t.files) ⊎ ((e : List ℕ) × (get t.files elf ≡ Some e) × (fault e ≡ None) × (t_now.files ≡ insert t.files flt (flat e stack)))
+    → (said : Said) × Delivers said c.out c.out_now c.report c.report_now c.status
+    × ((t_now.files ≡ t.files)
+    ⊎ ((e : List ℕ) × (get t.files elf ≡ Some e) × (fault e ≡ None) × (t_now.files ≡ insert t.files flt (flat e stack)) × (said ≡ (outcome_of c).said)))
+
+-- after any other words the files are as before
+abbrev pub OthersChangeNoFile : Type 0
+OthersChangeNoFile = (c : Call) (t t_now : Told) → Stands c → c.host.told ≡ Some t → c.host_now.told ≡ Some t_now → ((elf flt : List ℕ) → command_of c.words ≡ Some (convert elf flt) → ⊥)
+    → t_now.files ≡ t.files

@@ -14,7 +14,7 @@ use host_io::{Host, HostError, Loaded};
 use std::alloc::{AllocError, Global};
 
 /// The longest file that is loaded.
-const FILE_LIMIT: u32 = 67_108_864;
+pub const FILE_LIMIT: u32 = 67_108_864;
 
 /// The bytes of stack that a program gets.
 const STACK: u32 = 4096;

@@ -19,7 +19,7 @@ pub struct Numbers {
 
 /// The word whose first byte is byte `at` of the file.
 #[tactic(auto, unfolding(bflt_format::specs::Numbers::big_at))]
-fn word(flat: &[u8], at: usize) -> u32
+pub fn word(flat: &[u8], at: usize) -> u32
     requires { at + 4 ≤ length flat.now }
     ensures { result ≡ big_at flat.now at }
 {

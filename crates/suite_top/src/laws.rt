@@ -1,5 +1,5 @@
 //! Laws over every call of `suite`, by what its clause says. No code runs.
-ghost use Rattle.suite_top.specs.Rows.{AnswersAreWhole, Completes, ReadsFail, WritesFail, SinksFail, MemoryIsTold, NamesAreAFront, UsageIsExact, OneFileChanges};
+ghost use Rattle.suite_top.specs.Rows.{AnswersAreWhole, Completes, ReadsFail, WritesFail, SinksFail, MemoryIsTold, NamesAreAFront, UsageIsExact, NothingIsAsked, OneFileChanges, OthersChangeNoFile};
 
 /// When each status comes.
 pub fn status_law()
@@ -15,5 +15,7 @@ pub fn status_law()
 /// What the host was asked, and which file changed.
 pub fn host_law()
     ensures names { NamesAreAFront }
+    ensures untouched { NothingIsAsked }
     ensures files { OneFileChanges }
+    ensures others { OthersChangeNoFile }
 {}

@@ -9,6 +9,7 @@ mod conversion;
 mod delivery;
 mod header;
 mod laws;
+mod listing;
 mod status;
 mod texts;
 mod top;

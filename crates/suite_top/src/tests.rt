@@ -5,6 +5,8 @@ use host_io::{Host, HostError, Loaded, MemHost, MemSink};
 use std::alloc::{AllocError, Global};
 use std::test::Fail;
 
+mod list;
+
 /// An ELF file: .text at 0x10000 with two instructions, .data at 0x10008 with the word 0x00010000, which
 /// one R_RISCV_32 relocation fills, and the entry 0x10000.
 const ELF: [u8; 448] = [

@@ -10,6 +10,7 @@ ghost use Rattle.suite_top.specs.Call.{CarriesOut};
 use crate::answer::Answer;
 use crate::conversion::convert_file;
 use crate::delivery::deliver;
+use crate::listing::list_file;
 use crate::status::Status;
 use crate::texts;
 use crate::words::{Command, read_words};
@@ -21,6 +22,7 @@ fn answer<H: Host>(alloc: Global, words: &[String], host: &mut H) -> Result<Answ
 {
     match read_words(words) {
         Some(Command::Convert { elf, flt }) => convert_file(alloc, elf, flt, host),
+        Some(Command::List { flt }) => list_file(alloc, flt, host),
         None => Answer::early(alloc, Status::Usage, texts::usage(alloc)),
     }
 }

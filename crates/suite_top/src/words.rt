@@ -7,6 +7,8 @@ ghost use Rattle.suite_top.specs.Words.{command_of, spoken};
 pub enum Command<'a> {
     /// `convert ELF FLT`.
     Convert { elf: &'a str, flt: &'a str },
+    /// `list FLT`.
+    List { flt: &'a str },
 }
 
 /// The command that these words are, or none. The words are those after the program's name.
@@ -18,6 +20,7 @@ pub fn read_words(words: &[String]) -> Option<Command<'_>>
             elf: elf.as_str(),
             flt: flt.as_str(),
         }),
+        [word, flt] if word.as_str() == "list" => Some(Command::List { flt: flt.as_str() }),
         _ => None,
     }
 }

@@ -2,8 +2,7 @@
 use Rattle.std.proofs.Common.{refl}
 use Rattle.std.proofs.lemmas.Result.{err_from_is_err_and}
 use Rattle.suite_top.specs.declared.status.Status.TheVariants as status
-use Rattle.suite_top.specs.Texts.{convert_line, cannot_write_line}
-use Rattle.suite_top.specs.Header.{numbers_of}
+use Rattle.suite_top.specs.Texts.{cannot_write_line}
 use Rattle.suite_top.proofs.Lines.{says_line}
 use Rattle.suite_top.proofs.Courses.{starves}
 use Rattle.suite_top.proofs.HostSteps.{fails_to_store, starves_to_store}

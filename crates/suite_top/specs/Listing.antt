@@ -1,0 +1,76 @@
+-- The command `list FLT`: what the flat file FLT says, or its first fault.
+use Rattle.std.specs.Prelude.{ℕ, ◌+◌, List, [], ◌∷◌, ◌++◌, length, codes, decimal, Option, Some, None}
+use Rattle.std.specs.List.{flat_map}
+use Rattle.bflt_format.specs.declared.fault.FlatFault.{FlatFault}
+use Rattle.bflt_format.specs.declared.fault.FlatFault.TheVariants as fault
+use Rattle.bflt_format.specs.Numbers.{big_at}
+use Rattle.bflt_format.specs.Values.{Values, stored, image_size}
+use Rattle.bflt_format.specs.Header.{flat_values}
+use Rattle.bflt_format.specs.Fault.{flat_fault}
+use Rattle.suite_top.specs.declared.status.Status.TheVariants as status
+use Rattle.suite_top.specs.Outcome.{Said, Outcome, Finds}
+use Rattle.suite_top.specs.Texts.{joined}
+use Rattle.suite_top.specs.Early.{refused_said}
+use Rattle.suite_top.specs.Loading.{with_file}
+
+-- where text, data and bss start and end, counted from the start of the file; the header has 64 bytes
+abbrev pub part_lines : (data_start data_end bss_end : ℕ) → List ℕ
+part_lines data_start data_end bss_end = joined
+    (codes "text 64 " ∷ decimal data_start
+    ∷ codes "\ndata " ∷ decimal data_start ∷ codes " " ∷ decimal data_end
+    ∷ codes "\nbss " ∷ decimal data_end ∷ codes " " ∷ decimal bss_end
+    ∷ codes "\n"
+    ∷ [])
+
+-- the words of the header
+abbrev pub header_lines : Values → List ℕ
+header_lines f = joined
+    (codes "rev 4 flags " ∷ decimal f.flags
+    ∷ codes "\nentry " ∷ decimal f.entry
+    ∷ codes "\n" ∷ part_lines (64 + f.text) (64 + stored f) (64 + image_size f)
+    ∷ codes "stack " ∷ decimal f.stack
+    ∷ codes "\nrecords " ∷ decimal (length f.records)
+    ∷ codes "\n"
+    ∷ [])
+
+-- a record, and the number that stands there in the body
+abbrev pub record_line : List ℕ → ℕ → List ℕ
+record_line body place = joined (codes "record " ∷ decimal place ∷ codes " word " ∷ decimal (big_at body place) ∷ codes "\n" ∷ [])
+
+-- the header, and a line a record in the order of the file
+abbrev pub listing : Values → List ℕ
+listing f = header_lines f ++ flat_map (record_line f.body) f.records
+
+-- a fault of a flat file: its number and its name; want of memory is none
+abbrev pub flat_fault_words : FlatFault → List ℕ
+flat_fault_words fault.Short = codes "1 Short"
+flat_fault_words fault.Magic = codes "2 Magic"
+flat_fault_words fault.Revision = codes "3 Revision"
+flat_fault_words fault.Flags = codes "4 Flags"
+flat_fault_words fault.Bounds = codes "5 Bounds"
+flat_fault_words fault.DataAlign = codes "6 DataAlign"
+flat_fault_words fault.Entry = codes "7 Entry"
+flat_fault_words fault.StackSize = codes "8 StackSize"
+flat_fault_words fault.RecordTable = codes "9 RecordTable"
+flat_fault_words fault.RecordRange = codes "10 RecordRange"
+flat_fault_words fault.RecordOverlap = codes "11 RecordOverlap"
+flat_fault_words fault.TargetRange = codes "12 TargetRange"
+flat_fault_words fault.Memory = []
+
+abbrev pub flat_tail : FlatFault → List ℕ
+flat_tail first = codes "flat " ++ flat_fault_words first
+
+abbrev pub judged_said : List ℕ → Option FlatFault → Said
+judged_said y (Some first) = refused_said (flat_tail first)
+judged_said y None = record { status = status.Done; out = listing (flat_values y); report = [] }
+
+-- what is said of the file y
+abbrev pub listed_said : List ℕ → Said
+listed_said y = judged_said y (flat_fault y)
+
+-- behind the load nothing more is asked
+abbrev pub listed_outcome : List ℕ → Outcome
+listed_outcome y = record { asks = []; said = listed_said y }
+
+abbrev pub list_outcome : List ℕ → Finds → Outcome
+list_outcome flt finds = with_file flt (finds 0 flt) listed_outcome
