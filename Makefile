@@ -1,6 +1,7 @@
 # make            the proved program, at build/flatc
 # make demo       the main job: converts the shipped ELF file and shows the bytes of the flat file
 # make check      the gate: every proof, must-fail edit, test and program
+# make examples   builds two programs with the GNU tools for RISC-V, if they are installed, and converts them
 # make install    copies the program to $(PREFIX)/bin
 
 PREFIX ?= /usr/local
@@ -12,7 +13,7 @@ build/flatc: $(SOURCES)
 	mkdir -p build
 	cp crates/flatc/out/flatc build/flatc
 
-.PHONY: demo check install
+.PHONY: demo check examples install
 
 demo: build/flatc
 	cp crates/flatc/data/a.elf build/a.elf
@@ -21,6 +22,9 @@ demo: build/flatc
 
 check:
 	.ci/run
+
+examples: build/flatc
+	examples/run
 
 install: build/flatc
 	install -D -m 755 build/flatc $(DESTDIR)$(PREFIX)/bin/flatc

@@ -126,12 +126,12 @@ writes_fail c (said, goes, (d, delivered)) p =
 
 pub sinks_fail : SinksFail
 sinks_fail c (said, goes, (whole, delivered)) p = absurd (sink_at c said delivered goes.course goes.says (sym delivered.2 ∙ p))
-sinks_fail c (said, goes, (at_out fault, delivered)) p = (said, inl ((delivered.0.0, delivered.1), delivered.0.1))
+sinks_fail c (said, goes, (at_out fault, delivered)) p = (said, goes, inl ((delivered.0.0, delivered.1), delivered.0.1))
 sinks_fail c (said, goes, (at_out want, delivered)) p = absurd (let h : Memory ≡ SinkWrite = sym delivered.2 ∙ p in cc)
-sinks_fail c (said, goes, (at_report fault, delivered)) p = (said, inr ((delivered.0, delivered.1.0), delivered.1.1))
+sinks_fail c (said, goes, (at_report fault, delivered)) p = (said, goes, inr ((delivered.0, delivered.1.0), delivered.1.1))
 sinks_fail c (said, goes, (at_report want, delivered)) p = absurd (let h : Memory ≡ SinkWrite = sym delivered.2 ∙ p in cc)
 
 pub memory_is_told : MemoryIsTold
 memory_is_told c (said, goes, (whole, delivered)) p = inr (memory_at c said delivered goes.course goes.says (sym delivered.2 ∙ p))
-memory_is_told c (said, goes, (at_out stop, delivered)) p = inl (said, inl (delivered.0.0, delivered.1))
-memory_is_told c (said, goes, (at_report stop, delivered)) p = inl (said, inr (delivered.0, delivered.1.0))
+memory_is_told c (said, goes, (at_out stop, delivered)) p = inl (said, goes, inl (delivered.0.0, delivered.1))
+memory_is_told c (said, goes, (at_report stop, delivered)) p = inl (said, goes, inr (delivered.0, delivered.1.0))

@@ -14,7 +14,7 @@ use Rattle.suite_top.specs.Early.{cannot}
 use Rattle.suite_top.specs.Words.{convert, command_of}
 use Rattle.suite_top.specs.Convert.{stack}
 use Rattle.suite_top.specs.Result.{result_of}
-use Rattle.suite_top.specs.Course.{name_of, asked_in_vain, all_answered, finds_in}
+use Rattle.suite_top.specs.Course.{Goes, name_of, asked_in_vain, all_answered, finds_in}
 use Rattle.suite_top.specs.Delivery.{Took, Delivers}
 use Rattle.suite_top.specs.Call.{Call, outcome_of, Stands}
 
@@ -61,7 +61,7 @@ ReadsFail = (c : Call) → Stands c → c.status ≡ HostRead → (name : List �
 abbrev pub WritesFail : Type 0
 WritesFail = (c : Call) → Stands c → c.status ≡ HostWrite → (name : List ℕ) × (bytes : List ℕ) × FailsAt c (store name bytes)
 
--- a sink took a front of its text, and `report` nothing where `out` didn't take all
+-- a sink took a front of what is said, and `report` nothing where `out` didn't take all
 abbrev pub StopsAtOut : Call → Said → Type 0
 StopsAtOut c said = TakesPrefix c.out.told c.out_now.told said.out × (c.report_now ≡ c.report)
 
@@ -70,12 +70,12 @@ StopsAtReport c said = Took c.out c.out_now said.out × TakesPrefix c.report.tol
 
 abbrev pub SinksFail : Type 0
 SinksFail = (c : Call) → Stands c → c.status ≡ SinkWrite
-    → (said : Said) × ((StopsAtOut c said × Rose c.out.faults c.out_now.faults) ⊎ (StopsAtReport c said × Rose c.report.faults c.report_now.faults))
+    → (said : Said) × Goes c.host c.host_now (outcome_of c) said × ((StopsAtOut c said × Rose c.out.faults c.out_now.faults) ⊎ (StopsAtReport c said × Rose c.report.faults c.report_now.faults))
 
 -- for want of memory a sink stopped, or the one line is `memory`
 abbrev pub MemoryIsTold : Type 0
 MemoryIsTold = (c : Call) → Stands c → c.status ≡ Memory
-    → ((said : Said) × (StopsAtOut c said ⊎ StopsAtReport c said)) ⊎ (Took c.out c.out_now [] × Took c.report c.report_now memory_line)
+    → ((said : Said) × Goes c.host c.host_now (outcome_of c) said × (StopsAtOut c said ⊎ StopsAtReport c said)) ⊎ (Took c.out c.out_now [] × Took c.report c.report_now memory_line)
 
 -- the names asked are a front of those of the outcome
 abbrev pub NamesAreAFront : Type 0
