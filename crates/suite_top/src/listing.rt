@@ -17,11 +17,7 @@ use host_io::{Host, HostError, Loaded};
 use std::alloc::{AllocError, Global};
 
 /// Loads the flat file and lists what it says.
-pub fn list_file<H: Host>(
-    alloc: Global,
-    flt: &str,
-    host: &mut H,
-) -> Result<Answer, AllocError>
+pub fn list_file<H: Host>(alloc: Global, flt: &str, host: &mut H) -> Result<Answer, AllocError>
     ensures { Follows (seen H.told H.faults host.old) (seen H.told H.faults host.new) (list_outcome flt.now) (said_of result) }
 {
     let mut bytes = Vec::new(alloc);
@@ -71,7 +67,9 @@ fn header_lines(alloc: Global, flat: &Flat) -> Result<String, AllocError>
     let entry = flat.entry();
     let stack = flat.stack();
     let records = flat.records().len();
-    format!(in alloc; "rev 4 flags {flags}\nentry {entry}\n{parts}stack {stack}\nrecords {records}\n")
+    format!(in alloc;
+        "rev 4 flags {flags}\nentry {entry}\n{parts}stack {stack}\nrecords {records}\n"
+    )
 }
 
 /// Where the parts start and end.
@@ -83,7 +81,9 @@ fn part_lines(
 ) -> Result<String, AllocError>
     ensures { IfOk result (λ text. string_bytes text ≡ part_lines data_start data_end bss_end) }
 {
-    format!(in alloc; "text 64 {data_start}\ndata {data_start} {data_end}\nbss {data_end} {bss_end}\n")
+    format!(in alloc;
+        "text 64 {data_start}\ndata {data_start} {data_end}\nbss {data_end} {bss_end}\n"
+    )
 }
 
 /// Appends the line of the record of this place in the body.

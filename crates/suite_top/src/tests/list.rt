@@ -79,7 +79,12 @@ fn traced_flags_are_listed(rt: HostRuntime) -> Result<(), Fail> {
     flat[39] = 17;
     let mut outside = with_flat(rt.alloc(), &flat)?;
     assert_eq!(rt; call(rt.alloc(), &LIST, &mut outside)?, Status::Done);
-    assert!(rt; outside.out.bytes().starts_with(b"rev 4 flags 17\nentry 128\n"));
+    assert!(rt;
+        outside
+            .out
+            .bytes()
+            .starts_with(b"rev 4 flags 17\nentry 128\n")
+    );
     Ok(())
 }
 
