@@ -8,3 +8,4 @@ pub mod NoCommand
 pub mod Inputs
 pub mod StatusRows
 pub mod HostRows
+pub mod Samples
