@@ -3,7 +3,8 @@ use Rattle.std.proofs.Common.{◌≡◌, ℕ, ◌+◌, ◌-◌, ◌<◌, ◌≤�
 use Rattle.std.proofs.lemmas.Bool.{cases_lt, ltb-true, leb-true, lt-ltb, le-ltb, le-leb, lt-leb, and_parts, and_from, and_left, and_right, false≢true, or_parts, or_cases, cases_Bool, both_ways}
 use Rattle.std.proofs.lemmas.List.{length-take, length-append, length-drop, get_or_append_left, get_or-append_right, get_or-take, get_or-drop, get_or_past, ext_get_or}
 use Rattle.std.proofs.lemmas.List.FromFn.{fill_by_all, length-map-range_with_len, get_or-map-range_with_len}
-use Rattle.bflt_format.specs.Patches.{Patch, spans, patched, painted, bytes_below, laid}
+use Rattle.byteorder.specs.Endian.{big_bytes}
+use Rattle.bflt_format.specs.Patches.{Patch, spans, patched, painted, bytes_below, big_word, laid}
 
 -- ---- which bytes a patch has
 
@@ -85,6 +86,11 @@ bytes_below_same n m w same =
 -- bytes written over a list, as a picture
 pub laid_picture : (old : List ℕ) (p : Patch) → p.at + length p.bytes ≤ length old → (λ i. get_or (laid old p.at p.bytes) i 0) ≡ patched p (λ i. get_or old i 0)
 laid_picture old p fits = λ i k. laid_is_patched old p fits k i
+
+-- a number written over four bytes, the highest byte first
+pub word_picture : (old : List ℕ) (at n : ℕ) → at + 4 ≤ length old → (λ i. get_or (laid old at (big_bytes 4 n)) i 0) ≡ patched (big_word at n) (λ i. get_or old i 0)
+unfolding big_word
+word_picture old at n fits = laid_picture old (big_word at n) fits
 
 pub length-laid : (old : List ℕ) (at : ℕ) (bytes : List ℕ) → at + length bytes ≤ length old → length (laid old at bytes) ≡ length old
 length-laid old at bytes fits =

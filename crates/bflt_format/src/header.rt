@@ -1,4 +1,5 @@
-//! The header: sixteen words, of which ten are looked at.
+//! The header (`struct flat_hdr` of uClinux's flat.h): sixteen big-endian words, of which ten are
+//! looked at.
 
 ghost use Rattle.std.specs.Prelude.{◌≡◌, ◌≤◌, length};
 ghost use Rattle.bflt_format.specs.Fault.{header_fault, is_out_of_bounds, is_entry, is_table_bad};

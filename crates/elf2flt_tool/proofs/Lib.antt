@@ -1,6 +1,6 @@
 -- Members, Laid, Bare, Recorded, Listed, Spelled, ImageLaw: the laws over definitions.
 -- Collected, Content, Painted: what the code's walks leave.
--- Sample: the worked examples, computed.
+-- Samples: the worked examples, computed.
 pub mod Members
 pub mod Laid
 pub mod Bare
@@ -14,4 +14,4 @@ pub mod Painted
 pub mod Ascending
 pub mod Faults
 pub mod Assembled
-pub mod Sample
+pub mod Samples

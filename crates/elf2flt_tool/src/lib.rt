@@ -10,6 +10,10 @@ mod laws;
 mod records;
 mod refusal;
 mod reloc;
+#[cfg(test)]
+mod sample;
+#[cfg(test)]
+mod tests;
 mod word;
 
 pub use class::{Class, class_of};

@@ -1,2 +1,3 @@
 pub mod ByteBusLaws
 pub mod Products
+mod Samples

@@ -218,8 +218,9 @@ fn stored(rt: &impl Abort, word: u32) -> [u8; 8] {
     };
     let mut regs = regs_of(BASE - 2, 0x1122_3344);
     assert_eq!(rt; step(&mut regs, &mut bus), Stop::Next, "{word:#x}");
-    let [_, _, _, _, rest @ ..] = memory;
-    rest
+    [
+        memory[4], memory[5], memory[6], memory[7], memory[8], memory[9], memory[10], memory[11],
+    ]
 }
 
 #[test]
