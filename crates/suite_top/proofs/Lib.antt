@@ -8,6 +8,7 @@ pub mod NoCommand
 pub mod Inputs
 pub mod StatusRows
 pub mod HostRows
+pub mod Samples
 pub mod Listed
 pub mod ListRows
 pub mod ListSamples

@@ -1,5 +1,5 @@
 -- Words that are no `convert` change no file.
-use Rattle.std.proofs.Common.{◌≡◌, ℕ, List, [], ◌∷◌, Option, Some, None, refl, sym, ap, subst, ◌∙◌}
+use Rattle.std.proofs.Common.{◌≡◌, ℕ, List, ◌∷◌, Option, Some, None, refl, sym, ap, subst, ◌∙◌}
 use Rattle.host_io.specs.Host.{Told}
 use Rattle.suite_top.specs.Outcome.{Ask, load, Finds}
 use Rattle.suite_top.specs.Words.{Spoken, convert, list, command_of}

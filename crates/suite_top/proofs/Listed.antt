@@ -1,5 +1,5 @@
 -- Behind the load `list` ends, whatever the file says.
-use Rattle.std.proofs.Common.{◌≡◌, ◌≢◌, ℕ, List, Option, Some, None}
+use Rattle.std.proofs.Common.{◌≢◌, ℕ, List, Option, Some, None}
 use Rattle.bflt_format.specs.declared.fault.FlatFault.{FlatFault}
 use Rattle.bflt_format.specs.Fault.{flat_fault}
 use Rattle.host_io.specs.Host.{Told}

@@ -1,4 +1,4 @@
--- Every text that users see, each with its newline. Numbers are decimal.
+-- The texts that users see, each with its newline; those of `list` stand in Listing. Numbers are decimal.
 use Rattle.std.specs.Prelude.{ℕ, List, [], ◌∷◌, ◌++◌, codes, decimal}
 use Rattle.elf32_reader.specs.declared.fault.ElfFault.{ElfFault}
 use Rattle.elf32_reader.specs.declared.fault.ElfFault.TheVariants as elf

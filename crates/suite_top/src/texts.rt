@@ -1,4 +1,4 @@
-//! Every text that users see.
+//! The texts that users see, but for those of `list`.
 ghost use Rattle.std.specs.Prelude.{◌≡◌, IfOk, IsErr, string_bytes};
 ghost use Rattle.suite_top.specs.Texts.{usage_line, cannot_read_line, cannot_write_line, refused_line, elf_fault_words, layout_fault_words, refusal_tail, sizes_words, convert_line};
 

@@ -1,0 +1,35 @@
+-- The definitions on the worked example: an ELF file of two instructions and one relocated word.
+use Rattle.std.proofs.Common.{◌≡◌, ℕ, List, [], ◌∷◌, Some, None, refl}
+use Rattle.std.specs.Prelude.{codes}
+use Rattle.std.specs.Fmt.{digits}
+use Rattle.bflt_format.specs.Numbers.{big_at}
+use Rattle.suite_top.specs.declared.header.Numbers.{Numbers}
+use Rattle.suite_top.specs.Header.{numbers_of}
+use Rattle.suite_top.specs.Texts.{convert_line}
+use Rattle.suite_top.specs.Words.{convert, command_of}
+
+-- the header of its flat file, and what that says
+abbrev header : List ℕ
+header =
+    98 ∷ 70 ∷ 76 ∷ 84 ∷ 0 ∷ 0 ∷ 0 ∷ 4 ∷ 0 ∷ 0 ∷ 0 ∷ 128 ∷ 0 ∷ 0 ∷ 0 ∷ 128 ∷ 0 ∷ 0 ∷ 0 ∷ 140 ∷ 0 ∷ 0 ∷ 0 ∷ 140 ∷ 0 ∷ 0 ∷ 16 ∷ 0 ∷ 0 ∷ 0 ∷ 0 ∷ 140 ∷ 0 ∷ 0 ∷ 0 ∷ 1 ∷ 0 ∷ 0 ∷ 0 ∷ 1 ∷ 0 ∷ 0 ∷ 0 ∷ 0 ∷ 0 ∷ 0 ∷ 0 ∷ 0 ∷ 0 ∷ 0 ∷ 0 ∷ 0 ∷ 0 ∷ 0 ∷ 0 ∷ 0 ∷ 0 ∷ 0 ∷ 0 ∷ 0 ∷ 0 ∷ 0 ∷ 0 ∷ 0 ∷ []
+
+abbrev numbers : Numbers
+numbers = record { text = 64; data_len = 12; bss = 0; stack = 4096; records = 1; entry = 128 }
+
+header_is_read : numbers_of header ≡ numbers
+unfolding big_at
+header_is_read = refl
+
+line_is_told : convert_line numbers ≡ codes "text 64 data 12 bss 0 stack 4096 records 1 entry 128\n"
+unfolding digits
+line_is_told = refl
+
+-- the words of the command, and words that are none
+words_are_read : command_of (codes "convert" ∷ codes "a.elf" ∷ codes "a.flt" ∷ []) ≡ Some (convert (codes "a.elf") (codes "a.flt"))
+words_are_read = refl
+
+one_word_less : command_of (codes "convert" ∷ codes "a.elf" ∷ []) ≡ None
+one_word_less = refl
+
+one_word_more : command_of (codes "convert" ∷ codes "a" ∷ codes "b" ∷ codes "--stack" ∷ codes "8" ∷ []) ≡ None
+one_word_more = refl
