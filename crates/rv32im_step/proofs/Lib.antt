@@ -1,3 +1,5 @@
+pub mod AskedLaws
 pub mod ByteBusLaws
+pub mod MeaningLaws
 pub mod Products
 mod Samples

@@ -1,15 +1,17 @@
 -- The definitions at worked examples, which compute.
-use Rattle.std.proofs.Common.{◌≡◌, ◌-◌, ◌^◌, [], ◌∷◌, refl}
+use Rattle.std.proofs.Common.{◌≡◌, ◌-◌, ◌^◌, true, false, [], ◌∷◌, refl}
 use Rattle.std.specs.Prelude.{Ok, replicate}
-use Rattle.rv32im_table.specs.Field.{opcode, rd}
-use Rattle.rv32im_table.specs.Immediate.{imm_j}
+use Rattle.rv32im_table.specs.Field.{opcode, funct3, rd, rs1, rs2}
+use Rattle.rv32im_table.specs.Immediate.{imm_i, imm_s, imm_j}
 use Rattle.rv32im_table.specs.Table.{decoded}
 use Rattle.rv32im_step.specs.declared.regs.Regs.{Regs}
+use Rattle.rv32im_step.specs.Asked.{effect_asked, asked}
 use Rattle.rv32im_step.specs.ByteBus.{byte_of, writable_of}
 use Rattle.rv32im_step.specs.Integer.{sra}
 use Rattle.rv32im_step.specs.Meaning.{trap, effect, meaning}
-use Rattle.rv32im_step.specs.Memory.{load_of, loaded}
+use Rattle.rv32im_step.specs.Memory.{fetch_of, load_of, store_of, loaded, stored}
 use Rattle.rv32im_step.specs.Multiply.{mulh, mulhsu, div, divu, rem, remu}
+use Rattle.rv32im_step.specs.Registers.{register}
 
 -- -2^31 by -1
 div-overflow : div 0x8000_0000 0xffff_ffff ≡ 0x8000_0000
@@ -74,3 +76,23 @@ misaligned-jump = refl
 odd-load : loaded (byte_of 0x8000_0000 (0x81 ∷ 0x82 ∷ 0x83 ∷ 0x84 ∷ 0x85 ∷ [])) (load_of 0x8000_0000 0x8000_0001 4) ≡ Ok 0x8584_8382
 unfolding loaded
 odd-load = refl
+
+-- nothing is asked after a fetch that is refused
+fetch-asked : asked regs (byte_of 0x8000_0000 (0x83 ∷ 0x81 ∷ 0 ∷ [])) writable_of ≡
+    record { access = fetch_of 0x8000_0000; done = false } ∷ []
+unfolding asked loaded
+fetch-asked = refl
+
+-- lb x3,0(x1)
+load-asked : asked regs (byte_of 0x8000_0000 (0x83 ∷ 0x81 ∷ 0 ∷ 0 ∷ [])) writable_of ≡
+    record { access = fetch_of 0x8000_0000; done = true } ∷
+    record { access = load_of 0x8000_0000 0x8000_0003 1; done = true } ∷ []
+unfolding asked loaded decoded opcode effect_asked funct3 rd rs1 imm_i register
+load-asked = refl
+
+-- sw x1,0(x1)
+store-asked : asked regs (byte_of 0x8000_0000 (0x23 ∷ 0xa0 ∷ 0x10 ∷ 0 ∷ [])) writable_of ≡
+    record { access = fetch_of 0x8000_0000; done = true } ∷
+    record { access = store_of 0x8000_0000 0x8000_0003 4; done = false } ∷ []
+unfolding asked loaded stored decoded opcode effect_asked funct3 rs1 rs2 imm_s register
+store-asked = refl

@@ -5,7 +5,7 @@ use Rattle.rv32im_step.specs.Memory.{Bytes}
 abbrev pub byte_of : ℕ → List ℕ → Bytes
 byte_of base bytes addr = if nat_le base addr then slice_get bytes (addr - base) else None
 
--- every byte may be written
+-- every byte may be written; no access reaches one above 2^32
 abbrev pub writable_of : ℕ → Bool
 writable_of addr = true
 

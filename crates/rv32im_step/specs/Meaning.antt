@@ -23,7 +23,8 @@ pub data Meaning : Type 0 where
   trap : ℕ → Meaning
   refused : Access → Meaning
 
--- the signals of an illegal instruction, a breakpoint and a jump to an address that isn't a multiple of 4
+-- the signals of an illegal instruction, a breakpoint and a jump to an address that isn't a multiple of 4:
+-- Linux's SIGILL, SIGTRAP and SIGBUS
 abbrev pub illegal : ℕ
 illegal = 4
 

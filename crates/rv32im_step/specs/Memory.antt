@@ -33,7 +33,8 @@ abbrev pub or_refused : Access → Option ℕ → Result ℕ Access
 or_refused access (Some n) = Ok n
 or_refused access None = Err access
 
--- the number that a range spells; a range that passes 2^32 is outside every memory
+-- the number that a range spells; a range that passes 2^32 is outside every memory, which is a rule of this
+-- project: the ISA's address space is circular
 abbrev pub reading : Bytes → ℕ → ℕ → Option ℕ
 reading m addr len = if nat_le (addr + len) (2 ^ 32) then number m addr len else None
 

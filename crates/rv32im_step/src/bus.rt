@@ -1,29 +1,32 @@
 //! What a step asks of memory.
 
-ghost use Rattle.std.specs.Prelude.{◌≡◌, ◌⊎◌, ℕ, ◌^◌, ◌<◌, Bool, Err, Ok, IfOk, MatchResult};
+ghost use Rattle.std.specs.Prelude.{◌≡◌, ◌⊎◌, ℕ, ◌^◌, ◌<◌, Bool, List, [], ◌++◌, Err, Ok, IfOk, MatchResult};
+ghost use Rattle.rv32im_step.specs.Asked.{Asked, reads, writes};
 ghost use Rattle.rv32im_step.specs.Memory.{Bytes, fetch_of, load_of, store_of, loaded, stored};
 
 use crate::access::Access;
 
 /// Memory as a step sees it: a map of bytes, some of which may be written. An access goes to all its
-/// bytes at once, of any alignment, little-endian. It is refused exactly where one of its bytes isn't in
-/// the map, or is written and may not be, or where its range passes 2^32: RISC-V unprivileged ISA,
-/// "Memory".
+/// bytes at once, of any alignment, little-endian: RISC-V unprivileged ISA, "Memory" and "Load and Store
+/// Instructions". It is refused exactly where one of its bytes isn't in the map, or is written and may
+/// not be, or where its range passes 2^32. The last is a rule of this project: the ISA's address space
+/// is circular.
 ///
-/// `keeps` is what a bus stands on beside the map: it stays over all three calls.
+/// `did` relates a bus to what it is after a list of accesses, which tells of each whether it was carried
+/// out. A call makes the one access that it names, and no other, so a bus may count or watch them.
 pub trait Bus {
     ghost byte: { Self → Bytes };
 
     ghost writable: { Self → ℕ → Bool };
 
-    ghost keeps: { Self → Self → Type 0 };
+    ghost did: { Self → List Asked → Self → Type 0 };
 
     /// The instruction word at `pc`.
     fn fetch(&mut self, pc: u32) -> Result<u32, Access>
         ensures answer { result ≡ loaded (byte self.old) (fetch_of pc) }
         ensures bytes { byte self.new ≡ byte self.old }
         ensures writable { writable self.new ≡ writable self.old }
-        ensures keeps { keeps self.old self.new };
+        ensures did { did self.old (reads (byte self.old) (fetch_of pc)) self.new };
 
     /// The number of `len` bytes from `addr` on, its sign not extended. `len` is 1, 2 or 4.
     fn load(&mut self, pc: u32, addr: u32, len: u32) -> Result<u32, Access>
@@ -32,7 +35,7 @@ pub trait Bus {
         ensures fits { IfOk result (λ n. n < 256 ^ len) }
         ensures bytes { byte self.new ≡ byte self.old }
         ensures writable { writable self.new ≡ writable self.old }
-        ensures keeps { keeps self.old self.new };
+        ensures did { did self.old (reads (byte self.old) (load_of pc addr len)) self.new };
 
     /// Writes the lowest `len` bytes of `value` from `addr` on. `len` is 1, 2 or 4.
     fn store(&mut self, pc: u32, addr: u32, len: u32, value: u32) -> Result<(), Access>
@@ -42,9 +45,9 @@ pub trait Bus {
             (λ access. (stored (byte self.old) (writable self.old) (store_of pc addr len) value ≡ Err access)
             × (byte self.new ≡ byte self.old)) }
         ensures writable { writable self.new ≡ writable self.old }
-        ensures keeps { keeps self.old self.new };
+        ensures did { did self.old (writes (byte self.old) (writable self.old) (store_of pc addr len) value) self.new };
 
-    ghost keeps_same: { (a : Self) → keeps a a };
+    ghost did_none: { (a : Self) → did a [] a };
 
-    ghost keeps_on: { (a b c : Self) → keeps a b → keeps b c → keeps a c };
+    ghost did_more: { (a b c : Self) (xs ys : List Asked) → did a xs b → did b ys c → did a (xs ++ ys) c };
 }

@@ -3,12 +3,17 @@
 ghost use Rattle.std.specs.Prelude.{◌≡◌, ◌⊎◌, ◌+◌, ◌^◌, ◌<◌, ◌≤◌, length, IfSome};
 ghost use Rattle.std.proofs.Common.{refl, ◌∙◌};
 ghost use Rattle.rv32im_step.specs.ByteBus.{byte_of, writable_of, place_of, little, overwritten};
+ghost use Rattle.rv32im_step.specs.Meaning.{Means, meaning};
 ghost use Rattle.rv32im_step.specs.Memory.{reading, little_bytes};
 
 use crate::access::{Access, AccessKind};
 use crate::bus::Bus;
+use crate::hart::step;
+use crate::regs::Regs;
+use crate::stop::Stop;
 
-/// A bus over one array: its bytes stand from address `base` on, and all may be written.
+/// A bus over one array: its bytes stand from address `base` on. Those below 2^32 may all be written; no
+/// access reaches the others.
 #[derive(Drop)]
 pub struct ByteBus<'a> {
     pub base: u32,
@@ -83,11 +88,11 @@ impl Bus for ByteBus<'_> {
 
     ghost writable = { λ s. writable_of };
 
-    ghost keeps = { λ s t. (t.base ≡ s.base) × (t.bytes.ghost_name ≡ s.bytes.ghost_name) × (length t.bytes.now ≡ length s.bytes.now) };
+    ghost did = { λ s xs t. (t.base ≡ s.base) × (t.bytes.ghost_name ≡ s.bytes.ghost_name) × (length t.bytes.now ≡ length s.bytes.now) };
 
-    ghost keeps_same = { λ a. (refl, refl, refl) };
+    ghost did_none = { λ a. (refl, refl, refl) };
 
-    ghost keeps_on = { λ a b c p q. (q.0 ∙ p.0, q.1 ∙ p.1, q.2 ∙ p.2) };
+    ghost did_more = { λ a b c xs ys p q. (q.0 ∙ p.0, q.1 ∙ p.1, q.2 ∙ p.2) };
 
     #[inline]
     #[tactic(auto, unfolding(crate::specs::Memory::loaded))]
@@ -133,4 +138,14 @@ impl Bus for ByteBus<'_> {
             }),
         }
     }
+}
+
+/// One step over memory that is lent for it, whose bytes stand from address `base` on.
+pub fn step_in(regs: &mut Regs, base: u32, bytes: &mut [u8]) -> Stop
+    ensures means { Means (meaning regs.old (byte_of base bytes.old) writable_of) regs.old regs.new (byte_of base bytes.old)
+        (byte_of base bytes.new) result }
+    ensures length { length bytes.new ≡ length bytes.old }
+{
+    let mut bus = ByteBus { base, bytes };
+    step(regs, &mut bus)
 }

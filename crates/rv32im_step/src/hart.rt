@@ -2,6 +2,7 @@
 
 ghost use Rattle.std.specs.Prelude.{◌≡◌};
 ghost use Rattle.rv32im_table.specs.Instr.{FieldsFit};
+ghost use Rattle.rv32im_step.specs.Asked.{asked, effect_asked};
 ghost use Rattle.rv32im_step.specs.Meaning.{Means, meaning, effect};
 
 use crate::bus::Bus;
@@ -21,13 +22,13 @@ const BREAKPOINT: u32 = 5;
 
 /// Carries out one instruction.
 #[inline]
-#[tactic(auto, unfolding(crate::specs::Meaning::effect))]
+#[tactic(auto, unfolding(crate::specs::Meaning::effect, crate::specs::Asked::effect_asked))]
 fn execute<B: Bus>(instr: Instr, regs: &mut Regs, bus: &mut B) -> Stop
     requires { FieldsFit instr }
     ensures means { Means (effect instr regs.old (B.byte bus.old) (B.writable bus.old)) regs.old regs.new (B.byte bus.old)
         (B.byte bus.new) result }
     ensures writable { B.writable bus.new ≡ B.writable bus.old }
-    ensures keeps { B.keeps bus.old bus.new }
+    ensures did { B.did bus.old (effect_asked instr regs.old (B.byte bus.old) (B.writable bus.old)) bus.new }
 {
     match instr {
         Instr::Lui { rd, imm } => regs.set(rd, imm),
@@ -88,12 +89,12 @@ fn execute<B: Bus>(instr: Instr, regs: &mut Regs, bus: &mut B) -> Stop
 /// Carries out the instruction at pc: it is fetched, decoded and executed as RV32IM with Zifencei says.
 /// FENCE and FENCE.I do nothing, since each access is done when its step ends. RISC-V unprivileged ISA,
 /// "RV32I Base Integer Instruction Set" and '"M" Extension for Integer Multiplication and Division'.
-#[tactic(auto, unfolding(crate::specs::Meaning::meaning))]
+#[tactic(auto, unfolding(crate::specs::Meaning::meaning, crate::specs::Asked::asked))]
 pub fn step<B: Bus>(regs: &mut Regs, bus: &mut B) -> Stop
     ensures means { Means (meaning regs.old (B.byte bus.old) (B.writable bus.old)) regs.old regs.new (B.byte bus.old)
         (B.byte bus.new) result }
     ensures writable { B.writable bus.new ≡ B.writable bus.old }
-    ensures keeps { B.keeps bus.old bus.new }
+    ensures did { B.did bus.old (asked regs.old (B.byte bus.old) (B.writable bus.old)) bus.new }
 {
     match bus.fetch(regs.pc) {
         Ok(word) => match decode(word) {

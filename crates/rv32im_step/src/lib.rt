@@ -9,6 +9,7 @@ mod bus;
 mod byte_bus;
 mod hart;
 mod integer;
+mod laws;
 mod memory;
 mod multiply;
 mod regs;
@@ -17,8 +18,9 @@ mod transfer;
 
 pub use access::{Access, AccessKind};
 pub use bus::Bus;
-pub use byte_bus::ByteBus;
+pub use byte_bus::{ByteBus, step_in};
 pub use hart::step;
+pub use laws::bytes_law;
 pub use regs::Regs;
 pub use stop::Stop;
 

@@ -2,8 +2,10 @@
 
 ghost use Rattle.std.specs.Prelude.{◌≡◌, ◌⊎◌, ◌<◌, ◌^◌};
 ghost use Rattle.rv32im_table.specs.Immediate.{sign_extended};
+ghost use Rattle.rv32im_step.specs.Asked.{reads, writes};
 ghost use Rattle.rv32im_step.specs.Integer.{add};
 ghost use Rattle.rv32im_step.specs.Meaning.{Means, loads, stores, same};
+ghost use Rattle.rv32im_step.specs.Memory.{load_of, store_of};
 ghost use Rattle.rv32im_step.specs.Registers.{register};
 
 use crate::bus::Bus;
@@ -36,7 +38,7 @@ pub fn load_byte<B: Bus>(regs: &mut Regs, bus: &mut B, rd: u8, rs1: u8, offset: 
     ensures means { Means (loads regs.old (B.byte bus.old) rd (add (register regs.old.x rs1) offset) 1 (sign_extended 8))
         regs.old regs.new (B.byte bus.old) (B.byte bus.new) result }
     ensures writable { B.writable bus.new ≡ B.writable bus.old }
-    ensures keeps { B.keeps bus.old bus.new }
+    ensures did { B.did bus.old (reads (B.byte bus.old) (load_of regs.old.pc (add (register regs.old.x rs1) offset) 1)) bus.new }
 {
     match bus.load(regs.pc, regs.read(rs1).wrapping_add(offset), 1) {
         Ok(n) => regs.set(rd, extended_byte(n)),
@@ -52,7 +54,7 @@ pub fn load_half<B: Bus>(regs: &mut Regs, bus: &mut B, rd: u8, rs1: u8, offset: 
     ensures means { Means (loads regs.old (B.byte bus.old) rd (add (register regs.old.x rs1) offset) 2 (sign_extended 16))
         regs.old regs.new (B.byte bus.old) (B.byte bus.new) result }
     ensures writable { B.writable bus.new ≡ B.writable bus.old }
-    ensures keeps { B.keeps bus.old bus.new }
+    ensures did { B.did bus.old (reads (B.byte bus.old) (load_of regs.old.pc (add (register regs.old.x rs1) offset) 2)) bus.new }
 {
     match bus.load(regs.pc, regs.read(rs1).wrapping_add(offset), 2) {
         Ok(n) => regs.set(rd, extended_half(n)),
@@ -69,7 +71,7 @@ pub fn load<B: Bus>(regs: &mut Regs, bus: &mut B, rd: u8, rs1: u8, offset: u32, 
     ensures means { Means (loads regs.old (B.byte bus.old) rd (add (register regs.old.x rs1) offset) len same)
         regs.old regs.new (B.byte bus.old) (B.byte bus.new) result }
     ensures writable { B.writable bus.new ≡ B.writable bus.old }
-    ensures keeps { B.keeps bus.old bus.new }
+    ensures did { B.did bus.old (reads (B.byte bus.old) (load_of regs.old.pc (add (register regs.old.x rs1) offset) len)) bus.new }
 {
     match bus.load(regs.pc, regs.read(rs1).wrapping_add(offset), len) {
         Ok(n) => regs.set(rd, n),
@@ -86,7 +88,9 @@ pub fn store<B: Bus>(regs: &mut Regs, bus: &mut B, rs1: u8, rs2: u8, offset: u32
     ensures means { Means (stores regs.old (B.byte bus.old) (B.writable bus.old) (add (register regs.old.x rs1) offset) len (register regs.old.x rs2))
         regs.old regs.new (B.byte bus.old) (B.byte bus.new) result }
     ensures writable { B.writable bus.new ≡ B.writable bus.old }
-    ensures keeps { B.keeps bus.old bus.new }
+    ensures did { B.did bus.old
+        (writes (B.byte bus.old) (B.writable bus.old) (store_of regs.old.pc (add (register regs.old.x rs1) offset) len) (register regs.old.x rs2))
+        bus.new }
 {
     let addr = regs.read(rs1).wrapping_add(offset);
     match bus.store(regs.pc, addr, len, regs.read(rs2)) {

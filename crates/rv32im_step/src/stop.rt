@@ -9,8 +9,8 @@ pub enum Stop {
     Next,
     /// The instruction at pc is ECALL.
     Call,
-    /// A signal: 4 for an illegal instruction, 5 for EBREAK, 7 for a jump to an address that isn't a
-    /// multiple of 4.
+    /// A signal by Linux's number: 4, SIGILL, for an illegal instruction, 5, SIGTRAP, for EBREAK, and 7,
+    /// SIGBUS, for a jump to an address that isn't a multiple of 4.
     Trap(u32),
     /// The bus refused this access.
     Refused(Access),

@@ -289,3 +289,12 @@ fn refuses_accesses(rt: HostRuntime) {
     });
     assert_eq!(rt; step(&mut regs, &mut bus), stop);
 }
+
+#[test]
+fn steps_in_lent_memory(rt: HostRuntime) {
+    let mut memory = [0xa3, 0x94, 0x20, 0x00, 0xff, 0xff, 0xff, 0xff]; // sh x2,9(x1)
+    let mut regs = regs_of(BASE - 5, 0x1122_3344);
+    assert_eq!(rt; step_in(&mut regs, BASE, &mut memory), Stop::Next);
+    assert_eq!(rt; regs.pc, BASE + 4);
+    assert_eq!(rt; memory, [0xa3, 0x94, 0x20, 0x00, 0x44, 0x33, 0xff, 0xff]);
+}

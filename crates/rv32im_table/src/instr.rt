@@ -1,9 +1,10 @@
 //! The instructions of RV32I, the M extension and Zifencei.
 
-/// One instruction with the fields of its format. `rd`, `rs1` and `rs2` are register numbers from 0
-/// to 31. `imm` is the sign-extended immediate; in `Slli`, `Srli` and `Srai` it is the amount of the
-/// shift, 0 to 31. RISC-V unprivileged ISA, "RV32I Base Integer Instruction Set", '"M" Extension for
-/// Integer Multiplication and Division' and '"Zifencei" Extension for Instruction-Fetch Fence'.
+/// One instruction with the fields of its format. `rd`, `rs1` and `rs2` are register numbers. `imm` is
+/// the sign-extended immediate; in `Slli`, `Srli` and `Srai` it is the amount of the shift. In what
+/// `decode` gives, register numbers and amounts are 0 to 31. RISC-V unprivileged ISA, "RV32I Base
+/// Integer Instruction Set", '"M" Extension for Integer Multiplication and Division' and '"Zifencei"
+/// Extension for Instruction-Fetch Fence'.
 #[derive(Clone, Copy, Debug, PartialEq, Eq)]
 pub enum Instr {
     Lui { rd: u8, imm: u32 },

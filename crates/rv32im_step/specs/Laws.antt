@@ -1,0 +1,17 @@
+-- Laws of one step, over its meaning alone.
+use Rattle.std.specs.Prelude.{◌≡◌, ℕ, Bool, false, is_some}
+use Rattle.rv32im_step.specs.declared.regs.Regs.{Regs}
+use Rattle.rv32im_step.specs.Meaning.{next, meaning}
+use Rattle.rv32im_step.specs.Memory.{Bytes}
+
+-- an instruction adds no byte to the map and takes none away
+abbrev pub BytesStay : Type 0
+BytesStay =
+    (regs after : Regs) (m now : Bytes) (w : ℕ → Bool) → meaning regs m w ≡ next after now → (i : ℕ) →
+    is_some (now i) ≡ is_some (m i)
+
+-- a byte that may not be written stays as it is
+abbrev pub UnwritableStay : Type 0
+UnwritableStay =
+    (regs after : Regs) (m now : Bytes) (w : ℕ → Bool) → meaning regs m w ≡ next after now → (i : ℕ) → w i ≡ false →
+    now i ≡ m i

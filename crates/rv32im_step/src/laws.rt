@@ -1,0 +1,9 @@
+//! Laws over the definitions. They hold for all registers and memories, and no code runs.
+
+ghost use Rattle.rv32im_step.specs.Laws.{BytesStay, UnwritableStay};
+
+/// What an instruction that is carried out leaves as it was.
+pub fn bytes_law()
+    ensures there { BytesStay }
+    ensures unwritable { UnwritableStay }
+{}
