@@ -4,8 +4,8 @@ use Rattle.elf32_reader.specs.declared.symbol.Symbol.{Symbol}
 use Rattle.elf32_reader.specs.Header.{count_of}
 use Rattle.elf32_reader.specs.Sections.{section, is_allocated}
 use Rattle.elf32_reader.specs.Symbols.{symbol, name_of}
-use Rattle.elf2flt_tool.specs.declared.class.Class.{Class}
-use Rattle.elf2flt_tool.specs.declared.class.Class.TheVariants.{Moves, Fixed, Weak, Undefined, Bad}
+use Rattle.psabi_relocs.specs.declared.class.Class.{Class}
+use Rattle.psabi_relocs.specs.declared.class.Class.TheVariants.{Moves, Fixed, Weak, Undefined, Bad}
 
 -- the index names a section that is loaded
 abbrev pub names_allocated : List ℕ → ℕ → Bool
@@ -44,3 +44,11 @@ value_in Bad s j = s.value
 
 unfoldable pub value_of : List ℕ → ℕ → ℕ → ℕ
 value_of e table j = value_in (class e table j) (symbol e table j) j
+
+-- the value is the same at every base
+abbrev pub is_still : Class → Bool
+is_still Fixed = true
+is_still Weak = true
+is_still Moves = false
+is_still Undefined = false
+is_still Bad = false

@@ -2,7 +2,7 @@
 
 ghost use Rattle.std.specs.Prelude.{◌≡◌, ◌<◌, true};
 ghost use Rattle.elf32_reader.specs.Symbols.{is_symtab, symbol_count};
-ghost use Rattle.elf2flt_tool.specs.Class.{names_allocated, undefined_class, absolute_class, class, is_moving, value_of};
+ghost use Rattle.psabi_relocs.specs.Class.{names_allocated, undefined_class, absolute_class, class, is_moving, value_of};
 
 use elf32_reader::{Elf, Symbol};
 

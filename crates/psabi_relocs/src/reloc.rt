@@ -1,23 +1,24 @@
-//! Kept relocations (System V ABI, ELF32, "Relocation").
+//! Kept relocations with their symbols: System V ABI, ELF32, "Relocation".
 
 ghost use Rattle.std.specs.Prelude.{◌≡◌, ◌<◌, true};
 ghost use Rattle.elf32_reader.specs.Relas.{is_kept, rela_count};
-ghost use Rattle.elf2flt_tool.specs.Reloc.{reloc};
+ghost use Rattle.psabi_relocs.specs.Reloc.{reloc};
 
-use crate::class::{class_of, value_at};
+use crate::class::{Class, class_of, value_at};
+use crate::row::Row;
 use elf32_reader::Elf;
 
 /// An entry of a kept section, with its symbol.
 #[derive(Clone, Copy, Debug, PartialEq, Eq)]
 pub struct Reloc {
-    /// The relocation's type.
-    pub kind: u8,
+    /// The row of its type.
+    pub row: Row,
     /// P: the linked address of its field.
     pub place: u32,
     /// S: the symbol's value.
     pub value: u32,
-    /// Whether the symbol moves with the sections.
-    pub moves: bool,
+    /// What the symbol's value does when the image moves.
+    pub class: Class,
     /// A: the addend modulo 2^32.
     pub addend: u32,
 }
@@ -33,10 +34,10 @@ pub fn reloc_at(elf: &Elf<'_>, section: u32, entry: u32) -> Reloc
     let table = elf.section(section).link;
     let class = class_of(elf, table, rela.symbol);
     Reloc {
-        kind: rela.kind,
+        row: Row::of(rela.kind),
         place: rela.offset,
         value: value_at(elf, table, rela.symbol, class),
-        moves: class.is_moving(),
+        class,
         addend: rela.addend.cast_unsigned(),
     }
 }

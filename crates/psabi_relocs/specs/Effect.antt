@@ -1,0 +1,48 @@
+-- What an accepted relocation asks of a loader, and which linked bytes are its own.
+use Rattle.std.specs.Prelude.{ℕ, Bool, true, false, ◌&&◌, List, [], ◌∷◌, Option, Some, None, if◌then◌else◌}
+use Rattle.psabi_relocs.specs.declared.reloc.Reloc.{Reloc}
+use Rattle.psabi_relocs.specs.declared.row.Row.{Row}
+use Rattle.psabi_relocs.specs.declared.row.Row.TheVariants.{Pointer, Got}
+use Rattle.psabi_relocs.specs.declared.effect.Effect.{Effect}
+use Rattle.psabi_relocs.specs.declared.effect.Effect.TheVariants.{Still, Word, Slot}
+use Rattle.psabi_relocs.specs.Class.{is_moving}
+use Rattle.psabi_relocs.specs.Row.{field_len, is_got}
+use Rattle.psabi_relocs.specs.Reloc.{reloc}
+use Rattle.psabi_relocs.specs.Pair.{slot_of}
+use Rattle.psabi_relocs.specs.Field.{absolute}
+
+abbrev pub slot_effect : Reloc → Option ℕ → Effect
+slot_effect r None = Still
+slot_effect r (Some g) = Slot g r.value
+
+-- of an entry whose symbol moves
+abbrev pub moving_effect : Row → List ℕ → ℕ → Reloc → Effect
+moving_effect Pointer e i r = Word r.place (absolute 0 r)
+moving_effect Got e i r = slot_effect r (slot_of e i r.place)
+moving_effect _ e i r = Still
+
+unfoldable pub effect : List ℕ → ℕ → ℕ → Effect
+effect e i j =
+    if is_moving (reloc e i j).class then moving_effect (reloc e i j).row e i (reloc e i j) else Still
+
+-- bytes of the linked file that are a relocation's, from an address on; `recorded` where a loader has to add the base
+pub record Span : Type 0 where
+  pub place : ℕ
+  pub len : ℕ
+  pub recorded : Bool
+
+abbrev pub is_pointer : Row → Bool
+is_pointer Pointer = true
+is_pointer _ = false
+
+abbrev pub own_span : Reloc → Span
+own_span r = record { place = r.place; len = field_len r.row; recorded = is_pointer r.row && is_moving r.class }
+
+abbrev pub slot_spans : Reloc → Option ℕ → List Span
+slot_spans r None = []
+slot_spans r (Some g) = record { place = g; len = 4; recorded = is_moving r.class } ∷ []
+
+-- the bytes of entry j of the kept section i: those of its field at P, and those of its slot
+unfoldable pub spans : List ℕ → ℕ → ℕ → List Span
+spans e i j =
+    own_span (reloc e i j) ∷ (if is_got (reloc e i j).row then slot_spans (reloc e i j) (slot_of e i (reloc e i j).place) else [])

@@ -1,0 +1,24 @@
+-- Search: the first index that passes.
+-- Class: what a symbol's value does when the image moves.
+-- Row: the rows of the table of relocation types.
+-- Reloc: the entries of a kept section with their symbols.
+-- Bytes: the linked bytes by address.
+-- Pair: high parts, low parts and GOT slots.
+-- Group: differences of symbols.
+-- Shape: how a word has a value.
+-- Field: the fields of an entry and their values.
+-- Fault: the first fault of an entry.
+-- Effect: what an accepted entry asks of a loader.
+-- Index: what is known of a section's index.
+pub mod Search
+pub mod Class
+pub mod Row
+pub mod Reloc
+pub mod Bytes
+pub mod Pair
+pub mod Group
+pub mod Shape
+pub mod Field
+pub mod Fault
+pub mod Effect
+pub mod Index

@@ -1,0 +1,90 @@
+-- The relocation types. RISC-V ELF psABI, "Relocations": a type's number gives its row of the table.
+use Rattle.std.specs.Prelude.{ℕ, Bool, true, false, ◌||◌, ◌==◌, if◌then◌else◌}
+use Rattle.psabi_relocs.specs.declared.row.Row.{Row}
+use Rattle.psabi_relocs.specs.declared.row.Row.TheVariants.{Unknown, Mark, Pointer, Absolute, Relative, Call, Got, Low, Group}
+use Rattle.psabi_relocs.specs.declared.row.Shape.TheVariants.{Word, High, LowI, LowS, Branch, Jump}
+use Rattle.psabi_relocs.specs.declared.row.Lane.{Lane}
+use Rattle.psabi_relocs.specs.declared.row.Lane.TheVariants.{Bits8, Bits16, Bits32, Bits6, Uleb128}
+use Rattle.psabi_relocs.specs.declared.row.Step.TheVariants.{Add, Sub, Set}
+
+-- the row of a type's number
+unfoldable pub row_of : ℕ → Row
+row_of k =
+    if k == 0 || k == 43 || k == 51 then Mark
+    else if k == 1 then Pointer
+    else if k == 16 then Relative Branch
+    else if k == 17 then Relative Jump
+    else if k == 18 || k == 19 then Call
+    else if k == 20 then Got
+    else if k == 23 then Relative High
+    else if k == 24 then Low LowI
+    else if k == 25 then Low LowS
+    else if k == 26 then Absolute High
+    else if k == 27 then Absolute LowI
+    else if k == 28 then Absolute LowS
+    else if k == 57 || k == 59 then Relative Word
+    else if k == 33 then Group Bits8 Add
+    else if k == 37 then Group Bits8 Sub
+    else if k == 54 then Group Bits8 Set
+    else if k == 34 then Group Bits16 Add
+    else if k == 38 then Group Bits16 Sub
+    else if k == 55 then Group Bits16 Set
+    else if k == 35 then Group Bits32 Add
+    else if k == 39 then Group Bits32 Sub
+    else if k == 56 then Group Bits32 Set
+    else if k == 53 then Group Bits6 Set
+    else if k == 52 then Group Bits6 Sub
+    else if k == 60 then Group Uleb128 Set
+    else if k == 61 then Group Uleb128 Sub
+    else Unknown
+
+-- how many bytes of a number are a group's field: of a ULEB128 number the first
+abbrev pub lane_len : Lane → ℕ
+lane_len Bits8 = 1
+lane_len Bits16 = 2
+lane_len Bits32 = 4
+lane_len Bits6 = 1
+lane_len Uleb128 = 1
+
+-- how many bytes from P on are the field
+abbrev pub field_len : Row → ℕ
+field_len Unknown = 0
+field_len Mark = 0
+field_len Call = 8
+field_len (Group lane step) = lane_len lane
+field_len _ = 4
+
+-- NONE, ALIGN and RELAX say nothing of the linked bytes
+abbrev pub is_mark : Row → Bool
+is_mark Mark = true
+is_mark _ = false
+
+abbrev pub is_unknown : Row → Bool
+is_unknown Unknown = true
+is_unknown _ = false
+
+abbrev pub is_got : Row → Bool
+is_got Got = true
+is_got _ = false
+
+-- an instruction has S + A itself
+abbrev pub is_absolute : Row → Bool
+is_absolute (Absolute shape) = true
+is_absolute _ = false
+
+-- S + A - P
+abbrev pub is_relative : Row → Bool
+is_relative (Relative shape) = true
+is_relative Call = true
+is_relative _ = false
+
+-- the high part that a low part names: GOT_HI20 or PCREL_HI20
+abbrev pub is_high : Row → Bool
+is_high Got = true
+is_high (Relative High) = true
+is_high _ = false
+
+-- PCREL_LO12_I or PCREL_LO12_S
+abbrev pub is_low : Row → Bool
+is_low (Low shape) = true
+is_low _ = false

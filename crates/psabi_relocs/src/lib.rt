@@ -1,0 +1,21 @@
+//! What the relocations mean that a linker has kept: the classes of symbols, the rows of the RISC-V psABI's
+//! table, how entries belong together, and each entry's effect on an image or its first fault.
+//!
+//! What may not stand here: the flat format, an order of faults between entries, or any output.
+#![tactic(auto)]
+
+mod class;
+mod effect;
+mod fault;
+mod group;
+mod pairs;
+mod reloc;
+mod row;
+
+pub use class::{Class, class_of};
+pub use effect::Effect;
+pub use fault::RelocFault;
+pub use group::{Sum, Sums};
+pub use pairs::Pairs;
+pub use reloc::{Reloc, reloc_at};
+pub use row::{Lane, Row, Shape, Step};
