@@ -1,14 +1,10 @@
--- Class: what a symbol's value does when the image moves.
--- Reloc: the kept relocations of an ELF file.
--- Field: the fields that relocations fill, and their values.
+-- Relocs: what the kept relocations of a file fill.
 -- Image: the bytes of an ELF file, relocated at a base.
--- Word: the recorded words of a file of the word-only form.
+-- Word: the recorded words, where they point and what they meet.
 -- Fault: the first reason why a file isn't converted.
 -- Converted: the flat file that a file is converted to.
 -- Laws: what is written has no fault, and loads to the bytes of the ELF file, relocated.
-pub mod Class
-pub mod Reloc
-pub mod Field
+pub mod Relocs
 pub mod Image
 pub mod Word
 pub mod Fault

@@ -1,71 +1,58 @@
--- The words of a file of the word-only form: each kept relocation is an R_RISCV_32 of a moving symbol, and its field holds S + A.
-use Rattle.std.specs.Prelude.{ℕ, ◌+◌, ◌-◌, Bool, not, ◌&&◌, ◌||◌, nat_lt, nat_le, ◌==◌, List, map, flat_map, Option, Some, None, if◌then◌else◌}
-use Rattle.std.specs.List.{list_any}
-use Rattle.elf32_reader.specs.declared.section.Section.{Section}
-use Rattle.elf32_reader.specs.Numbers.{u32_at}
-use Rattle.elf32_reader.specs.Search.{any_below}
-use Rattle.elf32_reader.specs.Header.{count_of}
-use Rattle.elf32_reader.specs.Sections.{section, is_stored}
-use Rattle.elf32_reader.specs.Relas.{is_kept, rela_count}
+-- The words that a flat file records: the pointers and GOT slots whose symbols move, by numbers of the image.
+use Rattle.std.specs.Prelude.{ℕ, ◌+◌, Bool, not, ◌&&◌, ◌||◌, nat_lt, ◌==◌, min, max, List, [], ◌∷◌, ◌++◌, map, flat_map, filter, take, drop, length, Option, Some, None}
+use Rattle.std.specs.List.{list_any, range_with_len, slice_index_or}
 use Rattle.flat_layout.specs.declared.layout.Layout.{Layout}
-use Rattle.flat_layout.specs.Numbering.{end_of}
 use Rattle.flat_layout.specs.Layout.{layout, off, size_of}
+use Rattle.psabi_relocs.specs.Field.{Field}
+use Rattle.psabi_relocs.specs.Effect.{Span}
 use Rattle.elf2flt_tool.specs.declared.word.Word.{Word}
-use Rattle.elf2flt_tool.specs.declared.reloc.Reloc.{Reloc}
-use Rattle.elf2flt_tool.specs.Reloc.{reloc, relocs_in}
-use Rattle.elf2flt_tool.specs.Field.{Field, type_word, absolute, fields, fields_of}
-
--- X: the section that a kept section's relocations apply to
-abbrev pub target_section : List ℕ → ℕ → Section
-target_section e i = section e (section e i).info
-
--- the four bytes at an address stand in the section's content
-abbrev pub holds_word : Section → ℕ → Bool
-holds_word s a = is_stored s && nat_le s.addr a && nat_le (a + 4) (end_of s)
-
--- the linked word at an address of the section
-abbrev pub word_in : List ℕ → Section → ℕ → ℕ
-word_in e s a = u32_at e (s.offset + (a - s.addr))
-
--- in section s, the relocation is a word that moves and that holds its value
-unfoldable pub is_word : List ℕ → Section → Reloc → Bool
-is_word e s r = r.kind == type_word && r.moves && holds_word s r.place && (word_in e s r.place == absolute r 0)
+use Rattle.elf2flt_tool.specs.Relocs.{fields_of, spans_of}
+use Rattle.elf2flt_tool.specs.Image.{pointers}
 
 -- the number of a recorded word's place, and the number of the place that it points to
 unfoldable pub numbered : Layout → Field → Word
 numbered l f = record { place = off l f.place; target = off l f.value }
 
--- the word that the relocation records, if it is one
-unfoldable pub word_of : Layout → List ℕ → Section → Reloc → Option Word
-word_of l e s r = if is_word e s r then Some (numbered l (record { place = r.place; value = absolute r 0 })) else None
-
-unfoldable pub has_other : List ℕ → ℕ → Bool
-has_other e i = is_kept e i && any_below (λ j. not (is_word e (target_section e i) (reloc e i j))) (rela_count e i)
-
--- the words of section i
-unfoldable pub words_in : Layout → List ℕ → ℕ → List Word
-words_in l e i = map (numbered l) (flat_map (fields 0) (relocs_in e i))
-
 unfoldable pub words : List ℕ → List Word
-words e = map (numbered (layout e)) (fields_of e 0)
+words e = map (numbered (layout e)) (pointers (fields_of e 0))
 
 abbrev pub places : List Word → List ℕ
 places ws = map (λ w. w.place) ws
+
+abbrev pub lower : ℕ → Option ℕ → ℕ
+lower n None = n
+lower n (Some m) = min n m
+
+-- the least number of a list
+abbrev pub lowest : List ℕ → Option ℕ
+lowest [] = None
+lowest (n ∷ ns) = Some (lower n (lowest ns))
 
 -- it points to no byte of the image, nor to its end
 abbrev pub points_outside : ℕ → Word → Bool
 points_outside size w = w.target == 0 || nat_lt size w.target
 
-unfoldable pub target_outside : List ℕ → Bool
-target_outside e = list_any (points_outside (size_of (layout e))) (words e)
+-- the least number of a record whose word points outside
+unfoldable pub target_outside : List ℕ → Option ℕ
+target_outside e = lowest (places (filter (points_outside (size_of (layout e))) (words e)))
 
--- two words at different places with a common byte
-abbrev pub overlaps : ℕ → ℕ → Bool
-overlaps p q = not (p == q) && nat_lt p (q + 4) && nat_lt q (p + 4)
+-- the word at number p and the span have a common byte, and the span isn't a recorded word at the same place
+abbrev pub meets : Layout → ℕ → Span → Bool
+meets l p s =
+    not (s.recorded && off l s.place == p) && nat_lt (max p (off l s.place)) (min (p + 4) (off l s.place + s.len))
 
-unfoldable pub word_overlap : List ℕ → Bool
-word_overlap e = list_any (λ p. list_any (overlaps p) (places (words e))) (places (words e))
+-- the spans of all entries but entry k
+abbrev pub others : ℕ → List (List Span) → List Span
+others k es = flat_map (λ ss. ss) (take k es ++ drop (k + 1) es)
 
--- every entry of every kept section is such a word, all point into the image, and no two meet
-unfoldable pub is_word_only : List ℕ → Bool
-is_word_only e = not (any_below (has_other e) (count_of e) || target_outside e || word_overlap e)
+-- the numbers of an entry's recorded words
+abbrev pub recorded_places : Layout → List Span → List ℕ
+recorded_places l ss = map (λ s. off l s.place) (filter (λ s. s.recorded) ss)
+
+-- the numbers of entry k's recorded words that meet the span of another entry
+abbrev pub met_words : Layout → List (List Span) → ℕ → List ℕ
+met_words l es k = filter (λ p. list_any (meets l p) (others k es)) (recorded_places l (slice_index_or es k []))
+
+-- the least number of a record that meets the bytes of another relocation
+unfoldable pub word_overlap : List ℕ → Option ℕ
+word_overlap e = lowest (flat_map (met_words (layout e) (spans_of e)) (range_with_len 0 (length (spans_of e))))

@@ -2,6 +2,7 @@
 
 use elf32_reader::ElfFault;
 use flat_layout::LayoutFault;
+use psabi_relocs::RelocFault;
 use std::alloc::{AllocError, AllocFailed};
 use thiserror::Error;
 
@@ -14,9 +15,19 @@ pub enum Refusal {
     /// Its sections make no image.
     #[error("the sections make no image: {0:?}")]
     Layout(LayoutFault),
-    /// A kept relocation isn't a word that a flat file can record.
-    #[error("a kept relocation can't be recorded")]
-    Form,
+    /// The entry `index` of relocation section `section` has a fault of its own.
+    #[error("relocation {index} of section {section} is refused: {fault:?}")]
+    Reloc {
+        section: u32,
+        index: u32,
+        fault: RelocFault,
+    },
+    /// The recorded word at a linked address points to no byte of the image, nor to its end.
+    #[error("the word at {place:#010x} points outside the image")]
+    TargetOutside { place: u32 },
+    /// The recorded word at a linked address has a byte in common with another relocation.
+    #[error("the word at {place:#010x} meets another relocation")]
+    WordOverlap { place: u32 },
     /// Want of host memory.
     #[error("out of memory")]
     Memory,
