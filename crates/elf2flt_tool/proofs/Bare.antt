@@ -1,15 +1,17 @@
 -- The linked bytes by number: a section's bytes, and zeros behind them all.
-use Rattle.std.proofs.Common.{◌≡◌, ℕ, ◌+◌, ◌-◌, ◌*◌, ◌<◌, ◌≤◌, inl, inr, true, false, List, length, drop, slice_index, None, refl, ap, sym, ◌∙◌, arith, get_or-drop, get_or-take, length-take, length-drop}
+use Rattle.std.proofs.Common.{◌≡◌, ℕ, ◌+◌, ◌-◌, ◌*◌, ◌<◌, ◌≤◌, inl, inr, true, false, List, [], ◌∷◌, length, map, take, drop, slice_index, None, refl, ap, sym, ◌∙◌, arith, get_or-drop, get_or-take, length-take, length-drop}
 use Rattle.std.specs.List.{range_with_len}
-use Rattle.std.proofs.lemmas.Bool.{and_parts, cases_Bool, false_from_ne_true}
+use Rattle.std.proofs.lemmas.List.{get_or_past}
+use Rattle.std.proofs.lemmas.Bool.{and_parts, cases_Bool, cases_lt, false_from_ne_true}
 use Rattle.elf32_reader.specs.declared.section.Section.{Section}
 use Rattle.elf32_reader.specs.Numbers.{u32_at}
 use Rattle.elf32_reader.specs.Header.{count_of}
 use Rattle.elf32_reader.specs.Sections.{section, content}
 use Rattle.elf32_reader.specs.Faults.{elf_fault}
 use Rattle.elf32_reader.proofs.Facts.{stored_fits}
-use Rattle.bflt_format.specs.Patches.{spans}
-use Rattle.bflt_format.proofs.Painting.{within, spans_within}
+use Rattle.bflt_format.specs.Patches.{spans, patched, painted}
+use Rattle.bflt_format.specs.Numbers.{IsBytes}
+use Rattle.bflt_format.proofs.Painting.{within, spans_within, patched_on, patched_off}
 use Rattle.bflt_format.proofs.Links.{word_at, word_none}
 use Rattle.flat_layout.specs.Numbering.{is_laid_out, has_bytes}
 use Rattle.flat_layout.specs.Layout.{layout, off, stored_end}
@@ -89,6 +91,33 @@ only_section e i j n laid i_below j_below here there =
       | inr far ↦ elim far [ inl before ↦ absurd (omega arith) | inr after ↦ absurd (omega arith) ]
     ]
 
+take_fits : (n : ℕ) (ys : List ℕ) → ((k : ℕ) → slice_index ys k < 256) → (k : ℕ) → slice_index (take n ys) k < 256
+take_fits n ys bytes k = elim (cases_lt k n) [
+  | inl below ↦ rw (get_or-take n ys k 0 below) (bytes k)
+  | inr past ↦ rw (get_or_past (take n ys) k 0 (omega (arith, length-take n ys))) (omega arith)
+]
+
+content_fits_bytes : (e : List ℕ) (s : Section) → IsBytes e → (k : ℕ) → slice_index (content e s) k < 256
+unfolding content
+content_fits_bytes e s bytes k = take_fits s.size (drop s.offset e) (λ k. rw (get_or-drop s.offset e k 0) (bytes (s.offset + k))) k
+
+patch_fits : (e : List ℕ) (i k : ℕ) → IsBytes e → slice_index (section_patch e i).bytes k < 256
+unfolding section_patch
+patch_fits e i k bytes = elim (cases_Bool (has_bytes (section e i))) [
+  | inl is ↦ rw is (content_fits_bytes e (section e i) bytes k)
+  | inr none ↦ rw none (omega arith)
+]
+
+patched_fits : (e : List ℕ) (i : ℕ) (m : ℕ → ℕ) → IsBytes e → ((n : ℕ) → m n < 256) → (n : ℕ) → patched (section_patch e i) m n < 256
+patched_fits e i m bytes fits n = elim (cases_Bool (spans (section_patch e i) n)) [
+  | inl on ↦ rw (patched_on (section_patch e i) m n on) (patch_fits e i (n - (section_patch e i).at) bytes)
+  | inr out ↦ rw (patched_off (section_patch e i) m n out) (fits n)
+]
+
+painted_fits : (e : List ℕ) (is : List ℕ) (m : ℕ → ℕ) → IsBytes e → ((n : ℕ) → m n < 256) → (n : ℕ) → painted (map (section_patch e) is) m n < 256
+painted_fits e [] m bytes fits n = fits n
+painted_fits e (i ∷ is) m bytes fits n = painted_fits e is (patched (section_patch e i) m) bytes (patched_fits e i m bytes fits) n
+
 -- a section's byte stands at its number
 pub bare_byte : (e : List ℕ) (i k : ℕ) → elf_fault e ≡ None → IsLaid e → i < count_of e → has_bytes (section e i) ≡ true → k < (section e i).size
     → bare e (off (layout e) (section e i).addr + k) ≡ slice_index e ((section e i).offset + k)
@@ -110,6 +139,11 @@ bare_zero e laid n past =
     let inside = laid.inside j (omega (arith, range_has 0 (count_of e) j member)) there.bytes in
     omega arith))
 
+
+-- the linked bytes of a list of bytes are bytes
+pub bare_fits : (e : List ℕ) → IsBytes e → (n : ℕ) → bare e n < 256
+unfolding bare
+bare_fits e bytes n = painted_fits e (range_with_len 0 (count_of e)) (λ n. 0) bytes (λ n. omega arith) n
 
 -- the number of four bytes that a list and a picture have in common
 number_of_word : (m : ℕ → ℕ) (y : List ℕ) (p q : ℕ) → ((j : ℕ) → j < 4 → m (p + j) ≡ slice_index y (q + j)) → word_of m p ≡ u32_at y q

@@ -2,6 +2,7 @@
 use Rattle.std.proofs.Common.{◌≡◌, ℕ, ◌+◌, ◌-◌, ◌<◌, ◌≤◌, ◌%◌, ◌^◌, inl, inr, Bool, true, false, not, ◌&&◌, ◌||◌, nat_eq, nat_le, List, [], ◌∷◌, ◌++◌, map, Option, Some, None, refl, sym, ap, ◌∙◌, arith, if◌then◌else◌}
 use Rattle.std.specs.List.{list_all, AllByRecursion as Each}
 use Rattle.std.specs.Option.{is_none}
+use Rattle.std.proofs.lemmas.List.{map-append}
 use Rattle.std.proofs.lemmas.Bool.{cases_Bool, and_parts, and_from, or_parts, leb-true, lt-ltb, eqb-true, eq-eqb, not-true, not-false}
 use Rattle.elf32_reader.specs.declared.section.Section.{Section}
 use Rattle.elf32_reader.specs.Header.{count_of}
@@ -49,10 +50,6 @@ each-both P Q (x ∷ xs) a b = ((a.0, b.0), each-both P Q xs a.1 b.1)
 each_passes : {X : Type 0} (test : X → Bool) (xs : List X) → list_all test xs ≡ true → Each (λ x. test x ≡ true) xs
 each_passes test [] is = tt
 each_passes test (x ∷ xs) is = let parts = and_parts (test x) (list_all test xs) is in (parts.0, each_passes test xs parts.1)
-
-map-append : {X Y : Type 0} (f : X → Y) (xs ys : List X) → map f (xs ++ ys) ≡ map f xs ++ map f ys
-map-append f [] ys = refl
-map-append f (x ∷ xs) ys = ap (λ zs. f x ∷ zs) (map-append f xs ys)
 
 -- ---- bytes
 

@@ -5,3 +5,5 @@ pub mod Putting
 pub mod Raised
 pub mod Sound
 pub mod Held
+pub mod Stills
+pub mod Recorded
