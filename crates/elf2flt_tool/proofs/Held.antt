@@ -1,15 +1,14 @@
 -- The fields of a relocation without a fault: they lie in the stored bytes of the image, and hold their values there.
-use Rattle.std.proofs.Common.{◌≡◌, ℕ, ◌+◌, ◌-◌, ◌<◌, ◌≤◌, ◌%◌, ◌^◌, inl, inr, Bool, true, false, not, ◌&&◌, ◌||◌, nat_eq, nat_le, List, [], ◌∷◌, ◌++◌, map, Option, Some, None, refl, sym, ap, ◌∙◌, arith, if◌then◌else◌}
+use Rattle.std.proofs.Common.{◌≡◌, ℕ, ◌+◌, ◌-◌, ◌<◌, ◌≤◌, ◌%◌, ◌^◌, inl, inr, Bool, true, false, not, ◌&&◌, nat_eq, nat_le, List, [], ◌∷◌, ◌++◌, map, Option, Some, None, refl, sym, ap, ◌∙◌, arith, if◌then◌else◌}
 use Rattle.std.specs.List.{list_all, AllByRecursion as Each}
 use Rattle.std.specs.Option.{is_none}
 use Rattle.std.proofs.lemmas.List.{map-append}
-use Rattle.std.proofs.lemmas.Bool.{cases_Bool, and_parts, and_from, or_parts, leb-true, lt-ltb, eqb-true, eq-eqb, not-true, not-false}
+use Rattle.std.proofs.lemmas.Bool.{cases_Bool, and_parts, and_from, or_parts, leb-true, lt-ltb, eqb-true, eq-eqb, not-false}
 use Rattle.elf32_reader.specs.declared.section.Section.{Section}
 use Rattle.elf32_reader.specs.Header.{count_of}
 use Rattle.elf32_reader.specs.Sections.{section, is_allocated, is_stored}
-use Rattle.elf32_reader.specs.Numbers.{u32_at}
 use Rattle.elf32_reader.specs.Faults.{elf_fault}
-use Rattle.elf32_reader.specs.Relas.{is_kept, rela_count}
+use Rattle.elf32_reader.specs.Relas.{is_kept}
 use Rattle.elf32_reader.proofs.Facts.{u32_at_fits}
 use Rattle.elf32_reader.proofs.Places.{is_kept_info, is_kept_allocated}
 use Rattle.elf32_reader.proofs.Searches.{and_rest}
@@ -27,12 +26,12 @@ use Rattle.psabi_relocs.specs.Bytes.{holds, word_in}
 use Rattle.psabi_relocs.specs.Pair.{slot_of, holds_slot, slot_section}
 use Rattle.psabi_relocs.specs.Shape.{has_value}
 use Rattle.psabi_relocs.specs.Field.{Field, Origin, moved, slot_origin, high_origin, origin, own_fields, slot_fields, fields_from, fields}
-use Rattle.psabi_relocs.specs.Fault.{is_slot_outside, is_place_outside, holds_value, word_of_slot, slot_word, is_slot_wrong, mismatches, is_mismatch, reloc_fault}
+use Rattle.psabi_relocs.specs.Fault.{is_slot_outside, is_place_outside, holds_value, word_of_slot, slot_word, is_slot_wrong, is_mismatch, reloc_fault}
 use Rattle.elf2flt_tool.specs.Image.{bare, word_of}
-use Rattle.elf2flt_tool.proofs.Members.{each-append, each-map, each-weaker}
+use Rattle.elf2flt_tool.proofs.Members.{each-append, each-weaker}
 use Rattle.elf2flt_tool.proofs.Laid.{IsLaid}
 use Rattle.elf2flt_tool.proofs.Bare.{bare_word}
-use Rattle.elf2flt_tool.proofs.Sound.{IsSound, sound_entry, Mapped, mapped, Found, found, AllSound, origin_moves, has_distance, steady}
+use Rattle.elf2flt_tool.proofs.Sound.{IsSound, sound_entry, mapped, found, AllSound, origin_moves, steady}
 use Rattle.elf2flt_tool.proofs.Raised.{raised, own_raised, slots_raised}
 
 -- a field of the linked image that holds its value; a recorded one is a whole word

@@ -7,3 +7,4 @@ pub mod Sound
 pub mod Held
 pub mod Stills
 pub mod Recorded
+pub mod Apart

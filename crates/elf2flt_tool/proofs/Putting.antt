@@ -1,5 +1,5 @@
 -- A field that holds its value stays as it is when the value is put there.
-use Rattle.std.proofs.Common.{◌≡◌, ℕ, ◌+◌, ◌-◌, ◌*◌, ◌<◌, inl, inr, ◌%◌, ◌^◌, Bool, true, false, nat_lt, nat_eq, refl, sym, ap, ◌∙◌, arith, if◌then◌else◌}
+use Rattle.std.proofs.Common.{◌≡◌, ℕ, ◌+◌, ◌-◌, ◌<◌, inl, inr, ◌^◌, true, nat_lt, sym, ap, ◌∙◌, arith}
 use Rattle.std.proofs.lemmas.Bool.{cases_Bool, eqb-true}
 use Rattle.rv32im_table.specs.Immediate.{immediate, gathered, sign_extended, replaced, format_i, format_s, format_b, format_u, format_j, imm_i, imm_s, imm_b, imm_u, imm_j, put_i, put_s, put_b, put_u, put_j}
 use Rattle.psabi_relocs.specs.declared.row.Shape.{Shape}

@@ -1,6 +1,6 @@
 -- What is known of an accepted file: its fields lie in the stored bytes and hold their values, and only the recorded ones
 -- change with the base.
-use Rattle.std.proofs.Common.{◌≡◌, ℕ, zero, suc, ◌+◌, ◌<◌, ◌≤◌, inl, inr, true, false, List, [], ◌∷◌, ◌++◌, map, flat_map, filter, Option, Some, None, refl, sym, ap, ◌∙◌, arith}
+use Rattle.std.proofs.Common.{◌≡◌, ℕ, zero, suc, ◌<◌, inl, inr, true, List, [], ◌∷◌, ◌++◌, map, flat_map, Option, Some, None, refl, sym, ap, ◌∙◌, arith}
 use Rattle.std.specs.List.{range_with_len, AllByRecursion as Each}
 use Rattle.std.specs.Option.{option_map, option_or}
 use Rattle.std.proofs.lemmas.List.{map-append}
@@ -14,8 +14,7 @@ use Rattle.flat_layout.specs.declared.fault.LayoutFault.{LayoutFault}
 use Rattle.flat_layout.specs.Layout.{layout}
 use Rattle.flat_layout.specs.Fault.{layout_fault}
 use Rattle.bflt_format.specs.Numbers.{IsBytes}
-use Rattle.psabi_relocs.specs.declared.fault.RelocFault.{RelocFault}
-use Rattle.psabi_relocs.specs.Field.{Field, fields}
+use Rattle.psabi_relocs.specs.Field.{fields}
 use Rattle.psabi_relocs.specs.Fault.{reloc_fault}
 use Rattle.elf2flt_tool.specs.declared.refusal.Refusal.{Refusal}
 use Rattle.elf2flt_tool.specs.declared.refusal.Refusal.TheVariants as refusals
@@ -23,7 +22,7 @@ use Rattle.elf2flt_tool.specs.Relocs.{fields_in, fields_of}
 use Rattle.elf2flt_tool.specs.Word.{target_outside, word_overlap}
 use Rattle.elf2flt_tool.specs.Fault.{first_some, entry_fault, section_fault, relocs_fault, target_fault, overlap_fault, words_fault, address_of, fault_from_layout, fault_from_elf, fault}
 use Rattle.elf2flt_tool.proofs.Members.{each-flat_map, each-range}
-use Rattle.elf2flt_tool.proofs.Laid.{IsLaid, is_laid}
+use Rattle.elf2flt_tool.proofs.Laid.{is_laid}
 use Rattle.elf2flt_tool.proofs.Held.{IsHeld, IsTarget, fields_held, fields_raised}
 use Rattle.elf2flt_tool.proofs.Sound.{AllSound}
 use Rattle.elf2flt_tool.proofs.Raised.{raised}

@@ -1,5 +1,5 @@
 -- What a relocation without a fault is known to be, and that the distance at an accepted entry stays the same.
-use Rattle.std.proofs.Common.{if◌then◌else◌, ◌≡◌, ℕ, zero, suc, ◌+◌, ◌<◌, inl, inr, Bool, true, false, ◌&&◌, ◌||◌, nat_eq, List, [], ◌∷◌, Option, Some, None, refl, sym, ap, ◌∙◌, arith}
+use Rattle.std.proofs.Common.{if◌then◌else◌, ◌≡◌, ℕ, zero, suc, ◌<◌, inl, inr, Bool, true, false, ◌&&◌, ◌||◌, nat_eq, List, [], ◌∷◌, Option, Some, None, refl, sym, ap, ◌∙◌, arith}
 use Rattle.std.specs.List.{AllByRecursion as Each}
 use Rattle.std.specs.Option.{option_map, option_or}
 use Rattle.std.proofs.lemmas.Bool.{cases_Bool, and_parts}
@@ -12,7 +12,6 @@ use Rattle.psabi_relocs.specs.declared.class.Class.TheVariants.{Moves, Fixed, We
 use Rattle.psabi_relocs.specs.declared.reloc.Reloc.{Reloc}
 use Rattle.psabi_relocs.specs.declared.row.Row.{Row}
 use Rattle.psabi_relocs.specs.declared.row.Row.TheVariants.{Unknown, Mark, Pointer, Absolute, Relative, Call, Got, Low, Group}
-use Rattle.psabi_relocs.specs.declared.row.Shape.TheVariants as shapes
 use Rattle.psabi_relocs.specs.Search.{first_below}
 use Rattle.psabi_relocs.specs.Class.{is_moving}
 use Rattle.psabi_relocs.specs.Row.{is_unknown, is_mark, is_got, is_absolute, is_relative, is_high, is_low}

@@ -1,15 +1,11 @@
 -- The fields that stay: putting their values over the linked bytes changes nothing.
-use Rattle.std.proofs.Common.{◌≡◌, ℕ, zero, suc, ◌+◌, ◌-◌, ◌<◌, ◌≤◌, ◌%◌, ◌^◌, inl, inr, Bool, true, false, not, List, [], ◌∷◌, map, filter, length, get_or, refl, sym, ap, ◌∙◌, arith, if◌then◌else◌}
-use Rattle.std.specs.List.{range_with_len, AllByRecursion as Each}
+use Rattle.std.proofs.Common.{◌≡◌, ℕ, zero, suc, ◌+◌, ◌-◌, ◌<◌, ◌%◌, ◌^◌, inl, inr, Bool, true, false, not, List, [], ◌∷◌, map, filter, get_or, refl, sym, ap, ◌∙◌, arith, if◌then◌else◌}
+use Rattle.std.specs.List.{AllByRecursion as Each}
 use Rattle.std.proofs.lemmas.Bool.{cases_Bool}
 use Rattle.byteorder.specs.Endian.{little_bytes}
-use Rattle.elf32_reader.specs.Header.{count_of}
-use Rattle.elf32_reader.specs.Sections.{section}
-use Rattle.bflt_format.specs.Numbers.{IsBytes}
-use Rattle.bflt_format.specs.Patches.{Patch, spans, patched, painted, little_word}
-use Rattle.bflt_format.proofs.Painting.{Within, within, patched_on, patched_off}
-use Rattle.flat_layout.specs.declared.layout.Layout.{Layout}
-use Rattle.flat_layout.specs.Layout.{layout, off, stored_end}
+use Rattle.bflt_format.specs.Patches.{spans, patched, little_word}
+use Rattle.bflt_format.proofs.Painting.{within, patched_on, patched_off}
+use Rattle.flat_layout.specs.Layout.{layout, off}
 use Rattle.psabi_relocs.specs.Shape.{put}
 use Rattle.psabi_relocs.specs.Field.{Field}
 use Rattle.elf2flt_tool.specs.Image.{bare, word_of, written, overwritten, pointers}
