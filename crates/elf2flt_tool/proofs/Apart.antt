@@ -182,7 +182,7 @@ places_of_spans e l = places_by l (fields_in e 0) (spans_in e) (range_with_len 0
 
 -- ---- lists of entries
 
-none_lowest : (ns : List ℕ) → lowest ns ≡ None → ns ≡ []
+pub none_lowest : (ns : List ℕ) → lowest ns ≡ None → ns ≡ []
 none_lowest [] none = refl
 none_lowest (n ∷ ns) none = absurd (cc)
 

@@ -8,3 +8,6 @@ pub mod Held
 pub mod Stills
 pub mod Recorded
 pub mod Apart
+pub mod Listed
+pub mod Spelled
+pub mod ImageLaw
