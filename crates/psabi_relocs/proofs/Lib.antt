@@ -1,0 +1,2 @@
+-- StoredWord  where a word stands in a section's content
+pub mod StoredWord
