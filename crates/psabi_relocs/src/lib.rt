@@ -12,6 +12,7 @@ mod group;
 mod pairs;
 mod reloc;
 mod row;
+mod slot;
 
 pub use class::{Class, class_of};
 pub use effect::Effect;
