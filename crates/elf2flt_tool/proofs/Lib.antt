@@ -11,3 +11,4 @@ pub mod Apart
 pub mod Listed
 pub mod Spelled
 pub mod ImageLaw
+pub mod Samples

@@ -3,7 +3,9 @@
 //! runs a program.
 #![tactic(auto)]
 
+mod laws;
 mod refusal;
 mod word;
 
+pub use laws::{flat_law, image_law};
 pub use refusal::Refusal;
