@@ -1,4 +1,12 @@
--- StoredWord  where a word stands in a section's content
+-- StoredWord     where a word stands in a section's content
+-- IndexSearches  laws of first_below
+-- IndexEntries   what an index says of the first entries
+-- GroupCounts    bounds of a group's counts
+-- StoredSlots    the section of a slot, by the first addresses of the sections
+-- Checks         an entry or a section that a search has found, and the bytes of a field that isn't outside
 pub mod StoredWord
--- Checks   what is known of an entry that a search has found, and of the bytes of a field that isn't outside
+pub mod IndexSearches
+pub mod IndexEntries
+pub mod GroupCounts
+pub mod StoredSlots
 pub mod Checks

@@ -1,16 +1,15 @@
 //! The judgement of one kept relocation: its first fault, or its effect.
 
-ghost use Rattle.std.specs.Prelude.{◌≡◌, ◌<◌, ◌==◌, ◌&&◌, not, true, false, None, Some, if◌then◌else◌, MatchResult};
+ghost use Rattle.std.specs.Prelude.{◌≡◌, ◌<◌, ◌&&◌, not, true, false, None, Some, if◌then◌else◌, MatchResult};
 ghost use Rattle.std.specs.List.{list_all};
 ghost use Rattle.std.specs.Option.{option_map};
 ghost use Rattle.elf32_reader.specs.Accepted.{IsAccepted};
-ghost use Rattle.elf32_reader.specs.Sections.{section};
 ghost use Rattle.elf32_reader.specs.Relas.{is_kept, rela_count};
 ghost use Rattle.flat_layout.specs.Fault.{layout_fault};
 ghost use Rattle.flat_layout.specs.Layout.{layout};
-ghost use Rattle.psabi_relocs.specs.Row.{field_len, is_got, is_absolute, is_relative};
-ghost use Rattle.psabi_relocs.specs.Class.{is_moving, is_still};
-ghost use Rattle.psabi_relocs.specs.Reloc.{reloc, target_section};
+ghost use Rattle.psabi_relocs.specs.Row.{is_absolute, is_relative};
+ghost use Rattle.psabi_relocs.specs.Class.{is_moving};
+ghost use Rattle.psabi_relocs.specs.Reloc.{target_section};
 ghost use Rattle.psabi_relocs.specs.Bytes.{holds, word_in};
 ghost use Rattle.psabi_relocs.specs.Pair.{high_of, low_immediate, slot_of, own_slot};
 ghost use Rattle.psabi_relocs.specs.Group.{is_even};
@@ -27,7 +26,7 @@ use crate::fault::RelocFault;
 use crate::group::Sum;
 use crate::pairs::{Pairs, sums_at};
 use crate::reloc::{Reloc, reloc_at};
-use crate::row::{Lane, Row, Shape};
+use crate::row::{Row, Shape};
 use crate::slot::slot_section;
 use elf32_reader::Elf;
 use flat_layout::Layout;
@@ -133,10 +132,10 @@ fn high_distance(elf: &Elf<'_>, pairs: &Pairs, section: u32, reloc: &Reloc) -> O
     ensures { result ≡ option_map (relative 0) (high_origin elf.now section reloc.now) }
 {
     match reloc.row {
-        Row::Got => slot_of(elf, pairs, section, reloc.place).map(|slot| slot_distance(
-            reloc.place,
-            slot,
-        )),
+        Row::Got => {
+            let slot = slot_of(elf, pairs, section, reloc.place)?;
+            Some(slot_distance(reloc.place, slot))
+        }
         _ => Some(distance(reloc)),
     }
 }
@@ -396,8 +395,8 @@ fn effect_of(elf: &Elf<'_>, section: u32, reloc: &Reloc, slot: Option<u32>) -> E
     }
 }
 
-/// Judges entry `index` of the kept section `section`, of which `pairs` is the index. `layout` is the file's own: a
-/// file that has one has no two sections with a common byte, so the address of a slot says one word.
+/// Judges entry `index` of the kept section `section`, of which `pairs` is the index. Of the layout only
+/// that there is one counts: then no two sections have a common byte, so the address of a slot says one word.
 ///
 /// # Errors
 ///
