@@ -1,10 +1,10 @@
 -- Recorded words of an accepted file stand at one place or have no byte in common.
-use Rattle.std.proofs.Common.{◌≡◌, ℕ, zero, suc, ◌+◌, ◌-◌, ◌<◌, ◌≤◌, ◌⊎◌, inl, inr, Bool, true, false, not, ◌&&◌, ◌||◌, nat_eq, nat_lt, min, max, List, [], ◌∷◌, ◌++◌, map, flat_map, filter, take, drop, length, get_or, Option, Some, None, refl, sym, ap, ◌∙◌, arith, subst, get_or-take, get_or-drop, length-take, length-drop, if◌then◌else◌}
+use Rattle.std.proofs.Common.{◌≡◌, ℕ, zero, suc, ◌+◌, ◌-◌, ◌<◌, ◌≤◌, ◌⊎◌, inl, inr, Bool, true, false, ◌&&◌, nat_eq, nat_lt, min, max, List, [], ◌∷◌, ◌++◌, map, flat_map, filter, take, drop, length, get_or, Option, Some, None, refl, sym, ap, ◌∙◌, arith, subst, get_or-take, get_or-drop, length-take, length-drop, if◌then◌else◌}
 use Rattle.std.specs.List.{range_with_len, list_any, slice_index_or, AllByRecursion as Each}
 use Rattle.std.specs.Option.{option_map}
 use Rattle.std.proofs.lemmas.List.{map-append}
 use Rattle.std.proofs.lemmas.List.Elements.{filter-append}
-use Rattle.std.proofs.lemmas.Bool.{cases_Bool, cases_eq, cases_lt, or_cases, or_left, or_right, and_parts, eqb-true, eq-eqb, lt-ltb, ltb-true, not-false}
+use Rattle.std.proofs.lemmas.Bool.{cases_Bool, cases_eq, cases_lt, or_cases, or_left, or_right, and_parts, eqb-true, lt-ltb, ltb-true}
 use Rattle.std.proofs.lemmas.Grind.{flat_map-append}
 use Rattle.elf32_reader.specs.Header.{count_of}
 use Rattle.elf32_reader.specs.Relas.{is_kept, rela_count}

@@ -1,6 +1,5 @@
 -- The laws of the conversion: the flat file says what the file is converted to, has no fault, and loads to the file's image.
-use Rattle.std.proofs.Common.{◌≡◌, ℕ, ◌≤◌, not, List, map, filter, None, refl, ap, sym, ◌∙◌}
-use Rattle.std.specs.List.{AllByRecursion as Each}
+use Rattle.std.proofs.Common.{◌≡◌, ℕ, ◌≤◌, not, List, map, filter, None, ap, sym, ◌∙◌}
 use Rattle.bflt_format.specs.Numbers.{IsBytes}
 use Rattle.bflt_format.specs.Patches.{painted, from_base}
 use Rattle.bflt_format.specs.Header.{flat_values}
@@ -9,7 +8,6 @@ use Rattle.bflt_format.proofs.Spelled.{values_back, no_fault}
 use Rattle.bflt_format.proofs.Rising.{has, rising_has}
 use Rattle.bflt_format.proofs.Links as links
 use Rattle.flat_layout.specs.Layout.{layout, off, size_of}
-use Rattle.psabi_relocs.specs.Field.{Field}
 use Rattle.elf2flt_tool.specs.Relocs.{fields_of}
 use Rattle.elf2flt_tool.specs.Image.{bare, word_patch, overwritten, pointers, relocated, image}
 use Rattle.elf2flt_tool.specs.Fault.{fault}

@@ -1,5 +1,5 @@
 -- The recorded words of an accepted file as a list of places and one function from a place to its target.
-use Rattle.std.proofs.Common.{◌≡◌, ℕ, ◌+◌, ◌%◌, ◌^◌, ◌<◌, ◌≤◌, inl, inr, Bool, true, false, nat_eq, nat_lt, List, [], ◌∷◌, map, filter, None, refl, ap, sym, ◌∙◌, arith, subst, map-id, if◌then◌else◌}
+use Rattle.std.proofs.Common.{◌≡◌, ℕ, ◌+◌, ◌%◌, ◌^◌, ◌<◌, ◌≤◌, inl, inr, Bool, true, false, nat_eq, nat_lt, List, [], ◌∷◌, map, filter, refl, ap, sym, ◌∙◌, arith, subst, if◌then◌else◌}
 use Rattle.std.specs.List.{AllByRecursion as Each}
 use Rattle.std.proofs.lemmas.Bool.{cases_Bool, or_parts, ltb-false, eqb-true, eqb-false}
 use Rattle.bflt_format.specs.Numbers.{IsBytes}
@@ -9,7 +9,6 @@ use Rattle.bflt_format.proofs.Links.{AreWords, addressed}
 use Rattle.flat_layout.specs.declared.layout.Layout.{Layout}
 use Rattle.flat_layout.specs.Layout.{layout, off, size_of, stored_end}
 use Rattle.flat_layout.proofs.Numbers.{off_fits, off-shift}
-use Rattle.psabi_relocs.specs.declared.row.Shape.TheVariants as shapes
 use Rattle.psabi_relocs.specs.Shape.{has_value}
 use Rattle.psabi_relocs.specs.Field.{Field}
 use Rattle.elf2flt_tool.specs.declared.word.Word.{Word}

@@ -15,7 +15,6 @@ use Rattle.bflt_format.specs.Numbers.{big_at}
 use Rattle.bflt_format.specs.Patches.{spans, patched, bytes_below, from_base, big_word, little_word}
 use Rattle.bflt_format.specs.Rising.{rising}
 use Rattle.bflt_format.specs.Spelling.{spell}
-use Rattle.rv32im_table.specs.Immediate.{imm_i, imm_s, imm_b, imm_u, imm_j}
 use Rattle.psabi_relocs.specs.Class.{class, value_of}
 use Rattle.psabi_relocs.specs.Row.{row_of}
 use Rattle.psabi_relocs.specs.Search.{first_below}
