@@ -165,6 +165,7 @@ impl<'a> Elf<'a> {
     pub fn rela(&self, index: u32, entry: u32) -> Rela
         requires kept { is_kept self.now index ≡ true }
         requires entry { entry < rela_count self.now index }
+        ensures accepted { IsAccepted self.now }
         ensures value { result ≡ rela self.now index entry }
         ensures addend { cast_unsigned w32 result.addend ≡ addend_word self.now index entry }
         // Its symbol is one of the table that the section's link names.

@@ -69,7 +69,6 @@ fn is_inside(elf: &Elf<'_>, section: u32, place: u32, len: u32) -> bool
 /// section, or no low part names it.
 #[tactic(auto, using(crate::proofs::Checks::low_of_below, crate::proofs::Checks::low_of_holds), unfolding(crate::specs::Pair::slot_of, crate::specs::Pair::slot_by))]
 pub fn slot_of(elf: &Elf<'_>, pairs: &Pairs, section: u32, place: u32) -> Option<u32>
-    requires accepted { IsAccepted elf.now }
     requires kept { is_kept elf.now section ≡ true }
     requires pairs { IsPairs elf.now section pairs.now }
     ensures { result ≡ slot_of elf.now section place }
@@ -85,7 +84,6 @@ pub fn slot_of(elf: &Elf<'_>, pairs: &Pairs, section: u32, place: u32) -> Option
 
 /// The slot of a GOT entry; other entries have none.
 pub fn own_slot(elf: &Elf<'_>, pairs: &Pairs, section: u32, reloc: &Reloc) -> Option<u32>
-    requires accepted { IsAccepted elf.now }
     requires kept { is_kept elf.now section ≡ true }
     requires pairs { IsPairs elf.now section pairs.now }
     ensures { result ≡ own_slot elf.now section reloc.now }
@@ -409,7 +407,6 @@ pub fn check(
     section: u32,
     index: u32,
 ) -> Result<Effect, RelocFault>
-    requires accepted { IsAccepted elf.now }
     requires kept { is_kept elf.now section ≡ true }
     requires index { index < rela_count elf.now section }
     requires no_fault { layout_fault elf.now ≡ None }
