@@ -4,7 +4,8 @@ use Rattle.std.specs.List.{range_with_len}
 use Rattle.elf32_reader.specs.Header.{count_of}
 use Rattle.elf32_reader.specs.Relas.{is_kept, rela_count}
 use Rattle.psabi_relocs.specs.Field.{Field, fields}
-use Rattle.psabi_relocs.specs.Effect.{Span, spans}
+use Rattle.psabi_relocs.specs.declared.spans.Span.{Span}
+use Rattle.psabi_relocs.specs.Effect.{spans}
 
 -- the fields of section i's entries at addresses that are raised by d
 unfoldable pub fields_in : List ℕ → ℕ → ℕ → List Field

@@ -4,7 +4,7 @@ use Rattle.std.specs.List.{list_any, range_with_len, slice_index_or}
 use Rattle.flat_layout.specs.declared.layout.Layout.{Layout}
 use Rattle.flat_layout.specs.Layout.{layout, off, size_of}
 use Rattle.psabi_relocs.specs.Field.{Field}
-use Rattle.psabi_relocs.specs.Effect.{Span}
+use Rattle.psabi_relocs.specs.declared.spans.Span.{Span}
 use Rattle.elf2flt_tool.specs.declared.word.Word.{Word}
 use Rattle.elf2flt_tool.specs.Relocs.{fields_of, spans_of}
 use Rattle.elf2flt_tool.specs.Image.{pointers}

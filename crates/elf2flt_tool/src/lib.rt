@@ -3,7 +3,10 @@
 //! runs a program.
 #![tactic(auto)]
 
+mod marks;
+mod overlap;
 mod refusal;
+mod target;
 mod word;
 
 pub use refusal::Refusal;
