@@ -1,2 +1,12 @@
+pub mod Members
+pub mod Laid
+pub mod Bare
+pub mod Putting
+pub mod Raised
+pub mod Sound
+pub mod Held
+pub mod Stills
+pub mod Recorded
+pub mod Apart
 pub mod Lowest
 pub mod Marked

@@ -1,5 +1,6 @@
--- The laws of the conversion, over definitions alone.
+-- The laws of the conversion, over definitions alone. A file is a list of bytes.
 use Rattle.std.specs.Prelude.{◌≡◌, ℕ, ◌≤◌, List, None}
+use Rattle.bflt_format.specs.Numbers.{IsBytes}
 use Rattle.bflt_format.specs.Header.{flat_values}
 use Rattle.bflt_format.specs.Fault.{flat_fault}
 use Rattle.bflt_format.specs.Image.{flat_image}
@@ -7,10 +8,10 @@ use Rattle.elf2flt_tool.specs.Fault.{fault}
 use Rattle.elf2flt_tool.specs.Image.{image}
 use Rattle.elf2flt_tool.specs.Converted.{flat}
 
--- loading the flat file of an accepted ELF file leaves the image of the ELF file, at every base b
+-- the flat file of an accepted ELF file has, loaded at any base b, the image of the ELF file at b
 abbrev pub ImageLaw : Type 0
-ImageLaw = (e : List ℕ) (stack b : ℕ) → fault e ≡ None → stack ≤ 1048576 → flat_image (flat_values (flat e stack)) b ≡ image e b
+ImageLaw = (e : List ℕ) (stack b : ℕ) → IsBytes e → fault e ≡ None → stack ≤ 1048576 → flat_image (flat_values (flat e stack)) b ≡ image e b
 
 -- what is written has no fault
 abbrev pub FlatLaw : Type 0
-FlatLaw = (e : List ℕ) (stack : ℕ) → fault e ≡ None → stack ≤ 1048576 → flat_fault (flat e stack) ≡ None
+FlatLaw = (e : List ℕ) (stack : ℕ) → IsBytes e → fault e ≡ None → stack ≤ 1048576 → flat_fault (flat e stack) ≡ None
