@@ -11,6 +11,7 @@ mod numbering;
 
 pub use fault::LayoutFault;
 pub use layout::Layout;
+pub use numbering::has_bytes;
 
 #[cfg(test)]
 mod tests;

@@ -1,0 +1,10 @@
+-- StoredWord     where a word stands in a section's content
+-- IndexSearches  laws of first_below
+-- IndexEntries   what an index says of the first entries
+-- GroupCounts    bounds of a group's counts
+-- StoredSlots    the section of a slot, by the first addresses of the sections
+pub mod StoredWord
+pub mod IndexSearches
+pub mod IndexEntries
+pub mod GroupCounts
+pub mod StoredSlots

@@ -1,7 +1,8 @@
 -- Groups: the entries of one section that change one number, at one place and of one width (this project's own rule; the
 -- arithmetic of the psABI on these fields isn't computed, and the linked bytes stay as they are).
 -- A group's difference of symbols stays the same at every base where as many moving symbols are added as subtracted.
-use Rattle.std.specs.Prelude.{ℕ, zero, suc, ◌+◌, Bool, ◌==◌, List, if◌then◌else◌}
+use Rattle.std.specs.Prelude.{ℕ, zero, suc, ◌+◌, ◌^◌, ◌<◌, Bool, ◌==◌, List, if◌then◌else◌}
+use Rattle.psabi_relocs.specs.declared.reloc.Reloc.{Reloc}
 use Rattle.psabi_relocs.specs.declared.row.Row.{Row}
 use Rattle.psabi_relocs.specs.declared.row.Row.TheVariants.{Group}
 use Rattle.psabi_relocs.specs.declared.row.Lane.{Lane}
@@ -49,13 +50,18 @@ abbrev pub row_step : Row → Bool → Sums → Sums
 row_step (Group lane step) moves s = with_sum lane (stepped step moves (sum_of lane s)) s
 row_step _ moves s = s
 
+-- the step of an entry in the sums at the address q
+abbrev pub entry_step : ℕ → Reloc → Sums → Sums
+entry_step q r s = if r.place == q then row_step r.row (is_moving r.class) s else s
+
 -- the sums of the entries at the address q among the first n, one for each width
 unfoldable pub sums_below : List ℕ → ℕ → ℕ → ℕ → Sums
 sums_below e i q zero = no_sums
-sums_below e i q (suc n) =
-    if (reloc e i n).place == q
-    then row_step (reloc e i n).row (is_moving (reloc e i n).class) (sums_below e i q n)
-    else sums_below e i q n
+sums_below e i q (suc n) = entry_step q (reloc e i n) (sums_below e i q n)
+
+-- both counts of each sum can take one more in 32 bits
+abbrev pub CanStep : Sums → Type 0
+CanStep s = (lane : Lane) → ((sum_of lane s).plus + 1 < 2 ^ 32) × ((sum_of lane s).minus + 1 < 2 ^ 32)
 
 abbrev pub is_even : Sum → Bool
 is_even s = s.plus == s.minus

@@ -1,5 +1,11 @@
 //! Groups: the entries that change one number, counted.
 
+ghost use Rattle.std.specs.Prelude.{◌≡◌, ◌+◌, ◌^◌, ◌<◌};
+ghost use Rattle.psabi_relocs.specs.declared.row.Row.TheVariants.{Group};
+ghost use Rattle.psabi_relocs.specs.Group.{stepped, no_sum, no_sums, sum_of, with_sum, row_step};
+
+use crate::row::{Lane, Step};
+
 /// How many moving symbols a group adds and subtracts.
 #[derive(Clone, Copy, Debug, PartialEq, Eq)]
 pub struct Sum {
@@ -15,4 +21,96 @@ pub struct Sums {
     pub bits32: Sum,
     pub bits6: Sum,
     pub uleb128: Sum,
+}
+
+impl Sum {
+    /// The sum of no entries.
+    fn none() -> Sum
+        ensures { result ≡ no_sum }
+    {
+        Sum { plus: 0, minus: 0 }
+    }
+
+    /// The sum after a step with a symbol. A set forgets what was before.
+    fn stepped(self, step: Step, moves: bool) -> Sum
+        requires plus { self.plus + 1 < 2 ^ 32 }
+        requires minus { self.minus + 1 < 2 ^ 32 }
+        ensures { result ≡ stepped step moves self }
+    {
+        let Sum { plus, minus } = self;
+        let count = u32::from(moves);
+        match step {
+            Step::Add => Sum {
+                plus: plus + count,
+                minus,
+            },
+            Step::Sub => Sum {
+                plus,
+                minus: minus + count,
+            },
+            Step::Set => Sum {
+                plus: count,
+                minus: 0,
+            },
+        }
+    }
+}
+
+impl Sums {
+    /// The sums of no entries.
+    pub fn none() -> Sums
+        ensures { result ≡ no_sums }
+    {
+        Sums {
+            bits8: Sum::none(),
+            bits16: Sum::none(),
+            bits32: Sum::none(),
+            bits6: Sum::none(),
+            uleb128: Sum::none(),
+        }
+    }
+
+    /// The sum of one width.
+    pub fn sum(&self, lane: Lane) -> Sum
+        ensures { result ≡ sum_of lane self.now }
+    {
+        match lane {
+            Lane::Bits8 => self.bits8,
+            Lane::Bits16 => self.bits16,
+            Lane::Bits32 => self.bits32,
+            Lane::Bits6 => self.bits6,
+            Lane::Uleb128 => self.uleb128,
+        }
+    }
+
+    /// The sums with another one of one width.
+    fn with(self, lane: Lane, sum: Sum) -> Sums
+        ensures { result ≡ with_sum lane sum self }
+    {
+        match lane {
+            Lane::Bits8 => Sums { bits8: sum, ..self },
+            Lane::Bits16 => Sums {
+                bits16: sum,
+                ..self
+            },
+            Lane::Bits32 => Sums {
+                bits32: sum,
+                ..self
+            },
+            Lane::Bits6 => Sums { bits6: sum, ..self },
+            Lane::Uleb128 => Sums {
+                uleb128: sum,
+                ..self
+            },
+        }
+    }
+
+    /// The sums after an entry's step with its symbol.
+    pub fn stepped(self, lane: Lane, step: Step, moves: bool) -> Sums
+        requires plus { (sum_of lane self).plus + 1 < 2 ^ 32 }
+        requires minus { (sum_of lane self).minus + 1 < 2 ^ 32 }
+        ensures { result ≡ row_step (Group lane step) moves self }
+    {
+        self.with(lane, self.sum(lane).stepped(step, moves))
+    }
 }

@@ -4,6 +4,7 @@
 //! What may not stand here: the flat format, an order of faults between entries, or any output.
 #![tactic(auto)]
 
+mod bytes;
 mod class;
 mod effect;
 mod fault;
@@ -11,6 +12,7 @@ mod group;
 mod pairs;
 mod reloc;
 mod row;
+mod slot;
 
 pub use class::{Class, class_of};
 pub use effect::Effect;

@@ -1,0 +1,40 @@
+use Rattle.std.proofs.Common.{◌≡◌, refl, subst, arith}
+use Rattle.elf32_reader.specs.Relas.{rela_count}
+use Rattle.elf32_reader.proofs.Places.{is_kept_below, is_kept_info}
+use Rattle.psabi_relocs.proofs.IndexSearches.{first_below_zero}
+use Rattle.psabi_relocs.proofs.IndexEntries.{HasEntries, sums_below_zero, one_more, all_entries}
+use Rattle.psabi_relocs.proofs.GroupCounts.{can_step}
+use Rattle.psabi_relocs.proofs.pairs.Pairs.of.Goals as goal
+
+pub section-requires : goal.section-requires
+section-requires c = is_kept_below _ _ c.requires.kept
+
+pub section-target-requires : goal.section-target-requires
+section-target-requires c = rw c.section.ensures (is_kept_info _ _ c.requires.kept)
+
+pub loop-entry-init : goal.loop-entry-init
+loop-entry-init c = record {
+  high = λ q. rw (c.new.ensures.empty, first_below_zero) refl;
+  low = λ q. rw (c.new-2.ensures.empty, first_below_zero) refl;
+  sums = λ q. rw (c.new-3.ensures.empty, sums_below_zero) refl;
+  stored = c.in_ok-stored_sections.ensures;
+}
+
+pub note-requires : goal.note-requires
+note-requires c =
+    let place = c.reloc_at.result.place in
+    record {
+      room = rw (c.loop-entry.invariant.sums place) (can_step c.args.elf.now c.args.section place c.loop-entry.entry (omega arith));
+    }
+
+pub loop-entry-preserved : goal.loop-entry-preserved
+loop-entry-preserved c =
+    let step = rw (c.section-target.ensures, c.section.ensures, c.reloc_at.ensures) at c.in_ok-note.ensures in
+    one_more c.args.elf.now c.args.section c.loop-entry.entry c.loop-entry.pairs c.note.new.self c.loop-entry.invariant (
+    record { high = step.high; low = step.low; sums = step.sums; stored = step.stored })
+
+pub returns : goal.returns
+returns c =
+    let all : c.loop-entry.entry ≡ rela_count c.args.elf.now c.args.section = omega (arith, c.relas-entry-end.ensures.count) in
+    all_entries c.args.elf.now c.args.section c.loop-entry.pairs (
+    subst (λ n. HasEntries c.args.elf.now c.args.section n c.loop-entry.pairs) all c.loop-entry.invariant)
