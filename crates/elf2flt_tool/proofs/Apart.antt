@@ -13,7 +13,8 @@ use Rattle.psabi_relocs.specs.Row.{field_len, is_got, is_low}
 use Rattle.psabi_relocs.specs.Reloc.{reloc}
 use Rattle.psabi_relocs.specs.Pair.{slot_of}
 use Rattle.psabi_relocs.specs.Field.{Field, Origin, own_origin, slot_origin, high_origin, origin, own_fields, slot_fields, fields_from, fields}
-use Rattle.psabi_relocs.specs.Effect.{Span, is_pointer, slot_spans, spans}
+use Rattle.psabi_relocs.specs.declared.spans.Span.{Span}
+use Rattle.psabi_relocs.specs.Effect.{is_pointer, slot_spans, spans}
 use Rattle.elf2flt_tool.specs.Image.{pointers}
 use Rattle.elf2flt_tool.specs.Word.{recorded_places}
 

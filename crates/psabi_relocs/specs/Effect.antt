@@ -5,6 +5,7 @@ use Rattle.psabi_relocs.specs.declared.row.Row.{Row}
 use Rattle.psabi_relocs.specs.declared.row.Row.TheVariants.{Pointer, Got}
 use Rattle.psabi_relocs.specs.declared.effect.Effect.{Effect}
 use Rattle.psabi_relocs.specs.declared.effect.Effect.TheVariants.{Still, Word, Slot}
+use Rattle.psabi_relocs.specs.declared.spans.Span.{Span}
 use Rattle.psabi_relocs.specs.Class.{is_moving}
 use Rattle.psabi_relocs.specs.Row.{field_len, is_got}
 use Rattle.psabi_relocs.specs.Reloc.{reloc}
@@ -24,12 +25,6 @@ moving_effect _ e i r = Still
 unfoldable pub effect : List ℕ → ℕ → ℕ → Effect
 effect e i j =
     if is_moving (reloc e i j).class then moving_effect (reloc e i j).row e i (reloc e i j) else Still
-
--- bytes of the linked file that are a relocation's, from an address on; `recorded` where a loader has to add the base
-pub record Span : Type 0 where
-  pub place : ℕ
-  pub len : ℕ
-  pub recorded : Bool
 
 abbrev pub is_pointer : Row → Bool
 is_pointer Pointer = true

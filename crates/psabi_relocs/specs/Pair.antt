@@ -15,7 +15,7 @@ use Rattle.psabi_relocs.specs.declared.row.Row.TheVariants.{Low}
 use Rattle.psabi_relocs.specs.declared.row.Shape.TheVariants.{LowS}
 use Rattle.psabi_relocs.specs.Search.{first_below}
 use Rattle.psabi_relocs.specs.Class.{is_moving}
-use Rattle.psabi_relocs.specs.Row.{is_high, is_low}
+use Rattle.psabi_relocs.specs.Row.{is_got, is_high, is_low}
 use Rattle.psabi_relocs.specs.Reloc.{reloc, target_section}
 use Rattle.psabi_relocs.specs.Bytes.{holds, word_in}
 
@@ -50,6 +50,10 @@ slot_of e i p =
     if holds (target_section e i) p 4
     then option_map (λ j. slot_by e (target_section e i) p (reloc e i j)) (low_of e i p)
     else None
+
+-- the slot of an entry: other entries than GOT entries have none
+abbrev pub own_slot : List ℕ → ℕ → Reloc → Option ℕ
+own_slot e i r = if is_got r.row then slot_of e i r.place else None
 
 -- a stored section of the image that holds four bytes at an address
 unfoldable pub holds_slot : ℕ → Section → Bool

@@ -1,7 +1,7 @@
 //! The relocation types: RISC-V ELF psABI, "Relocations".
 
 ghost use Rattle.std.specs.Prelude.{◌≡◌};
-ghost use Rattle.psabi_relocs.specs.Row.{row_of, is_mark};
+ghost use Rattle.psabi_relocs.specs.Row.{row_of, lane_len, field_len};
 
 /// How an instruction or a word has a value.
 #[derive(Clone, Copy, Debug, PartialEq, Eq)]
@@ -97,6 +97,31 @@ impl Row {
             60 => Row::Group(Lane::Uleb128, Step::Set),
             61 => Row::Group(Lane::Uleb128, Step::Sub),
             _ => Row::Unknown,
+        }
+    }
+
+    /// How many bytes from P on are the field.
+    pub fn field_len(self) -> u32
+        ensures { result ≡ field_len self }
+    {
+        match self {
+            Row::Unknown | Row::Mark => 0,
+            Row::Call => 8,
+            Row::Group(lane, _) => lane.field_len(),
+            _ => 4,
+        }
+    }
+}
+
+impl Lane {
+    /// How many bytes of the number are the field: of a ULEB128 number the first.
+    fn field_len(self) -> u32
+        ensures { result ≡ lane_len self }
+    {
+        match self {
+            Lane::Bits8 | Lane::Bits6 | Lane::Uleb128 => 1,
+            Lane::Bits16 => 2,
+            Lane::Bits32 => 4,
         }
     }
 }
