@@ -139,7 +139,6 @@ bare_zero e laid n past =
     let inside = laid.inside j (omega (arith, range_has 0 (count_of e) j member)) there.bytes in
     omega arith))
 
-
 -- the linked bytes of a list of bytes are bytes
 pub bare_fits : (e : List ℕ) → IsBytes e → (n : ℕ) → bare e n < 256
 unfolding bare

@@ -10,3 +10,5 @@ pub mod Recorded
 pub mod Apart
 pub mod Lowest
 pub mod Marked
+pub mod Painted
+pub mod Ascending

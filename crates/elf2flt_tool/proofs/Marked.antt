@@ -139,7 +139,7 @@ record IsSplit (all rest own : List Span) : Type 0 where
 split_at : (es : List (List Span)) (k : ℕ) → k < length es → IsSplit (all_of es) (others k es) (entry_of es k)
 split_at es k below =
     let cut : es ≡ take k es ++ (entry_of es k ∷ drop (k + 1) es) =
-        sym (take-append-drop k es) ∙ ap (λ xs. take k es ++ xs) (drop-cons es k [] below ∙ ap (λ n. entry_of es k ∷ drop n es) (sym (add-one k))) in
+    sym (take-append-drop k es) ∙ ap (λ xs. take k es ++ xs) (drop-cons es k [] below ∙ ap (λ n. entry_of es k ∷ drop n es) (sym (add-one k))) in
     record {
       before = all_of (take k es);
       behind = all_of (drop (k + 1) es);

@@ -3,8 +3,10 @@
 //! runs a program.
 #![tactic(auto)]
 
+mod image;
 mod marks;
 mod overlap;
+mod records;
 mod refusal;
 mod target;
 mod word;

@@ -1,9 +1,8 @@
 //! Marks at the bytes of text and data: which of them the relocations have as their own.
 
-ghost use Rattle.std.specs.Prelude.{◌≡◌, ℕ, ◌+◌, ◌≤◌, ◌&&◌, nat_le, nat_lt, true, min, List, [], ◌∷◌, ◌++◌, length, slice_index, if◌then◌else◌, IfOk};
+ghost use Rattle.std.specs.Prelude.{◌≡◌, ℕ, ◌+◌, ◌<◌, ◌≤◌, ◌&&◌, nat_le, nat_lt, true, min, List, [], ◌∷◌, ◌++◌, length, slice_index, if◌then◌else◌, IfOk};
 ghost use Rattle.std.specs.List.{slice_index_or};
 ghost use Rattle.flat_layout.specs.Layout.{off};
-
 ghost use Rattle.elf2flt_tool.specs.Marks.{IsMarked};
 
 use flat_layout::Layout;
@@ -50,7 +49,7 @@ impl Marks {
 
     /// Takes in one more span.
     pub fn mark(&mut self, layout: &Layout, span: &Span)
-        requires inside { off layout.now span.now.place + span.now.len ≤ length self.old.still.items }
+        requires inside { 0 < span.now.len → off layout.now span.now.place + span.now.len ≤ length self.old.still.items }
         requires word { span.now.recorded ≡ true → span.now.len ≡ 4 }
         requires len { length self.old.starts.items ≡ length self.old.still.items }
         ensures { (n : ℕ) (ss : List Span) → IsMarked layout.now n ss self.old → IsMarked layout.now n (ss ++ span.now ∷ []) self.new }
@@ -58,7 +57,7 @@ impl Marks {
         let place = layout.off(span.place) as usize;
         if span.recorded {
             self.starts[place] = true;
-        } else {
+        } else if span.len > 0 {
             cover(&mut self.still, place, span.len as usize);
         }
     }

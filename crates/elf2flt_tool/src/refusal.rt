@@ -24,10 +24,14 @@ pub enum Refusal {
     },
     /// The recorded word at a linked address points to no byte of the image, nor to its end.
     #[error("the word at {place:#010x} points outside the image")]
-    TargetOutside { place: u32 },
+    TargetOutside {
+        place: u32,
+    },
     /// The recorded word at a linked address has a byte in common with another relocation.
     #[error("the word at {place:#010x} meets another relocation")]
-    WordOverlap { place: u32 },
+    WordOverlap {
+        place: u32,
+    },
     /// Want of host memory.
     #[error("out of memory")]
     Memory,
