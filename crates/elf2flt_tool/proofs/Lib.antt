@@ -12,3 +12,4 @@ pub mod Lowest
 pub mod Marked
 pub mod Painted
 pub mod Ascending
+pub mod Walked

@@ -52,7 +52,9 @@ impl Marks {
         requires inside { 0 < span.now.len → off layout.now span.now.place + span.now.len ≤ length self.old.still.items }
         requires word { span.now.recorded ≡ true → span.now.len ≡ 4 }
         requires len { length self.old.starts.items ≡ length self.old.still.items }
-        ensures { (n : ℕ) (ss : List Span) → IsMarked layout.now n ss self.old → IsMarked layout.now n (ss ++ span.now ∷ []) self.new }
+        ensures marked { (n : ℕ) (ss : List Span) → IsMarked layout.now n ss self.old → IsMarked layout.now n (ss ++ span.now ∷ []) self.new }
+        ensures still_len { length self.new.still.items ≡ length self.old.still.items }
+        ensures starts_len { length self.new.starts.items ≡ length self.old.starts.items }
     {
         let place = layout.off(span.place) as usize;
         if span.recorded {
