@@ -13,3 +13,4 @@ pub mod Marked
 pub mod Painted
 pub mod Ascending
 pub mod Walked
+pub mod Shapes

@@ -3,6 +3,7 @@
 //! runs a program.
 #![tactic(auto)]
 
+mod collect;
 mod found;
 mod image;
 mod marks;
