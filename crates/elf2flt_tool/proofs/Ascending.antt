@@ -1,15 +1,9 @@
 -- Lists with the same members.
-use Rattle.std.proofs.Common.{◌≡◌, ℕ, ◌+◌, ◌<◌, ◌≤◌, Bool, true, false, ◌||◌, eqb, List, [], ◌∷◌, length, get_or, Contains, sym, refl, ap, ap₂, subst, ◌∙◌, arith, inl, inr}
-use Rattle.std.specs.List.{list_any}
-use Rattle.std.specs.List.Sorted.{IsStrictlyIncreasing}
+use Rattle.std.proofs.Common.{◌≡◌, ℕ, true, List, get_or, Contains, sym, subst, ◌∙◌, inl, inr}
 use Rattle.std.proofs.lemmas.Grind.{get_or_default_zero}
 use Rattle.std.proofs.lemmas.List.{get_or_read}
-use Rattle.std.proofs.lemmas.List.Folds.{list_any_at, list_any_none}
-use Rattle.std.proofs.lemmas.List.Elements.{All-from_get_or}
-use Rattle.std.proofs.lemmas.Bool.{cases_Bool, cases_lt, cases_order, or_cases, or_left, or_right, eq-eqb}
-use Rattle.std.proofs.lemmas.Bool.Decides.{nat_tests}
-use Rattle.bflt_format.specs.Rising.{rising}
-use Rattle.bflt_format.proofs.Rising.{has, Rises, has_at, stands_in, rises_at, rising_rises}
+use Rattle.std.proofs.lemmas.Bool.{cases_Bool}
+use Rattle.bflt_format.proofs.Rising.{has, has_at, stands_in}
 
 has_contained : (xs : List ℕ) (x : ℕ) → Contains xs x → has xs x ≡ true
 has_contained xs x h =

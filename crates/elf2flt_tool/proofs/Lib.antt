@@ -14,3 +14,4 @@ pub mod Painted
 pub mod Ascending
 pub mod Walked
 pub mod Shapes
+pub mod Entries

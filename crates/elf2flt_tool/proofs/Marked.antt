@@ -1,7 +1,7 @@
 -- That the marks tell which recorded words meet the bytes of another entry.
-use Rattle.std.proofs.Common.{◌≡◌, ℕ, zero, suc, ◌+◌, ◌-◌, ◌<◌, ◌≤◌, Bool, true, false, not, ◌&&◌, ◌||◌, nat_lt, nat_le, nat_eq, min, max, cond, inl, inr, List, [], ◌∷◌, ◌++◌, length, get_or, take, drop, map, flat_map, filter, count_by, slice_index, Option, Some, None, refl, sym, ap, ap₂, subst, ◌∙◌, arith, zero-add, add-zero, add-one}
+use Rattle.std.proofs.Common.{◌≡◌, ℕ, zero, suc, ◌+◌, ◌-◌, ◌<◌, ◌≤◌, Bool, true, false, not, ◌&&◌, ◌||◌, nat_lt, nat_le, nat_eq, min, max, cond, inl, inr, List, [], ◌∷◌, ◌++◌, length, get_or, take, drop, map, flat_map, filter, count_by, Option, Some, None, refl, sym, ap, ap₂, subst, ◌∙◌, arith, zero-add, add-zero, add-one}
 use Rattle.std.specs.List.{list_any, range_with_len, slice_index_or, AllByRecursion as Each}
-use Rattle.std.proofs.lemmas.Bool.{cases_Bool, cases_lt, cases_eq, lt-ltb, le-ltb, le-leb, lt-leb, eq-eqb, ne_eqb, ltb-true, ltb-false, leb-true, leb-false}
+use Rattle.std.proofs.lemmas.Bool.{cases_Bool, lt-ltb, ne_eqb, leb-true}
 use Rattle.std.proofs.lemmas.Bool.Decides.{nat_tests}
 use Rattle.std.proofs.Math.Seq.{drop-cons}
 use Rattle.std.proofs.lemmas.List.{take-append-drop, map-append}
@@ -184,7 +184,7 @@ IsEntry (own ∷ []) = IsWord own
 IsEntry (own ∷ slot ∷ []) = (own.recorded ≡ false) × (own.len ≡ 4) × (slot.len ≡ 4)
 IsEntry (own ∷ slot ∷ more ∷ rest) = ⊥
 
-entry_words : (ss : List Span) → IsEntry ss → Each IsWord ss
+pub entry_words : (ss : List Span) → IsEntry ss → Each IsWord ss
 entry_words [] is = absurd is
 entry_words (own ∷ []) is = (is, tt)
 entry_words (own ∷ slot ∷ []) is = ((λ recorded. is.1), ((λ recorded. is.2), tt))

@@ -1,17 +1,16 @@
 -- The bytes and the words of one relocation: at most a field and a slot, which lie in the stored bytes of the image.
-use Rattle.std.proofs.Common.{◌≡◌, ℕ, ◌+◌, ◌-◌, ◌%◌, ◌^◌, ◌<◌, ◌≤◌, inl, inr, Bool, true, false, not, ◌&&◌, List, [], ◌∷◌, ◌++◌, map, flat_map, Option, Some, None, All, refl, sym, ap, ap₂, ◌∙◌, arith, if◌then◌else◌}
+use Rattle.std.proofs.Common.{◌≡◌, ℕ, ◌+◌, ◌-◌, ◌%◌, ◌^◌, ◌<◌, ◌≤◌, inl, inr, Bool, true, false, not, ◌&&◌, List, [], ◌∷◌, ◌++◌, map, flat_map, Option, Some, None, All, refl, sym, ap, ◌∙◌, arith, if◌then◌else◌}
 use Rattle.std.specs.List.{range_with_len, AllByRecursion as Each}
 use Rattle.std.specs.Option.{option_map, is_none}
 use Rattle.std.proofs.lemmas.Bool.{cases_Bool, and_parts, and_from, or_parts, not-false, lt-ltb}
 use Rattle.std.proofs.lemmas.List.Elements.{All-from_recursion}
 use Rattle.elf32_reader.specs.Header.{count_of}
-use Rattle.elf32_reader.specs.Sections.{section, is_allocated, is_stored}
-use Rattle.elf32_reader.specs.Faults.{elf_fault}
+use Rattle.elf32_reader.specs.Sections.{section, is_allocated}
 use Rattle.elf32_reader.specs.Relas.{is_kept, rela_count}
 use Rattle.elf32_reader.proofs.Places.{is_kept_info, is_kept_allocated}
 use Rattle.elf32_reader.proofs.Searches.{and_rest}
 use Rattle.flat_layout.specs.declared.layout.Layout.{Layout}
-use Rattle.flat_layout.specs.Numbering.{has_bytes, end_of}
+use Rattle.flat_layout.specs.Numbering.{has_bytes}
 use Rattle.flat_layout.specs.Layout.{layout, off, stored_end}
 use Rattle.psabi_relocs.specs.declared.effect.Effect.{Effect}
 use Rattle.psabi_relocs.specs.declared.effect.Effect.TheVariants.{Still, Word}
@@ -24,10 +23,9 @@ use Rattle.psabi_relocs.specs.Row.{field_len, is_mark, is_got}
 use Rattle.psabi_relocs.specs.Reloc.{reloc, target_section}
 use Rattle.psabi_relocs.specs.Bytes.{holds}
 use Rattle.psabi_relocs.specs.Pair.{slot_of, holds_slot, slot_section}
-use Rattle.psabi_relocs.specs.Field.{Field, Origin, own_origin, slot_origin, origin, absolute, moved, own_fields, slot_fields, fields_from, fields}
+use Rattle.psabi_relocs.specs.Field.{Field, Origin, own_origin, slot_origin, origin, absolute, own_fields, slot_fields, fields_from, fields}
 use Rattle.psabi_relocs.specs.Effect.{slot_effect, moving_effect, effect, is_pointer, own_span, slot_spans, spans}
 use Rattle.psabi_relocs.specs.Fault.{is_slot_outside, is_place_outside, reloc_fault}
-use Rattle.elf2flt_tool.specs.declared.overlap.Recorded.{Recorded}
 use Rattle.elf2flt_tool.specs.Relocs.{spans_in, spans_of}
 use Rattle.elf2flt_tool.specs.Image.{pointers}
 use Rattle.elf2flt_tool.specs.Word.{numbered}
@@ -35,7 +33,7 @@ use Rattle.elf2flt_tool.specs.Marks.{recorded_of}
 use Rattle.elf2flt_tool.specs.Walk.{effect_words}
 use Rattle.elf2flt_tool.specs.Fault.{relocs_fault}
 use Rattle.elf2flt_tool.proofs.Members.{each-append, each-flat_map, each-map, each-range}
-use Rattle.elf2flt_tool.proofs.Laid.{IsLaid, is_laid}
+use Rattle.elf2flt_tool.proofs.Laid.{IsLaid}
 use Rattle.elf2flt_tool.proofs.Sound.{found, sound_entry}
 use Rattle.elf2flt_tool.proofs.Held.{held_bytes}
 use Rattle.elf2flt_tool.proofs.Recorded.{all_sound}

@@ -1,7 +1,6 @@
 -- What a walk over the kept relocations has found at each step.
-use Rattle.std.proofs.Common.{◌≡◌, ℕ, zero, suc, ◌+◌, ◌-◌, ◌%◌, ◌^◌, ◌<◌, ◌≤◌, Bool, true, false, ◌&&◌, List, [], ◌∷◌, ◌++◌, map, flat_map, filter, Option, Some, None, refl, sym, ap, ap₂, subst, ◌∙◌, arith, zero-add, add-zero, add-one, add-suc, append_assoc, append-nil, map-id, if◌then◌else◌}
-use Rattle.std.specs.List.{range_with_len, AllByRecursion as Each}
-use Rattle.std.specs.Option.{option_map, option_or}
+use Rattle.std.proofs.Common.{◌≡◌, ℕ, zero, suc, ◌+◌, ◌-◌, ◌<◌, true, false, List, [], ◌∷◌, ◌++◌, map, flat_map, Option, Some, None, refl, sym, ap, subst, ◌∙◌, arith, zero-add, add-zero, add-one, add-suc, append_assoc, append-nil, map-id}
+use Rattle.std.specs.List.{range_with_len}
 use Rattle.std.proofs.lemmas.List.{map-append}
 use Rattle.std.proofs.lemmas.List.Concat.{flat_map-append}
 use Rattle.std.proofs.lemmas.List.Elements.{filter-append}
@@ -9,20 +8,18 @@ use Rattle.std.proofs.lemmas.List.FromFn.{map-range_with_len_more}
 use Rattle.elf32_reader.specs.Header.{count_of}
 use Rattle.elf32_reader.specs.Relas.{is_kept, rela_count}
 use Rattle.flat_layout.specs.declared.layout.Layout.{Layout}
-use Rattle.flat_layout.specs.Layout.{layout, off}
+use Rattle.flat_layout.specs.Layout.{layout}
 use Rattle.psabi_relocs.specs.declared.spans.Span.{Span}
 use Rattle.psabi_relocs.specs.Field.{Field, fields}
-use Rattle.psabi_relocs.specs.Effect.{effect, spans}
-use Rattle.elf2flt_tool.specs.declared.word.Word.{Word}
+use Rattle.psabi_relocs.specs.Effect.{spans}
 use Rattle.elf2flt_tool.specs.declared.found.Found.{Found}
-use Rattle.elf2flt_tool.specs.declared.marks.Marks.{Marks}
 use Rattle.elf2flt_tool.specs.declared.refusal.Refusal.{Refusal}
 use Rattle.elf2flt_tool.specs.Relocs.{fields_in, fields_of, spans_in, spans_of}
 use Rattle.elf2flt_tool.specs.Image.{pointers}
 use Rattle.elf2flt_tool.specs.Word.{numbered, words}
 use Rattle.elf2flt_tool.specs.Marks.{IsMarked, recorded_of}
-use Rattle.elf2flt_tool.specs.Walk.{effect_words, fields_before, spans_before, IsFound}
-use Rattle.elf2flt_tool.specs.Fault.{first_some, entry_fault, section_fault, relocs_fault}
+use Rattle.elf2flt_tool.specs.Walk.{fields_before, spans_before, IsFound}
+use Rattle.elf2flt_tool.specs.Fault.{first_some}
 
 -- ---- the first that has an answer
 

@@ -6,7 +6,7 @@ pub returns-in-Some : goal.returns-in-Some
 returns-in-Some c = λ n ss is.
     let one = c.mark.ensures.marked n ss is in
     let two : IsMarked c.args.layout.now n ((ss ++ c.args.spans.now.own ∷ []) ++ c.in-Some.slot ∷ []) c.mark-in-Some.new.self =
-        c.mark-in-Some.ensures.marked n (ss ++ c.args.spans.now.own ∷ []) one in
+    c.mark-in-Some.ensures.marked n (ss ++ c.args.spans.now.own ∷ []) one in
     rw c.in-Some.is (rw append_assoc at two)
 
 pub returns-in-None : goal.returns-in-None
