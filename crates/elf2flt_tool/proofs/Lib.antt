@@ -8,6 +8,10 @@ pub mod Held
 pub mod Stills
 pub mod Recorded
 pub mod Apart
+pub mod Listed
+pub mod Spelled
+pub mod ImageLaw
+pub mod Samples
 pub mod Lowest
 pub mod Marked
 pub mod Painted

@@ -6,6 +6,7 @@
 mod collect;
 mod found;
 mod image;
+mod laws;
 mod marks;
 mod overlap;
 mod records;
@@ -13,4 +14,5 @@ mod refusal;
 mod target;
 mod word;
 
+pub use laws::{flat_law, image_law};
 pub use refusal::Refusal;

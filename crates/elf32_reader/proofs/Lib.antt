@@ -6,3 +6,4 @@ pub mod Searches
 pub mod Places
 pub mod Facts
 pub mod Samples
+pub mod Starts

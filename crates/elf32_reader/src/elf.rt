@@ -1,6 +1,6 @@
 //! A file that was read.
 
-ghost use Rattle.std.specs.Prelude.{◌≡◌, ℕ, ◌<◌, List, true, None, Some, MatchResult};
+ghost use Rattle.std.specs.Prelude.{◌≡◌, ℕ, ◌<◌, List, true, take, None, Some, MatchResult};
 ghost use Rattle.std.specs.Int.{w32, cast_unsigned};
 ghost use Rattle.elf32_reader.specs.Header.{entry_of, count_of};
 ghost use Rattle.elf32_reader.specs.Sections.{section, has_content, content};
@@ -14,7 +14,7 @@ use crate::fault::ElfFault;
 use crate::header::{entry_address, header_fault_of, section_count};
 use crate::rela::{Rela, is_kept_at, rela_of, relas_in, some_rela_is_bad};
 use crate::section::{Section, content_at, section_at, some_passes};
-use crate::symbol::{Symbol, name_in, some_symtab_is_bad, symbol_of, symbols_in};
+use crate::symbol::{Symbol, name_in, name_start_in, some_symtab_is_bad, symbol_of, symbols_in};
 use std::marker::Model;
 
 /// An ELF file that was read, which borrows its bytes. Contracts see it as the list of these bytes.
@@ -143,6 +143,15 @@ impl<'a> Elf<'a> {
         name_in(self.bytes, table, index)
     }
 
+    /// At most the first `limit` bytes of a symbol's name. However long the name is, no more are looked at.
+    pub fn name_start(&self, table: u32, index: u32, limit: usize) -> &[u8]
+        requires table { is_symtab self.now table ≡ true }
+        requires index { index < symbol_count self.now table }
+        ensures { result.now ≡ take limit (name_of self.now table index) }
+    {
+        name_start_in(self.bytes, table, index, limit)
+    }
+
     /// The number of entries of a kept relocation section.
     pub fn relas(&self, index: u32) -> u32
         requires { is_kept self.now index ≡ true }
@@ -156,6 +165,7 @@ impl<'a> Elf<'a> {
     pub fn rela(&self, index: u32, entry: u32) -> Rela
         requires kept { is_kept self.now index ≡ true }
         requires entry { entry < rela_count self.now index }
+        ensures accepted { IsAccepted self.now }
         ensures value { result ≡ rela self.now index entry }
         ensures addend { cast_unsigned w32 result.addend ≡ addend_word self.now index entry }
         // Its symbol is one of the table that the section's link names.

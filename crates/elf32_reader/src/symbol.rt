@@ -1,6 +1,6 @@
 //! Symbol tables (System V ABI, ELF32, "Symbol Table" and "String Table").
 
-ghost use Rattle.std.specs.Prelude.{◌≡◌, ◌<◌, ◌==◌, length, true, position};
+ghost use Rattle.std.specs.Prelude.{◌≡◌, ◌<◌, ◌==◌, length, take, true, position};
 ghost use Rattle.std.specs.List.{before_first};
 ghost use Rattle.elf32_reader.specs.Search.{any_below};
 ghost use Rattle.elf32_reader.specs.Header.{count_of};
@@ -167,6 +167,14 @@ fn before_zero(text: &[u8]) -> &[u8]
     }
 }
 
+/// The bytes up to the first zero, at most `limit` of them. It looks at no more.
+fn start_before_zero(text: &[u8], limit: usize) -> &[u8]
+    ensures { result.now ≡ take limit (before_first (λ b. b == 0) text.now) }
+{
+    let (start, _) = text.split_at(text.len().min(limit));
+    before_zero(start)
+}
+
 /// The string table that the table's link names.
 #[tactic(auto, using(crate::proofs::Places::is_symtab_below, crate::proofs::Places::link_below, crate::proofs::Places::strings_fit, crate::proofs::Places::length_content))]
 fn strings_of(bytes: &[u8], table: u32) -> &[u8]
@@ -190,4 +198,16 @@ pub fn name_in(bytes: &[u8], table: u32, index: u32) -> &[u8]
 {
     let at = symbol_of(bytes, table, index).name as usize;
     before_zero(strings_of(bytes, table).split_at(at).1)
+}
+
+#[tactic(auto, unfolding(crate::specs::Symbols::name_of))]
+pub fn name_start_in(bytes: &[u8], table: u32, index: u32, limit: usize) -> &[u8]
+    requires ranges { HasRanges bytes.now }
+    requires table { is_symtab bytes.now table ≡ true }
+    requires symtab { IsSymtab bytes.now table }
+    requires index { index < symbol_count bytes.now table }
+    ensures { result.now ≡ take limit (name_of bytes.now table index) }
+{
+    let at = symbol_of(bytes, table, index).name as usize;
+    start_before_zero(strings_of(bytes, table).split_at(at).1, limit)
 }

@@ -1,26 +1,25 @@
 -- What is known of an entry or a section that a search has found, and of the bytes of a field that isn't outside.
-use Rattle.std.proofs.Common.{◌≡◌, ℕ, zero, suc, ◌+◌, ◌-◌, ◌^◌, ◌<◌, ◌≤◌, List, Bool, true, false, not, ◌&&◌, ◌||◌, Option, Some, None, nat_lt, nat_le, nat_eq, ◌⊎◌, inl, inr, if◌then◌else◌, refl, sym, ◌∙◌, ap, arith, subst}
-use Rattle.std.specs.Option.{option_or, is_none}
-use Rattle.std.proofs.lemmas.Bool.{and_parts, and_from, not-false, ltb-true, leb-true, ltb-false, lt-ltb, le-leb}
+use Rattle.std.proofs.Common.{◌≡◌, ℕ, ◌+◌, ◌^◌, ◌<◌, ◌≤◌, List, true, false, not, ◌&&◌, Some, None, nat_lt, arith, subst}
+use Rattle.std.proofs.lemmas.Bool.{and_parts, and_from, not-false, ltb-false, lt-ltb, le-leb}
 use Rattle.elf32_reader.specs.declared.section.Section.{Section}
 use Rattle.elf32_reader.specs.Header.{count_of}
-use Rattle.elf32_reader.specs.Sections.{section, is_allocated, is_stored}
+use Rattle.elf32_reader.specs.Sections.{section, is_allocated}
 use Rattle.elf32_reader.specs.Relas.{is_kept, rela_count}
 use Rattle.elf32_reader.proofs.Searches.{or_parts, and_rest, any_below_none}
 use Rattle.elf32_reader.proofs.Places.{is_kept_info, is_kept_allocated}
-use Rattle.flat_layout.specs.Numbering.{is_laid_out, has_bytes, end_of}
+use Rattle.flat_layout.specs.Numbering.{is_laid_out, end_of}
 use Rattle.flat_layout.specs.Fault.{ends_too_high, some_ends_too_high, is_too_large, layout_fault}
 use Rattle.flat_layout.proofs.Facts.{has_no_row}
 use Rattle.psabi_relocs.specs.declared.reloc.Reloc.{Reloc}
-use Rattle.psabi_relocs.specs.Search.{first_below}
 use Rattle.psabi_relocs.specs.Row.{field_len, is_got}
 use Rattle.psabi_relocs.specs.Reloc.{reloc, target_section}
 use Rattle.psabi_relocs.specs.Bytes.{holds}
-use Rattle.psabi_relocs.specs.Pair.{is_high_at, high_of, names, low_of, slot_of, holds_slot, slot_section}
+use Rattle.psabi_relocs.specs.Pair.{high_of, names, low_of, slot_of, holds_slot, slot_section}
 use Rattle.psabi_relocs.specs.Fault.{is_slot_outside, is_place_outside}
 use Rattle.psabi_relocs.proofs.IndexSearches.{first_below_passes}
 use Rattle.psabi_relocs.proofs.StoredWord.{holds_parts}
 
+-- a pair's parts are entries
 pub high_of_below : (e : List ℕ) (i q j : ℕ) → high_of e i q ≡ Some j → j < rela_count e i
 unfolding high_of
 high_of_below e i q j found = (first_below_passes _ _ j found).0

@@ -3,7 +3,7 @@
 -- IndexEntries   what an index says of the first entries
 -- GroupCounts    bounds of a group's counts
 -- StoredSlots    the section of a slot, by the first addresses of the sections
--- Checks         what is known of an entry that a search has found, and of the bytes of a field that isn't outside
+-- Checks         an entry or a section that a search has found, and the bytes of a field that isn't outside
 pub mod StoredWord
 pub mod IndexSearches
 pub mod IndexEntries

@@ -15,6 +15,8 @@ const STB_WEAK: u8 = 2;
 /// The absolute symbol that is taken to stand at a fixed distance from the sections: this project's
 /// own rule.
 const GLOBAL_POINTER: &[u8] = b"__global_pointer$";
+/// As much of a name as tells it from that one: a byte more than it has.
+const NAME_LIMIT: usize = 18;
 
 /// What a symbol's value does when the image moves.
 #[derive(Clone, Copy, Debug, PartialEq, Eq)]
@@ -41,10 +43,11 @@ fn undefined_symbol(symbol: &Symbol) -> Class
     }
 }
 
-fn absolute_symbol(name: &[u8]) -> Class
-    ensures { result ≡ absolute_class name.now }
+/// The class of an absolute symbol, from the first `NAME_LIMIT` bytes of its name.
+fn absolute_symbol(name_start: &[u8]) -> Class
+    ensures { result ≡ absolute_class name_start.now }
 {
-    if name == GLOBAL_POINTER {
+    if name_start == GLOBAL_POINTER {
         Class::Moves
     } else {
         Class::Fixed
@@ -72,7 +75,7 @@ pub fn class_of(elf: &Elf<'_>, table: u32, symbol: u32) -> Class
     let entry = elf.symbol(table, symbol);
     match entry.shndx {
         SHN_UNDEF => undefined_symbol(&entry),
-        SHN_ABS => absolute_symbol(elf.name(table, symbol)),
+        SHN_ABS => absolute_symbol(elf.name_start(table, symbol, NAME_LIMIT)),
         index if is_loaded(elf, index) => Class::Moves,
         _ => Class::Bad,
     }

@@ -1,16 +1,15 @@
 //! The judgement of one kept relocation: its first fault, or its effect.
 
-ghost use Rattle.std.specs.Prelude.{◌≡◌, ◌<◌, ◌==◌, ◌&&◌, not, true, false, None, Some, if◌then◌else◌, MatchResult};
+ghost use Rattle.std.specs.Prelude.{◌≡◌, ◌<◌, ◌&&◌, not, true, false, None, Some, if◌then◌else◌, MatchResult};
 ghost use Rattle.std.specs.List.{list_all};
 ghost use Rattle.std.specs.Option.{option_map};
 ghost use Rattle.elf32_reader.specs.Accepted.{IsAccepted};
-ghost use Rattle.elf32_reader.specs.Sections.{section};
 ghost use Rattle.elf32_reader.specs.Relas.{is_kept, rela_count};
 ghost use Rattle.flat_layout.specs.Fault.{layout_fault};
 ghost use Rattle.flat_layout.specs.Layout.{layout};
-ghost use Rattle.psabi_relocs.specs.Row.{field_len, is_got, is_absolute, is_relative};
-ghost use Rattle.psabi_relocs.specs.Class.{is_moving, is_still};
-ghost use Rattle.psabi_relocs.specs.Reloc.{reloc, target_section};
+ghost use Rattle.psabi_relocs.specs.Row.{is_absolute, is_relative};
+ghost use Rattle.psabi_relocs.specs.Class.{is_moving};
+ghost use Rattle.psabi_relocs.specs.Reloc.{target_section};
 ghost use Rattle.psabi_relocs.specs.Bytes.{holds, word_in};
 ghost use Rattle.psabi_relocs.specs.Pair.{high_of, low_immediate, slot_of, own_slot};
 ghost use Rattle.psabi_relocs.specs.Group.{is_even};
@@ -27,7 +26,7 @@ use crate::fault::RelocFault;
 use crate::group::Sum;
 use crate::pairs::{Pairs, sums_at};
 use crate::reloc::{Reloc, reloc_at};
-use crate::row::{Lane, Row, Shape};
+use crate::row::{Row, Shape};
 use crate::slot::slot_section;
 use elf32_reader::Elf;
 use flat_layout::Layout;
@@ -70,7 +69,6 @@ fn is_inside(elf: &Elf<'_>, section: u32, place: u32, len: u32) -> bool
 /// section, or no low part names it.
 #[tactic(auto, using(crate::proofs::Checks::low_of_below, crate::proofs::Checks::low_of_holds), unfolding(crate::specs::Pair::slot_of, crate::specs::Pair::slot_by))]
 pub fn slot_of(elf: &Elf<'_>, pairs: &Pairs, section: u32, place: u32) -> Option<u32>
-    requires accepted { IsAccepted elf.now }
     requires kept { is_kept elf.now section ≡ true }
     requires pairs { IsPairs elf.now section pairs.now }
     ensures { result ≡ slot_of elf.now section place }
@@ -86,7 +84,6 @@ pub fn slot_of(elf: &Elf<'_>, pairs: &Pairs, section: u32, place: u32) -> Option
 
 /// The slot of a GOT entry; other entries have none.
 pub fn own_slot(elf: &Elf<'_>, pairs: &Pairs, section: u32, reloc: &Reloc) -> Option<u32>
-    requires accepted { IsAccepted elf.now }
     requires kept { is_kept elf.now section ≡ true }
     requires pairs { IsPairs elf.now section pairs.now }
     ensures { result ≡ own_slot elf.now section reloc.now }
@@ -133,10 +130,10 @@ fn high_distance(elf: &Elf<'_>, pairs: &Pairs, section: u32, reloc: &Reloc) -> O
     ensures { result ≡ option_map (relative 0) (high_origin elf.now section reloc.now) }
 {
     match reloc.row {
-        Row::Got => slot_of(elf, pairs, section, reloc.place).map(|slot| slot_distance(
-            reloc.place,
-            slot,
-        )),
+        Row::Got => {
+            let slot = slot_of(elf, pairs, section, reloc.place)?;
+            Some(slot_distance(reloc.place, slot))
+        }
         _ => Some(distance(reloc)),
     }
 }
@@ -396,8 +393,8 @@ fn effect_of(elf: &Elf<'_>, section: u32, reloc: &Reloc, slot: Option<u32>) -> E
     }
 }
 
-/// Judges entry `index` of the kept section `section`, of which `pairs` is the index. `layout` is the file's own: a
-/// file that has one has no two sections with a common byte, so the address of a slot says one word.
+/// Judges entry `index` of the kept section `section`, of which `pairs` is the index. Of the layout only
+/// that there is one counts: then no two sections have a common byte, so the address of a slot says one word.
 ///
 /// # Errors
 ///
@@ -410,7 +407,6 @@ pub fn check(
     section: u32,
     index: u32,
 ) -> Result<Effect, RelocFault>
-    requires accepted { IsAccepted elf.now }
     requires kept { is_kept elf.now section ≡ true }
     requires index { index < rela_count elf.now section }
     requires no_fault { layout_fault elf.now ≡ None }

@@ -1,6 +1,7 @@
 //! Kept relocations with their symbols: System V ABI, ELF32, "Relocation".
 
 ghost use Rattle.std.specs.Prelude.{◌≡◌, ◌<◌, true};
+ghost use Rattle.elf32_reader.specs.Accepted.{IsAccepted};
 ghost use Rattle.elf32_reader.specs.Relas.{is_kept, rela_count};
 ghost use Rattle.psabi_relocs.specs.Reloc.{reloc};
 
@@ -28,7 +29,8 @@ pub struct Reloc {
 pub fn reloc_at(elf: &Elf<'_>, section: u32, entry: u32) -> Reloc
     requires kept { is_kept elf.now section ≡ true }
     requires entry { entry < rela_count elf.now section }
-    ensures { result ≡ reloc elf.now section entry }
+    ensures accepted { IsAccepted elf.now }
+    ensures value { result ≡ reloc elf.now section entry }
 {
     let rela = elf.rela(section, entry);
     let table = elf.section(section).link;

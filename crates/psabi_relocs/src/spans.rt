@@ -2,7 +2,6 @@
 
 ghost use Rattle.std.specs.Prelude.{◌≡◌, ◌<◌, ◌∷◌, true};
 ghost use Rattle.std.specs.Option.{option_to_list};
-ghost use Rattle.elf32_reader.specs.Accepted.{IsAccepted};
 ghost use Rattle.elf32_reader.specs.Relas.{is_kept, rela_count};
 ghost use Rattle.psabi_relocs.specs.Pair.{own_slot};
 ghost use Rattle.psabi_relocs.specs.Effect.{own_span, spans};
@@ -45,7 +44,6 @@ fn own_span(reloc: &Reloc) -> Span
 /// The bytes that entry `index` of the kept section `section` has.
 #[tactic(auto, unfolding(crate::specs::Effect::spans))]
 pub fn spans_of(elf: &Elf<'_>, pairs: &Pairs, section: u32, index: u32) -> Spans
-    requires accepted { IsAccepted elf.now }
     requires kept { is_kept elf.now section ≡ true }
     requires index { index < rela_count elf.now section }
     requires pairs { IsPairs elf.now section pairs.now }

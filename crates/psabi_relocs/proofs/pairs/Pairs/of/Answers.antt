@@ -29,7 +29,7 @@ note-requires c =
 
 pub loop-entry-preserved : goal.loop-entry-preserved
 loop-entry-preserved c =
-    let step = rw (c.section-target.ensures, c.section.ensures, c.reloc_at.ensures) at c.in_ok-note.ensures in
+    let step = rw (c.section-target.ensures, c.section.ensures, c.reloc_at.ensures.value) at c.in_ok-note.ensures in
     one_more c.args.elf.now c.args.section c.loop-entry.entry c.loop-entry.pairs c.note.new.self c.loop-entry.invariant (
     record { high = step.high; low = step.low; sums = step.sums; stored = step.stored })
 
