@@ -19,3 +19,5 @@ pub mod Ascending
 pub mod Walked
 pub mod Shapes
 pub mod Entries
+pub mod Faults
+pub mod Assembled

@@ -78,9 +78,8 @@ fn note_spans(marks: &mut Marks, layout: &Layout, spans: &Spans)
     ensures { (n : ℕ) (ss : List Span) → IsMarked layout.now n ss marks.old → IsMarked layout.now n (ss ++ (spans.now.own ∷ option_to_list spans.now.slot)) marks.new }
 {
     marks.mark(layout, &spans.own);
-    match spans.slot {
-        Some(slot) => marks.mark(layout, &slot),
-        None => {}
+    if let Some(slot) = spans.slot {
+        marks.mark(layout, &slot);
     }
 }
 

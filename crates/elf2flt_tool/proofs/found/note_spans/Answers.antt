@@ -9,5 +9,5 @@ returns-in-Some c = λ n ss is.
     c.mark-in-Some.ensures.marked n (ss ++ c.args.spans.now.own ∷ []) one in
     rw c.in-Some.is (rw append_assoc at two)
 
-pub returns-in-None : goal.returns-in-None
-returns-in-None c = λ n ss is. rw c.in-None.is (c.mark.ensures.marked n ss is)
+pub returns-in_default : goal.returns-in_default
+returns-in_default c = λ n ss is. rw c.in_default.is (c.mark.ensures.marked n ss is)
