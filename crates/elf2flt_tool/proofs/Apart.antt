@@ -109,11 +109,11 @@ got_low Call is = refl
 got_low (Low shape) is = absurd (cc)
 got_low (Group lane step) is = refl
 
-own_pointer : (e : List ℕ) (i : ℕ) (r : Reloc) → is_pointer r.row ≡ true → origin e i r ≡ Some (own_origin r)
+pub own_pointer : (e : List ℕ) (i : ℕ) (r : Reloc) → is_pointer r.row ≡ true → origin e i r ≡ Some (own_origin r)
 unfolding origin high_origin
 own_pointer e i r is = let plain = pointer_high r.row is in rw (plain.0, plain.1) refl
 
-got_origin : (e : List ℕ) (i : ℕ) (r : Reloc) → is_got r.row ≡ true → origin e i r ≡ option_map (slot_origin r.place) (slot_of e i r.place)
+pub got_origin : (e : List ℕ) (i : ℕ) (r : Reloc) → is_got r.row ≡ true → origin e i r ≡ option_map (slot_origin r.place) (slot_of e i r.place)
 unfolding origin high_origin
 got_origin e i r is = rw (got_low r.row is, is) refl
 

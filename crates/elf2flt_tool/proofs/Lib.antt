@@ -12,3 +12,12 @@ pub mod Listed
 pub mod Spelled
 pub mod ImageLaw
 pub mod Samples
+pub mod Lowest
+pub mod Marked
+pub mod Painted
+pub mod Ascending
+pub mod Walked
+pub mod Shapes
+pub mod Entries
+pub mod Faults
+pub mod Assembled

@@ -3,9 +3,22 @@
 //! runs a program.
 #![tactic(auto)]
 
+mod collect;
+mod conversion;
+mod found;
+mod image;
 mod laws;
+mod marks;
+mod overlap;
+mod records;
 mod refusal;
+#[cfg(test)]
+mod sample;
+mod target;
+#[cfg(test)]
+mod tests;
 mod word;
 
+pub use conversion::convert;
 pub use laws::{flat_law, image_law};
 pub use refusal::Refusal;

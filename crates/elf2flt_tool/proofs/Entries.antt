@@ -1,0 +1,68 @@
+-- What a step of the walk over the kept relocations asks and leaves.
+use Rattle.std.proofs.Common.{◌≡◌, ℕ, ◌+◌, true, false, List, ◌++◌, Some, None, refl, sym, ap, ◌∙◌}
+use Rattle.std.specs.List.{AllByRecursion as Each}
+use Rattle.elf32_reader.specs.Header.{count_of}
+use Rattle.elf32_reader.specs.Relas.{is_kept, rela_count}
+use Rattle.flat_layout.specs.declared.layout.Layout.{Layout}
+use Rattle.flat_layout.specs.Layout.{layout}
+use Rattle.flat_layout.specs.Fault.{layout_fault}
+use Rattle.psabi_relocs.specs.declared.effect.Effect.{Effect}
+use Rattle.psabi_relocs.specs.declared.fault.RelocFault.{RelocFault}
+use Rattle.psabi_relocs.specs.declared.spans.Span.{Span}
+use Rattle.psabi_relocs.specs.Effect.{effect, spans}
+use Rattle.psabi_relocs.specs.Fault.{reloc_fault}
+use Rattle.elf2flt_tool.specs.declared.found.Found.{Found}
+use Rattle.elf2flt_tool.specs.declared.refusal.Refusal.TheVariants as refusals
+use Rattle.elf2flt_tool.specs.Marks.{IsMarked, recorded_of}
+use Rattle.elf2flt_tool.specs.Walk.{effect_words}
+use Rattle.elf2flt_tool.specs.Fault.{first_some, entry_fault, section_fault, relocs_fault}
+use Rattle.elf2flt_tool.proofs.Laid.{is_laid}
+use Rattle.elf2flt_tool.proofs.Marked.{IsWord, entry_words}
+use Rattle.elf2flt_tool.proofs.Shapes.{IsInside, spans_entry, spans_inside, effect_is}
+use Rattle.elf2flt_tool.proofs.Walked.{IsAdded}
+
+-- ---- faults
+
+pub entry_accepted : (e : List ℕ) (i j : ℕ) → reloc_fault e i j ≡ None → entry_fault e i j ≡ None
+unfolding entry_fault
+entry_accepted e i j none = rw none refl
+
+pub entry_refused : (e : List ℕ) (i j : ℕ) (f : RelocFault) → reloc_fault e i j ≡ Some f → entry_fault e i j ≡ Some (refusals.Reloc i j f)
+unfolding entry_fault
+entry_refused e i j f is = rw is refl
+
+pub section_fault-kept : (e : List ℕ) (i : ℕ) → is_kept e i ≡ true → section_fault e i ≡ first_some (entry_fault e i) (rela_count e i)
+unfolding section_fault
+section_fault-kept e i kept = rw kept refl
+
+pub section_fault-other : (e : List ℕ) (i : ℕ) → is_kept e i ≡ false → section_fault e i ≡ None
+unfolding section_fault
+section_fault-other e i other = rw other refl
+
+pub relocs_fault-is : (e : List ℕ) → relocs_fault e ≡ first_some (section_fault e) (count_of e)
+unfolding relocs_fault
+relocs_fault-is e = refl
+
+-- ---- an entry without a fault
+
+pub entry_inside : (e : List ℕ) (i j : ℕ) (l : Layout) (n : ℕ) (ss : List Span) → l ≡ layout e → n ≡ (layout e).text + (layout e).data_len → spans e i j ≡ ss
+    → layout_fault e ≡ None → is_kept e i ≡ true → reloc_fault e i j ≡ None → Each (IsInside l n) ss
+entry_inside e i j l n ss laid size are none kept accepted =
+    let is = is_laid e none in
+    rw (laid, size, is.stored, ← are) (spans_inside e i j is kept accepted)
+
+pub entry_lens : (e : List ℕ) (i j : ℕ) (ss : List Span) → spans e i j ≡ ss → Each IsWord ss
+entry_lens e i j ss are = rw (← are) (entry_words (spans e i j) (spans_entry e i j))
+
+pub entry_added : (e : List ℕ) (i j : ℕ) (l : Layout) (f : Effect) (ss : List Span) (before after : Found) → l ≡ layout e → layout_fault e ≡ None → f ≡ effect e i j → spans e i j ≡ ss
+    → after.words.items ≡ before.words.items ++ effect_words l f
+    → after.records.items ≡ before.records.items ++ recorded_of l ss
+    → ((n : ℕ) (all : List Span) → IsMarked l n all before.marks → IsMarked l n (all ++ ss) after.marks)
+    → IsAdded e i j before after
+entry_added e i j l f ss before after laid none is are words records marks = record {
+  words =
+      words ∙ ap (λ k. before.words.items ++ effect_words k f) laid ∙ ap (λ f. before.words.items ++ effect_words (layout e) f) is
+      ∙ ap (λ ws. before.words.items ++ ws) (effect_is e (layout e) i j (is_laid e none).start);
+  records = records ∙ ap (λ k. before.records.items ++ recorded_of k ss) laid ∙ ap (λ ss. before.records.items ++ recorded_of (layout e) ss) (sym are);
+  marks = rw (← laid, are) marks;
+}

@@ -1,0 +1,288 @@
+-- The bytes and the words of one relocation: at most a field and a slot, which lie in the stored bytes of the image.
+use Rattle.std.proofs.Common.{◌≡◌, ℕ, ◌+◌, ◌-◌, ◌%◌, ◌^◌, ◌<◌, ◌≤◌, inl, inr, Bool, true, false, not, ◌&&◌, List, [], ◌∷◌, ◌++◌, map, flat_map, Option, Some, None, All, refl, sym, ap, ◌∙◌, arith, if◌then◌else◌}
+use Rattle.std.specs.List.{range_with_len, AllByRecursion as Each}
+use Rattle.std.specs.Option.{option_map, is_none}
+use Rattle.std.proofs.lemmas.Bool.{cases_Bool, and_parts, and_from, or_parts, not-false, lt-ltb}
+use Rattle.std.proofs.lemmas.List.Elements.{All-from_recursion}
+use Rattle.elf32_reader.specs.Header.{count_of}
+use Rattle.elf32_reader.specs.Sections.{section, is_allocated}
+use Rattle.elf32_reader.specs.Relas.{is_kept, rela_count}
+use Rattle.elf32_reader.proofs.Places.{is_kept_info, is_kept_allocated}
+use Rattle.elf32_reader.proofs.Searches.{and_rest}
+use Rattle.flat_layout.specs.declared.layout.Layout.{Layout}
+use Rattle.flat_layout.specs.Numbering.{has_bytes}
+use Rattle.flat_layout.specs.Layout.{layout, off, stored_end}
+use Rattle.psabi_relocs.specs.declared.effect.Effect.{Effect}
+use Rattle.psabi_relocs.specs.declared.effect.Effect.TheVariants.{Still, Word}
+use Rattle.psabi_relocs.specs.declared.reloc.Reloc.{Reloc}
+use Rattle.psabi_relocs.specs.declared.row.Row.{Row}
+use Rattle.psabi_relocs.specs.declared.row.Row.TheVariants.{Unknown, Mark, Pointer, Absolute, Relative, Call, Got, Low, Group}
+use Rattle.psabi_relocs.specs.declared.spans.Span.{Span}
+use Rattle.psabi_relocs.specs.Class.{is_moving}
+use Rattle.psabi_relocs.specs.Row.{field_len, is_mark, is_got}
+use Rattle.psabi_relocs.specs.Reloc.{reloc, target_section}
+use Rattle.psabi_relocs.specs.Bytes.{holds}
+use Rattle.psabi_relocs.specs.Pair.{slot_of, holds_slot, slot_section}
+use Rattle.psabi_relocs.specs.Field.{Field, Origin, own_origin, slot_origin, origin, absolute, own_fields, slot_fields, fields_from, fields}
+use Rattle.psabi_relocs.specs.Effect.{slot_effect, moving_effect, effect, is_pointer, own_span, slot_spans, spans}
+use Rattle.psabi_relocs.specs.Fault.{is_slot_outside, is_place_outside, reloc_fault}
+use Rattle.elf2flt_tool.specs.Relocs.{spans_in, spans_of}
+use Rattle.elf2flt_tool.specs.Image.{pointers}
+use Rattle.elf2flt_tool.specs.Word.{numbered}
+use Rattle.elf2flt_tool.specs.Marks.{recorded_of}
+use Rattle.elf2flt_tool.specs.Walk.{effect_words}
+use Rattle.elf2flt_tool.specs.Fault.{relocs_fault}
+use Rattle.elf2flt_tool.proofs.Members.{each-append, each-flat_map, each-map, each-range}
+use Rattle.elf2flt_tool.proofs.Laid.{IsLaid}
+use Rattle.elf2flt_tool.proofs.Sound.{found, sound_entry}
+use Rattle.elf2flt_tool.proofs.Held.{held_bytes}
+use Rattle.elf2flt_tool.proofs.Recorded.{all_sound}
+use Rattle.elf2flt_tool.proofs.Apart.{own_pointer, got_origin}
+use Rattle.elf2flt_tool.proofs.Marked.{IsEntry}
+
+-- ---- the form of an entry's spans
+
+entry_shape : (row : Row) (r : Reloc) (g : Option ℕ)
+    → IsEntry (record { place = r.place; len = field_len row; recorded = is_pointer row && is_moving r.class } ∷ (if is_got row then slot_spans r g else []))
+entry_shape Pointer r g = λ is. refl
+entry_shape Got r None = λ is. absurd (cc)
+entry_shape Got r (Some g) = (refl, refl, refl)
+entry_shape Unknown r g = λ is. absurd (cc)
+entry_shape Mark r g = λ is. absurd (cc)
+entry_shape (Absolute shape) r g = λ is. absurd (cc)
+entry_shape (Relative shape) r g = λ is. absurd (cc)
+entry_shape Call r g = λ is. absurd (cc)
+entry_shape (Low shape) r g = λ is. absurd (cc)
+entry_shape (Group lane step) r g = λ is. absurd (cc)
+
+pub spans_entry : (e : List ℕ) (i j : ℕ) → IsEntry (spans e i j)
+unfolding spans
+spans_entry e i j = entry_shape (reloc e i j).row (reloc e i j) (slot_of e i (reloc e i j).place)
+
+-- ---- the recorded word of an entry
+
+abbrev moving_by : Row → Reloc → Option ℕ → Effect
+moving_by Pointer r g = Word r.place (absolute 0 r)
+moving_by Got r g = slot_effect r g
+moving_by _ r g = Still
+
+moving_is_by : (row : Row) (e : List ℕ) (i : ℕ) (r : Reloc) → moving_effect row e i r ≡ moving_by row r (slot_of e i r.place)
+moving_is_by Pointer e i r = refl
+moving_is_by Got e i r = refl
+moving_is_by Unknown e i r = refl
+moving_is_by Mark e i r = refl
+moving_is_by (Absolute shape) e i r = refl
+moving_is_by (Relative shape) e i r = refl
+moving_is_by Call e i r = refl
+moving_is_by (Low shape) e i r = refl
+moving_is_by (Group lane step) e i r = refl
+
+abbrev fields_by : Row → Reloc → Option Origin → List Field
+fields_by row r None = []
+fields_by row r (Some o) = own_fields row 0 r o ++ slot_fields row 0 r o
+
+fields_are_by : (r : Reloc) (o : Option Origin) → fields_from 0 r o ≡ fields_by r.row r o
+fields_are_by r None = refl
+fields_are_by r (Some o) = refl
+
+off_moved : (l : Layout) (v : ℕ) (moves : Bool) → l.v0 < 2 ^ 32 → off l ((v + (if moves then 0 else 0)) % 2 ^ 32) ≡ off l v
+unfolding off
+off_moved l v true start = omega arith
+off_moved l v false start = omega arith
+
+still_words : (l : Layout) (b : Bool) → [] ≡ effect_words l (if b then Still else Still)
+still_words l true = refl
+still_words l false = refl
+
+pointer_words : (l : Layout) (r : Reloc) (o : Origin) → map (numbered l) (pointers (fields_by Pointer r (Some o))) ≡ effect_words l (if is_moving r.class then Word r.place (absolute 0 r) else Still)
+unfolding numbered
+pointer_words l r o = elim (cases_Bool (is_moving r.class)) [
+  | inl moves ↦ rw moves refl
+  | inr stays ↦ rw stays refl
+]
+
+slot_words : (l : Layout) (r : Reloc) (o : Origin) (g : ℕ) → l.v0 < 2 ^ 32 → o.value ≡ g
+    → map (numbered l) (pointers (fields_by Got r (Some o))) ≡ effect_words l (if is_moving r.class then slot_effect r (Some g) else Still)
+unfolding numbered
+slot_words l r o g start same = elim (cases_Bool (is_moving r.class)) [
+  | inl moves ↦ rw (moves, same) (ap (λ n. record { place = off l g; target = n } ∷ []) (off_moved l r.value true start))
+  | inr stays ↦ rw stays refl
+]
+
+words_by : (l : Layout) (row : Row) (r : Reloc) (o : Option Origin) (g : Option ℕ) → l.v0 < 2 ^ 32 → (is_pointer row ≡ true → o ≡ Some (own_origin r))
+    → (is_got row ≡ true → o ≡ option_map (slot_origin r.place) g)
+    → map (numbered l) (pointers (fields_by row r o)) ≡ effect_words l (if is_moving r.class then moving_by row r g else Still)
+words_by l Pointer r None g start own slot = absurd (let some = own refl in cc)
+words_by l Pointer r (Some o) g start own slot = pointer_words l r o
+words_by l Got r None None start own slot = still_words l (is_moving r.class)
+words_by l Got r None (Some g) start own slot = absurd (let some = slot refl in cc)
+words_by l Got r (Some o) None start own slot = absurd (let some = slot refl in cc)
+words_by l Got r (Some o) (Some g) start own slot =
+    slot_words l r o g start (let some : o ≡ slot_origin r.place g = (let s = slot refl in cc) in ap (λ o. o.value) some)
+words_by l Unknown r None g start own slot = still_words l (is_moving r.class)
+words_by l Unknown r (Some o) g start own slot = still_words l (is_moving r.class)
+words_by l Mark r None g start own slot = still_words l (is_moving r.class)
+words_by l Mark r (Some o) g start own slot = still_words l (is_moving r.class)
+words_by l (Absolute shape) r None g start own slot = still_words l (is_moving r.class)
+words_by l (Absolute shape) r (Some o) g start own slot = still_words l (is_moving r.class)
+words_by l (Relative shape) r None g start own slot = still_words l (is_moving r.class)
+words_by l (Relative shape) r (Some o) g start own slot = still_words l (is_moving r.class)
+words_by l Call r None g start own slot = still_words l (is_moving r.class)
+words_by l Call r (Some o) g start own slot = still_words l (is_moving r.class)
+words_by l (Low shape) r None g start own slot = still_words l (is_moving r.class)
+words_by l (Low shape) r (Some o) g start own slot = still_words l (is_moving r.class)
+words_by l (Group lane step) r None g start own slot = still_words l (is_moving r.class)
+words_by l (Group lane step) r (Some o) g start own slot = still_words l (is_moving r.class)
+
+-- an effect's word is that of the entry's fields
+pub effect_is : (e : List ℕ) (l : Layout) (i j : ℕ) → l.v0 < 2 ^ 32 → effect_words l (effect e i j) ≡ map (numbered l) (pointers (fields e 0 i j))
+unfolding fields effect
+effect_is e l i j start =
+    let r = reloc e i j in
+    sym (ap (λ fs. map (numbered l) (pointers fs)) (fields_are_by r (origin e i r))
+    ∙ words_by l r.row r (origin e i r) (slot_of e i r.place) start (λ is. own_pointer e i r is) (λ is. got_origin e i r is)
+    ∙ ap (λ x. effect_words l (if is_moving r.class then x else Still)) (sym (moving_is_by r.row e i r)))
+
+-- ---- where the spans stand
+
+-- a span's bytes are among the first n of the image
+abbrev pub IsInside : Layout → ℕ → Span → Type 0
+IsInside l n s = 0 < s.len → off l s.place + s.len ≤ n
+
+bytes_inside : (e : List ℕ) (k a n : ℕ) → IsLaid e → k < count_of e → is_allocated (section e k) ≡ true → holds (section e k) a n ≡ true → 0 < n → off (layout e) a + n ≤ stored_end e
+bytes_inside e k a n laid below allocated held some =
+    let h = held_bytes (section e k) a n held in
+    let from = h.from in
+    let to = h.to in
+    let bytes : has_bytes (section e k) ≡ true = and_from _ _ (and_from _ _ allocated (lt-ltb 0 (section e k).size (omega arith))) h.stored in
+    let along = laid.along k (a - (section e k).addr) below bytes (omega arith) in
+    let place : (section e k).addr + (a - (section e k).addr) ≡ a = omega arith in
+    let number : off (layout e) a ≡ off (layout e) (section e k).addr + (a - (section e k).addr) = rw place at along in
+    let inside = laid.inside k below bytes in
+    omega arith
+
+mark_len : (row : Row) → is_mark row ≡ true → field_len row ≡ 0
+mark_len Mark is = refl
+mark_len Unknown is = absurd (cc)
+mark_len Pointer is = absurd (cc)
+mark_len (Absolute shape) is = absurd (cc)
+mark_len (Relative shape) is = absurd (cc)
+mark_len Call is = absurd (cc)
+mark_len Got is = absurd (cc)
+mark_len (Low shape) is = absurd (cc)
+mark_len (Group lane step) is = absurd (cc)
+
+got_plain : (row : Row) → is_got row ≡ true → is_mark row ≡ false
+got_plain Got is = refl
+got_plain Mark is = absurd (cc)
+got_plain Unknown is = refl
+got_plain Pointer is = refl
+got_plain (Absolute shape) is = refl
+got_plain (Relative shape) is = refl
+got_plain Call is = refl
+got_plain (Low shape) is = refl
+got_plain (Group lane step) is = refl
+
+-- what the test for places says of an entry that passes it
+record IsPlaced (e : List ℕ) (i : ℕ) (r : Reloc) : Type 0 where
+  own : holds (target_section e i) r.place (field_len r.row) ≡ true
+  slot : (is_got r.row && is_slot_outside e (slot_of e i r.place)) ≡ false
+
+is_placed : (e : List ℕ) (i j : ℕ) → reloc_fault e i j ≡ None → is_mark (reloc e i j).row ≡ false → IsPlaced e i (reloc e i j)
+unfolding is_place_outside
+is_placed e i j none plain =
+    let r = reloc e i j in
+    let sound = sound_entry e i j none plain in
+    let parts = or_parts (not (holds (target_section e i) r.place (field_len r.row))) (is_got r.row && is_slot_outside e (slot_of e i r.place)) sound.place in
+    record { own = not-false _ parts.0; slot = parts.1 }
+
+own_inside : (e : List ℕ) (i j : ℕ) → IsLaid e → is_kept e i ≡ true → reloc_fault e i j ≡ None → IsInside (layout e) (stored_end e) (own_span (reloc e i j))
+own_inside e i j laid kept none = λ some. elim (cases_Bool (is_mark (reloc e i j).row)) [
+  | inl mark ↦ absurd (let empty = mark_len (reloc e i j).row mark in omega arith)
+  | inr plain ↦
+      bytes_inside e (section e i).info (reloc e i j).place (field_len (reloc e i j).row) laid (is_kept_info e i kept) (is_kept_allocated e i kept) (is_placed e i j none plain).own some
+]
+
+slot_at : (e : List ℕ) (g : ℕ) (k : Option ℕ) → IsLaid e → slot_section e g ≡ k → is_none k ≡ false → off (layout e) g + 4 ≤ stored_end e
+unfolding slot_section holds_slot
+slot_at e g None laid is some = absurd (cc)
+slot_at e g (Some k) laid is some =
+    let at = found (λ k. holds_slot g (section e k)) (count_of e) k is in
+    let parts = and_parts (has_bytes (section e k)) (holds (section e k) g 4) at.passes in
+    let stored = and_parts _ _ parts.0 in
+    let allocated = and_parts (is_allocated (section e k)) _ stored.0 in
+    bytes_inside e k g 4 laid at.below allocated.0 parts.1 (omega arith)
+
+slot_inside : (e : List ℕ) (i j g : ℕ) → IsLaid e → reloc_fault e i j ≡ None → is_got (reloc e i j).row ≡ true → slot_of e i (reloc e i j).place ≡ Some g
+    → off (layout e) g + 4 ≤ stored_end e
+slot_inside e i j g laid none got some =
+    let placed = is_placed e i j none (got_plain (reloc e i j).row got) in
+    let here = and_rest (is_got (reloc e i j).row) (is_slot_outside e (slot_of e i (reloc e i j).place)) placed.slot got in
+    slot_at e g (slot_section e g) laid refl (rw some at here)
+
+slots_inside : (l : Layout) (n : ℕ) (r : Reloc) (g : Option ℕ) → ((k : ℕ) → g ≡ Some k → off l k + 4 ≤ n) → Each (IsInside l n) (slot_spans r g)
+slots_inside l n r None inside = tt
+slots_inside l n r (Some k) inside = ((λ some. inside k refl), tt)
+
+-- the bytes of an entry without a fault lie in the stored bytes
+pub spans_inside : (e : List ℕ) (i j : ℕ) → IsLaid e → is_kept e i ≡ true → reloc_fault e i j ≡ None → Each (IsInside (layout e) (stored_end e)) (spans e i j)
+unfolding spans
+spans_inside e i j laid kept none =
+    let r = reloc e i j in
+    let own = own_inside e i j laid kept none in
+    elim (cases_Bool (is_got r.row)) [
+      | inl got ↦ rw got (own, slots_inside (layout e) (stored_end e) r (slot_of e i r.place) (λ k is. slot_inside e i j k laid none got is))
+      | inr other ↦ rw other (own, tt)
+    ]
+
+-- ---- all entries
+
+-- an entry whose bytes are among the first n of the image
+abbrev pub IsPlain : Layout → ℕ → List Span → Type 0
+IsPlain l n ss = IsEntry ss × Each (IsInside l n) ss
+
+section_plain : (e : List ℕ) (i : ℕ) → IsLaid e → relocs_fault e ≡ None → i < count_of e → Each (IsPlain (layout e) (stored_end e)) (spans_in e i)
+unfolding spans_in
+section_plain e i laid none below = elim (cases_Bool (is_kept e i)) [
+  | inl kept ↦
+      let sound = all_sound e i none below kept in
+      rw kept (each-map (IsPlain (layout e) (stored_end e)) (spans e i) (range_with_len 0 (rela_count e i))
+      (each-range (λ j. IsPlain (layout e) (stored_end e) (spans e i j)) 0 (rela_count e i)
+      (λ j low high. (spans_entry e i j, spans_inside e i j laid kept (sound j (omega arith))))))
+  | inr dropped ↦ rw dropped tt
+]
+
+pub all_plain : (e : List ℕ) → IsLaid e → relocs_fault e ≡ None → Each (IsPlain (layout e) (stored_end e)) (spans_of e)
+unfolding spans_of
+all_plain e laid none =
+    each-flat_map (IsPlain (layout e) (stored_end e)) (spans_in e) (range_with_len 0 (count_of e))
+    (each-range (λ i. Each (IsPlain (layout e) (stored_end e)) (spans_in e i)) 0 (count_of e) (λ i low high. section_plain e i laid none (omega arith)))
+
+recorded_inside : (l : Layout) (n : ℕ) (ss : List Span) → IsPlain l n ss → Each (λ r. r.place + 4 ≤ n) (recorded_of l ss)
+recorded_inside l n [] plain = absurd plain.0
+recorded_inside l n (own ∷ []) plain = elim (cases_Bool own.recorded) [
+  | inl recorded ↦
+      let len = plain.0 recorded in
+      let inside : off l own.place + 4 ≤ n = (let at = plain.1.0 (omega arith) in omega arith) in
+      rw recorded (inside, tt)
+  | inr still ↦ rw still tt
+]
+recorded_inside l n (own ∷ slot ∷ []) plain = elim (cases_Bool slot.recorded) [
+  | inl recorded ↦
+      let len = plain.0.2 in
+      let inside : off l slot.place + 4 ≤ n = (let at = plain.1.1.0 (omega arith) in omega arith) in
+      rw recorded (inside, tt)
+  | inr still ↦ rw still tt
+]
+recorded_inside l n (own ∷ slot ∷ more ∷ rest) plain = absurd plain.0
+
+all_recorded : (l : Layout) (n : ℕ) (es : List (List Span)) → Each (IsPlain l n) es → Each (λ r. r.place + 4 ≤ n) (flat_map (recorded_of l) es)
+all_recorded l n [] plain = tt
+all_recorded l n (ss ∷ es) plain = each-append (λ r. r.place + 4 ≤ n) (recorded_of l ss) (flat_map (recorded_of l) es) (recorded_inside l n ss plain.0) (all_recorded l n es plain.1)
+
+pub records_inside : (l : Layout) (n : ℕ) (es : List (List Span)) → Each (IsPlain l n) es → All (λ r. r.place + 4 ≤ n) (flat_map (recorded_of l) es)
+records_inside l n es plain = All-from_recursion (λ r. r.place + 4 ≤ n) (flat_map (recorded_of l) es) (all_recorded l n es plain)
+
+pub all_entries : (l : Layout) (n : ℕ) (es : List (List Span)) → Each (IsPlain l n) es → Each IsEntry es
+all_entries l n [] plain = tt
+all_entries l n (ss ∷ es) plain = (plain.0.0, all_entries l n es plain.1)
