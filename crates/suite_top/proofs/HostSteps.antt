@@ -1,6 +1,6 @@
 -- What the answers of a host say as steps of a course.
 use Rattle.std.proofs.Common.{◌≡◌, ◌≢◌, ℕ, ◌+◌, ◌≤◌, Bool, true, false, cond, List, [], ◌∷◌, length, replicate, Option, Some, None, Ok, Err, refl, sym, ap, subst, arith}
-use Rattle.std.specs.Prelude.{option_map, nat_lt}
+use Rattle.std.specs.Prelude.{IfSome, option_map, nat_lt}
 use Rattle.std.specs.FinMap.{get}
 use Rattle.std.proofs.lemmas.List.{length-replicate}
 use Rattle.std.proofs.lemmas.Bool.Decides.{nat_tests}
@@ -16,6 +16,7 @@ use Rattle.suite_top.specs.Early.{cannot, refused_said, memory_said, OrMemory}
 use Rattle.suite_top.specs.Loading.{file_limit, with_found, with_file}
 use Rattle.suite_top.specs.Seen.{Seen}
 use Rattle.suite_top.specs.Course.{answered, asked_in_vain, finds_in, Goes, FollowsFrom, Follows}
+use Rattle.suite_top.specs.Loads.{Gave}
 use Rattle.suite_top.proofs.Stops.{stands}
 use Rattle.suite_top.proofs.Courses as courses
 use Rattle.suite_top.proofs.Courses.{starves, ends, fails}
@@ -97,15 +98,37 @@ module _ (old mid new : Seen Told) (name into : List ℕ) (x : Loaded) (rest : L
         | Some t ↦ λ h. step (get t.files name) (found_goes (get t.files name) h.1 go)
       ]) told
 
--- the whole file: the rest goes on with its bytes
-pub loads_all : (old mid new : Seen Told) (name into : List ℕ) (rest : List ℕ → Outcome) (said : Said)
-    → LoadTold old.told mid.told name file_limit into (Ok loaded.All) → HasCause error.Failed old.faults mid.faults (Ok loaded.All) → length into ≤ file_limit
-    → Goes mid new (rest into) said → Follows old new (λ finds. with_file name (finds 0 name) rest) said
-loads_all old mid new name into rest said told cause short goes =
-    let fits : nat_lt file_limit (length into) ≡ false = grind (arith, nat_tests) in
-    loads_first old mid new name into loaded.All rest said told cause
-    (λ e h. let p = showing_all _ e into h in rw p.0 (subst (λ (b : List ℕ). Goes mid new (rest b) said) (sym p.1) goes))
-    (into, rw fits refl)
+-- the whole file
+is_found : (o : Option (List ℕ)) (into : List ℕ) → option_map (λ e. loads e file_limit) o ≡ Some (loaded.All, into) → o ≡ Some into
+is_found None into h = absurd cc
+is_found (Some e) into h = ap Some (showing_all (nat_lt file_limit (length e)) e into cc).1
+
+load_found : (old new : Option Told) (name into : List ℕ) → LoadTold old new name file_limit into (Ok loaded.All) → IfSome old (λ t. get t.files name ≡ Some into)
+load_found None new name into h = tt
+load_found (Some t) new name into h = is_found (get t.files name) into h.1
+
+pub gave : (old new : Seen Told) (name into : List ℕ)
+    → LoadTold old.told new.told name file_limit into (Ok loaded.All) → HasCause error.Failed old.faults new.faults (Ok loaded.All) → length into ≤ file_limit
+    → Gave old new name into
+gave old new name into told cause short = record {
+  told = load_answered _ _ _ _ _ loaded.All told;
+  faults = stands error.Failed old.faults new.faults (Ok loaded.All) cause (λ e. cc);
+  file = load_found _ _ _ _ told;
+  fits = short;
+}
+
+-- the rest of a command goes on with its bytes
+pub goes_on : (old mid new : Seen Told) (name bytes : List ℕ) (rest : List ℕ → Outcome) (said : Said)
+    → Gave old mid name bytes → Goes mid new (rest bytes) said → Follows old new (λ finds. with_file name (finds 0 name) rest) said
+goes_on old mid new name bytes rest said given goes =
+    let short : length bytes ≤ file_limit = given.fits in
+    let fits : nat_lt file_limit (length bytes) ≡ false = grind (arith, nat_tests) in
+    let found : Goes mid new (with_found name (Some bytes) rest) said = rw fits goes in
+    let step = λ (o : Option (List ℕ)) (behind : Goes mid new (with_found name o rest) said). courses.loads old mid new name (with_found name o rest) said given.told given.faults behind in
+    (elim old.told as (λ (t : Option Told). IfSome t (λ u. get u.files name ≡ Some bytes) → FollowsFrom t old new (λ finds. with_file name (finds 0 name) rest) said) [
+      | None ↦ λ h. ((λ i n. Some bytes), step (Some bytes) found)
+      | Some t ↦ λ h. step (get t.files name) (subst (λ (o : Option (List ℕ)). Goes mid new (with_found name o rest) said) (sym h) found)
+    ]) given.file
 
 -- a file that is too long
 pub loads_too_long : (old mid : Seen Told) (name into : List ℕ) (rest : List ℕ → Outcome) (said : Said)
