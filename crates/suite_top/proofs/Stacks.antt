@@ -17,7 +17,7 @@ Spells text n = (text ≡ decimal n) × (least_stack ≤ n) × (n ≤ most_stack
 le_decides : (a b : ℕ) → Decides (nat_le a b) (a ≤ b)
 le_decides a b = grind (arith, nat_tests)
 
-pub is_stack_decides : (n : ℕ) → Decides (is_stack n) ((least_stack ≤ n) × (n ≤ most_stack))
+is_stack_decides : (n : ℕ) → Decides (is_stack n) ((least_stack ≤ n) × (n ≤ most_stack))
 is_stack_decides n = Decides-and (nat_le least_stack n) (nat_le n most_stack) (le_decides least_stack n) (le_decides n most_stack)
 
 spells : (text : List ℕ) (n : ℕ) → Decides (is_spelling text n && is_stack n) (Spells text n)
@@ -84,8 +84,10 @@ module _ (E : Type 0) (text : List ℕ) (b : Bool) (tells : IsTrue b ↔ StartsW
       let whole = decimal-digits_value own text p.0.0 p.0.1 (λ zero. absurd (omega (arith, starts.0, zero))) (omega (arith, p.0.2)) in
       sym whole ∙ ap decimal (sym p.1)
 
-  pub reads_stack : (n : ℕ) (r : Result ℕ E) → ParsesUnsigned {E = E} 32 10 text r → r ≡ Ok n → least_stack ≤ n → n ≤ most_stack → stack_of text ≡ Some n
-  reads_stack n r h is_ok low high = spelled_is text n (number_is n (subst (ParsesUnsigned {E = E} 32 10 text) is_ok h), low, high)
+  pub reads_stack : (n : ℕ) (r : Result ℕ E) → ParsesUnsigned {E = E} 32 10 text r → r ≡ Ok n → is_stack n ≡ true → stack_of text ≡ Some n
+  reads_stack n r h is_ok fits =
+      let range = (is_stack_decides n).0 fits in
+      spelled_is text n (number_is n (subst (ParsesUnsigned {E = E} 32 10 text) is_ok h), range.0, range.1)
 
   pub reads_none : (e : E) → ParsesUnsigned {E = E} 32 10 text (Err e) → stack_of text ≡ None
   reads_none e h =

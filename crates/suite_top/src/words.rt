@@ -1,6 +1,6 @@
 //! The table of commands.
 ghost use Rattle.std.specs.Prelude.{◌≡◌, ◌↔◌, IsTrue, map, option_map, string_bytes};
-ghost use Rattle.suite_top.specs.Words.{StartsWell, stack_of, command_of, spoken};
+ghost use Rattle.suite_top.specs.Words.{is_stack, StartsWell, stack_of, command_of, spoken};
 
 /// The bytes of stack that a program gets where no words say it.
 pub const DEFAULT_STACK: u32 = 4096;
@@ -21,9 +21,20 @@ pub enum Command<'a> {
         stack: u32,
     },
     /// `list FLT`.
-    List { flt: &'a str },
+    List {
+        flt: &'a str,
+    },
     /// `check ELF`.
-    Check { elf: &'a str },
+    Check {
+        elf: &'a str,
+    },
+}
+
+/// Whether words may say so many bytes of stack.
+fn is_stack(bytes: u32) -> bool
+    ensures { result ≡ is_stack bytes }
+{
+    (LEAST_STACK..=MOST_STACK).contains(&bytes)
 }
 
 /// Whether a text starts with a digit other than 0.
@@ -42,8 +53,9 @@ fn read_stack(text: &str) -> Option<u32>
         return None;
     }
     match text.parse() {
-        Ok(stack @ LEAST_STACK..=MOST_STACK) => Some(stack),
-        _ => None,
+        Ok(stack) if is_stack(stack) => Some(stack),
+        Ok(_) => None,
+        Err(_) => None,
     }
 }
 
@@ -53,8 +65,7 @@ pub fn read_words(words: &[String]) -> Option<Command<'_>>
 {
     match words {
         [word, elf, flt, option, number]
-            if word.as_str() == "convert" && option.as_str() == "--stack" =>
-        {
+            if word.as_str() == "convert" && option.as_str() == "--stack" => {
             let stack = read_stack(number)?;
             Some(Command::Convert { elf, flt, stack })
         }
