@@ -1,5 +1,4 @@
 -- Each way in which the load ends.
-use Rattle.std.proofs.Common.{refl}
 use Rattle.suite_top.specs.declared.status.Status.TheVariants as status
 use Rattle.suite_top.specs.Texts.{refused_line, too_long_tail, cannot_read_line}
 use Rattle.suite_top.proofs.Lines.{says_line}
@@ -18,8 +17,7 @@ returns-in-Ok-TooLong g c rest =
     let arm = c.in-Ok-TooLong in
     let told = rw arm.field-0-is at arm.ensures.told in
     let cause = rw arm.field-0-is at arm.ensures.cause in
-    let empty = rw arm.field-0-is at arm.ensures.too_long in
-    loads_too_long _ _ c.args.name.now _ rest _ told cause (empty refl)
+    loads_too_long _ _ c.args.name.now _ rest _ told cause
     (says_line status.Refused c.refused-line.result (refused_line too_long_tail) _ c.refused-line.ensures c.early.ensures)
 
 pub returns-in-Err-Failed : goal.returns-in-Err-Failed
