@@ -83,7 +83,6 @@ refusal_tail (refusal.Layout fault) = codes "layout " ++ layout_fault_words faul
 refusal_tail (refusal.Reloc section index fault) = reloc_tail section index fault
 refusal_tail (refusal.TargetOutside place) = codes "target " ++ address_words place
 refusal_tail (refusal.WordOverlap place) = codes "overlap " ++ address_words place
-refusal_tail refusal.Form = codes "form"
 refusal_tail refusal.Memory = []
 
 -- of a file longer than the limit of its load

@@ -137,7 +137,6 @@ pub fn refused_conversion(alloc: Global, refusal: &Refusal) -> Result<String, Al
             let address = address_words(alloc, *place)?;
             format!(in alloc; "refused: overlap {address}\n")
         }
-        Refusal::Form => refused(alloc, "form"),
         Refusal::Memory => Err(AllocError),
     }
 }
