@@ -12,3 +12,6 @@ mod writer;
 
 pub use given::{MakeRela, MakeSymbol, Part};
 pub use making::make;
+
+#[cfg(test)]
+mod tests;
