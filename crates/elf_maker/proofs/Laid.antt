@@ -1,7 +1,7 @@
 -- Sections that are added to a writer.
 use Rattle.std.proofs.Common.{Vec, Global, ◌≡◌, ℕ, ◌+◌, ◌<◌, ◌≤◌, List, [], ◌∷◌, ◌++◌, length, map, take, drop, get_or, refl, sym, ap, ◌∙◌, append_assoc, arith}
 use Rattle.std.specs.List.{flat_map}
-use Rattle.std.proofs.lemmas.List.{length-append, length-map, length-take, take_more, append-nil, take-append-drop, map_more}
+use Rattle.std.proofs.lemmas.List.{length-append, length-map, length-take, take_more, take-append-drop, map_more}
 use Rattle.std.proofs.lemmas.List.Concat.{flat_map-append}
 use Rattle.elf_maker.specs.declared.given.Part.{Part}
 use Rattle.elf_maker.specs.declared.writer.Writer.{Writer}
@@ -21,9 +21,6 @@ placed-append at (x ∷ xs) ys =
 
 pub length-contents : (a b : Writer) (xs : List Item) → Adds a b xs → length b.body.items ≡ length a.body.items + length (contents xs)
 length-contents a b xs added = ap length added.body ∙ length-append a.body.items (contents xs)
-
-pub adds_none : (a : Writer) → Adds a a []
-adds_none a = record { sections = sym (append-nil a.sections.items); body = sym (append-nil a.body.items) }
 
 pub adds_more : (a b c : Writer) (xs ys : List Item) → Adds a b xs → Adds b c ys → Adds a c (xs ++ ys)
 adds_more a b c xs ys first then_ = record {
@@ -77,15 +74,6 @@ pub contents-relas : (t i : ℕ) (texts : List (List ℕ)) → contents (relas_i
 contents-relas t i [] = refl
 contents-relas t i ([] ∷ texts) = contents-relas t (i + 1) texts
 contents-relas t i ((b ∷ bs) ∷ texts) = ap (λ cs. (b ∷ bs) ++ cs) (contents-relas t (i + 1) texts)
-
--- a table that isn't empty is a section, and an empty one is none
-pub one_table : (t i : ℕ) (bs : List ℕ) → 0 < length bs → relas_items t i (bs ∷ []) ≡ table_item 4 bs t (i + 1) 12 ∷ []
-one_table t i [] some = absurd (omega arith)
-one_table t i (b ∷ bs) some = refl
-
-pub no_table : (t i : ℕ) (bs : List ℕ) → length bs ≡ 0 → relas_items t i (bs ∷ []) ≡ []
-no_table t i [] none = refl
-no_table t i (b ∷ bs) none = absurd (omega arith)
 
 pub flat_map-tables : (tables : List (Vec ℕ Global)) → flat_map (λ bs. bs) (map (λ t. t.items) tables) ≡ flat_map (λ t. t.items) tables
 flat_map-tables [] = refl

@@ -19,7 +19,7 @@ use Rattle.elf32_reader.specs.Faults.{header_fault, passes_end, is_nameless, has
 use Rattle.elf_maker.specs.declared.given.Part.{Part}
 use Rattle.elf_maker.specs.declared.given.MakeSymbol.{MakeSymbol}
 use Rattle.elf_maker.specs.declared.given.MakeRela.{MakeRela}
-use Rattle.elf_maker.specs.Given.{HasAlloc, IsPart, IsNamed, IsRela, relas_of, relocated}
+use Rattle.elf_maker.specs.Given.{HasAlloc, IsPart, HasPlainName, IsRela, relas_of, relocated}
 use Rattle.elf_maker.specs.Makes.{HasPart, HasSymbol, HasSymbols, HasRelas, entry_of_rela, Makes}
 use Rattle.elf_maker.specs.Fits.{FitsSymbol, FitsRela, FitsAll}
 use Rattle.elf_maker.specs.Spelling.{Item, contents, placed, null_section, section_text, file_text, header_of, part_header, part_item, table_header, table_item, no_symbol, symbol_text, name_text, names_text, symbols_text, symtab_text, strtab_text, symtab_item, strtab_item, rela_text, relas_text, all_items, spelled}
@@ -179,7 +179,7 @@ symbol_is e t symbols x are st j s is fits small =
 strings_are : (e : List ℕ) (t u : ℕ) (symbols : List MakeSymbol) → (section e t).link ≡ u → Stands e u (strtab_item symbols) → content e (section e (section e t).link) ≡ strtab_text symbols
 strings_are e t u symbols link st = ap (λ k. content e (section e k)) link ∙ table_content e u 3 (strtab_text symbols) 0 0 0 st
 
-name_is : (e : List ℕ) (t : ℕ) (symbols : List MakeSymbol) → content e (section e (section e t).link) ≡ strtab_text symbols → (j : ℕ) (s : MakeSymbol) → slice_get symbols j ≡ Some s → IsNamed s
+name_is : (e : List ℕ) (t : ℕ) (symbols : List MakeSymbol) → content e (section e (section e t).link) ≡ strtab_text symbols → (j : ℕ) (s : MakeSymbol) → slice_get symbols j ≡ Some s → HasPlainName s
     → (symbol e t (suc j)).name ≡ 1 + length (names_text (take j symbols)) → name_of e t (suc j) ≡ s.name.items
 unfolding name_of strtab_text
 name_is e t symbols strings j s is named at =
@@ -196,7 +196,7 @@ no_name_is e t symbols strings at =
     ∙ ap (λ bs. before_first (λ b. b == 0) (drop 0 bs)) strings
 
 has_symbol : (e : List ℕ) (t : ℕ) (symbols : List MakeSymbol) (x : Item) → x.bytes ≡ symtab_text symbols → Stands e t x → content e (section e (section e t).link) ≡ strtab_text symbols → (j : ℕ) (s : MakeSymbol) → slice_get symbols j ≡ Some s
-    → FitsSymbol s → IsNamed s → length (strtab_text symbols) < 2 ^ 31 → HasSymbol e t (suc j) s
+    → FitsSymbol s → HasPlainName s → length (strtab_text symbols) < 2 ^ 31 → HasSymbol e t (suc j) s
 has_symbol e t symbols x are st strings j s is fits named small =
     let read = symbol_is e t symbols x are st j s is fits small in
     record {
@@ -238,7 +238,7 @@ strings_made parts symbols relas entry f =
 symbol_made : (parts : List Part) (symbols : List MakeSymbol) (relas : List MakeRela) (entry : ℕ) → Fine parts symbols relas entry → (j : ℕ) (s : MakeSymbol) → slice_get symbols j ≡ Some s → HasSymbol (spelled parts symbols relas entry) (length parts + 1) (suc j) s
 symbol_made parts symbols relas entry f j s is =
     has_symbol (spelled parts symbols relas entry) (length parts + 1) symbols (symtab_item (length parts) symbols) refl (symtab_stands parts symbols relas entry f) (strings_made parts symbols relas entry f) j s is
-    (at_all FitsSymbol symbols j s f.fits.each_symbol is) (at_all IsNamed symbols j s f.each_symbol is) (strtab_small parts symbols relas entry f)
+    (at_all FitsSymbol symbols j s f.fits.each_symbol is) (at_all HasPlainName symbols j s f.each_symbol is) (strtab_small parts symbols relas entry f)
 
 no_symbol_made : (parts : List Part) (symbols : List MakeSymbol) (relas : List MakeRela) (entry : ℕ) → Fine parts symbols relas entry → symbol (spelled parts symbols relas entry) (length parts + 1) 0 ≡ record { name = 0; value = 0; size = 0; info = 0; other = 0; shndx = 0 }
 no_symbol_made parts symbols relas entry f =

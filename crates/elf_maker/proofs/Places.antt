@@ -71,9 +71,6 @@ pub record Stands (e : List ℕ) (k : ℕ) (x : Item) : Type 0 where
   pub here : drop offset e ≡ x.bytes ++ rest
   pub room : offset + length x.bytes ≤ length e
 
-sections_of : List Item → List Section
-sections_of items = null_section ∷ placed 52 items
-
 length-sections : (items : List Item) → length (null_section ∷ placed 52 items) ≡ 1 + length items
 length-sections items = omega (arith, length-placed 52 items)
 

@@ -10,7 +10,7 @@ use Rattle.std.proofs.lemmas.Option.{slice_get_within, slice_get_cases, get_or_f
 use Rattle.elf_maker.specs.declared.given.Part.{Part}
 use Rattle.elf_maker.specs.declared.given.MakeSymbol.{MakeSymbol}
 use Rattle.elf_maker.specs.declared.given.MakeRela.{MakeRela}
-use Rattle.elf_maker.specs.Given.{HasAlloc, IsPart, IsNamed, IsRela, total, relas_of, is_relocated, relocated}
+use Rattle.elf_maker.specs.Given.{HasAlloc, IsPart, HasPlainName, IsRela, total, relas_of, is_relocated, relocated}
 use Rattle.elf_maker.specs.Fits.{FitsPart, FitsAll}
 use Rattle.elf_maker.specs.Spelling.{Item, header_of, part_header, part_item, table_header, table_item, symtab_text, strtab_text, symtab_item, strtab_item, relas_text, relas_items, all_items, spelled}
 use Rattle.elf_maker.proofs.Bytes.{FitsSection}
@@ -129,7 +129,7 @@ pub record Fine (parts : List Part) (symbols : List MakeSymbol) (relas : List Ma
   pub few_relas : length relas < 2 ^ 24
   pub few_bytes : total parts symbols < 2 ^ 24
   pub each_part : All IsPart parts
-  pub each_symbol : All IsNamed symbols
+  pub each_symbol : All HasPlainName symbols
   pub each_rela : All (IsRela parts symbols) relas
   pub fits : FitsAll parts symbols relas entry
 

@@ -22,8 +22,8 @@ pub record IsPart (p : Part) : Type 0 where
   pub nobits : p.kind ≡ 8 → p.bytes.items ≡ []
 
 -- no byte of the name is zero
-abbrev pub IsNamed : MakeSymbol → Type 0
-IsNamed s = list_any (λ b. b == 0) s.name.items ≡ false
+abbrev pub HasPlainName : MakeSymbol → Type 0
+HasPlainName s = list_any (λ b. b == 0) s.name.items ≡ false
 
 -- a relocation is of a part that is there and has SHF_ALLOC, and its symbol is there, where 0 is the
 -- empty one

@@ -2,7 +2,7 @@
 
 ghost use Rattle.std.specs.Prelude.{◌≡◌, ℕ, ◌+◌, ◌*◌, ◌^◌, ◌<◌, ◌≤◌, [], ◌∷◌, ◌++◌, length, map, IfOk, OnOk};
 ghost use Rattle.std.specs.List.{All, AllByRecursion, flat_map};
-ghost use Rattle.elf_maker.specs.Given.{IsPart, IsNamed, IsRela, total};
+ghost use Rattle.elf_maker.specs.Given.{IsPart, HasPlainName, IsRela, total};
 ghost use Rattle.elf_maker.specs.Fits.{FitsPart, FitsSymbol, FitsAll};
 ghost use Rattle.elf_maker.specs.Makes.{Makes};
 ghost use Rattle.elf_maker.specs.Spelling.{Adds, header_of, part_header, part_item, table_header, symtab_item, strtab_item, symtab_text, strtab_text, relas_items, spelled};
@@ -71,6 +71,7 @@ fn table_section(kind: u32, size: u32, link: u32, info: u32, entsize: u32) -> Se
     section(kind, 0, 0, size, link, info, entsize)
 }
 
+/// Adds a section for each part.
 fn push_parts(writer: &mut Writer, parts: &[Part]) -> Result<(), AllocError>
     requires { length writer.old.body.items + length (flat_map (λ p. p.bytes.items) parts.now) < 2 ^ 31 }
     ensures sections { OnOk result (Adds writer.old writer.new (map part_item parts.now)) }
@@ -162,7 +163,8 @@ fn written(
 /// Writes a linked executable for RV32 with these parts as its sections, these symbols in one symbol
 /// table, and these relocations in one kept relocation section for each part that has some.
 ///
-/// Part i is section i + 1. Symbol 0 is the empty symbol, and the given ones are those from 1 on.
+/// Part i is section i + 1. Symbol 0 is the empty symbol, and the given ones are those from 1 on. The file
+/// has no program headers and no section names.
 pub fn make(
     alloc: Global,
     parts: &[Part],
@@ -175,7 +177,7 @@ pub fn make(
     requires few_relas { length relas.now < 2 ^ 24 }
     requires few_bytes { total parts.now symbols.now < 2 ^ 24 }
     requires parts { AllByRecursion IsPart parts.now }
-    requires symbols { AllByRecursion IsNamed symbols.now }
+    requires symbols { AllByRecursion HasPlainName symbols.now }
     requires relas { AllByRecursion (IsRela parts.now symbols.now) relas.now }
     ensures { IfOk result (λ file. Makes parts.now symbols.now relas.now entry file.items) }
 {

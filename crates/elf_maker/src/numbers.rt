@@ -5,6 +5,7 @@ ghost use Rattle.elf_maker.specs.Spelling.{words_text, halves_text};
 
 use std::alloc::AllocError;
 
+/// Adds numbers of four bytes.
 #[tactic(auto, unfolding(crate::specs::Spelling::words_text))]
 pub fn push_words(out: &mut Vec<u8>, words: &[u32]) -> Result<(), AllocError>
     ensures { OnOk result (out.new.items ≡ out.old.items ++ words_text words.now) }
@@ -15,6 +16,7 @@ pub fn push_words(out: &mut Vec<u8>, words: &[u32]) -> Result<(), AllocError>
     Ok(())
 }
 
+/// Adds numbers of two bytes.
 #[tactic(auto, unfolding(crate::specs::Spelling::halves_text))]
 pub fn push_halves(out: &mut Vec<u8>, halves: &[u16]) -> Result<(), AllocError>
     ensures { OnOk result (out.new.items ≡ out.old.items ++ halves_text halves.now) }

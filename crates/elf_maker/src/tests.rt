@@ -1,7 +1,7 @@
 ghost use Rattle.std.specs.Prelude.{◌≡◌, ◌<◌, ◌==◌, length, IfOk, IfSome};
 ghost use Rattle.std.specs.List.{list_any};
 ghost use Rattle.elf32_reader.specs.Symbols.{is_symtab};
-ghost use Rattle.elf_maker.specs.Given.{IsPart, IsNamed};
+ghost use Rattle.elf_maker.specs.Given.{IsPart, HasPlainName};
 
 use super::*;
 use elf32_reader::{Elf, Rela, Symbol};
@@ -53,7 +53,7 @@ fn symbol(
     shndx: u16,
 ) -> Result<Option<MakeSymbol>, AllocError>
     requires { length name.now < 100 }
-    ensures named { IfOk result (λ s. IfSome s IsNamed) }
+    ensures named { IfOk result (λ s. IfSome s HasPlainName) }
     ensures short { IfOk result (λ s. IfSome s (λ s. length s.name.items < 100)) }
 {
     if has_zero(name) {

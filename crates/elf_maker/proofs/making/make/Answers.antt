@@ -1,5 +1,5 @@
 use Rattle.std.proofs.lemmas.List.Elements.{All-from_recursion}
-use Rattle.elf_maker.specs.Given.{IsPart, IsNamed, IsRela}
+use Rattle.elf_maker.specs.Given.{IsPart, HasPlainName, IsRela}
 use Rattle.elf_maker.proofs.Made.{made_if_ok}
 use Rattle.elf_maker.proofs.making.make.Goals as goal
 
@@ -14,7 +14,7 @@ returns c =
       few_relas = c.requires.few_relas;
       few_bytes = c.requires.few_bytes;
       each_part = All-from_recursion IsPart parts c.requires.parts;
-      each_symbol = All-from_recursion IsNamed symbols c.requires.symbols;
+      each_symbol = All-from_recursion HasPlainName symbols c.requires.symbols;
       each_rela = All-from_recursion (IsRela parts symbols) relas c.requires.relas;
       fits = fits;
     })
