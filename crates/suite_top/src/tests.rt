@@ -192,7 +192,7 @@ fn target_at_the_end_is_converted(rt: HostRuntime) -> Result<(), Fail> {
 #[test]
 fn target_past_the_end_is_refused(rt: HostRuntime) -> Result<(), Fail> {
     let elf = with_word(with_word(ELF, ADDEND, 13), WORD, 0x0001_000d);
-    assert!(rt; is_refused(rt.alloc(), &elf, "refused: form\n")?);
+    assert!(rt; is_refused(rt.alloc(), &elf, "refused: target 0x00010008\n")?);
     Ok(())
 }
 
