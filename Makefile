@@ -1,7 +1,7 @@
 # make            the proved program, at build/flatc
 # make demo       the main job: converts the shipped ELF file and shows the bytes of the flat file
 # make check      the gate: every proof, must-fail edit, test and program
-# make examples   builds two programs with the GNU tools for RISC-V, if they are installed, and converts them
+# make real       builds the example programs with the GNU tools for RISC-V, if they are installed, and checks and converts them
 # make install    copies the program to $(PREFIX)/bin
 
 PREFIX ?= /usr/local
@@ -13,7 +13,7 @@ build/flatc: $(SOURCES)
 	mkdir -p build
 	cp crates/flatc/out/flatc build/flatc
 
-.PHONY: demo check examples install
+.PHONY: demo check real install
 
 demo: build/flatc
 	cp crates/flatc/data/a.elf build/a.elf
@@ -23,8 +23,8 @@ demo: build/flatc
 check:
 	.ci/run
 
-examples: build/flatc
-	examples/run
+real: build/flatc
+	examples/real
 
 install: build/flatc
 	install -D -m 755 build/flatc $(DESTDIR)$(PREFIX)/bin/flatc

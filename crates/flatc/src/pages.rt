@@ -8,10 +8,12 @@ flatc converts linked RV32IM ELF executables into bFLT version 4 flat files.
 
 usage: flatc COMMAND WORDS
 
-  convert ELF FLT   convert the file ELF, and store its flat file as FLT
-  list FLT          write the listing of the flat file FLT
-  --help            write this page
-  --version         write the version
+  convert ELF FLT [--stack N]   convert the file ELF, and store its flat file as FLT,
+                                with N bytes of stack: 16 to 1048576, else 4096
+  check ELF                     say what convert would store, and store nothing
+  list FLT                      write the listing of the flat file FLT
+  --help                        write this page
+  --version                     write the version
 
 Exit status: 0 done, 1 wrong words, 2 a file can't be read, 3 a file is refused,
 7 standard output or error can't be written, 8 out of memory, 9 a file can't be written.

@@ -9,7 +9,7 @@ use Rattle.elf2flt_tool.specs.Converted.{flat}
 use Rattle.suite_top.specs.Outcome.{Said, Ask, load, store, Finds}
 use Rattle.suite_top.specs.Words.{Spoken}
 use Rattle.suite_top.specs.Loading.{with_found}
-use Rattle.suite_top.specs.Convert.{converted_outcome, stack}
+use Rattle.suite_top.specs.Convert.{converted_outcome}
 use Rattle.suite_top.specs.Result.{command_outcome}
 use Rattle.suite_top.specs.Course.{Course, whole, failed, starved, AreLoads, IsCourseOf, Counts, SaysAfter, answered, name_of, all_answered, told_after}
 use Rattle.suite_top.specs.Call.{outcome_of}
@@ -71,31 +71,31 @@ loads_keep (load name ∷ asks) t are = loads_keep asks (answered t (load name))
 loads_keep (store name bytes ∷ asks) t are = absurd are
 
 -- the file FLT alone, by the flat file of what was found
-abbrev Stored : Files → Files → List ℕ → Option (List ℕ) → Type 0
-Stored old new flt found = (e : List ℕ) × (found ≡ Some e) × (fault e ≡ None) × (new ≡ insert old flt (flat e stack))
+abbrev Stored : Files → Files → (flt : List ℕ) (stack : ℕ) → Option (List ℕ) → Type 0
+Stored old new flt stack found = (e : List ℕ) × (found ≡ Some e) × (fault e ≡ None) × (new ≡ insert old flt (flat e stack))
 
-all_behind : (flt : List ℕ) (found : Option (List ℕ)) (asks : List Ask) (t : Told) → Behind flt found asks → ((all_answered t asks).files ≡ t.files) ⊎ Stored t.files (all_answered t asks).files flt found
-all_behind flt found asks t (inl none) = inl (ap (λ (a : List Ask). (all_answered t a).files) none)
-all_behind flt found asks t (inr (e, is, accepted, one)) = inr (e, is, accepted, ap (λ (a : List Ask). (all_answered t a).files) one)
+all_behind : (flt : List ℕ) (stack : ℕ) (found : Option (List ℕ)) (asks : List Ask) (t : Told) → Behind flt stack found asks → ((all_answered t asks).files ≡ t.files) ⊎ Stored t.files (all_answered t asks).files flt stack found
+all_behind flt stack found asks t (inl none) = inl (ap (λ (a : List Ask). (all_answered t a).files) none)
+all_behind flt stack found asks t (inr (e, is, accepted, one)) = inr (e, is, accepted, ap (λ (a : List Ask). (all_answered t a).files) one)
 
-abbrev asks_of_convert : List ℕ → List ℕ → Option (List ℕ) → List Ask
-asks_of_convert elf flt found = load elf ∷ (with_found elf found (converted_outcome flt)).asks
+abbrev asks_of_convert : (elf flt : List ℕ) (stack : ℕ) → Option (List ℕ) → List Ask
+asks_of_convert elf flt stack found = load elf ∷ (with_found elf found (converted_outcome flt stack)).asks
 
-abbrev Ends : Files → Files → List ℕ → Option (List ℕ) → Type 0 → Type 0
-Ends old new flt found Whole = (new ≡ old) ⊎ ((e : List ℕ) × (found ≡ Some e) × (fault e ≡ None) × (new ≡ insert old flt (flat e stack)) × Whole)
+abbrev Ends : Files → Files → (flt : List ℕ) (stack : ℕ) → Option (List ℕ) → Type 0 → Type 0
+Ends old new flt stack found Whole = (new ≡ old) ⊎ ((e : List ℕ) × (found ≡ Some e) × (fault e ≡ None) × (new ≡ insert old flt (flat e stack)) × Whole)
 
-files_at : (elf flt : List ℕ) (found : Option (List ℕ)) (asks : List Ask) → asks ≡ asks_of_convert elf flt found → (outcome said : Said) (k : Course) → IsCourseOf asks k → SaysAfter outcome k said → (t : Told) → Ends t.files (told_after asks k t).files flt found (said ≡ outcome)
-files_at elf flt found asks by outcome said whole is says t =
+files_at : (elf flt : List ℕ) (stack : ℕ) (found : Option (List ℕ)) (asks : List Ask) → asks ≡ asks_of_convert elf flt stack found → (outcome said : Said) (k : Course) → IsCourseOf asks k → SaysAfter outcome k said → (t : Told) → Ends t.files (told_after asks k t).files flt stack found (said ≡ outcome)
+files_at elf flt stack found asks by outcome said whole is says t =
     let same = ap (λ (a : List Ask). (all_answered t a).files) by in
-    elim (all_behind flt found (with_found elf found (converted_outcome flt)).asks (answered t (load elf)) (asks_behind elf flt found)) [
+    elim (all_behind flt stack found (with_found elf found (converted_outcome flt stack)).asks (answered t (load elf)) (asks_behind elf flt stack found)) [
       | inl kept ↦ inl (same ∙ kept)
       | inr (e, is_e, accepted, new) ↦ inr (e, is_e, accepted, same ∙ new, says.0)
     ]
-files_at elf flt found asks by outcome said (failed done last) is says t = inl (loads_keep done t is.2)
-files_at elf flt found asks by outcome said (starved done) is says t = inl (loads_keep done t is.2)
+files_at elf flt stack found asks by outcome said (failed done last) is says t = inl (loads_keep done t is.2)
+files_at elf flt stack found asks by outcome said (starved done) is says t = inl (loads_keep done t is.2)
 
 pub one_file_changes : OneFileChanges
-one_file_changes c t t_now elf flt (said, goes, delivers) is_old is_new finds command =
+one_file_changes c t t_now elf flt stack (said, goes, delivers) is_old is_new finds command =
     let is = told_is (told_after (outcome_of c).asks goes.course) c.host.told c.host_now.told t t_now goes.told is_old is_new in
-    let asks : (outcome_of c).asks ≡ asks_of_convert elf flt (get t.files elf) = ap (λ (o : Option Spoken). (command_outcome o c.finds).asks) command ∙ ap (λ (g : Finds). asks_of_convert elf flt (g 0 elf)) finds in
-    (said, delivers, subst (λ (new : Files). Ends t.files new flt (get t.files elf) (said ≡ (outcome_of c).said)) (sym (ap (λ (u : Told). u.files) is)) (files_at elf flt (get t.files elf) (outcome_of c).asks asks (outcome_of c).said said goes.course goes.is_course goes.says t))
+    let asks : (outcome_of c).asks ≡ asks_of_convert elf flt stack (get t.files elf) = ap (λ (o : Option Spoken). (command_outcome o c.finds).asks) command ∙ ap (λ (g : Finds). asks_of_convert elf flt stack (g 0 elf)) finds in
+    (said, delivers, subst (λ (new : Files). Ends t.files new flt stack (get t.files elf) (said ≡ (outcome_of c).said)) (sym (ap (λ (u : Told). u.files) is)) (files_at elf flt stack (get t.files elf) (outcome_of c).asks asks (outcome_of c).said said goes.course goes.is_course goes.says t))

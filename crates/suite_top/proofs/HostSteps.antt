@@ -1,6 +1,6 @@
 -- What the answers of a host say as steps of a course.
 use Rattle.std.proofs.Common.{◌≡◌, ◌≢◌, ℕ, ◌+◌, ◌≤◌, Bool, true, false, cond, List, [], ◌∷◌, length, replicate, Option, Some, None, Ok, Err, refl, sym, ap, subst, arith}
-use Rattle.std.specs.Prelude.{option_map, nat_lt}
+use Rattle.std.specs.Prelude.{IfSome, option_map, nat_lt}
 use Rattle.std.specs.FinMap.{get}
 use Rattle.std.proofs.lemmas.List.{length-replicate}
 use Rattle.std.proofs.lemmas.Bool.Decides.{nat_tests}
@@ -16,6 +16,7 @@ use Rattle.suite_top.specs.Early.{cannot, refused_said, memory_said, OrMemory}
 use Rattle.suite_top.specs.Loading.{file_limit, with_found, with_file}
 use Rattle.suite_top.specs.Seen.{Seen}
 use Rattle.suite_top.specs.Course.{answered, asked_in_vain, finds_in, Goes, FollowsFrom, Follows}
+use Rattle.suite_top.specs.Loads.{Gave}
 use Rattle.suite_top.proofs.Stops.{stands}
 use Rattle.suite_top.proofs.Courses as courses
 use Rattle.suite_top.proofs.Courses.{starves, ends, fails}
@@ -80,42 +81,71 @@ showing_long : (b : Bool) (e into : List ℕ) → showing b e ≡ (loaded.TooLon
 showing_long true e into h = refl
 showing_long false e into h = let k : loaded.All ≡ loaded.TooLong = ap sort_of h in absurd cc
 
--- a load that found a file, and what it leaves is shown by some file in any case
-module _ (old mid new : Seen Told) (name into : List ℕ) (x : Loaded) (rest : List ℕ → Outcome) (said : Said) where
-  found_goes : (o : Option (List ℕ)) → option_map (λ e. loads e file_limit) o ≡ Some (x, into) → ((e : List ℕ) → loads e file_limit ≡ (x, into) → Goes mid new (with_found name (Some e) rest) said) → Goes mid new (with_found name o rest) said
-  found_goes None h go = absurd cc
-  found_goes (Some e) h go = go e cc
+-- the host answered the load: it goes on by the file that it tells, or by some file
+module _ (old mid new : Seen Told) (name : List ℕ) (rest : List ℕ → Outcome) (said : Said) where
+  abbrev GoesBy : Option (List ℕ) → Type 0
+  GoesBy o = Goes mid new (with_found name o rest) said
 
-  pub loads_first : LoadTold old.told mid.told name file_limit into (Ok x) → HasCause error.Failed old.faults mid.faults (Ok x)
-      → ((e : List ℕ) → loads e file_limit ≡ (x, into) → Goes mid new (with_found name (Some e) rest) said) → (e : List ℕ) × (loads e file_limit ≡ (x, into))
+  loads_first : mid.told ≡ option_map (λ t. answered t (load name)) old.told → mid.faults ≡ old.faults
+      → ((t : Told) → old.told ≡ Some t → GoesBy (get t.files name)) → (e : List ℕ) → GoesBy (Some e)
       → Follows old new (λ finds. with_file name (finds 0 name) rest) said
-  loads_first told cause go some =
-      let faults : mid.faults ≡ old.faults = stands error.Failed old.faults mid.faults (Ok x) cause (λ e. cc) in
-      let step = λ (o : Option (List ℕ)) (goes : Goes mid new (with_found name o rest) said). courses.loads old mid new name (with_found name o rest) said (load_answered _ _ _ _ _ x told) faults goes in
-      (elim old.told as (λ (t : Option Told). LoadTold t mid.told name file_limit into (Ok x) → FollowsFrom t old new (λ finds. with_file name (finds 0 name) rest) said) [
-        | None ↦ λ h. ((λ i n. Some some.0), step (Some some.0) (go some.0 some.1))
-        | Some t ↦ λ h. step (get t.files name) (found_goes (get t.files name) h.1 go)
-      ]) told
+  loads_first told faults each e one =
+      let step = λ (o : Option (List ℕ)) (goes : GoesBy o). courses.loads old mid new name (with_found name o rest) said told faults goes in
+      (elim old.told as (λ (o : Option Told). ((t : Told) → o ≡ Some t → GoesBy (get t.files name)) → FollowsFrom o old new (λ finds. with_file name (finds 0 name) rest) said) [
+        | None ↦ λ h. ((λ i n. Some e), step (Some e) one)
+        | Some t ↦ λ h. step (get t.files name) (h t refl)
+      ]) each
 
--- the whole file: the rest goes on with its bytes
-pub loads_all : (old mid new : Seen Told) (name into : List ℕ) (rest : List ℕ → Outcome) (said : Said)
-    → LoadTold old.told mid.told name file_limit into (Ok loaded.All) → HasCause error.Failed old.faults mid.faults (Ok loaded.All) → length into ≤ file_limit
-    → Goes mid new (rest into) said → Follows old new (λ finds. with_file name (finds 0 name) rest) said
-loads_all old mid new name into rest said told cause short goes =
-    let fits : nat_lt file_limit (length into) ≡ false = grind (arith, nat_tests) in
-    loads_first old mid new name into loaded.All rest said told cause
-    (λ e h. let p = showing_all _ e into h in rw p.0 (subst (λ (b : List ℕ). Goes mid new (rest b) said) (sym p.1) goes))
-    (into, rw fits refl)
+  -- each file that is found is one that the load may have shown
+  found_goes : (x : Loaded) (into : List ℕ) (o : Option (List ℕ)) → option_map (λ e. loads e file_limit) o ≡ Some (x, into) → ((e : List ℕ) → loads e file_limit ≡ (x, into) → GoesBy (Some e)) → GoesBy o
+  found_goes x into None h go = absurd cc
+  found_goes x into (Some e) h go = go e cc
+
+-- the whole file
+is_found : (o : Option (List ℕ)) (into : List ℕ) → option_map (λ e. loads e file_limit) o ≡ Some (loaded.All, into) → o ≡ Some into
+is_found None into h = absurd cc
+is_found (Some e) into h = ap Some (showing_all (nat_lt file_limit (length e)) e into cc).1
+
+load_found : (old new : Option Told) (name into : List ℕ) → LoadTold old new name file_limit into (Ok loaded.All) → IfSome old (λ t. get t.files name ≡ Some into)
+load_found None new name into h = tt
+load_found (Some t) new name into h = is_found (get t.files name) into h.1
+
+pub gave : (old new : Seen Told) (name into : List ℕ)
+    → LoadTold old.told new.told name file_limit into (Ok loaded.All) → HasCause error.Failed old.faults new.faults (Ok loaded.All) → length into ≤ file_limit
+    → Gave old new name into
+gave old new name into told cause short = record {
+  told = load_answered _ _ _ _ _ loaded.All told;
+  faults = stands error.Failed old.faults new.faults (Ok loaded.All) cause (λ e. cc);
+  file = load_found _ _ _ _ told;
+  fits = short;
+}
+
+-- the rest of a command goes on with its bytes
+pub goes_on : (old mid new : Seen Told) (name bytes : List ℕ) (rest : List ℕ → Outcome) (said : Said)
+    → Gave old mid name bytes → Goes mid new (rest bytes) said → Follows old new (λ finds. with_file name (finds 0 name) rest) said
+goes_on old mid new name bytes rest said given goes =
+    let short : length bytes ≤ file_limit = given.fits in
+    let fits : nat_lt file_limit (length bytes) ≡ false = grind (arith, nat_tests) in
+    let found : Goes mid new (with_found name (Some bytes) rest) said = rw fits goes in
+    loads_first old mid new name rest said given.told given.faults
+    (λ t is.
+    let file : get t.files name ≡ Some bytes = subst (λ (o : Option Told). IfSome o (λ u. get u.files name ≡ Some bytes)) is given.file in
+    subst (λ (o : Option (List ℕ)). Goes mid new (with_found name o rest) said) (sym file) found)
+    bytes found
 
 -- a file that is too long
 pub loads_too_long : (old mid : Seen Told) (name into : List ℕ) (rest : List ℕ → Outcome) (said : Said)
-    → LoadTold old.told mid.told name file_limit into (Ok loaded.TooLong) → HasCause error.Failed old.faults mid.faults (Ok loaded.TooLong) → into ≡ []
+    → LoadTold old.told mid.told name file_limit into (Ok loaded.TooLong) → HasCause error.Failed old.faults mid.faults (Ok loaded.TooLong)
     → OrMemory (refused_said too_long_tail) said → Follows old mid (λ finds. with_file name (finds 0 name) rest) said
-loads_too_long old mid name into rest said told cause empty says =
+loads_too_long old mid name into rest said told cause says =
     let long = longer file_limit in
-    loads_first old mid mid name into loaded.TooLong rest said told cause
-    (λ e h. let p = showing_long _ e into h in rw p (ends mid (refused_said too_long_tail) said (λ e. cc) says))
-    (long.0, rw (long.1, empty) refl)
+    let faults : mid.faults ≡ old.faults = stands error.Failed old.faults mid.faults (Ok loaded.TooLong) cause (λ e. cc) in
+    let go : (e : List ℕ) → nat_lt file_limit (length e) ≡ true → Goes mid mid (with_found name (Some e) rest) said = λ e is. rw is (ends mid (refused_said too_long_tail) said (λ h. cc) says) in
+    loads_first old mid mid name rest said (load_answered _ _ _ _ _ loaded.TooLong told) faults
+    (λ t is.
+    let h : LoadTold (Some t) mid.told name file_limit into (Ok loaded.TooLong) = subst (λ (o : Option Told). LoadTold o mid.told name file_limit into (Ok loaded.TooLong)) is told in
+    found_goes old mid mid name rest said loaded.TooLong into (get t.files name) h.1 (λ e shown. go e (showing_long _ e into shown)))
+    long.0 (go long.0 long.1)
 
 -- a course of any outcome that begins with this load
 follows : (old new : Seen Told) (outcome : Finds → Outcome) (said : Said) → ((finds : Finds) → Goes old new (outcome finds) said) → Follows old new outcome said

@@ -12,3 +12,5 @@ pub mod Samples
 pub mod Listed
 pub mod ListRows
 pub mod ListSamples
+pub mod Stacks
+pub mod Addresses

@@ -5,8 +5,10 @@ use Rattle.std.specs.Fmt.{digits}
 use Rattle.bflt_format.specs.Numbers.{big_at}
 use Rattle.suite_top.specs.declared.header.Numbers.{Numbers}
 use Rattle.suite_top.specs.Header.{numbers_of}
-use Rattle.suite_top.specs.Texts.{convert_line}
-use Rattle.suite_top.specs.Words.{convert, command_of}
+use Rattle.elf2flt_tool.specs.declared.refusal.Refusal.TheVariants as refusal
+use Rattle.psabi_relocs.specs.declared.fault.RelocFault.TheVariants.{AbsoluteCode}
+use Rattle.suite_top.specs.Texts.{refusal_tail, convert_line, check_line}
+use Rattle.suite_top.specs.Words.{convert, check, command_of}
 
 -- the header of its flat file, and what that says
 abbrev header : List ℕ
@@ -25,11 +27,43 @@ unfolding digits
 line_is_told = refl
 
 -- the words of the command, and words that are none
-words_are_read : command_of (codes "convert" ∷ codes "a.elf" ∷ codes "a.flt" ∷ []) ≡ Some (convert (codes "a.elf") (codes "a.flt"))
+words_are_read : command_of (codes "convert" ∷ codes "a.elf" ∷ codes "a.flt" ∷ []) ≡ Some (convert (codes "a.elf") (codes "a.flt") 4096)
 words_are_read = refl
 
 one_word_less : command_of (codes "convert" ∷ codes "a.elf" ∷ []) ≡ None
 one_word_less = refl
 
-one_word_more : command_of (codes "convert" ∷ codes "a" ∷ codes "b" ∷ codes "--stack" ∷ codes "8" ∷ []) ≡ None
+one_word_more : command_of (codes "convert" ∷ codes "a" ∷ codes "b" ∷ codes "--stack" ∷ []) ≡ None
 one_word_more = refl
+
+stack_is_read : command_of (codes "convert" ∷ codes "a" ∷ codes "b" ∷ codes "--stack" ∷ codes "17" ∷ []) ≡ Some (convert (codes "a") (codes "b") 17)
+unfolding digits
+stack_is_read = refl
+
+small_stack : command_of (codes "convert" ∷ codes "a" ∷ codes "b" ∷ codes "--stack" ∷ codes "8" ∷ []) ≡ None
+unfolding digits
+small_stack = refl
+
+large_stack : command_of (codes "convert" ∷ codes "a" ∷ codes "b" ∷ codes "--stack" ∷ codes "1048577" ∷ []) ≡ None
+unfolding digits
+large_stack = refl
+
+zero_in_front : command_of (codes "convert" ∷ codes "a" ∷ codes "b" ∷ codes "--stack" ∷ codes "017" ∷ []) ≡ None
+unfolding digits
+zero_in_front = refl
+
+check_is_read : command_of (codes "check" ∷ codes "a.elf" ∷ []) ≡ Some (check (codes "a.elf"))
+check_is_read = refl
+
+-- the line of `check`, and the tails of refused relocations and words
+check_is_told : check_line numbers ≡ codes "accepted text 64 data 12 bss 0 records 1\n"
+unfolding digits
+check_is_told = refl
+
+entry_is_told : refusal_tail (refusal.Reloc 5 2 AbsoluteCode) ≡ codes "reloc section 5 entry 2 5 AbsoluteCode"
+unfolding digits
+entry_is_told = refl
+
+place_is_told : refusal_tail (refusal.TargetOutside 65544) ≡ codes "target 0x00010008"
+unfolding digits
+place_is_told = refl

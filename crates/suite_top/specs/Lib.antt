@@ -7,10 +7,12 @@
 -- Loading: a command that begins with the load of a file.
 -- Convert: the command `convert`.
 -- Listing: the command `list`.
+-- Checking: the command `check`.
 -- Result: what each command line gives.
 -- Answers: what an answer of the code says.
 -- Seen: what is known of the outside.
 -- Course: how far a host answered, and what is said then.
+-- Loads: what the load of a command's file leaves and answers.
 -- Delivery: how far the sinks took what is said.
 -- Call: what a call of the top call does.
 -- Rows: when each status comes, and what stands after it.
@@ -23,10 +25,12 @@ pub mod Words
 pub mod Loading
 pub mod Convert
 pub mod Listing
+pub mod Checking
 pub mod Result
 pub mod Answers
 pub mod Seen
 pub mod Course
+pub mod Loads
 pub mod Delivery
 pub mod Call
 pub mod Rows

@@ -1,5 +1,5 @@
 -- When each status comes, and what stands after it: laws over every call.
-use Rattle.std.specs.Prelude.{◌≡◌, ◌⊎◌, ◌++◌, ℕ, List, [], ◌∷◌, map, Some, None, option_map}
+use Rattle.std.specs.Prelude.{◌≡◌, ◌⊎◌, ◌++◌, ◌↔◌, ℕ, ◌≤◌, List, [], ◌∷◌, map, decimal, Some, None, option_map}
 use Rattle.std.specs.FinMap.{get, insert}
 use Rattle.host_io.specs.Faults.{Rose}
 use Rattle.host_io.specs.Host.{Told}
@@ -11,8 +11,7 @@ use Rattle.suite_top.specs.declared.status.Status.TheVariants.{Done, Usage, Host
 use Rattle.suite_top.specs.Outcome.{Said, Ask, load, store, Finds}
 use Rattle.suite_top.specs.Texts.{memory_line}
 use Rattle.suite_top.specs.Early.{cannot}
-use Rattle.suite_top.specs.Words.{convert, command_of}
-use Rattle.suite_top.specs.Convert.{stack}
+use Rattle.suite_top.specs.Words.{convert, list, check, least_stack, most_stack, stack_of, command_of}
 use Rattle.suite_top.specs.Result.{result_of}
 use Rattle.suite_top.specs.Course.{Goes, name_of, asked_in_vain, all_answered, finds_in}
 use Rattle.suite_top.specs.Delivery.{Took, Delivers}
@@ -87,18 +86,27 @@ abbrev pub UsageIsExact : Type 0
 UsageIsExact = (words : List (List ℕ)) (finds : Finds)
     → ((result_of words finds).said.status ≡ Usage → command_of words ≡ None) × (command_of words ≡ None → ((result_of words finds).said.status ≡ Usage) × ((result_of words finds).asks ≡ []))
 
+-- the words of `--stack` say a number exactly where they spell it and it is in the range
+abbrev pub StackIsSpelled : Type 0
+StackIsSpelled = (text : List ℕ) (n : ℕ) → (stack_of text ≡ Some n) ↔ ((text ≡ decimal n) × (least_stack ≤ n) × (n ≤ most_stack))
+
 -- words that are no command leave the host untouched
 abbrev pub NothingIsAsked : Type 0
 NothingIsAsked = (c : Call) → Stands c → command_of c.words ≡ None → (c.host_now.told ≡ c.host.told) × (c.host_now.faults ≡ c.host.faults)
 
+-- `list` and `check` ask for their one file, and store nothing
+abbrev pub OneLoadIsAsked : Type 0
+OneLoadIsAsked = (c : Call) (name : List ℕ) → (command_of c.words ≡ Some (list name)) ⊎ (command_of c.words ≡ Some (check name))
+    → (outcome_of c).asks ≡ load name ∷ []
+
 -- after `convert`, however it ends, the files are as before; or FLT is exactly the flat file of ELF, and its line is what the sinks are given
 abbrev pub OneFileChanges : Type 0
-OneFileChanges = (c : Call) (t t_now : Told) (elf flt : List ℕ) → Stands c → c.host.told ≡ Some t → c.host_now.told ≡ Some t_now → c.finds ≡ finds_in t.files → command_of c.words ≡ Some (convert elf flt)
+OneFileChanges = (c : Call) (t t_now : Told) (elf flt : List ℕ) (stack : ℕ) → Stands c → c.host.told ≡ Some t → c.host_now.told ≡ Some t_now → c.finds ≡ finds_in t.files → command_of c.words ≡ Some (convert elf flt stack)
     → (said : Said) × Delivers said c.out c.out_now c.report c.report_now c.status
     × ((t_now.files ≡ t.files)
     ⊎ ((e : List ℕ) × (get t.files elf ≡ Some e) × (fault e ≡ None) × (t_now.files ≡ insert t.files flt (flat e stack)) × (said ≡ (outcome_of c).said)))
 
 -- after any other words the files are as before
 abbrev pub OthersChangeNoFile : Type 0
-OthersChangeNoFile = (c : Call) (t t_now : Told) → Stands c → c.host.told ≡ Some t → c.host_now.told ≡ Some t_now → ((elf flt : List ℕ) → command_of c.words ≡ Some (convert elf flt) → ⊥)
+OthersChangeNoFile = (c : Call) (t t_now : Told) → Stands c → c.host.told ≡ Some t → c.host_now.told ≡ Some t_now → ((elf flt : List ℕ) (stack : ℕ) → command_of c.words ≡ Some (convert elf flt stack) → ⊥)
     → t_now.files ≡ t.files

@@ -1,12 +1,20 @@
 -- The texts that users see, each with its newline; those of `list` stand in Listing. Numbers are decimal.
-use Rattle.std.specs.Prelude.{ℕ, List, [], ◌∷◌, ◌++◌, codes, decimal}
+use Rattle.std.specs.Prelude.{ℕ, ◌-◌, false, List, [], ◌∷◌, ◌++◌, length, replicate, codes, decimal}
+use Rattle.std.specs.Fmt.{digits}
 use Rattle.elf32_reader.specs.declared.fault.ElfFault.{ElfFault}
 use Rattle.elf32_reader.specs.declared.fault.ElfFault.TheVariants as elf
 use Rattle.flat_layout.specs.declared.fault.LayoutFault.{LayoutFault}
 use Rattle.flat_layout.specs.declared.fault.LayoutFault.TheVariants as layout
+use Rattle.psabi_relocs.specs.declared.fault.RelocFault.{RelocFault}
+use Rattle.psabi_relocs.specs.declared.fault.RelocFault.TheVariants as reloc
 use Rattle.elf2flt_tool.specs.declared.refusal.Refusal.{Refusal}
 use Rattle.elf2flt_tool.specs.declared.refusal.Refusal.TheVariants as refusal
 use Rattle.suite_top.specs.declared.header.Numbers.{Numbers}
+
+-- the pieces, one behind the other
+abbrev pub joined : List (List ℕ) → List ℕ
+joined [] = []
+joined (piece ∷ pieces) = piece ++ joined pieces
 
 abbrev pub usage_line : List ℕ
 usage_line = codes "usage: flatc COMMAND WORDS\n"
@@ -47,21 +55,39 @@ layout_fault_words layout.Dynamic = codes "4 Dynamic"
 layout_fault_words layout.Tls = codes "5 Tls"
 layout_fault_words layout.EntryOutside = codes "6 EntryOutside"
 
+-- a fault of a kept relocation
+abbrev pub reloc_fault_words : RelocFault → List ℕ
+reloc_fault_words reloc.UnknownType = codes "1 UnknownType"
+reloc_fault_words reloc.BadSymbol = codes "2 BadSymbol"
+reloc_fault_words reloc.Undefined = codes "3 Undefined"
+reloc_fault_words reloc.PlaceOutside = codes "4 PlaceOutside"
+reloc_fault_words reloc.AbsoluteCode = codes "5 AbsoluteCode"
+reloc_fault_words reloc.WeakPcrel = codes "6 WeakPcrel"
+reloc_fault_words reloc.AbsPcrel = codes "7 AbsPcrel"
+reloc_fault_words reloc.LoneLow = codes "8 LoneLow"
+reloc_fault_words reloc.Unpaired = codes "9 Unpaired"
+reloc_fault_words reloc.FieldMismatch = codes "10 FieldMismatch"
+
+-- an address: lower case hexadecimal digits, with zeros in front up to eight of them
+abbrev pub address_words : ℕ → List ℕ
+address_words n = codes "0x" ++ replicate (8 - length (digits 16 false n)) 48 ++ digits 16 false n
+
+-- a fault of entry `index` of the relocation section `section`
+abbrev pub reloc_tail : (section index : ℕ) → RelocFault → List ℕ
+reloc_tail section index fault = joined (codes "reloc section " ∷ decimal section ∷ codes " entry " ∷ decimal index ∷ codes " " ∷ reloc_fault_words fault ∷ [])
+
 -- what stands behind `refused:`; want of memory is no fault of a file, and has no such line
 abbrev pub refusal_tail : Refusal → List ℕ
 refusal_tail (refusal.Elf fault) = codes "elf " ++ elf_fault_words fault
 refusal_tail (refusal.Layout fault) = codes "layout " ++ layout_fault_words fault
-refusal_tail refusal.Form = codes "form"
+refusal_tail (refusal.Reloc section index fault) = reloc_tail section index fault
+refusal_tail (refusal.TargetOutside place) = codes "target " ++ address_words place
+refusal_tail (refusal.WordOverlap place) = codes "overlap " ++ address_words place
 refusal_tail refusal.Memory = []
 
 -- of a file longer than the limit of its load
 abbrev pub too_long_tail : List ℕ
 too_long_tail = codes "too long"
-
--- the pieces, one behind the other
-abbrev pub joined : List (List ℕ) → List ℕ
-joined [] = []
-joined (piece ∷ pieces) = piece ++ joined pieces
 
 -- the sizes of a flat file with these numbers
 abbrev pub sizes_words : Numbers → List ℕ
@@ -75,3 +101,6 @@ convert_line n = joined
     ∷ codes " entry " ∷ decimal n.entry
     ∷ codes "\n"
     ∷ [])
+
+abbrev pub check_line : Numbers → List ℕ
+check_line n = joined (codes "accepted " ∷ sizes_words n ∷ codes " records " ∷ decimal n.records ∷ codes "\n" ∷ [])

@@ -1,20 +1,58 @@
 -- The table of commands. The words are those after the program's name; a name is any text.
-use Rattle.std.specs.Prelude.{ℕ, List, [], ◌∷◌, codes, bytes_eq, Option, Some, None, if◌then◌else◌}
+use Rattle.std.specs.Prelude.{ℕ, Bool, ◌&&◌, nat_le, List, [], ◌∷◌, codes, slice_index, bytes_eq, decimal, Option, Some, None, option_map, if◌then◌else◌}
+use Rattle.std.specs.Int.{IsInRange}
+use Rattle.std.specs.Str.Parse.{digits_value}
 use Rattle.suite_top.specs.declared.words.Command.{Command}
 use Rattle.suite_top.specs.declared.words.Command.TheVariants as command
 
 -- a command with its words
 pub data Spoken : Type 0 where
-  convert : (elf flt : List ℕ) → Spoken
+  convert : (elf flt : List ℕ) (stack : ℕ) → Spoken
   list : (flt : List ℕ) → Spoken
+  check : (elf : List ℕ) → Spoken
 
--- `convert ELF FLT` and `list FLT`; any other words are no command
+-- the bytes of stack that a program gets where no words say it
+abbrev pub default_stack : ℕ
+default_stack = 4096
+
+-- the fewest and the most bytes of stack that words may say
+abbrev pub least_stack : ℕ
+least_stack = 16
+
+abbrev pub most_stack : ℕ
+most_stack = 1048576
+
+abbrev pub is_stack : ℕ → Bool
+is_stack n = nat_le least_stack n && nat_le n most_stack
+
+-- the text is the decimal spelling of n: its digits, without a sign and without a zero in front
+abbrev pub is_spelling : List ℕ → ℕ → Bool
+is_spelling text n = bytes_eq text (decimal n)
+
+abbrev pub spelled_stack : List ℕ → ℕ → Option ℕ
+spelled_stack text n = if is_spelling text n && is_stack n then Some n else None
+
+-- the stack that a text spells: no number but that of its digits can be spelled so
+abbrev pub stack_of : List ℕ → Option ℕ
+stack_of text = spelled_stack text (digits_value 10 text)
+
+-- the first byte is a digit from 1 to 9
+abbrev pub StartsWell : List ℕ → Type 0
+StartsWell text = IsInRange 49 57 (slice_index text 0)
+
+-- `convert ELF FLT`, `convert ELF FLT --stack N`, `list FLT` and `check ELF`; any other words are no command
 abbrev pub command_of : List (List ℕ) → Option Spoken
-command_of (word ∷ elf ∷ flt ∷ []) = if bytes_eq word (codes "convert") then Some (convert elf flt) else None
-command_of (word ∷ flt ∷ []) = if bytes_eq word (codes "list") then Some (list flt) else None
+command_of (word ∷ elf ∷ flt ∷ option ∷ number ∷ []) =
+    if bytes_eq word (codes "convert") && bytes_eq option (codes "--stack") then option_map (convert elf flt) (stack_of number) else None
+command_of (word ∷ elf ∷ flt ∷ []) = if bytes_eq word (codes "convert") then Some (convert elf flt default_stack) else None
+command_of (word ∷ name ∷ []) =
+    if bytes_eq word (codes "list") then Some (list name)
+    else if bytes_eq word (codes "check") then Some (check name)
+    else None
 command_of _ = None
 
 -- the command that the program read
 abbrev pub spoken : Command → Spoken
-spoken (command.Convert elf flt) = convert elf.now flt.now
+spoken (command.Convert elf flt stack) = convert elf.now flt.now stack
 spoken (command.List flt) = list flt.now
+spoken (command.Check elf) = check elf.now

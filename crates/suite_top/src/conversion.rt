@@ -1,43 +1,37 @@
-//! The command `convert ELF FLT`.
+//! The command `convert ELF FLT [--stack N]`.
 ghost use Rattle.std.specs.Prelude.{◌≡◌, ◌≤◌, length};
+ghost use Rattle.suite_top.specs.Texts.{refusal_tail};
+ghost use Rattle.suite_top.specs.Early.{memory_said, refused_said, OrMemory};
 ghost use Rattle.suite_top.specs.Seen.{seen};
 ghost use Rattle.suite_top.specs.Answers.{said_of};
+ghost use Rattle.suite_top.specs.Words.{least_stack, most_stack};
 ghost use Rattle.suite_top.specs.Convert.{stored_outcome, converted_outcome, convert_outcome};
 ghost use Rattle.suite_top.specs.Course.{Goes, Follows};
 
 use crate::answer::Answer;
 use crate::header::read_numbers;
+use crate::loading::{Loading, load_file};
 use crate::status::Status;
 use crate::texts;
-use elf2flt_tool::convert;
-use host_io::{Host, HostError, Loaded};
+use elf2flt_tool::{Refusal, convert};
+use host_io::{Host, HostError};
 use std::alloc::{AllocError, Global};
-
-/// The longest file that is loaded.
-pub const FILE_LIMIT: u32 = 67_108_864;
-
-/// The bytes of stack that a program gets.
-const STACK: u32 = 4096;
 
 /// Loads the ELF file, converts it and stores its flat file.
 pub fn convert_file<H: Host>(
     alloc: Global,
     elf: &str,
     flt: &str,
+    stack: u32,
     host: &mut H,
 ) -> Result<Answer, AllocError>
-    ensures { Follows (seen H.told H.faults host.old) (seen H.told H.faults host.new) (convert_outcome elf.now flt.now) (said_of result) }
+    requires some_stack { least_stack ≤ stack }
+    requires stack_limit { stack ≤ most_stack }
+    ensures { Follows (seen H.told H.faults host.old) (seen H.told H.faults host.new) (convert_outcome elf.now flt.now stack) (said_of result) }
 {
-    let mut bytes = Vec::new(alloc);
-    match host.load(alloc, elf, FILE_LIMIT, &mut bytes) {
-        Ok(Loaded::All) => convert_bytes(alloc, &bytes, flt, host),
-        Ok(Loaded::TooLong) => {
-            Answer::early(alloc, Status::Refused, texts::refused(alloc, "too long"))
-        }
-        Err(HostError::Failed) => {
-            Answer::early(alloc, Status::HostRead, texts::cannot_read(alloc, elf))
-        }
-        Err(HostError::Memory) => Err(AllocError),
+    match load_file(alloc, elf, host) {
+        Loading::All(bytes) => convert_bytes(alloc, &bytes, flt, stack, host),
+        Loading::Ends(ends) => ends,
     }
 }
 
@@ -45,16 +39,16 @@ fn convert_bytes<H: Host>(
     alloc: Global,
     bytes: &[u8],
     flt: &str,
+    stack: u32,
     host: &mut H,
 ) -> Result<Answer, AllocError>
-    ensures { Goes (seen H.told H.faults host.old) (seen H.told H.faults host.new) (converted_outcome flt.now bytes.now) (said_of result) }
+    requires some_stack { least_stack ≤ stack }
+    requires stack_limit { stack ≤ most_stack }
+    ensures { Goes (seen H.told H.faults host.old) (seen H.told H.faults host.new) (converted_outcome flt.now stack bytes.now) (said_of result) }
 {
-    match convert(alloc, bytes, STACK) {
+    match convert(alloc, bytes, stack) {
         Ok(flat) => store_flat(alloc, flt, &flat, host),
-        Err(refusal) => {
-            let line = texts::refused_conversion(alloc, &refusal);
-            Answer::early(alloc, Status::Refused, line)
-        }
+        Err(refusal) => refuse(alloc, &refusal),
     }
 }
 
@@ -75,4 +69,13 @@ fn store_flat<H: Host>(
         }
         Err(HostError::Memory) => Err(AllocError),
     }
+}
+
+/// The answer for an ELF file that isn't converted.
+pub fn refuse(alloc: Global, refusal: &Refusal) -> Result<Answer, AllocError>
+    ensures said { OrMemory (refused_said (refusal_tail refusal.now)) (said_of result) }
+    ensures memory { refusal.now ≡ Refusal.Memory → said_of result ≡ memory_said }
+{
+    let line = texts::refused_conversion(alloc, refusal);
+    Answer::early(alloc, Status::Refused, line)
 }

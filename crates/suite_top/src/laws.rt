@@ -1,11 +1,12 @@
 //! Laws over every call of `suite`, by what its clause says. No code runs.
-ghost use Rattle.suite_top.specs.Rows.{AnswersAreWhole, Completes, ReadsFail, WritesFail, SinksFail, MemoryIsTold, NamesAreAFront, UsageIsExact, NothingIsAsked, OneFileChanges, OthersChangeNoFile};
+ghost use Rattle.suite_top.specs.Rows.{AnswersAreWhole, Completes, ReadsFail, WritesFail, SinksFail, MemoryIsTold, NamesAreAFront, UsageIsExact, StackIsSpelled, NothingIsAsked, OneLoadIsAsked, OneFileChanges, OthersChangeNoFile};
 
 /// When each status comes.
 pub fn status_law()
     ensures answers { AnswersAreWhole }
     ensures complete { Completes }
     ensures usage { UsageIsExact }
+    ensures stack { StackIsSpelled }
     ensures host_read { ReadsFail }
     ensures host_write { WritesFail }
     ensures sink_write { SinksFail }
@@ -16,6 +17,7 @@ pub fn status_law()
 pub fn host_law()
     ensures names { NamesAreAFront }
     ensures untouched { NothingIsAsked }
+    ensures one_load { OneLoadIsAsked }
     ensures files { OneFileChanges }
     ensures others { OthersChangeNoFile }
 {}

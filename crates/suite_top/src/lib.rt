@@ -5,11 +5,13 @@
 #![tactic(auto)]
 
 mod answer;
+mod checking;
 mod conversion;
 mod delivery;
 mod header;
 mod laws;
 mod listing;
+mod loading;
 mod status;
 mod texts;
 mod top;

@@ -8,28 +8,20 @@ ghost use Rattle.suite_top.specs.Listing.{part_lines, header_lines, record_line,
 ghost use Rattle.suite_top.specs.Course.{Follows};
 
 use crate::answer::Answer;
-use crate::conversion::FILE_LIMIT;
 use crate::header::word;
+use crate::loading::{Loading, load_file};
 use crate::status::Status;
-use crate::texts;
 use bflt_format::{Flat, FlatFault};
-use host_io::{Host, HostError, Loaded};
+use host_io::Host;
 use std::alloc::{AllocError, Global};
 
 /// Loads the flat file and lists what it says.
 pub fn list_file<H: Host>(alloc: Global, flt: &str, host: &mut H) -> Result<Answer, AllocError>
     ensures { Follows (seen H.told H.faults host.old) (seen H.told H.faults host.new) (list_outcome flt.now) (said_of result) }
 {
-    let mut bytes = Vec::new(alloc);
-    match host.load(alloc, flt, FILE_LIMIT, &mut bytes) {
-        Ok(Loaded::All) => list_bytes(alloc, &bytes),
-        Ok(Loaded::TooLong) => {
-            Answer::early(alloc, Status::Refused, texts::refused(alloc, "too long"))
-        }
-        Err(HostError::Failed) => {
-            Answer::early(alloc, Status::HostRead, texts::cannot_read(alloc, flt))
-        }
-        Err(HostError::Memory) => Err(AllocError),
+    match load_file(alloc, flt, host) {
+        Loading::All(bytes) => list_bytes(alloc, &bytes),
+        Loading::Ends(ends) => ends,
     }
 }
 

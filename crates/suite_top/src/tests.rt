@@ -5,7 +5,10 @@ use host_io::{Host, HostError, Loaded, MemHost, MemSink};
 use std::alloc::{AllocError, Global};
 use std::test::Fail;
 
+mod check;
 mod list;
+mod stack;
+mod tails;
 
 /// An ELF file: .text at 0x10000 with two instructions, .data at 0x10008 with the word 0x00010000, which
 /// one R_RISCV_32 relocation fills, and the entry 0x10000.
@@ -260,12 +263,21 @@ fn limit_is_exact(rt: HostRuntime) -> Result<(), Fail> {
 
 #[test]
 fn other_words_are_no_command(rt: HostRuntime) -> Result<(), Fail> {
-    let faulty: [&[&str]; 8] = [
+    let faulty: [&[&str]; 15] = [
         &[],
         &["run"],
         &["run", "m", "--go-on", "--log"],
         &["demo", "0"],
         &["convert", "a", "b", "--stack", "8"],
+        &["convert", "a.elf", "a.flt", "--stack"],
+        &["convert", "--stack", "17", "a.elf", "a.flt"],
+        &["convert", "a.elf", "a.flt", "--Stack", "17"],
+        &[
+            "convert", "a.elf", "a.flt", "--stack", "17", "--stack", "17",
+        ],
+        &["check"],
+        &["check", "a.elf", "a.flt"],
+        &["check", "a.elf", "a.flt", "--stack", "17"],
         &["convert", "a.elf"],
         &["Convert", "a.elf", "a.flt"],
         &["--help"],

@@ -1,11 +1,12 @@
 //! The texts that users see, but for those of `list`.
 ghost use Rattle.std.specs.Prelude.{◌≡◌, IfOk, IsErr, string_bytes};
-ghost use Rattle.suite_top.specs.Texts.{usage_line, cannot_read_line, cannot_write_line, refused_line, elf_fault_words, layout_fault_words, refusal_tail, sizes_words, convert_line};
+ghost use Rattle.suite_top.specs.Texts.{usage_line, cannot_read_line, cannot_write_line, refused_line, elf_fault_words, layout_fault_words, reloc_fault_words, address_words, reloc_tail, refusal_tail, sizes_words, convert_line, check_line};
 
 use crate::header::Numbers;
 use elf2flt_tool::Refusal;
 use elf32_reader::ElfFault;
 use flat_layout::LayoutFault;
+use psabi_relocs::RelocFault;
 use std::alloc::{AllocError, Global};
 
 /// The line of a call for which memory is missing. It is at hand without memory.
@@ -71,6 +72,41 @@ fn layout_fault_words(fault: LayoutFault) -> &'static str
     }
 }
 
+fn reloc_fault_words(fault: RelocFault) -> &'static str
+    ensures { result.now ≡ reloc_fault_words fault }
+{
+    match fault {
+        RelocFault::UnknownType => "1 UnknownType",
+        RelocFault::BadSymbol => "2 BadSymbol",
+        RelocFault::Undefined => "3 Undefined",
+        RelocFault::PlaceOutside => "4 PlaceOutside",
+        RelocFault::AbsoluteCode => "5 AbsoluteCode",
+        RelocFault::WeakPcrel => "6 WeakPcrel",
+        RelocFault::AbsPcrel => "7 AbsPcrel",
+        RelocFault::LoneLow => "8 LoneLow",
+        RelocFault::Unpaired => "9 Unpaired",
+        RelocFault::FieldMismatch => "10 FieldMismatch",
+    }
+}
+
+fn reloc_tail(
+    alloc: Global,
+    section: u32,
+    index: u32,
+    fault: RelocFault,
+) -> Result<String, AllocError>
+    ensures { IfOk result (λ tail. string_bytes tail ≡ reloc_tail section index fault) }
+{
+    let words = reloc_fault_words(fault);
+    format!(in alloc; "reloc section {section} entry {index} {words}")
+}
+
+fn address_words(alloc: Global, address: u32) -> Result<String, AllocError>
+    ensures { IfOk result (λ words. string_bytes words ≡ address_words address) }
+{
+    format!(in alloc; "0x{address:08x}")
+}
+
 /// The line for an ELF file that isn't converted. Want of memory has no such line.
 pub fn refused_conversion(alloc: Global, refusal: &Refusal) -> Result<String, AllocError>
     ensures line { IfOk result (λ line. string_bytes line ≡ refused_line (refusal_tail refusal.now)) }
@@ -85,7 +121,22 @@ pub fn refused_conversion(alloc: Global, refusal: &Refusal) -> Result<String, Al
             let words = layout_fault_words(*fault);
             format!(in alloc; "refused: layout {words}\n")
         }
-        Refusal::Form => refused(alloc, "form"),
+        Refusal::Reloc {
+            section,
+            index,
+            fault,
+        } => {
+            let tail = reloc_tail(alloc, *section, *index, *fault)?;
+            refused(alloc, &tail)
+        }
+        Refusal::TargetOutside { place } => {
+            let address = address_words(alloc, *place)?;
+            format!(in alloc; "refused: target {address}\n")
+        }
+        Refusal::WordOverlap { place } => {
+            let address = address_words(alloc, *place)?;
+            format!(in alloc; "refused: overlap {address}\n")
+        }
         Refusal::Memory => Err(AllocError),
     }
 }
@@ -115,4 +166,13 @@ pub fn convert_line(alloc: Global, numbers: &Numbers) -> Result<String, AllocErr
         ..
     } = *numbers;
     format!(in alloc; "{sizes} stack {stack} records {records} entry {entry}\n")
+}
+
+/// The line of a file that could be converted.
+pub fn check_line(alloc: Global, numbers: &Numbers) -> Result<String, AllocError>
+    ensures { IfOk result (λ line. string_bytes line ≡ check_line numbers.now) }
+{
+    let sizes = sizes_words(alloc, numbers)?;
+    let records = numbers.records;
+    format!(in alloc; "accepted {sizes} records {records}\n")
 }

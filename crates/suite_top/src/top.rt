@@ -8,6 +8,7 @@ ghost use Rattle.suite_top.specs.Course.{Follows};
 ghost use Rattle.suite_top.specs.Call.{CarriesOut};
 
 use crate::answer::Answer;
+use crate::checking::check_file;
 use crate::conversion::convert_file;
 use crate::delivery::deliver;
 use crate::listing::list_file;
@@ -21,8 +22,9 @@ fn answer<H: Host>(alloc: Global, words: &[String], host: &mut H) -> Result<Answ
     ensures { Follows (seen H.told H.faults host.old) (seen H.told H.faults host.new) (result_of (map string_bytes words.now)) (said_of result) }
 {
     match read_words(words) {
-        Some(Command::Convert { elf, flt }) => convert_file(alloc, elf, flt, host),
+        Some(Command::Convert { elf, flt, stack }) => convert_file(alloc, elf, flt, stack, host),
         Some(Command::List { flt }) => list_file(alloc, flt, host),
+        Some(Command::Check { elf }) => check_file(alloc, elf, host),
         None => Answer::early(alloc, Status::Usage, texts::usage(alloc)),
     }
 }

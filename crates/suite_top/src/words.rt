@@ -1,14 +1,62 @@
 //! The table of commands.
-ghost use Rattle.std.specs.Prelude.{◌≡◌, map, option_map, string_bytes};
-ghost use Rattle.suite_top.specs.Words.{command_of, spoken};
+ghost use Rattle.std.specs.Prelude.{◌≡◌, ◌↔◌, IsTrue, map, option_map, string_bytes};
+ghost use Rattle.suite_top.specs.Words.{is_stack, StartsWell, stack_of, command_of, spoken};
+
+/// The bytes of stack that a program gets where no words say it.
+pub const DEFAULT_STACK: u32 = 4096;
+
+/// The fewest bytes of stack that words may say.
+const LEAST_STACK: u32 = 16;
+
+/// The most.
+const MOST_STACK: u32 = 1_048_576;
 
 /// A command with its words.
 #[derive(Clone, Copy, Debug, PartialEq, Eq)]
 pub enum Command<'a> {
-    /// `convert ELF FLT`.
-    Convert { elf: &'a str, flt: &'a str },
+    /// `convert ELF FLT`, and with `--stack N` another stack than the default one.
+    Convert {
+        elf: &'a str,
+        flt: &'a str,
+        stack: u32,
+    },
     /// `list FLT`.
-    List { flt: &'a str },
+    List {
+        flt: &'a str,
+    },
+    /// `check ELF`.
+    Check {
+        elf: &'a str,
+    },
+}
+
+/// Whether words may say so many bytes of stack.
+fn is_stack(bytes: u32) -> bool
+    ensures { result ≡ is_stack bytes }
+{
+    (LEAST_STACK..=MOST_STACK).contains(&bytes)
+}
+
+/// Whether a text starts with a digit other than 0.
+fn starts_well(text: &str) -> bool
+    ensures { IsTrue result ↔ StartsWell text.now }
+{
+    matches!(text.as_bytes(), [b'1'..=b'9', ..])
+}
+
+/// The stack that a text spells, if it is one that words may say. `parse` alone would take a sign
+/// and zeros in front.
+fn read_stack(text: &str) -> Option<u32>
+    ensures { result ≡ stack_of text.now }
+{
+    if !starts_well(text) {
+        return None;
+    }
+    match text.parse() {
+        Ok(stack) if is_stack(stack) => Some(stack),
+        Ok(_) => None,
+        Err(_) => None,
+    }
 }
 
 /// The command that these words are, or none. The words are those after the program's name.
@@ -16,11 +64,18 @@ pub fn read_words(words: &[String]) -> Option<Command<'_>>
     ensures { option_map spoken result ≡ command_of (map string_bytes words.now) }
 {
     match words {
+        [word, elf, flt, option, number]
+            if word.as_str() == "convert" && option.as_str() == "--stack" => {
+            let stack = read_stack(number)?;
+            Some(Command::Convert { elf, flt, stack })
+        }
         [word, elf, flt] if word.as_str() == "convert" => Some(Command::Convert {
-            elf: elf.as_str(),
-            flt: flt.as_str(),
+            elf,
+            flt,
+            stack: DEFAULT_STACK,
         }),
-        [word, flt] if word.as_str() == "list" => Some(Command::List { flt: flt.as_str() }),
+        [word, flt] if word.as_str() == "list" => Some(Command::List { flt }),
+        [word, elf] if word.as_str() == "check" => Some(Command::Check { elf }),
         _ => None,
     }
 }

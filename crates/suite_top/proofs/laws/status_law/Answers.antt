@@ -1,5 +1,6 @@
 -- Each law by its proof over plain values.
 use Rattle.suite_top.proofs.Inputs.{usage_is_exact}
+use Rattle.suite_top.proofs.Stacks.{stack_is_spelled}
 use Rattle.suite_top.proofs.StatusRows.{answers_are_whole, completes, reads_fail, writes_fail, sinks_fail, memory_is_told}
 use Rattle.suite_top.proofs.laws.status_law.Goals as goal
 
@@ -8,6 +9,7 @@ returns c = record {
   answers = answers_are_whole;
   complete = completes;
   usage = usage_is_exact;
+  stack = stack_is_spelled;
   host_read = reads_fail;
   host_write = writes_fail;
   sink_write = sinks_fail;
