@@ -13,12 +13,12 @@ use Rattle.psabi_relocs.specs.Effect.{effect, spans}
 use Rattle.psabi_relocs.specs.Fault.{reloc_fault}
 use Rattle.elf2flt_tool.specs.declared.found.Found.{Found}
 use Rattle.elf2flt_tool.specs.declared.refusal.Refusal.TheVariants as refusals
-use Rattle.elf2flt_tool.specs.Marks.{IsMarked, recorded_of}
+use Rattle.elf2flt_tool.specs.Marks.{IsWord, IsInside, IsMarked, recorded_of}
 use Rattle.elf2flt_tool.specs.Walk.{effect_words}
 use Rattle.elf2flt_tool.specs.Fault.{first_some, entry_fault, section_fault, relocs_fault}
 use Rattle.elf2flt_tool.proofs.Laid.{is_laid}
-use Rattle.elf2flt_tool.proofs.Marked.{IsWord, entry_words}
-use Rattle.elf2flt_tool.proofs.Shapes.{IsInside, spans_entry, spans_inside, effect_is}
+use Rattle.elf2flt_tool.proofs.Marked.{entry_words}
+use Rattle.elf2flt_tool.proofs.Shapes.{spans_entry, spans_inside, effect_is}
 use Rattle.elf2flt_tool.proofs.Walked.{IsAdded}
 
 -- ---- faults

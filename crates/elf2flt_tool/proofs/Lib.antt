@@ -1,3 +1,9 @@
+-- Members, Laid, Bare, Putting, Raised, Sound, Held, Stills, Recorded, Apart, Listed, Spelled, ImageLaw: the laws over definitions.
+-- Samples: the worked examples, computed.
+-- Lowest, Marked: the least word that meets another relocation, by the marks.
+-- Shapes, Walked, Entries: what the walk over the relocations finds.
+-- Painted, Ascending, Assembled: the parts of the flat file.
+-- Faults: when each fault comes.
 pub mod Members
 pub mod Laid
 pub mod Bare
@@ -14,10 +20,10 @@ pub mod ImageLaw
 pub mod Samples
 pub mod Lowest
 pub mod Marked
+pub mod Shapes
+pub mod Walked
+pub mod Entries
 pub mod Painted
 pub mod Ascending
-pub mod Walked
-pub mod Shapes
-pub mod Entries
-pub mod Faults
 pub mod Assembled
+pub mod Faults

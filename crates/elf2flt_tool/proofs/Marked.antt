@@ -15,7 +15,8 @@ use Rattle.psabi_relocs.specs.declared.spans.Span.{Span}
 use Rattle.elf2flt_tool.specs.Word.{meets, others, recorded_places, met_words}
 use Rattle.elf2flt_tool.specs.declared.marks.Marks.{Marks}
 use Rattle.elf2flt_tool.specs.declared.overlap.Recorded.{Recorded}
-use Rattle.elf2flt_tool.specs.Marks.{covers, begins, IsMarked, own_cover, is_shared, begins_near, is_met, recorded_of}
+use Rattle.elf2flt_tool.specs.Marks.{IsWord, covers, begins, IsMarked, own_cover, is_shared, begins_near, is_met, recorded_of}
+use Rattle.elf2flt_tool.proofs.Members.{each-append}
 
 -- tests of lists
 
@@ -95,10 +96,6 @@ span_meets_at : (p q n : ℕ) (b : Bool) → (b ≡ true → n ≡ 4)
 span_meets_at p q n true word = rw (word refl) (near p q)
 span_meets_at p q n false word = over p q n ∙ or_none _ (nat_le 1 p) (nat_le 2 p) (nat_le 3 p)
 
--- a recorded span is a word
-abbrev pub IsWord : Span → Type 0
-IsWord s = s.recorded ≡ true → s.len ≡ 4
-
 span_meets : (l : Layout) (p : ℕ) (s : Span) → IsWord s → meets l p s ≡ met_by l p s
 span_meets l p s word = span_meets_at p (off l s.place) s.len s.recorded word
 
@@ -161,10 +158,6 @@ any_split f all rest own is none =
     ∙ sym (ap (list_any f) is.rest_is ∙ list_any-append f is.before is.behind)
 
 -- what holds of each, in parts of a list
-
-each-append : {X : Type 0} (P : X → Type 0) (xs ys : List X) → Each P xs → Each P ys → Each P (xs ++ ys)
-each-append P [] ys a b = b
-each-append P (x ∷ xs) ys a b = (a.0, each-append P xs ys a.1 b)
 
 each_parts : {X : Type 0} (P : X → Type 0) (xs ys : List X) → Each P (xs ++ ys) → Each P xs × Each P ys
 each_parts P [] ys all = (tt, all)

@@ -29,7 +29,7 @@ use Rattle.psabi_relocs.specs.Fault.{is_slot_outside, is_place_outside, reloc_fa
 use Rattle.elf2flt_tool.specs.Relocs.{spans_in, spans_of}
 use Rattle.elf2flt_tool.specs.Image.{pointers}
 use Rattle.elf2flt_tool.specs.Word.{numbered}
-use Rattle.elf2flt_tool.specs.Marks.{recorded_of}
+use Rattle.elf2flt_tool.specs.Marks.{IsInside, recorded_of}
 use Rattle.elf2flt_tool.specs.Walk.{effect_words}
 use Rattle.elf2flt_tool.specs.Fault.{relocs_fault}
 use Rattle.elf2flt_tool.proofs.Members.{each-append, each-flat_map, each-map, each-range}
@@ -144,10 +144,6 @@ effect_is e l i j start =
     ∙ ap (λ x. effect_words l (if is_moving r.class then x else Still)) (sym (moving_is_by r.row e i r)))
 
 -- ---- where the spans stand
-
--- a span's bytes are among the first n of the image
-abbrev pub IsInside : Layout → ℕ → Span → Type 0
-IsInside l n s = 0 < s.len → off l s.place + s.len ≤ n
 
 bytes_inside : (e : List ℕ) (k a n : ℕ) → IsLaid e → k < count_of e → is_allocated (section e k) ≡ true → holds (section e k) a n ≡ true → 0 < n → off (layout e) a + n ≤ stored_end e
 bytes_inside e k a n laid below allocated held some =

@@ -1,11 +1,25 @@
 -- What the test for overlaps keeps of the spans of relocations, by numbers of the image.
-use Rattle.std.specs.Prelude.{◌≡◌, ℕ, ◌+◌, ◌-◌, Bool, false, not, ◌&&◌, ◌||◌, nat_lt, nat_le, ◌==◌, min, List, [], ◌∷◌, count_by, slice_index, length, Option, Some, None, if◌then◌else◌}
+use Rattle.std.specs.Prelude.{◌≡◌, ℕ, ◌+◌, ◌-◌, ◌<◌, ◌≤◌, Bool, true, false, not, ◌&&◌, ◌||◌, nat_lt, nat_le, ◌==◌, min, List, [], ◌∷◌, count_by, slice_index, length, Option, Some, None, if◌then◌else◌}
+use Rattle.std.specs.Option.{option_to_list}
 use Rattle.std.specs.List.{list_any, range_with_len, slice_index_or}
 use Rattle.flat_layout.specs.declared.layout.Layout.{Layout}
 use Rattle.flat_layout.specs.Layout.{off}
 use Rattle.psabi_relocs.specs.declared.spans.Span.{Span}
+use Rattle.psabi_relocs.specs.declared.spans.Spans.{Spans}
 use Rattle.elf2flt_tool.specs.declared.marks.Marks.{Marks}
 use Rattle.elf2flt_tool.specs.declared.overlap.Recorded.{Recorded}
+
+-- the bytes of one relocation
+abbrev pub listed : Spans → List Span
+listed s = s.own ∷ option_to_list s.slot
+
+-- a recorded span is a word
+abbrev pub IsWord : Span → Type 0
+IsWord s = s.recorded ≡ true → s.len ≡ 4
+
+-- the span's bytes are among the first n of the image
+abbrev pub IsInside : Layout → ℕ → Span → Type 0
+IsInside l n s = 0 < s.len → off l s.place + s.len ≤ n
 
 -- the span isn't recorded, and byte b is one of its bytes
 abbrev pub covers : Layout → ℕ → Span → Bool

@@ -7,7 +7,7 @@ ghost use Rattle.elf32_reader.specs.Relas.{is_kept, rela_count};
 ghost use Rattle.flat_layout.specs.Fault.{layout_fault};
 ghost use Rattle.flat_layout.specs.Layout.{layout as layout_of};
 ghost use Rattle.psabi_relocs.specs.Index.{IsPairs};
-ghost use Rattle.elf2flt_tool.specs.Fault.{first_some, entry_fault, section_fault, relocs_fault};
+ghost use Rattle.elf2flt_tool.specs.Fault.{entry_fault, section_fault, relocs_fault};
 ghost use Rattle.elf2flt_tool.specs.Walk.{IsFound};
 
 use crate::found::Found;

@@ -1,10 +1,9 @@
 //! What a walk over the kept relocations finds.
 
-ghost use Rattle.std.specs.Prelude.{◌≡◌, ℕ, ◌+◌, ◌<◌, ◌≤◌, true, List, [], ◌∷◌, ◌++◌, length, IfOk, OnOk};
+ghost use Rattle.std.specs.Prelude.{◌≡◌, ℕ, List, [], ◌++◌, length, IfOk, OnOk};
 ghost use Rattle.std.specs.List.{AllByRecursion};
 ghost use Rattle.std.specs.Option.{option_to_list};
-ghost use Rattle.flat_layout.specs.Layout.{off};
-ghost use Rattle.elf2flt_tool.specs.Marks.{IsMarked, recorded_of};
+ghost use Rattle.elf2flt_tool.specs.Marks.{listed, IsInside, IsWord, IsMarked, recorded_of};
 ghost use Rattle.elf2flt_tool.specs.Walk.{effect_words};
 
 use crate::marks::Marks;
@@ -41,7 +40,7 @@ fn note_word(words: &mut Vec<Word>, layout: &Layout, effect: &Effect) -> Result<
 
 /// The recorded word among the bytes of a relocation.
 fn recorded_of(layout: &Layout, spans: &Spans) -> Option<Recorded>
-    ensures { option_to_list result ≡ recorded_of layout.now (spans.now.own ∷ option_to_list spans.now.slot) }
+    ensures { option_to_list result ≡ recorded_of layout.now (listed spans.now) }
 {
     let own = spans.own;
     match spans.slot {
@@ -62,7 +61,7 @@ fn note_record(
     layout: &Layout,
     spans: &Spans,
 ) -> Result<(), AllocError>
-    ensures { OnOk result (records.new.items ≡ records.old.items ++ recorded_of layout.now (spans.now.own ∷ option_to_list spans.now.slot)) }
+    ensures { OnOk result (records.new.items ≡ records.old.items ++ recorded_of layout.now (listed spans.now)) }
 {
     if let Some(found) = recorded_of(layout, spans) {
         records.push(found)?;
@@ -72,10 +71,10 @@ fn note_record(
 
 /// Marks the bytes of a relocation.
 fn note_spans(marks: &mut Marks, layout: &Layout, spans: &Spans)
-    requires inside { AllByRecursion (λ s. 0 < s.len → off layout.now s.place + s.len ≤ length marks.old.still.items) (spans.now.own ∷ option_to_list spans.now.slot) }
-    requires words { AllByRecursion (λ s. s.recorded ≡ true → s.len ≡ 4) (spans.now.own ∷ option_to_list spans.now.slot) }
+    requires inside { AllByRecursion (IsInside layout.now (length marks.old.still.items)) (listed spans.now) }
+    requires words { AllByRecursion IsWord (listed spans.now) }
     requires len { length marks.old.starts.items ≡ length marks.old.still.items }
-    ensures { (n : ℕ) (ss : List Span) → IsMarked layout.now n ss marks.old → IsMarked layout.now n (ss ++ (spans.now.own ∷ option_to_list spans.now.slot)) marks.new }
+    ensures { (n : ℕ) (ss : List Span) → IsMarked layout.now n ss marks.old → IsMarked layout.now n (ss ++ listed spans.now) marks.new }
 {
     marks.mark(layout, &spans.own);
     if let Some(slot) = spans.slot {
@@ -104,13 +103,13 @@ impl Found {
         effect: &Effect,
         spans: &Spans,
     ) -> Result<(), AllocError>
-        requires inside { AllByRecursion (λ s. 0 < s.len → off layout.now s.place + s.len ≤ length self.old.marks.still.items) (spans.now.own ∷ option_to_list spans.now.slot) }
-        requires words { AllByRecursion (λ s. s.recorded ≡ true → s.len ≡ 4) (spans.now.own ∷ option_to_list spans.now.slot) }
+        requires inside { AllByRecursion (IsInside layout.now (length self.old.marks.still.items)) (listed spans.now) }
+        requires words { AllByRecursion IsWord (listed spans.now) }
         requires len { length self.old.marks.starts.items ≡ length self.old.marks.still.items }
         ensures words { OnOk result (self.new.words.items ≡ self.old.words.items ++ effect_words layout.now effect.now) }
-        ensures records { OnOk result (self.new.records.items ≡ self.old.records.items ++ recorded_of layout.now (spans.now.own ∷ option_to_list spans.now.slot)) }
+        ensures records { OnOk result (self.new.records.items ≡ self.old.records.items ++ recorded_of layout.now (listed spans.now)) }
         ensures marks { OnOk result ((n : ℕ) (ss : List Span) →
-            IsMarked layout.now n ss self.old.marks → IsMarked layout.now n (ss ++ (spans.now.own ∷ option_to_list spans.now.slot)) self.new.marks) }
+            IsMarked layout.now n ss self.old.marks → IsMarked layout.now n (ss ++ listed spans.now) self.new.marks) }
     {
         note_word(&mut self.words, layout, effect)?;
         note_record(&mut self.records, layout, spans)?;

@@ -1,9 +1,7 @@
 //! Marks at the bytes of text and data: which of them the relocations have as their own.
 
-ghost use Rattle.std.specs.Prelude.{◌≡◌, ℕ, ◌+◌, ◌<◌, ◌≤◌, ◌&&◌, nat_le, nat_lt, true, min, List, [], ◌∷◌, ◌++◌, length, slice_index, if◌then◌else◌, IfOk};
-ghost use Rattle.std.specs.List.{slice_index_or};
-ghost use Rattle.flat_layout.specs.Layout.{off};
-ghost use Rattle.elf2flt_tool.specs.Marks.{IsMarked};
+ghost use Rattle.std.specs.Prelude.{◌≡◌, ℕ, ◌+◌, ◌≤◌, ◌&&◌, nat_le, nat_lt, true, min, List, [], ◌∷◌, ◌++◌, length, slice_index, if◌then◌else◌, IfOk};
+ghost use Rattle.elf2flt_tool.specs.Marks.{IsMarked, IsInside, IsWord};
 
 use flat_layout::Layout;
 use psabi_relocs::Span;
@@ -49,8 +47,8 @@ impl Marks {
 
     /// Takes in one more span.
     pub fn mark(&mut self, layout: &Layout, span: &Span)
-        requires inside { 0 < span.now.len → off layout.now span.now.place + span.now.len ≤ length self.old.still.items }
-        requires word { span.now.recorded ≡ true → span.now.len ≡ 4 }
+        requires inside { IsInside layout.now (length self.old.still.items) span.now }
+        requires word { IsWord span.now }
         requires len { length self.old.starts.items ≡ length self.old.still.items }
         ensures marked { (n : ℕ) (ss : List Span) → IsMarked layout.now n ss self.old → IsMarked layout.now n (ss ++ span.now ∷ []) self.new }
         ensures still_len { length self.new.still.items ≡ length self.old.still.items }
