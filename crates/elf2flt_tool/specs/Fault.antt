@@ -1,4 +1,4 @@
--- The one first reason why an ELF file isn't converted, or none.
+-- The one first reason why an ELF file isn't converted, or none. The order is this project's own.
 use Rattle.std.specs.Prelude.{ℕ, zero, suc, ◌+◌, ◌%◌, ◌^◌, List, Option, Some, None, if◌then◌else◌}
 use Rattle.std.specs.Option.{option_map, option_or}
 use Rattle.elf32_reader.specs.declared.fault.ElfFault.{ElfFault}

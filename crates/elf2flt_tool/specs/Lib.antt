@@ -1,11 +1,10 @@
 -- Relocs: what the kept relocations of a file fill.
 -- Image: the bytes of an ELF file, relocated at a base.
 -- Word: the recorded words, where they point and what they meet.
--- Marks: what the test for overlaps keeps.
--- Walk: how far a walk over the relocations has come.
 -- Fault: the first reason why a file isn't converted.
 -- Converted: the flat file that a file is converted to.
 -- Laws: what is written has no fault, and loads to the bytes of the ELF file, relocated.
+-- Marks, Walk: for private functions only: what the test for overlaps keeps, and how far a walk over the relocations has come.
 pub mod Relocs
 pub mod Image
 pub mod Word

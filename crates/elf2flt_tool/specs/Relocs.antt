@@ -1,4 +1,4 @@
--- What the kept relocations of a file fill, in the order of sections and entries.
+-- What the kept relocations of a file fill, in the order of sections and entries. RISC-V ELF psABI, "Relocations".
 use Rattle.std.specs.Prelude.{ℕ, List, [], map, flat_map, if◌then◌else◌}
 use Rattle.std.specs.List.{range_with_len}
 use Rattle.elf32_reader.specs.Header.{count_of}

@@ -1,4 +1,5 @@
--- The words that a flat file records: the pointers and GOT slots whose symbols move, by numbers of the image.
+-- The words that a flat file records: the pointers and GOT slots whose symbols move, by numbers of the image. Where they may
+-- point, and what they may not meet, is this project's own rule.
 use Rattle.std.specs.Prelude.{ℕ, ◌+◌, Bool, not, ◌&&◌, ◌||◌, nat_lt, ◌==◌, min, max, List, [], ◌∷◌, ◌++◌, map, flat_map, filter, take, drop, length, Option, Some, None}
 use Rattle.std.specs.List.{list_any, range_with_len, slice_index_or}
 use Rattle.flat_layout.specs.declared.layout.Layout.{Layout}
