@@ -77,6 +77,11 @@ has_part e k p ok st = record {
   flags = ap (λ (s : Section). s.flags) st.is;
   addr = ap (λ (s : Section). s.addr) st.is;
   size = ap (λ (s : Section). s.size) st.is;
+  name = ap (λ (s : Section). s.name) st.is;
+  link = ap (λ (s : Section). s.link) st.is;
+  info = ap (λ (s : Section). s.info) st.is;
+  addralign = ap (λ (s : Section). s.addralign) st.is;
+  entsize = ap (λ (s : Section). s.entsize) st.is;
   bytes = λ stored. content_is e k (part_item p) st (sym (ok.stored stored));
 }
 

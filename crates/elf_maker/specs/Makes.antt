@@ -20,6 +20,12 @@ pub record HasPart (e : List ℕ) (i : ℕ) (p : Part) : Type 0 where
   pub flags : (section e i).flags ≡ p.flags
   pub addr : (section e i).addr ≡ p.addr
   pub size : (section e i).size ≡ p.size
+  -- no name, no link, no alignment
+  pub name : (section e i).name ≡ 0
+  pub link : (section e i).link ≡ 0
+  pub info : (section e i).info ≡ 0
+  pub addralign : (section e i).addralign ≡ 1
+  pub entsize : (section e i).entsize ≡ 0
   -- a section of type NOBITS (8) has no content
   pub bytes : p.kind ≢ 8 → content e (section e i) ≡ p.bytes.items
 
