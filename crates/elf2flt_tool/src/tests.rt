@@ -73,7 +73,7 @@ const TEXT_RELAS: u32 = 5;
 
 const DATA_RELAS: u32 = 6;
 
-// The symbols, which all move but for the last five.
+// The symbols. They move, but for FIXED, WEAK, UNDEFINED and BAD.
 const ZERO: u32 = 1;
 
 /// At 0x10000.

@@ -14,7 +14,7 @@ const ALONE: Answer = Ok(&[(0x68, 0x40)]);
 
 const MET: Answer = Err(Refused::WordOverlap(0x28));
 
-/// Immediates of low parts, at 0x24 or 0x28, or at 0x34 for the second.
+/// Low parts at 0x24 or 0x28, and a second at 0x34, with the distance from the entry to its slot.
 const SLOT_AT_22: &[u32] = &[0, 0x0020_0000, 0, 0, 0, 0, 0, 0];
 
 const SLOT_AT_28: &[u32] = &[0, 0x0080_0000, 0, 0, 0, 0, 0, 0];
