@@ -84,8 +84,8 @@ entry_by l Call r None g own slot = still_entry l Call r None refl refl refl
 entry_by l Call r (Some o) g own slot = still_entry l Call r (Some o) refl refl refl
 entry_by l (Low shape) r None g own slot = still_entry l (Low shape) r None refl refl refl
 entry_by l (Low shape) r (Some o) g own slot = still_entry l (Low shape) r (Some o) refl refl refl
-entry_by l (Group lane step) r None g own slot = still_entry l (Group lane step) r None refl refl refl
-entry_by l (Group lane step) r (Some o) g own slot = still_entry l (Group lane step) r (Some o) refl refl refl
+entry_by l (Group width step) r None g own slot = still_entry l (Group width step) r None refl refl refl
+entry_by l (Group width step) r (Some o) g own slot = still_entry l (Group width step) r (Some o) refl refl refl
 
 pointer_high : (row : Row) → is_pointer row ≡ true → (is_low row ≡ false) × (is_got row ≡ false)
 pointer_high Pointer is = (refl, refl)
@@ -96,7 +96,7 @@ pointer_high (Absolute shape) is = absurd (cc)
 pointer_high (Relative shape) is = absurd (cc)
 pointer_high Call is = absurd (cc)
 pointer_high (Low shape) is = absurd (cc)
-pointer_high (Group lane step) is = absurd (cc)
+pointer_high (Group width step) is = absurd (cc)
 
 got_low : (row : Row) → is_got row ≡ true → is_low row ≡ false
 got_low Got is = refl
@@ -107,7 +107,7 @@ got_low (Absolute shape) is = refl
 got_low (Relative shape) is = refl
 got_low Call is = refl
 got_low (Low shape) is = absurd (cc)
-got_low (Group lane step) is = refl
+got_low (Group width step) is = refl
 
 pub own_pointer : (e : List ℕ) (i : ℕ) (r : Reloc) → is_pointer r.row ≡ true → origin e i r ≡ Some (own_origin r)
 unfolding origin high_origin

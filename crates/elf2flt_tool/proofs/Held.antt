@@ -98,7 +98,7 @@ own_places (Relative shape) r o = (record { from = omega arith; to = omega arith
 own_places Call r o = (record { from = omega arith; to = omega arith; pointer = λ is. absurd (cc) }, (record { from = omega arith; to = omega arith; pointer = λ is. absurd (cc) }, tt))
 own_places Got r o = (record { from = omega arith; to = omega arith; pointer = λ is. absurd (cc) }, tt)
 own_places (Low shape) r o = (record { from = omega arith; to = omega arith; pointer = λ is. absurd (cc) }, tt)
-own_places (Group lane step) r o = tt
+own_places (Group width step) r o = tt
 
 -- the section that the entries of a kept section apply to
 pub record IsTarget (e : List ℕ) (i : ℕ) : Type 0 where
@@ -173,7 +173,7 @@ got_is_high (Absolute shape) is = absurd (cc)
 got_is_high (Relative shape) is = absurd (cc)
 got_is_high Call is = absurd (cc)
 got_is_high (Low shape) is = absurd (cc)
-got_is_high (Group lane step) is = absurd (cc)
+got_is_high (Group width step) is = absurd (cc)
 
 slot_found : (e : List ℕ) (i : ℕ) (r : Reloc) (o : Origin) → IsTarget e i → IsRight e i r o → is_got r.row ≡ true → origin e i r ≡ Some o → SlotStands e o.value
 slot_found e i r o t right got from =
@@ -221,7 +221,7 @@ slots_held (Absolute shape) e r o held = tt
 slots_held (Relative shape) e r o held = tt
 slots_held Call e r o held = tt
 slots_held (Low shape) e r o held = tt
-slots_held (Group lane step) e r o held = tt
+slots_held (Group width step) e r o held = tt
 
 -- ---- an entry
 
@@ -249,7 +249,7 @@ mark_fields (Relative shape) d r o is = absurd (cc)
 mark_fields Call d r o is = absurd (cc)
 mark_fields Got d r o is = absurd (cc)
 mark_fields (Low shape) d r o is = absurd (cc)
-mark_fields (Group lane step) d r o is = absurd (cc)
+mark_fields (Group width step) d r o is = absurd (cc)
 
 mark_from : (d : ℕ) (r : Reloc) (o : Option Origin) → is_mark r.row ≡ true → fields_from d r o ≡ []
 mark_from d r None is = refl

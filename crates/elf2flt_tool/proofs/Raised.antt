@@ -21,7 +21,7 @@ IsSteady (Relative shape) r o = o.moves ≡ true
 IsSteady Call r o = o.moves ≡ true
 IsSteady Got r o = o.moves ≡ true
 IsSteady (Low shape) r o = o.moves ≡ true
-IsSteady (Group lane step) r o = Unit
+IsSteady (Group width step) r o = Unit
 
 relative_same : (d : ℕ) (o : Origin) → o.moves ≡ true → relative d o ≡ relative 0 o
 unfolding relative
@@ -53,7 +53,7 @@ own_raised (Relative shape) d r o steady = ap (λ v. still r.place shape v ∷ [
 own_raised Call d r o steady = ap (λ v. still r.place shapes.High v ∷ still (r.place + 4) shapes.LowI v ∷ []) (relative_same d o steady)
 own_raised Got d r o steady = ap (λ v. still r.place shapes.High v ∷ []) (relative_same d o steady)
 own_raised (Low shape) d r o steady = ap (λ v. still r.place shape v ∷ []) (relative_same d o steady)
-own_raised (Group lane step) d r o steady = refl
+own_raised (Group width step) d r o steady = refl
 
 pub slots_raised : (row : Row) (d : ℕ) (r : Reloc) (o : Origin) → slot_fields row d r o ≡ map (raised d) (slot_fields row 0 r o)
 slots_raised Unknown d r o = refl
@@ -64,4 +64,4 @@ slots_raised (Relative shape) d r o = refl
 slots_raised Call d r o = refl
 slots_raised Got d r o = ap (λ v. record { place = o.value; shape = shapes.Word; value = v; recorded = is_moving r.class } ∷ []) (slot_raised d r.value (is_moving r.class))
 slots_raised (Low shape) d r o = refl
-slots_raised (Group lane step) d r o = refl
+slots_raised (Group width step) d r o = refl

@@ -53,7 +53,7 @@ entry_shape (Absolute shape) r g = λ is. absurd (cc)
 entry_shape (Relative shape) r g = λ is. absurd (cc)
 entry_shape Call r g = λ is. absurd (cc)
 entry_shape (Low shape) r g = λ is. absurd (cc)
-entry_shape (Group lane step) r g = λ is. absurd (cc)
+entry_shape (Group width step) r g = λ is. absurd (cc)
 
 pub spans_entry : (e : List ℕ) (i j : ℕ) → IsEntry (spans e i j)
 unfolding spans
@@ -75,7 +75,7 @@ moving_is_by (Absolute shape) e i r = refl
 moving_is_by (Relative shape) e i r = refl
 moving_is_by Call e i r = refl
 moving_is_by (Low shape) e i r = refl
-moving_is_by (Group lane step) e i r = refl
+moving_is_by (Group width step) e i r = refl
 
 abbrev fields_by : Row → Reloc → Option Origin → List Field
 fields_by row r None = []
@@ -131,8 +131,8 @@ words_by l Call r None g start own slot = still_words l (is_moving r.class)
 words_by l Call r (Some o) g start own slot = still_words l (is_moving r.class)
 words_by l (Low shape) r None g start own slot = still_words l (is_moving r.class)
 words_by l (Low shape) r (Some o) g start own slot = still_words l (is_moving r.class)
-words_by l (Group lane step) r None g start own slot = still_words l (is_moving r.class)
-words_by l (Group lane step) r (Some o) g start own slot = still_words l (is_moving r.class)
+words_by l (Group width step) r None g start own slot = still_words l (is_moving r.class)
+words_by l (Group width step) r (Some o) g start own slot = still_words l (is_moving r.class)
 
 -- an effect's word is that of the entry's fields
 pub effect_is : (e : List ℕ) (l : Layout) (i j : ℕ) → l.v0 < 2 ^ 32 → effect_words l (effect e i j) ≡ map (numbered l) (pointers (fields e 0 i j))
@@ -166,7 +166,7 @@ mark_len (Relative shape) is = absurd (cc)
 mark_len Call is = absurd (cc)
 mark_len Got is = absurd (cc)
 mark_len (Low shape) is = absurd (cc)
-mark_len (Group lane step) is = absurd (cc)
+mark_len (Group width step) is = absurd (cc)
 
 got_plain : (row : Row) → is_got row ≡ true → is_mark row ≡ false
 got_plain Got is = refl
@@ -177,7 +177,7 @@ got_plain (Absolute shape) is = refl
 got_plain (Relative shape) is = refl
 got_plain Call is = refl
 got_plain (Low shape) is = refl
-got_plain (Group lane step) is = refl
+got_plain (Group width step) is = refl
 
 -- what the test for places says of an entry that passes it
 record IsPlaced (e : List ℕ) (i : ℕ) (r : Reloc) : Type 0 where

@@ -130,7 +130,7 @@ high_or_got Pointer high plain = absurd (cc)
 high_or_got (Absolute shape) high plain = absurd (cc)
 high_or_got Call high plain = absurd (cc)
 high_or_got (Low shape) high plain = absurd (cc)
-high_or_got (Group lane step) high plain = absurd (cc)
+high_or_got (Group width step) high plain = absurd (cc)
 
 high_no_mark : (row : Row) → is_high row ≡ true → is_mark row ≡ false
 high_no_mark Mark high = absurd (cc)
@@ -141,7 +141,7 @@ high_no_mark Pointer high = refl
 high_no_mark (Absolute shape) high = refl
 high_no_mark Call high = refl
 high_no_mark (Low shape) high = refl
-high_no_mark (Group lane step) high = refl
+high_no_mark (Group width step) high = refl
 
 is_high_row : (q : ℕ) (r : Reloc) → is_high_at q r ≡ true → is_high r.row ≡ true
 unfolding is_high_at
@@ -175,7 +175,7 @@ distance_row Unknown d low got = absurd (cc)
 distance_row Mark d low got = absurd (cc)
 distance_row Pointer d low got = absurd (cc)
 distance_row (Absolute shape) d low got = absurd (cc)
-distance_row (Group lane step) d low got = absurd (cc)
+distance_row (Group width step) d low got = absurd (cc)
 
 -- the distance of an accepted entry is between what moves together
 pub origin_moves : (e : List ℕ) (i : ℕ) (r : Reloc) (o : Origin) → AllSound e i → IsSound e i r → has_distance r.row ≡ true → origin e i r ≡ Some o → o.moves ≡ true
@@ -194,4 +194,4 @@ steady (Relative shape) r o still moves = moves refl
 steady Call r o still moves = moves refl
 steady Got r o still moves = moves refl
 steady (Low shape) r o still moves = moves refl
-steady (Group lane step) r o still moves = tt
+steady (Group width step) r o still moves = tt

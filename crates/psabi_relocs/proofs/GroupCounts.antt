@@ -2,8 +2,8 @@
 use Rattle.std.proofs.Common.{ℕ, zero, suc, ◌+◌, ◌^◌, ◌<◌, ◌≤◌, ◌==◌, Bool, true, false, List, if◌then◌else◌, arith}
 use Rattle.psabi_relocs.specs.declared.row.Row.{Row}
 use Rattle.psabi_relocs.specs.declared.row.Row.TheVariants.{Group}
-use Rattle.psabi_relocs.specs.declared.row.Lane.{Lane}
-use Rattle.psabi_relocs.specs.declared.row.Lane.TheVariants.{Bits8, Bits16, Bits32, Bits6, Uleb128}
+use Rattle.psabi_relocs.specs.declared.row.Width.{Width}
+use Rattle.psabi_relocs.specs.declared.row.Width.TheVariants.{Bits8, Bits16, Bits32, Bits6, Uleb128}
 use Rattle.psabi_relocs.specs.declared.row.Step.{Step}
 use Rattle.psabi_relocs.specs.declared.row.Step.TheVariants.{Add, Sub, Set}
 use Rattle.psabi_relocs.specs.declared.group.Sum.{Sum}
@@ -45,23 +45,23 @@ one_step n Sub false s h = record { plus = omega arith; minus = omega arith }
 one_step n Set true s h = record { plus = omega arith; minus = omega arith }
 one_step n Set false s h = record { plus = omega arith; minus = omega arith }
 
-of_lane : (n : ℕ) (lane : Lane) (s : Sums) → AreUpTo n s → IsUpTo n (sum_of lane s)
-of_lane n Bits8 s h = h.bits8
-of_lane n Bits16 s h = h.bits16
-of_lane n Bits32 s h = h.bits32
-of_lane n Bits6 s h = h.bits6
-of_lane n Uleb128 s h = h.uleb128
+of_width : (n : ℕ) (width : Width) (s : Sums) → AreUpTo n s → IsUpTo n (sum_of width s)
+of_width n Bits8 s h = h.bits8
+of_width n Bits16 s h = h.bits16
+of_width n Bits32 s h = h.bits32
+of_width n Bits6 s h = h.bits6
+of_width n Uleb128 s h = h.uleb128
 
-with_lane : (n : ℕ) (lane : Lane) (sum : Sum) (s : Sums) → AreUpTo n s → IsUpTo n sum → AreUpTo n (with_sum lane sum s)
-with_lane n Bits8 sum s h k = record { bits8 = k; bits16 = h.bits16; bits32 = h.bits32; bits6 = h.bits6; uleb128 = h.uleb128 }
-with_lane n Bits16 sum s h k = record { bits8 = h.bits8; bits16 = k; bits32 = h.bits32; bits6 = h.bits6; uleb128 = h.uleb128 }
-with_lane n Bits32 sum s h k = record { bits8 = h.bits8; bits16 = h.bits16; bits32 = k; bits6 = h.bits6; uleb128 = h.uleb128 }
-with_lane n Bits6 sum s h k = record { bits8 = h.bits8; bits16 = h.bits16; bits32 = h.bits32; bits6 = k; uleb128 = h.uleb128 }
-with_lane n Uleb128 sum s h k = record { bits8 = h.bits8; bits16 = h.bits16; bits32 = h.bits32; bits6 = h.bits6; uleb128 = k }
+with_width : (n : ℕ) (width : Width) (sum : Sum) (s : Sums) → AreUpTo n s → IsUpTo n sum → AreUpTo n (with_sum width sum s)
+with_width n Bits8 sum s h k = record { bits8 = k; bits16 = h.bits16; bits32 = h.bits32; bits6 = h.bits6; uleb128 = h.uleb128 }
+with_width n Bits16 sum s h k = record { bits8 = h.bits8; bits16 = k; bits32 = h.bits32; bits6 = h.bits6; uleb128 = h.uleb128 }
+with_width n Bits32 sum s h k = record { bits8 = h.bits8; bits16 = h.bits16; bits32 = k; bits6 = h.bits6; uleb128 = h.uleb128 }
+with_width n Bits6 sum s h k = record { bits8 = h.bits8; bits16 = h.bits16; bits32 = h.bits32; bits6 = k; uleb128 = h.uleb128 }
+with_width n Uleb128 sum s h k = record { bits8 = h.bits8; bits16 = h.bits16; bits32 = h.bits32; bits6 = h.bits6; uleb128 = k }
 
 one_row : (n : ℕ) (row : Row) (moves : Bool) (s : Sums) → AreUpTo n s → AreUpTo (suc n) (row_step row moves s)
-one_row n (Group lane step) moves s h =
-    with_lane (suc n) lane (stepped step moves (sum_of lane s)) s (all_raised n s h) (one_step n step moves (sum_of lane s) (of_lane n lane s h))
+one_row n (Group width step) moves s h =
+    with_width (suc n) width (stepped step moves (sum_of width s)) s (all_raised n s h) (one_step n step moves (sum_of width s) (of_width n width s h))
 one_row n _ moves s h = all_raised n s h
 
 one_entry : (n : ℕ) (b : Bool) (row : Row) (moves : Bool) (s : Sums) → AreUpTo n s → AreUpTo (suc n) (if b then row_step row moves s else s)
@@ -78,4 +78,4 @@ up_to e i q (suc n) =
 
 -- so the counts of fewer than 2^32 - 1 entries can take one more
 pub can_step : (e : List ℕ) (i q n : ℕ) → n + 1 < 2 ^ 32 → CanStep (sums_below e i q n)
-can_step e i q n few = λ lane. let h = of_lane n lane (sums_below e i q n) (up_to e i q n) in (omega arith, omega arith)
+can_step e i q n few = λ width. let h = of_width n width (sums_below e i q n) (up_to e i q n) in (omega arith, omega arith)

@@ -21,7 +21,7 @@ use Rattle.psabi_relocs.specs.Row.{field_len, is_mark, is_unknown, is_got, is_ab
 use Rattle.psabi_relocs.specs.Reloc.{reloc, target_section}
 use Rattle.psabi_relocs.specs.Bytes.{holds, word_in}
 use Rattle.psabi_relocs.specs.Pair.{high_of, low_of, slot_of, slot_section}
-use Rattle.psabi_relocs.specs.Group.{sum_of, sums_below, is_even}
+use Rattle.psabi_relocs.specs.Group.{sum_of, sums_below, is_balanced}
 use Rattle.psabi_relocs.specs.Shape.{has_value}
 use Rattle.psabi_relocs.specs.Field.{Field, Origin, origin, own_fields}
 
@@ -55,14 +55,14 @@ unfoldable pub is_lone_low : List ℕ → ℕ → Reloc → Bool
 is_lone_low e i r = is_low r.row && (is_still r.class || not (r.addend == 0) || is_none (high_of e i r.value))
 
 -- more moving symbols are added in the entry's group than subtracted, or fewer
-abbrev pub is_uneven : Row → Sums → Bool
-is_uneven (Group lane step) sums = not (is_even (sum_of lane sums))
-is_uneven _ sums = false
+abbrev pub is_unbalanced : Row → Sums → Bool
+is_unbalanced (Group width step) sums = not (is_balanced (sum_of width sums))
+is_unbalanced _ sums = false
 
 -- a GOT entry that no low part names, or an entry of an unbalanced group
 unfoldable pub is_unpaired : List ℕ → ℕ → Reloc → Bool
 is_unpaired e i r =
-    (is_got r.row && is_none (low_of e i r.place)) || is_uneven r.row (sums_below e i r.place (rela_count e i))
+    (is_got r.row && is_none (low_of e i r.place)) || is_unbalanced r.row (sums_below e i r.place (rela_count e i))
 
 -- a field in the section s holds its value
 unfoldable pub holds_value : List ℕ → Section → Field → Bool

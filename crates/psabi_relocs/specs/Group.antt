@@ -5,8 +5,8 @@ use Rattle.std.specs.Prelude.{ℕ, zero, suc, ◌+◌, ◌^◌, ◌<◌, Bool, �
 use Rattle.psabi_relocs.specs.declared.reloc.Reloc.{Reloc}
 use Rattle.psabi_relocs.specs.declared.row.Row.{Row}
 use Rattle.psabi_relocs.specs.declared.row.Row.TheVariants.{Group}
-use Rattle.psabi_relocs.specs.declared.row.Lane.{Lane}
-use Rattle.psabi_relocs.specs.declared.row.Lane.TheVariants.{Bits8, Bits16, Bits32, Bits6, Uleb128}
+use Rattle.psabi_relocs.specs.declared.row.Width.{Width}
+use Rattle.psabi_relocs.specs.declared.row.Width.TheVariants.{Bits8, Bits16, Bits32, Bits6, Uleb128}
 use Rattle.psabi_relocs.specs.declared.row.Step.{Step}
 use Rattle.psabi_relocs.specs.declared.row.Step.TheVariants.{Add, Sub, Set}
 use Rattle.psabi_relocs.specs.declared.group.Sum.{Sum}
@@ -31,14 +31,14 @@ stepped Set moves s = record { plus = count moves; minus = 0 }
 abbrev pub no_sums : Sums
 no_sums = record { bits8 = no_sum; bits16 = no_sum; bits32 = no_sum; bits6 = no_sum; uleb128 = no_sum }
 
-abbrev pub sum_of : Lane → Sums → Sum
+abbrev pub sum_of : Width → Sums → Sum
 sum_of Bits8 s = s.bits8
 sum_of Bits16 s = s.bits16
 sum_of Bits32 s = s.bits32
 sum_of Bits6 s = s.bits6
 sum_of Uleb128 s = s.uleb128
 
-abbrev pub with_sum : Lane → Sum → Sums → Sums
+abbrev pub with_sum : Width → Sum → Sums → Sums
 with_sum Bits8 sum s = record s { bits8 = sum }
 with_sum Bits16 sum s = record s { bits16 = sum }
 with_sum Bits32 sum s = record s { bits32 = sum }
@@ -47,7 +47,7 @@ with_sum Uleb128 sum s = record s { uleb128 = sum }
 
 -- the step of one entry in the sum of its width; other entries have none
 abbrev pub row_step : Row → Bool → Sums → Sums
-row_step (Group lane step) moves s = with_sum lane (stepped step moves (sum_of lane s)) s
+row_step (Group width step) moves s = with_sum width (stepped step moves (sum_of width s)) s
 row_step _ moves s = s
 
 -- the step of an entry in the sums at the address q
@@ -61,7 +61,7 @@ sums_below e i q (suc n) = entry_step q (reloc e i n) (sums_below e i q n)
 
 -- both counts of each sum can take one more in 32 bits
 abbrev pub CanStep : Sums → Type 0
-CanStep s = (lane : Lane) → ((sum_of lane s).plus + 1 < 2 ^ 32) × ((sum_of lane s).minus + 1 < 2 ^ 32)
+CanStep s = (width : Width) → ((sum_of width s).plus + 1 < 2 ^ 32) × ((sum_of width s).minus + 1 < 2 ^ 32)
 
-abbrev pub is_even : Sum → Bool
-is_even s = s.plus == s.minus
+abbrev pub is_balanced : Sum → Bool
+is_balanced s = s.plus == s.minus

@@ -12,7 +12,7 @@ ghost use Rattle.psabi_relocs.specs.Class.{is_moving};
 ghost use Rattle.psabi_relocs.specs.Reloc.{target_section};
 ghost use Rattle.psabi_relocs.specs.Bytes.{holds, word_in};
 ghost use Rattle.psabi_relocs.specs.Pair.{high_of, low_immediate, slot_of, own_slot};
-ghost use Rattle.psabi_relocs.specs.Group.{is_even};
+ghost use Rattle.psabi_relocs.specs.Group.{is_balanced};
 ghost use Rattle.psabi_relocs.specs.Shape.{has_value};
 ghost use Rattle.psabi_relocs.specs.Field.{own_origin, slot_origin, high_origin, pair_origin, absolute, relative, own_fields};
 ghost use Rattle.psabi_relocs.specs.Fault.{is_weak, is_fixed, is_slot_outside, is_place_outside, is_lone_low, is_unpaired, holds_value, slot_word, mismatches, is_mismatch, first_fault, reloc_fault};
@@ -218,8 +218,8 @@ fn is_lone_low(elf: &Elf<'_>, pairs: &Pairs, section: u32, reloc: &Reloc) -> boo
 }
 
 /// Whether a group adds and subtracts unlike numbers of symbols that move.
-fn is_uneven(sum: Sum) -> bool
-    ensures { result ≡ not (is_even sum) }
+fn is_unbalanced(sum: Sum) -> bool
+    ensures { result ≡ not (is_balanced sum) }
 {
     sum.plus != sum.minus
 }
@@ -231,7 +231,7 @@ fn is_unpaired(elf: &Elf<'_>, pairs: &Pairs, section: u32, reloc: &Reloc) -> boo
 {
     match reloc.row {
         Row::Got => !pairs.low.contains_key(&reloc.place),
-        Row::Group(lane, _) => is_uneven(sums_at(&pairs.sums, reloc.place).sum(lane)),
+        Row::Group(width, _) => is_unbalanced(sums_at(&pairs.sums, reloc.place).sum(width)),
         _ => false,
     }
 }

@@ -126,11 +126,11 @@ fn note_step(sums: &mut BTreeMap<u32, Sums>, reloc: &Reloc) -> Result<(), AllocE
     ensures { OnOk result ((q : ℕ) →
         sums_or_none (tree.get nat_cmp sums.new q) ≡ entry_step q reloc.now (sums_or_none (tree.get nat_cmp sums.old q))) }
 {
-    if let Row::Group(lane, step) = reloc.row {
+    if let Row::Group(width, step) = reloc.row {
         let before = sums_at(sums, reloc.place);
         sums.insert(
             reloc.place,
-            before.stepped(lane, step, reloc.class.is_moving()),
+            before.stepped(width, step, reloc.class.is_moving()),
         )?;
     }
     Ok(())
