@@ -23,7 +23,7 @@ use Rattle.psabi_relocs.specs.Bytes.{holds, word_in}
 use Rattle.psabi_relocs.specs.Pair.{high_of, low_of, slot_of, slot_section}
 use Rattle.psabi_relocs.specs.Group.{sum_of, sums_below, is_balanced}
 use Rattle.psabi_relocs.specs.Shape.{has_value}
-use Rattle.psabi_relocs.specs.Field.{Field, Origin, origin, own_fields}
+use Rattle.psabi_relocs.specs.Field.{Field, Ends, ends_of, own_fields}
 
 abbrev pub is_bad : Class → Bool
 is_bad classes.Bad = true
@@ -80,12 +80,12 @@ slot_word e g = word_of_slot e g (slot_section e g)
 unfoldable pub is_slot_wrong : List ℕ → Reloc → ℕ → Bool
 is_slot_wrong e r g = is_got r.row && (not (r.addend == 0) || not (slot_word e g == r.value))
 
-abbrev pub mismatches : List ℕ → Section → Reloc → Option Origin → Bool
+abbrev pub mismatches : List ℕ → Section → Reloc → Option Ends → Bool
 mismatches e s r None = false
-mismatches e s r (Some o) = not (list_all (holds_value e s) (own_fields r.row 0 r o)) || is_slot_wrong e r o.value
+mismatches e s r (Some ends) = not (list_all (holds_value e s) (own_fields r.row 0 r ends)) || is_slot_wrong e r ends.value
 
 unfoldable pub is_mismatch : List ℕ → ℕ → Reloc → Bool
-is_mismatch e i r = mismatches e (target_section e i) r (origin e i r)
+is_mismatch e i r = mismatches e (target_section e i) r (ends_of e i r)
 
 -- the first fault of an entry of the kept section i
 unfoldable pub first_fault : List ℕ → ℕ → Reloc → Option RelocFault
