@@ -46,6 +46,14 @@ width_len Bits32 = 4
 width_len Bits6 = 1
 width_len Uleb128 = 1
 
+abbrev pub is_same : Width → Width → Bool
+is_same Bits8 Bits8 = true
+is_same Bits16 Bits16 = true
+is_same Bits32 Bits32 = true
+is_same Bits6 Bits6 = true
+is_same Uleb128 Uleb128 = true
+is_same _ _ = false
+
 -- how many bytes from P on are the field
 abbrev pub field_len : Row → ℕ
 field_len Unknown = 0

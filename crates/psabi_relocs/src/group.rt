@@ -1,8 +1,11 @@
 //! Groups: the entries that change one number, counted.
 
-ghost use Rattle.std.specs.Prelude.{◌≡◌, ◌+◌, ◌^◌, ◌<◌};
+ghost use Rattle.std.specs.Prelude.{◌≡◌, ◌+◌, ◌^◌, ◌<◌, if◌then◌else◌};
 ghost use Rattle.psabi_relocs.specs.declared.row.Row.TheVariants.{Group};
-ghost use Rattle.psabi_relocs.specs.Group.{stepped, no_sum, no_sums, sum_of, with_sum, row_step};
+ghost use Rattle.psabi_relocs.specs.declared.row.Width.{Width};
+ghost use Rattle.psabi_relocs.specs.Row.{is_same};
+ghost use Rattle.psabi_relocs.specs.Group.{no_sum, stepped, row_step};
+ghost use Rattle.psabi_relocs.specs.Sums.{no_sums, sum_of};
 
 use crate::row::{Step, Width};
 
@@ -85,7 +88,7 @@ impl Sums {
 
     /// The sums with another one of one width.
     fn with(self, width: Width, sum: Sum) -> Sums
-        ensures { result ≡ with_sum width sum self }
+        ensures { (other : Width) → sum_of other result ≡ (if is_same width other then sum else sum_of other self) }
     {
         match width {
             Width::Bits8 => Sums { bits8: sum, ..self },
@@ -109,7 +112,7 @@ impl Sums {
     pub fn stepped(self, width: Width, step: Step, moves: bool) -> Sums
         requires plus { (sum_of width self).plus + 1 < 2 ^ 32 }
         requires minus { (sum_of width self).minus + 1 < 2 ^ 32 }
-        ensures { result ≡ row_step (Group width step) moves self }
+        ensures { (other : Width) → sum_of other result ≡ row_step other (Group width step) moves (sum_of other self) }
     {
         self.with(width, self.sum(width).stepped(step, moves))
     }
