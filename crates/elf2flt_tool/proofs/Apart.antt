@@ -20,7 +20,7 @@ use Rattle.psabi_relocs.specs.Class.{is_moving}
 use Rattle.psabi_relocs.specs.Row.{field_len, is_got, is_low}
 use Rattle.psabi_relocs.specs.Reloc.{reloc}
 use Rattle.psabi_relocs.specs.Pair.{slot_of}
-use Rattle.psabi_relocs.specs.Field.{Field, Origin, own_origin, slot_origin, high_origin, origin, own_fields, slot_fields, fields_from, fields}
+use Rattle.psabi_relocs.specs.Field.{Field, Ends, own_ends, slot_ends, high_ends, ends_of, own_fields, slot_fields, fields_from, fields}
 use Rattle.psabi_relocs.specs.declared.spans.Span.{Span}
 use Rattle.psabi_relocs.specs.Effect.{is_pointer, slot_spans, spans}
 use Rattle.elf2flt_tool.specs.Relocs.{fields_in, fields_of, spans_in, spans_of}
@@ -33,7 +33,7 @@ use Rattle.elf2flt_tool.proofs.Stills.{filter_keep, filter_drop}
 abbrev pub pointer_places : Layout → List Field → List ℕ
 pointer_places l fs = map (λ f. off l f.place) (pointers fs)
 
-abbrev fields_by : Row → Reloc → Option Origin → List Field
+abbrev fields_by : Row → Reloc → Option Ends → List Field
 fields_by row r None = []
 fields_by row r (Some o) = own_fields row 0 r o ++ slot_fields row 0 r o
 
@@ -55,18 +55,18 @@ one_few : (l : Layout) (p n : ℕ) (moves : Bool) → length (recorded_places l 
 one_few l p n true = omega arith
 one_few l p n false = omega arith
 
-still_entry : (l : Layout) (row : Row) (r : Reloc) (o : Option Origin) → is_pointer row ≡ false → is_got row ≡ false → pointer_places l (fields_by row r o) ≡ [] → IsEntry l (fields_by row r o) (spans_by row r None)
+still_entry : (l : Layout) (row : Row) (r : Reloc) (o : Option Ends) → is_pointer row ≡ false → is_got row ≡ false → pointer_places l (fields_by row r o) ≡ [] → IsEntry l (fields_by row r o) (spans_by row r None)
 still_entry l row r o plain other none = rw (plain, other) (record { places = none; few = omega arith; lens = (λ is. absurd (cc), tt) })
 
-entry_by : (l : Layout) (row : Row) (r : Reloc) (o : Option Origin) (g : Option ℕ) → (is_pointer row ≡ true → o ≡ Some (own_origin r))
-    → (is_got row ≡ true → o ≡ option_map (slot_origin r.place) g) → IsEntry l (fields_by row r o) (spans_by row r g)
+entry_by : (l : Layout) (row : Row) (r : Reloc) (o : Option Ends) (g : Option ℕ) → (is_pointer row ≡ true → o ≡ Some (own_ends r))
+    → (is_got row ≡ true → o ≡ option_map (slot_ends r.place) g) → IsEntry l (fields_by row r o) (spans_by row r g)
 entry_by l Pointer r None g own slot = absurd (let some = own refl in cc)
 entry_by l Pointer r (Some o) g own slot = record { places = one_place l r.place _ 4 _ (is_moving r.class); few = one_few l r.place 4 (is_moving r.class); lens = (λ is. refl, tt) }
 entry_by l Got r None None own slot = record { places = refl; few = omega arith; lens = (λ is. absurd (cc), tt) }
 entry_by l Got r None (Some g) own slot = absurd (let some = slot refl in cc)
 entry_by l Got r (Some o) None own slot = absurd (let some = slot refl in cc)
 entry_by l Got r (Some o) (Some g) own slot =
-    let same : o.value ≡ g = (let some : o ≡ slot_origin r.place g = (let s = slot refl in cc) in ap (λ o. o.value) some) in
+    let same : o.value ≡ g = (let some : o ≡ slot_ends r.place g = (let s = slot refl in cc) in ap (λ o. o.value) some) in
     record {
       places = one_place l o.value _ 4 _ (is_moving r.class) ∙ ap (λ g. recorded_places l (record { place = g; len = 4; recorded = is_moving r.class } ∷ [])) same;
       few = one_few l g 4 (is_moving r.class);
@@ -84,8 +84,8 @@ entry_by l Call r None g own slot = still_entry l Call r None refl refl refl
 entry_by l Call r (Some o) g own slot = still_entry l Call r (Some o) refl refl refl
 entry_by l (Low shape) r None g own slot = still_entry l (Low shape) r None refl refl refl
 entry_by l (Low shape) r (Some o) g own slot = still_entry l (Low shape) r (Some o) refl refl refl
-entry_by l (Group lane step) r None g own slot = still_entry l (Group lane step) r None refl refl refl
-entry_by l (Group lane step) r (Some o) g own slot = still_entry l (Group lane step) r (Some o) refl refl refl
+entry_by l (Group width step) r None g own slot = still_entry l (Group width step) r None refl refl refl
+entry_by l (Group width step) r (Some o) g own slot = still_entry l (Group width step) r (Some o) refl refl refl
 
 pointer_high : (row : Row) → is_pointer row ≡ true → (is_low row ≡ false) × (is_got row ≡ false)
 pointer_high Pointer is = (refl, refl)
@@ -96,7 +96,7 @@ pointer_high (Absolute shape) is = absurd (cc)
 pointer_high (Relative shape) is = absurd (cc)
 pointer_high Call is = absurd (cc)
 pointer_high (Low shape) is = absurd (cc)
-pointer_high (Group lane step) is = absurd (cc)
+pointer_high (Group width step) is = absurd (cc)
 
 got_low : (row : Row) → is_got row ≡ true → is_low row ≡ false
 got_low Got is = refl
@@ -107,17 +107,17 @@ got_low (Absolute shape) is = refl
 got_low (Relative shape) is = refl
 got_low Call is = refl
 got_low (Low shape) is = absurd (cc)
-got_low (Group lane step) is = refl
+got_low (Group width step) is = refl
 
-pub own_pointer : (e : List ℕ) (i : ℕ) (r : Reloc) → is_pointer r.row ≡ true → origin e i r ≡ Some (own_origin r)
-unfolding origin high_origin
+pub own_pointer : (e : List ℕ) (i : ℕ) (r : Reloc) → is_pointer r.row ≡ true → ends_of e i r ≡ Some (own_ends r)
+unfolding ends_of high_ends
 own_pointer e i r is = let plain = pointer_high r.row is in rw (plain.0, plain.1) refl
 
-pub got_origin : (e : List ℕ) (i : ℕ) (r : Reloc) → is_got r.row ≡ true → origin e i r ≡ option_map (slot_origin r.place) (slot_of e i r.place)
-unfolding origin high_origin
-got_origin e i r is = rw (got_low r.row is, is) refl
+pub got_ends : (e : List ℕ) (i : ℕ) (r : Reloc) → is_got r.row ≡ true → ends_of e i r ≡ option_map (slot_ends r.place) (slot_of e i r.place)
+unfolding ends_of high_ends
+got_ends e i r is = rw (got_low r.row is, is) refl
 
-fields_are_by : (r : Reloc) (o : Option Origin) → fields_from 0 r o ≡ fields_by r.row r o
+fields_are_by : (r : Reloc) (o : Option Ends) → fields_from 0 r o ≡ fields_by r.row r o
 fields_are_by r None = refl
 fields_are_by r (Some o) = refl
 
@@ -125,7 +125,7 @@ is_entry : (e : List ℕ) (l : Layout) (i j : ℕ) → IsEntry l (fields e 0 i j
 unfolding fields spans
 is_entry e l i j =
     let r = reloc e i j in
-    rw (fields_are_by r (origin e i r)) (entry_by l r.row r (origin e i r) (slot_of e i r.place) (λ is. own_pointer e i r is) (λ is. got_origin e i r is))
+    rw (fields_are_by r (ends_of e i r)) (entry_by l r.row r (ends_of e i r) (slot_of e i r.place) (λ is. own_pointer e i r is) (λ is. got_ends e i r is))
 
 -- ---- the entries of a file
 

@@ -25,13 +25,13 @@ use Rattle.psabi_relocs.specs.Reloc.{reloc, target_section}
 use Rattle.psabi_relocs.specs.Bytes.{holds, word_in}
 use Rattle.psabi_relocs.specs.Pair.{slot_of, holds_slot, slot_section}
 use Rattle.psabi_relocs.specs.Shape.{has_value}
-use Rattle.psabi_relocs.specs.Field.{Field, Origin, moved, slot_origin, high_origin, origin, own_fields, slot_fields, fields_from, fields}
+use Rattle.psabi_relocs.specs.Field.{Field, Ends, moved, slot_ends, high_ends, ends_of, own_fields, slot_fields, fields_from, fields}
 use Rattle.psabi_relocs.specs.Fault.{is_slot_outside, is_place_outside, holds_value, word_of_slot, slot_word, is_slot_wrong, is_mismatch, reloc_fault}
 use Rattle.elf2flt_tool.specs.Image.{bare, word_of}
 use Rattle.elf2flt_tool.proofs.Members.{each-append, each-weaker}
 use Rattle.elf2flt_tool.proofs.Laid.{IsLaid}
 use Rattle.elf2flt_tool.proofs.Bare.{bare_word}
-use Rattle.elf2flt_tool.proofs.Sound.{IsSound, sound_entry, mapped, found, AllSound, origin_moves, steady}
+use Rattle.elf2flt_tool.proofs.Sound.{IsSound, sound_entry, mapped, found, AllSound, ends_move, steady}
 use Rattle.elf2flt_tool.proofs.Raised.{raised, own_raised, slots_raised}
 
 -- a field of the linked image that holds its value; a recorded one is a whole word
@@ -89,7 +89,7 @@ record StandsIn (row : Row) (p : ℕ) (f : Field) : Type 0 where
   to : f.place + 4 ≤ p + field_len row
   pointer : f.recorded ≡ true → f.shape ≡ shapes.Word
 
-own_places : (row : Row) (r : Reloc) (o : Origin) → Each (StandsIn row r.place) (own_fields row 0 r o)
+own_places : (row : Row) (r : Reloc) (o : Ends) → Each (StandsIn row r.place) (own_fields row 0 r o)
 own_places Unknown r o = tt
 own_places Mark r o = tt
 own_places Pointer r o = (record { from = omega arith; to = omega arith; pointer = λ is. refl }, tt)
@@ -98,7 +98,7 @@ own_places (Relative shape) r o = (record { from = omega arith; to = omega arith
 own_places Call r o = (record { from = omega arith; to = omega arith; pointer = λ is. absurd (cc) }, (record { from = omega arith; to = omega arith; pointer = λ is. absurd (cc) }, tt))
 own_places Got r o = (record { from = omega arith; to = omega arith; pointer = λ is. absurd (cc) }, tt)
 own_places (Low shape) r o = (record { from = omega arith; to = omega arith; pointer = λ is. absurd (cc) }, tt)
-own_places (Group lane step) r o = tt
+own_places (Group width step) r o = tt
 
 -- the section that the entries of a kept section apply to
 pub record IsTarget (e : List ℕ) (i : ℕ) : Type 0 where
@@ -120,20 +120,20 @@ own_held e i r f t place stands value =
     record { inside = at.inside; value = ap (λ w. has_value f.shape w f.value) at.word ∙ value; pointer = stands.pointer }
 
 -- what the last two rows say of the bytes at P and of the slot
-record IsRight (e : List ℕ) (i : ℕ) (r : Reloc) (o : Origin) : Type 0 where
+record IsRight (e : List ℕ) (i : ℕ) (r : Reloc) (o : Ends) : Type 0 where
   place : holds (target_section e i) r.place (field_len r.row) ≡ true
   slot : (is_got r.row && is_slot_outside e (slot_of e i r.place)) ≡ false
   values : list_all (holds_value e (target_section e i)) (own_fields r.row 0 r o) ≡ true
   word : is_slot_wrong e r o.value ≡ false
 
-is_right : (e : List ℕ) (i : ℕ) (r : Reloc) (o : Origin) → IsSound e i r → origin e i r ≡ Some o → IsRight e i r o
+is_right : (e : List ℕ) (i : ℕ) (r : Reloc) (o : Ends) → IsSound e i r → ends_of e i r ≡ Some o → IsRight e i r o
 unfolding is_place_outside is_mismatch
 is_right e i r o sound from =
     let place = or_parts (not (holds (target_section e i) r.place (field_len r.row))) (is_got r.row && is_slot_outside e (slot_of e i r.place)) sound.place in
     let value = or_parts (not (list_all (holds_value e (target_section e i)) (own_fields r.row 0 r o))) (is_slot_wrong e r o.value) (rw from at sound.mismatch) in
     record { place = not-false _ place.0; slot = place.1; values = not-false _ value.0; word = value.1 }
 
-own_fields_held : (e : List ℕ) (i : ℕ) (r : Reloc) (o : Origin) → IsTarget e i → IsRight e i r o → Each (IsHeld e) (own_fields r.row 0 r o)
+own_fields_held : (e : List ℕ) (i : ℕ) (r : Reloc) (o : Ends) → IsTarget e i → IsRight e i r o → Each (IsHeld e) (own_fields r.row 0 r o)
 own_fields_held e i r o t right =
     each-weaker (λ f. StandsIn r.row r.place f × (holds_value e (target_section e i) f ≡ true)) (IsHeld e)
     (λ f both. own_held e i r f t right.place both.0 both.1) (own_fields r.row 0 r o)
@@ -158,10 +158,10 @@ slot_at e i g t (Some k) is some =
     let stands = stands_at e k g t.clear t.laid at.below allocated.0 held.stored held.from held.to in
     record { inside = stands.inside; word = stands.word ∙ ap (word_of_slot e g) (sym is) }
 
-got_slot : (e : List ℕ) (i : ℕ) (r : Reloc) (o : Origin) → is_got r.row ≡ true → is_low r.row ≡ false → origin e i r ≡ Some o → slot_of e i r.place ≡ Some o.value
-unfolding origin high_origin
+got_slot : (e : List ℕ) (i : ℕ) (r : Reloc) (o : Ends) → is_got r.row ≡ true → is_low r.row ≡ false → ends_of e i r ≡ Some o → slot_of e i r.place ≡ Some o.value
+unfolding ends_of high_ends
 got_slot e i r o got plain from =
-    let m = mapped (slot_origin r.place) (slot_of e i r.place) o (rw (plain, got) at from) in
+    let m = mapped (slot_ends r.place) (slot_of e i r.place) o (rw (plain, got) at from) in
     m.is ∙ ap Some (ap (λ o. o.value) m.to)
 
 got_is_high : (row : Row) → is_got row ≡ true → is_low row ≡ false
@@ -173,9 +173,9 @@ got_is_high (Absolute shape) is = absurd (cc)
 got_is_high (Relative shape) is = absurd (cc)
 got_is_high Call is = absurd (cc)
 got_is_high (Low shape) is = absurd (cc)
-got_is_high (Group lane step) is = absurd (cc)
+got_is_high (Group width step) is = absurd (cc)
 
-slot_found : (e : List ℕ) (i : ℕ) (r : Reloc) (o : Origin) → IsTarget e i → IsRight e i r o → is_got r.row ≡ true → origin e i r ≡ Some o → SlotStands e o.value
+slot_found : (e : List ℕ) (i : ℕ) (r : Reloc) (o : Ends) → IsTarget e i → IsRight e i r o → is_got r.row ≡ true → ends_of e i r ≡ Some o → SlotStands e o.value
 slot_found e i r o t right got from =
     let some = got_slot e i r o got (got_is_high r.row got) from in
     let here = and_rest (is_got r.row) (is_slot_outside e (slot_of e i r.place)) right.slot got in
@@ -199,7 +199,7 @@ unmoved : (v : ℕ) (moves : Bool) → v < 2 ^ 32 → (v + (if moves then 0 else
 unmoved v true fits = omega arith
 unmoved v false fits = omega arith
 
-slot_held : (e : List ℕ) (i : ℕ) (r : Reloc) (o : Origin) → IsTarget e i → IsRight e i r o → is_got r.row ≡ true → origin e i r ≡ Some o
+slot_held : (e : List ℕ) (i : ℕ) (r : Reloc) (o : Ends) → IsTarget e i → IsRight e i r o → is_got r.row ≡ true → ends_of e i r ≡ Some o
     → IsHeld e (record { place = o.value; shape = shapes.Word; value = moved 0 r % 2 ^ 32; recorded = is_moving r.class })
 slot_held e i r o t right got from =
     let stands = slot_found e i r o t right got from in
@@ -211,7 +211,7 @@ slot_held e i r o t right got from =
       pointer = λ is. refl;
     }
 
-slots_held : (row : Row) (e : List ℕ) (r : Reloc) (o : Origin) → (is_got row ≡ true → IsHeld e (record { place = o.value; shape = shapes.Word; value = moved 0 r % 2 ^ 32; recorded = is_moving r.class }))
+slots_held : (row : Row) (e : List ℕ) (r : Reloc) (o : Ends) → (is_got row ≡ true → IsHeld e (record { place = o.value; shape = shapes.Word; value = moved 0 r % 2 ^ 32; recorded = is_moving r.class }))
     → Each (IsHeld e) (slot_fields row 0 r o)
 slots_held Got e r o held = (held refl, tt)
 slots_held Unknown e r o held = tt
@@ -221,26 +221,26 @@ slots_held (Absolute shape) e r o held = tt
 slots_held (Relative shape) e r o held = tt
 slots_held Call e r o held = tt
 slots_held (Low shape) e r o held = tt
-slots_held (Group lane step) e r o held = tt
+slots_held (Group width step) e r o held = tt
 
 -- ---- an entry
 
-entry_held : (e : List ℕ) (i : ℕ) (r : Reloc) (o : Option Origin) → IsTarget e i → IsSound e i r → origin e i r ≡ o → Each (IsHeld e) (fields_from 0 r o)
+entry_held : (e : List ℕ) (i : ℕ) (r : Reloc) (o : Option Ends) → IsTarget e i → IsSound e i r → ends_of e i r ≡ o → Each (IsHeld e) (fields_from 0 r o)
 entry_held e i r None t sound from = tt
 entry_held e i r (Some o) t sound from =
     let right = is_right e i r o sound from in
     each-append (IsHeld e) (own_fields r.row 0 r o) (slot_fields r.row 0 r o) (own_fields_held e i r o t right)
     (slots_held r.row e r o (λ got. slot_held e i r o t right got from))
 
-entry_raised : (e : List ℕ) (d i : ℕ) (r : Reloc) (o : Option Origin) → AllSound e i → IsSound e i r → origin e i r ≡ o → fields_from d r o ≡ map (raised d) (fields_from 0 r o)
+entry_raised : (e : List ℕ) (d i : ℕ) (r : Reloc) (o : Option Ends) → AllSound e i → IsSound e i r → ends_of e i r ≡ o → fields_from d r o ≡ map (raised d) (fields_from 0 r o)
 entry_raised e d i r None all sound from = refl
 entry_raised e d i r (Some o) all sound from =
-    ap (λ fs. fs ++ slot_fields r.row d r o) (own_raised r.row d r o (steady r.row r o sound.absolute (λ is. origin_moves e i r o all sound is from)))
+    ap (λ fs. fs ++ slot_fields r.row d r o) (own_raised r.row d r o (steady r.row r o sound.absolute (λ is. ends_move e i r o all sound is from)))
     ∙ ap (λ fs. map (raised d) (own_fields r.row 0 r o) ++ fs) (slots_raised r.row d r o)
     ∙ sym (map-append (raised d) (own_fields r.row 0 r o) (slot_fields r.row 0 r o))
 
 -- a mark has no field
-mark_fields : (row : Row) (d : ℕ) (r : Reloc) (o : Origin) → is_mark row ≡ true → own_fields row d r o ++ slot_fields row d r o ≡ []
+mark_fields : (row : Row) (d : ℕ) (r : Reloc) (o : Ends) → is_mark row ≡ true → own_fields row d r o ++ slot_fields row d r o ≡ []
 mark_fields Mark d r o is = refl
 mark_fields Unknown d r o is = absurd (cc)
 mark_fields Pointer d r o is = absurd (cc)
@@ -249,22 +249,22 @@ mark_fields (Relative shape) d r o is = absurd (cc)
 mark_fields Call d r o is = absurd (cc)
 mark_fields Got d r o is = absurd (cc)
 mark_fields (Low shape) d r o is = absurd (cc)
-mark_fields (Group lane step) d r o is = absurd (cc)
+mark_fields (Group width step) d r o is = absurd (cc)
 
-mark_from : (d : ℕ) (r : Reloc) (o : Option Origin) → is_mark r.row ≡ true → fields_from d r o ≡ []
+mark_from : (d : ℕ) (r : Reloc) (o : Option Ends) → is_mark r.row ≡ true → fields_from d r o ≡ []
 mark_from d r None is = refl
 mark_from d r (Some o) is = mark_fields r.row d r o is
 
 pub fields_held : (e : List ℕ) (i j : ℕ) → IsTarget e i → reloc_fault e i j ≡ None → Each (IsHeld e) (fields e 0 i j)
 unfolding fields
 fields_held e i j t none = elim (cases_Bool (is_mark (reloc e i j).row)) [
-  | inl mark ↦ rw (mark_from 0 (reloc e i j) (origin e i (reloc e i j)) mark) tt
-  | inr plain ↦ entry_held e i (reloc e i j) (origin e i (reloc e i j)) t (sound_entry e i j none plain) refl
+  | inl mark ↦ rw (mark_from 0 (reloc e i j) (ends_of e i (reloc e i j)) mark) tt
+  | inr plain ↦ entry_held e i (reloc e i j) (ends_of e i (reloc e i j)) t (sound_entry e i j none plain) refl
 ]
 
 pub fields_raised : (e : List ℕ) (d i j : ℕ) → AllSound e i → reloc_fault e i j ≡ None → fields e d i j ≡ map (raised d) (fields e 0 i j)
 unfolding fields
 fields_raised e d i j all none = elim (cases_Bool (is_mark (reloc e i j).row)) [
-  | inl mark ↦ mark_from d (reloc e i j) (origin e i (reloc e i j)) mark ∙ ap (map (raised d)) (sym (mark_from 0 (reloc e i j) (origin e i (reloc e i j)) mark))
-  | inr plain ↦ entry_raised e d i (reloc e i j) (origin e i (reloc e i j)) all (sound_entry e i j none plain) refl
+  | inl mark ↦ mark_from d (reloc e i j) (ends_of e i (reloc e i j)) mark ∙ ap (map (raised d)) (sym (mark_from 0 (reloc e i j) (ends_of e i (reloc e i j)) mark))
+  | inr plain ↦ entry_raised e d i (reloc e i j) (ends_of e i (reloc e i j)) all (sound_entry e i j none plain) refl
 ]

@@ -20,8 +20,8 @@ use Rattle.psabi_relocs.specs.Row.{row_of}
 use Rattle.psabi_relocs.specs.Search.{first_below}
 use Rattle.psabi_relocs.specs.Reloc.{reloc}
 use Rattle.psabi_relocs.specs.Pair.{is_high_at, high_of, names, low_of, slot_by, slot_of, holds_slot, slot_section}
-use Rattle.psabi_relocs.specs.Group.{sums_below}
-use Rattle.psabi_relocs.specs.Field.{high_origin, origin, absolute, relative, fields}
+use Rattle.psabi_relocs.specs.Group.{sum_below}
+use Rattle.psabi_relocs.specs.Field.{high_ends, ends_of, absolute, relative, fields}
 use Rattle.psabi_relocs.specs.Fault.{is_place_outside, is_lone_low, is_unpaired, holds_value, slot_word, is_slot_wrong, is_mismatch, first_fault, reloc_fault}
 use Rattle.psabi_relocs.specs.Effect as effects
 use Rattle.elf2flt_tool.specs.Converted.{number_patch, body_of, converted, flat}
@@ -62,9 +62,9 @@ one_word_flat =
     64 ∷ 0 ∷ 0 ∷ 0 ∷ 72 ∷ []
 
 pub flat-one_word : flat one_word 4096 ≡ one_word_flat
-unfolding has_magic is_current has_table header_fault passes_end is_nameless has_symbol_shape is_bad_symtab is_symbolless has_rela_shape is_bad_rela section_fault elf_fault entry_of table_of count_of u8_at u16_at u32_at is_static_relocation is_kept rela_count rela_place addend_word rela any_below section is_allocated is_stored has_content content is_of_kind is_symtab symbol_count symbol_place symbol name_of least_below greatest_below has_sections some_ends_too_high is_too_large meets_below has_overlap has_dynamic has_tls is_entry_outside layout_fault off stored_end written_from text_of layout lowest highest raised_start distance start_of big_at spans patched bytes_below from_base big_word little_word rising spell class value_of number_patch body_of converted flat fault fields fields_of section_patch bare word_patch reloc row_of first_below is_high_at high_of names low_of slot_by slot_of holds_slot slot_section sums_below high_origin origin absolute relative is_place_outside is_lone_low is_unpaired holds_value slot_word is_slot_wrong is_mismatch first_fault reloc_fault effects.spans first_some entry_fault faults.section_fault relocs_fault target_fault overlap_fault fields_in spans_in spans_of numbered words target_outside word_overlap
+unfolding has_magic is_current has_table header_fault passes_end is_nameless has_symbol_shape is_bad_symtab is_symbolless has_rela_shape is_bad_rela section_fault elf_fault entry_of table_of count_of u8_at u16_at u32_at is_static_relocation is_kept rela_count rela_place addend_word rela any_below section is_allocated is_stored has_content content is_of_kind is_symtab symbol_count symbol_place symbol name_of least_below greatest_below has_sections some_ends_too_high is_too_large meets_below has_overlap has_dynamic has_tls is_entry_outside layout_fault off stored_end written_from text_of layout lowest highest raised_start distance start_of big_at spans patched bytes_below from_base big_word little_word rising spell class value_of number_patch body_of converted flat fault fields fields_of section_patch bare word_patch reloc row_of first_below is_high_at high_of names low_of slot_by slot_of holds_slot slot_section sum_below high_ends ends_of absolute relative is_place_outside is_lone_low is_unpaired holds_value slot_word is_slot_wrong is_mismatch first_fault reloc_fault effects.spans first_some entry_fault faults.section_fault relocs_fault target_fault overlap_fault fields_in spans_in spans_of numbered words target_outside word_overlap
 flat-one_word = refl
 
 pub fault-one_word : fault one_word ≡ None
-unfolding has_magic is_current has_table header_fault passes_end is_nameless has_symbol_shape is_bad_symtab is_symbolless has_rela_shape is_bad_rela section_fault elf_fault entry_of table_of count_of u8_at u16_at u32_at is_static_relocation is_kept rela_count rela_place addend_word rela any_below section is_allocated is_stored has_content content is_of_kind is_symtab symbol_count symbol_place symbol name_of least_below greatest_below has_sections some_ends_too_high is_too_large meets_below has_overlap has_dynamic has_tls is_entry_outside layout_fault off stored_end written_from text_of layout lowest highest raised_start distance start_of big_at spans patched bytes_below from_base big_word little_word rising spell class value_of number_patch body_of converted flat fault fields fields_of section_patch bare word_patch reloc row_of first_below is_high_at high_of names low_of slot_by slot_of holds_slot slot_section sums_below high_origin origin absolute relative is_place_outside is_lone_low is_unpaired holds_value slot_word is_slot_wrong is_mismatch first_fault reloc_fault effects.spans first_some entry_fault faults.section_fault relocs_fault target_fault overlap_fault fields_in spans_in spans_of numbered words target_outside word_overlap
+unfolding has_magic is_current has_table header_fault passes_end is_nameless has_symbol_shape is_bad_symtab is_symbolless has_rela_shape is_bad_rela section_fault elf_fault entry_of table_of count_of u8_at u16_at u32_at is_static_relocation is_kept rela_count rela_place addend_word rela any_below section is_allocated is_stored has_content content is_of_kind is_symtab symbol_count symbol_place symbol name_of least_below greatest_below has_sections some_ends_too_high is_too_large meets_below has_overlap has_dynamic has_tls is_entry_outside layout_fault off stored_end written_from text_of layout lowest highest raised_start distance start_of big_at spans patched bytes_below from_base big_word little_word rising spell class value_of number_patch body_of converted flat fault fields fields_of section_patch bare word_patch reloc row_of first_below is_high_at high_of names low_of slot_by slot_of holds_slot slot_section sum_below high_ends ends_of absolute relative is_place_outside is_lone_low is_unpaired holds_value slot_word is_slot_wrong is_mismatch first_fault reloc_fault effects.spans first_some entry_fault faults.section_fault relocs_fault target_fault overlap_fault fields_in spans_in spans_of numbered words target_outside word_overlap
 fault-one_word = refl

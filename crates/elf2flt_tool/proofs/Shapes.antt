@@ -23,7 +23,7 @@ use Rattle.psabi_relocs.specs.Row.{field_len, is_mark, is_got}
 use Rattle.psabi_relocs.specs.Reloc.{reloc, target_section}
 use Rattle.psabi_relocs.specs.Bytes.{holds}
 use Rattle.psabi_relocs.specs.Pair.{slot_of, holds_slot, slot_section}
-use Rattle.psabi_relocs.specs.Field.{Field, Origin, own_origin, slot_origin, origin, absolute, own_fields, slot_fields, fields_from, fields}
+use Rattle.psabi_relocs.specs.Field.{Field, Ends, own_ends, slot_ends, ends_of, absolute, own_fields, slot_fields, fields_from, fields}
 use Rattle.psabi_relocs.specs.Effect.{slot_effect, moving_effect, effect, is_pointer, own_span, slot_spans, spans}
 use Rattle.psabi_relocs.specs.Fault.{is_slot_outside, is_place_outside, reloc_fault}
 use Rattle.elf2flt_tool.specs.Relocs.{spans_in, spans_of}
@@ -37,7 +37,7 @@ use Rattle.elf2flt_tool.proofs.Laid.{IsLaid}
 use Rattle.elf2flt_tool.proofs.Sound.{found, sound_entry}
 use Rattle.elf2flt_tool.proofs.Held.{held_bytes}
 use Rattle.elf2flt_tool.proofs.Recorded.{all_sound}
-use Rattle.elf2flt_tool.proofs.Apart.{own_pointer, got_origin}
+use Rattle.elf2flt_tool.proofs.Apart.{own_pointer, got_ends}
 use Rattle.elf2flt_tool.proofs.Marked.{IsEntry}
 
 -- ---- the form of an entry's spans
@@ -53,7 +53,7 @@ entry_shape (Absolute shape) r g = λ is. absurd (cc)
 entry_shape (Relative shape) r g = λ is. absurd (cc)
 entry_shape Call r g = λ is. absurd (cc)
 entry_shape (Low shape) r g = λ is. absurd (cc)
-entry_shape (Group lane step) r g = λ is. absurd (cc)
+entry_shape (Group width step) r g = λ is. absurd (cc)
 
 pub spans_entry : (e : List ℕ) (i j : ℕ) → IsEntry (spans e i j)
 unfolding spans
@@ -75,13 +75,13 @@ moving_is_by (Absolute shape) e i r = refl
 moving_is_by (Relative shape) e i r = refl
 moving_is_by Call e i r = refl
 moving_is_by (Low shape) e i r = refl
-moving_is_by (Group lane step) e i r = refl
+moving_is_by (Group width step) e i r = refl
 
-abbrev fields_by : Row → Reloc → Option Origin → List Field
+abbrev fields_by : Row → Reloc → Option Ends → List Field
 fields_by row r None = []
 fields_by row r (Some o) = own_fields row 0 r o ++ slot_fields row 0 r o
 
-fields_are_by : (r : Reloc) (o : Option Origin) → fields_from 0 r o ≡ fields_by r.row r o
+fields_are_by : (r : Reloc) (o : Option Ends) → fields_from 0 r o ≡ fields_by r.row r o
 fields_are_by r None = refl
 fields_are_by r (Some o) = refl
 
@@ -94,14 +94,14 @@ still_words : (l : Layout) (b : Bool) → [] ≡ effect_words l (if b then Still
 still_words l true = refl
 still_words l false = refl
 
-pointer_words : (l : Layout) (r : Reloc) (o : Origin) → map (numbered l) (pointers (fields_by Pointer r (Some o))) ≡ effect_words l (if is_moving r.class then Word r.place (absolute 0 r) else Still)
+pointer_words : (l : Layout) (r : Reloc) (o : Ends) → map (numbered l) (pointers (fields_by Pointer r (Some o))) ≡ effect_words l (if is_moving r.class then Word r.place (absolute 0 r) else Still)
 unfolding numbered
 pointer_words l r o = elim (cases_Bool (is_moving r.class)) [
   | inl moves ↦ rw moves refl
   | inr stays ↦ rw stays refl
 ]
 
-slot_words : (l : Layout) (r : Reloc) (o : Origin) (g : ℕ) → l.v0 < 2 ^ 32 → o.value ≡ g
+slot_words : (l : Layout) (r : Reloc) (o : Ends) (g : ℕ) → l.v0 < 2 ^ 32 → o.value ≡ g
     → map (numbered l) (pointers (fields_by Got r (Some o))) ≡ effect_words l (if is_moving r.class then slot_effect r (Some g) else Still)
 unfolding numbered
 slot_words l r o g start same = elim (cases_Bool (is_moving r.class)) [
@@ -109,8 +109,8 @@ slot_words l r o g start same = elim (cases_Bool (is_moving r.class)) [
   | inr stays ↦ rw stays refl
 ]
 
-words_by : (l : Layout) (row : Row) (r : Reloc) (o : Option Origin) (g : Option ℕ) → l.v0 < 2 ^ 32 → (is_pointer row ≡ true → o ≡ Some (own_origin r))
-    → (is_got row ≡ true → o ≡ option_map (slot_origin r.place) g)
+words_by : (l : Layout) (row : Row) (r : Reloc) (o : Option Ends) (g : Option ℕ) → l.v0 < 2 ^ 32 → (is_pointer row ≡ true → o ≡ Some (own_ends r))
+    → (is_got row ≡ true → o ≡ option_map (slot_ends r.place) g)
     → map (numbered l) (pointers (fields_by row r o)) ≡ effect_words l (if is_moving r.class then moving_by row r g else Still)
 words_by l Pointer r None g start own slot = absurd (let some = own refl in cc)
 words_by l Pointer r (Some o) g start own slot = pointer_words l r o
@@ -118,7 +118,7 @@ words_by l Got r None None start own slot = still_words l (is_moving r.class)
 words_by l Got r None (Some g) start own slot = absurd (let some = slot refl in cc)
 words_by l Got r (Some o) None start own slot = absurd (let some = slot refl in cc)
 words_by l Got r (Some o) (Some g) start own slot =
-    slot_words l r o g start (let some : o ≡ slot_origin r.place g = (let s = slot refl in cc) in ap (λ o. o.value) some)
+    slot_words l r o g start (let some : o ≡ slot_ends r.place g = (let s = slot refl in cc) in ap (λ o. o.value) some)
 words_by l Unknown r None g start own slot = still_words l (is_moving r.class)
 words_by l Unknown r (Some o) g start own slot = still_words l (is_moving r.class)
 words_by l Mark r None g start own slot = still_words l (is_moving r.class)
@@ -131,16 +131,16 @@ words_by l Call r None g start own slot = still_words l (is_moving r.class)
 words_by l Call r (Some o) g start own slot = still_words l (is_moving r.class)
 words_by l (Low shape) r None g start own slot = still_words l (is_moving r.class)
 words_by l (Low shape) r (Some o) g start own slot = still_words l (is_moving r.class)
-words_by l (Group lane step) r None g start own slot = still_words l (is_moving r.class)
-words_by l (Group lane step) r (Some o) g start own slot = still_words l (is_moving r.class)
+words_by l (Group width step) r None g start own slot = still_words l (is_moving r.class)
+words_by l (Group width step) r (Some o) g start own slot = still_words l (is_moving r.class)
 
 -- an effect's word is that of the entry's fields
 pub effect_is : (e : List ℕ) (l : Layout) (i j : ℕ) → l.v0 < 2 ^ 32 → effect_words l (effect e i j) ≡ map (numbered l) (pointers (fields e 0 i j))
 unfolding fields effect
 effect_is e l i j start =
     let r = reloc e i j in
-    sym (ap (λ fs. map (numbered l) (pointers fs)) (fields_are_by r (origin e i r))
-    ∙ words_by l r.row r (origin e i r) (slot_of e i r.place) start (λ is. own_pointer e i r is) (λ is. got_origin e i r is)
+    sym (ap (λ fs. map (numbered l) (pointers fs)) (fields_are_by r (ends_of e i r))
+    ∙ words_by l r.row r (ends_of e i r) (slot_of e i r.place) start (λ is. own_pointer e i r is) (λ is. got_ends e i r is)
     ∙ ap (λ x. effect_words l (if is_moving r.class then x else Still)) (sym (moving_is_by r.row e i r)))
 
 -- ---- where the spans stand
@@ -166,7 +166,7 @@ mark_len (Relative shape) is = absurd (cc)
 mark_len Call is = absurd (cc)
 mark_len Got is = absurd (cc)
 mark_len (Low shape) is = absurd (cc)
-mark_len (Group lane step) is = absurd (cc)
+mark_len (Group width step) is = absurd (cc)
 
 got_plain : (row : Row) → is_got row ≡ true → is_mark row ≡ false
 got_plain Got is = refl
@@ -177,7 +177,7 @@ got_plain (Absolute shape) is = refl
 got_plain (Relative shape) is = refl
 got_plain Call is = refl
 got_plain (Low shape) is = refl
-got_plain (Group lane step) is = refl
+got_plain (Group width step) is = refl
 
 -- what the test for places says of an entry that passes it
 record IsPlaced (e : List ℕ) (i : ℕ) (r : Reloc) : Type 0 where

@@ -17,7 +17,7 @@ use Rattle.psabi_relocs.specs.Class.{is_moving}
 use Rattle.psabi_relocs.specs.Row.{is_unknown, is_mark, is_got, is_absolute, is_relative, is_high, is_low}
 use Rattle.psabi_relocs.specs.Reloc.{reloc}
 use Rattle.psabi_relocs.specs.Pair.{is_high_at, high_of, slot_of}
-use Rattle.psabi_relocs.specs.Field.{Origin, own_origin, slot_origin, high_origin, pair_origin, origin}
+use Rattle.psabi_relocs.specs.Field.{Ends, own_ends, slot_ends, high_ends, pair_ends, ends_of}
 use Rattle.psabi_relocs.specs.Fault.{is_bad, is_undefined, is_weak, is_fixed, is_place_outside, is_lone_low, is_unpaired, is_mismatch, first_fault, reloc_fault}
 use Rattle.elf2flt_tool.proofs.Raised.{IsSteady}
 
@@ -114,11 +114,11 @@ mapped f None y some = absurd (cc)
 mapped f (Some a) y some = record { from = a; is = refl; to = cc }
 
 -- G and P move together, and so do a moving S and P
-pub high_moves : (e : List ℕ) (i : ℕ) (r : Reloc) (o : Origin) → (is_got r.row ≡ false → is_moving r.class ≡ true) → high_origin e i r ≡ Some o → o.moves ≡ true
-unfolding high_origin
+pub high_moves : (e : List ℕ) (i : ℕ) (r : Reloc) (o : Ends) → (is_got r.row ≡ false → is_moving r.class ≡ true) → high_ends e i r ≡ Some o → o.moves ≡ true
+unfolding high_ends
 high_moves e i r o moves some = elim (cases_Bool (is_got r.row)) [
-  | inl is ↦ let m = mapped (slot_origin r.place) (slot_of e i r.place) o (rw is at some) in ap (λ o. o.moves) (sym m.to)
-  | inr other ↦ let own : own_origin r ≡ o = (let s = rw other at some in cc) in ap (λ o. o.moves) (sym own) ∙ moves other
+  | inl is ↦ let m = mapped (slot_ends r.place) (slot_of e i r.place) o (rw is at some) in ap (λ o. o.moves) (sym m.to)
+  | inr other ↦ let own : own_ends r ≡ o = (let s = rw other at some in cc) in ap (λ o. o.moves) (sym own) ∙ moves other
 ]
 
 high_or_got : (row : Row) → is_high row ≡ true → is_got row ≡ false → is_relative row ≡ true
@@ -130,7 +130,7 @@ high_or_got Pointer high plain = absurd (cc)
 high_or_got (Absolute shape) high plain = absurd (cc)
 high_or_got Call high plain = absurd (cc)
 high_or_got (Low shape) high plain = absurd (cc)
-high_or_got (Group lane step) high plain = absurd (cc)
+high_or_got (Group width step) high plain = absurd (cc)
 
 high_no_mark : (row : Row) → is_high row ≡ true → is_mark row ≡ false
 high_no_mark Mark high = absurd (cc)
@@ -141,7 +141,7 @@ high_no_mark Pointer high = refl
 high_no_mark (Absolute shape) high = refl
 high_no_mark Call high = refl
 high_no_mark (Low shape) high = refl
-high_no_mark (Group lane step) high = refl
+high_no_mark (Group width step) high = refl
 
 is_high_row : (q : ℕ) (r : Reloc) → is_high_at q r ≡ true → is_high r.row ≡ true
 unfolding is_high_at
@@ -151,11 +151,11 @@ is_high_row q r is = (and_parts (is_high r.row) (nat_eq r.place q) is).0
 abbrev pub AllSound : List ℕ → ℕ → Type 0
 AllSound e i = (j : ℕ) → j < rela_count e i → reloc_fault e i j ≡ None
 
-high_row_moves : (e : List ℕ) (i j : ℕ) (o : Origin) → reloc_fault e i j ≡ None → is_high (reloc e i j).row ≡ true → high_origin e i (reloc e i j) ≡ Some o → o.moves ≡ true
+high_row_moves : (e : List ℕ) (i j : ℕ) (o : Ends) → reloc_fault e i j ≡ None → is_high (reloc e i j).row ≡ true → high_ends e i (reloc e i j) ≡ Some o → o.moves ≡ true
 high_row_moves e i j o none high some =
     high_moves e i (reloc e i j) o (λ plain. relative_moves e i (reloc e i j) (sound_entry e i j none (high_no_mark _ high)) (high_or_got _ high plain)) some
 
-pair_moves : (e : List ℕ) (i q : ℕ) (o : Origin) → AllSound e i → (pair : Option ℕ) → high_of e i q ≡ pair → pair_origin e i pair ≡ Some o → o.moves ≡ true
+pair_moves : (e : List ℕ) (i q : ℕ) (o : Ends) → AllSound e i → (pair : Option ℕ) → high_of e i q ≡ pair → pair_ends e i pair ≡ Some o → o.moves ≡ true
 unfolding high_of
 pair_moves e i q o all None is some = absurd (cc)
 pair_moves e i q o all (Some j) is some =
@@ -175,17 +175,17 @@ distance_row Unknown d low got = absurd (cc)
 distance_row Mark d low got = absurd (cc)
 distance_row Pointer d low got = absurd (cc)
 distance_row (Absolute shape) d low got = absurd (cc)
-distance_row (Group lane step) d low got = absurd (cc)
+distance_row (Group width step) d low got = absurd (cc)
 
 -- the distance of an accepted entry is between what moves together
-pub origin_moves : (e : List ℕ) (i : ℕ) (r : Reloc) (o : Origin) → AllSound e i → IsSound e i r → has_distance r.row ≡ true → origin e i r ≡ Some o → o.moves ≡ true
-unfolding origin
-origin_moves e i r o all sound distance some = elim (cases_Bool (is_low r.row)) [
+pub ends_move : (e : List ℕ) (i : ℕ) (r : Reloc) (o : Ends) → AllSound e i → IsSound e i r → has_distance r.row ≡ true → ends_of e i r ≡ Some o → o.moves ≡ true
+unfolding ends_of
+ends_move e i r o all sound distance some = elim (cases_Bool (is_low r.row)) [
   | inl low ↦ pair_moves e i r.value o all (high_of e i r.value) refl (rw low at some)
   | inr other ↦ high_moves e i r o (λ plain. relative_moves e i r sound (distance_row r.row distance other plain)) (rw other at some)
 ]
 
-pub steady : (row : Row) (r : Reloc) (o : Origin) → (is_absolute row && is_moving r.class) ≡ false → (has_distance row ≡ true → o.moves ≡ true) → IsSteady row r o
+pub steady : (row : Row) (r : Reloc) (o : Ends) → (is_absolute row && is_moving r.class) ≡ false → (has_distance row ≡ true → o.moves ≡ true) → IsSteady row r o
 steady Unknown r o still moves = tt
 steady Mark r o still moves = tt
 steady Pointer r o still moves = tt
@@ -194,4 +194,4 @@ steady (Relative shape) r o still moves = moves refl
 steady Call r o still moves = moves refl
 steady Got r o still moves = moves refl
 steady (Low shape) r o still moves = moves refl
-steady (Group lane step) r o still moves = tt
+steady (Group width step) r o still moves = tt

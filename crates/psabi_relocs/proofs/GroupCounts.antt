@@ -2,40 +2,23 @@
 use Rattle.std.proofs.Common.{ℕ, zero, suc, ◌+◌, ◌^◌, ◌<◌, ◌≤◌, ◌==◌, Bool, true, false, List, if◌then◌else◌, arith}
 use Rattle.psabi_relocs.specs.declared.row.Row.{Row}
 use Rattle.psabi_relocs.specs.declared.row.Row.TheVariants.{Group}
-use Rattle.psabi_relocs.specs.declared.row.Lane.{Lane}
-use Rattle.psabi_relocs.specs.declared.row.Lane.TheVariants.{Bits8, Bits16, Bits32, Bits6, Uleb128}
+use Rattle.psabi_relocs.specs.declared.row.Width.{Width}
 use Rattle.psabi_relocs.specs.declared.row.Step.{Step}
 use Rattle.psabi_relocs.specs.declared.row.Step.TheVariants.{Add, Sub, Set}
 use Rattle.psabi_relocs.specs.declared.group.Sum.{Sum}
-use Rattle.psabi_relocs.specs.declared.group.Sums.{Sums}
 use Rattle.psabi_relocs.specs.Class.{is_moving}
+use Rattle.psabi_relocs.specs.Row.{is_same}
 use Rattle.psabi_relocs.specs.Reloc.{reloc}
-use Rattle.psabi_relocs.specs.Group.{CanStep, stepped, sum_of, with_sum, row_step, sums_below}
+use Rattle.psabi_relocs.specs.Group.{stepped, row_step, sum_below}
+use Rattle.psabi_relocs.specs.Sums.{CanStep}
 
 -- both counts are at most n
 record IsUpTo (n : ℕ) (s : Sum) : Type 0 where
   plus : s.plus ≤ n
   minus : s.minus ≤ n
 
--- the counts of each width are
-record AreUpTo (n : ℕ) (s : Sums) : Type 0 where
-  bits8 : IsUpTo n s.bits8
-  bits16 : IsUpTo n s.bits16
-  bits32 : IsUpTo n s.bits32
-  bits6 : IsUpTo n s.bits6
-  uleb128 : IsUpTo n s.uleb128
-
 raised : (n : ℕ) (s : Sum) → IsUpTo n s → IsUpTo (suc n) s
 raised n s h = record { plus = omega arith; minus = omega arith }
-
-all_raised : (n : ℕ) (s : Sums) → AreUpTo n s → AreUpTo (suc n) s
-all_raised n s h = record {
-  bits8 = raised n s.bits8 h.bits8;
-  bits16 = raised n s.bits16 h.bits16;
-  bits32 = raised n s.bits32 h.bits32;
-  bits6 = raised n s.bits6 h.bits6;
-  uleb128 = raised n s.uleb128 h.uleb128;
-}
 
 one_step : (n : ℕ) (step : Step) (moves : Bool) (s : Sum) → IsUpTo n s → IsUpTo (suc n) (stepped step moves s)
 one_step n Add true s h = record { plus = omega arith; minus = omega arith }
@@ -45,37 +28,24 @@ one_step n Sub false s h = record { plus = omega arith; minus = omega arith }
 one_step n Set true s h = record { plus = omega arith; minus = omega arith }
 one_step n Set false s h = record { plus = omega arith; minus = omega arith }
 
-of_lane : (n : ℕ) (lane : Lane) (s : Sums) → AreUpTo n s → IsUpTo n (sum_of lane s)
-of_lane n Bits8 s h = h.bits8
-of_lane n Bits16 s h = h.bits16
-of_lane n Bits32 s h = h.bits32
-of_lane n Bits6 s h = h.bits6
-of_lane n Uleb128 s h = h.uleb128
+-- a step that is taken or not
+one_if : (n : ℕ) (b : Bool) (new s : Sum) → IsUpTo n s → IsUpTo (suc n) new → IsUpTo (suc n) (if b then new else s)
+one_if n true new s h k = k
+one_if n false new s h k = raised n s h
 
-with_lane : (n : ℕ) (lane : Lane) (sum : Sum) (s : Sums) → AreUpTo n s → IsUpTo n sum → AreUpTo n (with_sum lane sum s)
-with_lane n Bits8 sum s h k = record { bits8 = k; bits16 = h.bits16; bits32 = h.bits32; bits6 = h.bits6; uleb128 = h.uleb128 }
-with_lane n Bits16 sum s h k = record { bits8 = h.bits8; bits16 = k; bits32 = h.bits32; bits6 = h.bits6; uleb128 = h.uleb128 }
-with_lane n Bits32 sum s h k = record { bits8 = h.bits8; bits16 = h.bits16; bits32 = k; bits6 = h.bits6; uleb128 = h.uleb128 }
-with_lane n Bits6 sum s h k = record { bits8 = h.bits8; bits16 = h.bits16; bits32 = h.bits32; bits6 = k; uleb128 = h.uleb128 }
-with_lane n Uleb128 sum s h k = record { bits8 = h.bits8; bits16 = h.bits16; bits32 = h.bits32; bits6 = h.bits6; uleb128 = k }
+one_row : (n : ℕ) (width : Width) (row : Row) (moves : Bool) (s : Sum) → IsUpTo n s → IsUpTo (suc n) (row_step width row moves s)
+one_row n width (Group own step) moves s h = one_if n (is_same own width) (stepped step moves s) s h (one_step n step moves s h)
+one_row n width _ moves s h = raised n s h
 
-one_row : (n : ℕ) (row : Row) (moves : Bool) (s : Sums) → AreUpTo n s → AreUpTo (suc n) (row_step row moves s)
-one_row n (Group lane step) moves s h =
-    with_lane (suc n) lane (stepped step moves (sum_of lane s)) s (all_raised n s h) (one_step n step moves (sum_of lane s) (of_lane n lane s h))
-one_row n _ moves s h = all_raised n s h
-
-one_entry : (n : ℕ) (b : Bool) (row : Row) (moves : Bool) (s : Sums) → AreUpTo n s → AreUpTo (suc n) (if b then row_step row moves s else s)
-one_entry n true row moves s h = one_row n row moves s h
-one_entry n false row moves s h = all_raised n s h
-
-up_to : (e : List ℕ) (i q n : ℕ) → AreUpTo n (sums_below e i q n)
-unfolding sums_below
-up_to e i q zero =
-    let none : IsUpTo 0 (record { plus = 0; minus = 0 }) = record { plus = omega arith; minus = omega arith } in
-    record { bits8 = none; bits16 = none; bits32 = none; bits6 = none; uleb128 = none }
-up_to e i q (suc n) =
-    one_entry n ((reloc e i n).place == q) (reloc e i n).row (is_moving (reloc e i n).class) (sums_below e i q n) (up_to e i q n)
+up_to : (e : List ℕ) (i q : ℕ) (width : Width) (n : ℕ) → IsUpTo n (sum_below e i q width n)
+unfolding sum_below
+up_to e i q width zero = record { plus = omega arith; minus = omega arith }
+up_to e i q width (suc n) =
+    let h = up_to e i q width n in
+    let r = reloc e i n in
+    one_if n (r.place == q) (row_step width r.row (is_moving r.class) (sum_below e i q width n)) (sum_below e i q width n) h
+    (one_row n width r.row (is_moving r.class) (sum_below e i q width n) h)
 
 -- so the counts of fewer than 2^32 - 1 entries can take one more
-pub can_step : (e : List ℕ) (i q n : ℕ) → n + 1 < 2 ^ 32 → CanStep (sums_below e i q n)
-can_step e i q n few = λ lane. let h = of_lane n lane (sums_below e i q n) (up_to e i q n) in (omega arith, omega arith)
+pub can_step : (e : List ℕ) (i q : ℕ) (width : Width) (n : ℕ) → n + 1 < 2 ^ 32 → CanStep (sum_below e i q width n)
+can_step e i q width n few = let h = up_to e i q width n in (omega arith, omega arith)

@@ -1,4 +1,4 @@
--- The linked bytes of a section by address.
+-- The linked bytes of a section by address. System V ABI, ELF32, "Sections" (sh_addr, sh_offset).
 use Rattle.std.specs.Prelude.{ℕ, ◌+◌, ◌-◌, Bool, ◌&&◌, nat_le, List}
 use Rattle.elf32_reader.specs.declared.section.Section.{Section}
 use Rattle.elf32_reader.specs.Numbers.{u32_at}

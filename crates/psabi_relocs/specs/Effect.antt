@@ -1,4 +1,5 @@
--- What an accepted relocation asks of a loader, and which linked bytes are its own.
+-- What an accepted relocation asks of a loader, and which linked bytes are its own. What a flat file records of it is this
+-- project's own rule (flat.h's relocation records; RISC-V ELF psABI, "Relocations").
 use Rattle.std.specs.Prelude.{ℕ, Bool, true, false, ◌&&◌, List, [], ◌∷◌, Option, Some, None, if◌then◌else◌}
 use Rattle.psabi_relocs.specs.declared.reloc.Reloc.{Reloc}
 use Rattle.psabi_relocs.specs.declared.row.Row.{Row}

@@ -15,15 +15,14 @@ use Rattle.psabi_relocs.specs.declared.fault.RelocFault.TheVariants.{UnknownType
 use Rattle.psabi_relocs.specs.declared.reloc.Reloc.{Reloc}
 use Rattle.psabi_relocs.specs.declared.row.Row.{Row}
 use Rattle.psabi_relocs.specs.declared.row.Row.TheVariants.{Group}
-use Rattle.psabi_relocs.specs.declared.group.Sums.{Sums}
 use Rattle.psabi_relocs.specs.Class.{is_moving, is_still}
 use Rattle.psabi_relocs.specs.Row.{field_len, is_mark, is_unknown, is_got, is_absolute, is_relative, is_low}
 use Rattle.psabi_relocs.specs.Reloc.{reloc, target_section}
 use Rattle.psabi_relocs.specs.Bytes.{holds, word_in}
 use Rattle.psabi_relocs.specs.Pair.{high_of, low_of, slot_of, slot_section}
-use Rattle.psabi_relocs.specs.Group.{sum_of, sums_below, is_even}
+use Rattle.psabi_relocs.specs.Group.{sum_below, is_balanced}
 use Rattle.psabi_relocs.specs.Shape.{has_value}
-use Rattle.psabi_relocs.specs.Field.{Field, Origin, origin, own_fields}
+use Rattle.psabi_relocs.specs.Field.{Field, Ends, ends_of, own_fields}
 
 abbrev pub is_bad : Class → Bool
 is_bad classes.Bad = true
@@ -54,15 +53,15 @@ is_place_outside e i r =
 unfoldable pub is_lone_low : List ℕ → ℕ → Reloc → Bool
 is_lone_low e i r = is_low r.row && (is_still r.class || not (r.addend == 0) || is_none (high_of e i r.value))
 
--- more moving symbols are added in the entry's group than subtracted, or fewer
-abbrev pub is_uneven : Row → Sums → Bool
-is_uneven (Group lane step) sums = not (is_even (sum_of lane sums))
-is_uneven _ sums = false
+-- the sum of the group of this row at the place q doesn't end at 0
+abbrev pub is_unbalanced : Row → List ℕ → ℕ → ℕ → Bool
+is_unbalanced (Group width step) e i q = not (is_balanced (sum_below e i q width (rela_count e i)))
+is_unbalanced _ e i q = false
 
 -- a GOT entry that no low part names, or an entry of an unbalanced group
 unfoldable pub is_unpaired : List ℕ → ℕ → Reloc → Bool
 is_unpaired e i r =
-    (is_got r.row && is_none (low_of e i r.place)) || is_uneven r.row (sums_below e i r.place (rela_count e i))
+    (is_got r.row && is_none (low_of e i r.place)) || is_unbalanced r.row e i r.place
 
 -- a field in the section s holds its value
 unfoldable pub holds_value : List ℕ → Section → Field → Bool
@@ -80,12 +79,12 @@ slot_word e g = word_of_slot e g (slot_section e g)
 unfoldable pub is_slot_wrong : List ℕ → Reloc → ℕ → Bool
 is_slot_wrong e r g = is_got r.row && (not (r.addend == 0) || not (slot_word e g == r.value))
 
-abbrev pub mismatches : List ℕ → Section → Reloc → Option Origin → Bool
+abbrev pub mismatches : List ℕ → Section → Reloc → Option Ends → Bool
 mismatches e s r None = false
-mismatches e s r (Some o) = not (list_all (holds_value e s) (own_fields r.row 0 r o)) || is_slot_wrong e r o.value
+mismatches e s r (Some ends) = not (list_all (holds_value e s) (own_fields r.row 0 r ends)) || is_slot_wrong e r ends.value
 
 unfoldable pub is_mismatch : List ℕ → ℕ → Reloc → Bool
-is_mismatch e i r = mismatches e (target_section e i) r (origin e i r)
+is_mismatch e i r = mismatches e (target_section e i) r (ends_of e i r)
 
 -- the first fault of an entry of the kept section i
 unfoldable pub first_fault : List ℕ → ℕ → Reloc → Option RelocFault

@@ -19,32 +19,32 @@ pub record Field : Type 0 where
   pub value : ℕ
   pub recorded : Bool
 
--- what a distance is measured between: S + A and P
-pub record Origin : Type 0 where
+-- the two ends of a distance: S + A and P
+pub record Ends : Type 0 where
   pub value : ℕ
   pub addend : ℕ
   pub place : ℕ
   pub moves : Bool
 
 -- the entry's own
-abbrev pub own_origin : Reloc → Origin
-own_origin r = record { value = r.value; addend = r.addend; place = r.place; moves = is_moving r.class }
+abbrev pub own_ends : Reloc → Ends
+own_ends r = record { value = r.value; addend = r.addend; place = r.place; moves = is_moving r.class }
 
 -- G and P
-abbrev pub slot_origin : ℕ → ℕ → Origin
-slot_origin p g = record { value = g; addend = 0; place = p; moves = true }
+abbrev pub slot_ends : ℕ → ℕ → Ends
+slot_ends p g = record { value = g; addend = 0; place = p; moves = true }
 
--- that of an entry which is no low part
-unfoldable pub high_origin : List ℕ → ℕ → Reloc → Option Origin
-high_origin e i r = if is_got r.row then option_map (slot_origin r.place) (slot_of e i r.place) else Some (own_origin r)
+-- those of an entry which is no low part
+unfoldable pub high_ends : List ℕ → ℕ → Reloc → Option Ends
+high_ends e i r = if is_got r.row then option_map (slot_ends r.place) (slot_of e i r.place) else Some (own_ends r)
 
-abbrev pub pair_origin : List ℕ → ℕ → Option ℕ → Option Origin
-pair_origin e i None = None
-pair_origin e i (Some j) = high_origin e i (reloc e i j)
+abbrev pub pair_ends : List ℕ → ℕ → Option ℕ → Option Ends
+pair_ends e i None = None
+pair_ends e i (Some j) = high_ends e i (reloc e i j)
 
--- a low part has that of its pair
-unfoldable pub origin : List ℕ → ℕ → Reloc → Option Origin
-origin e i r = if is_low r.row then pair_origin e i (high_of e i r.value) else high_origin e i r
+-- a low part has those of its pair
+unfoldable pub ends_of : List ℕ → ℕ → Reloc → Option Ends
+ends_of e i r = if is_low r.row then pair_ends e i (high_of e i r.value) else high_ends e i r
 
 -- S + d where the symbol moves
 abbrev pub moved : ℕ → Reloc → ℕ
@@ -55,33 +55,33 @@ unfoldable pub absolute : ℕ → Reloc → ℕ
 absolute d r = (moved d r + r.addend) % 2 ^ 32
 
 -- S + A - P at addresses that are raised by d
-unfoldable pub relative : ℕ → Origin → ℕ
-relative d o = (o.value + (if o.moves then d else 0) + o.addend + (2 ^ 32 - (o.place + d) % 2 ^ 32)) % 2 ^ 32
+unfoldable pub relative : ℕ → Ends → ℕ
+relative d ends = (ends.value + (if ends.moves then d else 0) + ends.addend + (2 ^ 32 - (ends.place + d) % 2 ^ 32)) % 2 ^ 32
 
 -- a field that stays as it is when the image moves
 abbrev pub still : ℕ → Shape → ℕ → Field
 still place shape value = record { place = place; shape = shape; value = value; recorded = false }
 
 -- the fields at P: of AUIPC and JALR both
-abbrev pub own_fields : Row → ℕ → Reloc → Origin → List Field
-own_fields Pointer d r o = record { place = r.place; shape = Word; value = absolute d r; recorded = is_moving r.class } ∷ []
-own_fields (Absolute shape) d r o = still r.place shape (absolute d r) ∷ []
-own_fields (Relative shape) d r o = still r.place shape (relative d o) ∷ []
-own_fields (Low shape) d r o = still r.place shape (relative d o) ∷ []
-own_fields Call d r o = still r.place High (relative d o) ∷ still (r.place + 4) LowI (relative d o) ∷ []
-own_fields Got d r o = still r.place High (relative d o) ∷ []
-own_fields _ d r o = []
+abbrev pub own_fields : Row → ℕ → Reloc → Ends → List Field
+own_fields Pointer d r ends = record { place = r.place; shape = Word; value = absolute d r; recorded = is_moving r.class } ∷ []
+own_fields (Absolute shape) d r ends = still r.place shape (absolute d r) ∷ []
+own_fields (Relative shape) d r ends = still r.place shape (relative d ends) ∷ []
+own_fields (Low shape) d r ends = still r.place shape (relative d ends) ∷ []
+own_fields Call d r ends = still r.place High (relative d ends) ∷ still (r.place + 4) LowI (relative d ends) ∷ []
+own_fields Got d r ends = still r.place High (relative d ends) ∷ []
+own_fields _ d r ends = []
 
 -- the slot, which holds S
-abbrev pub slot_fields : Row → ℕ → Reloc → Origin → List Field
-slot_fields Got d r o = record { place = o.value; shape = Word; value = moved d r % 2 ^ 32; recorded = is_moving r.class } ∷ []
-slot_fields _ d r o = []
+abbrev pub slot_fields : Row → ℕ → Reloc → Ends → List Field
+slot_fields Got d r ends = record { place = ends.value; shape = Word; value = moved d r % 2 ^ 32; recorded = is_moving r.class } ∷ []
+slot_fields _ d r ends = []
 
-abbrev pub fields_from : ℕ → Reloc → Option Origin → List Field
+abbrev pub fields_from : ℕ → Reloc → Option Ends → List Field
 fields_from d r None = []
-fields_from d r (Some o) = own_fields r.row d r o ++ slot_fields r.row d r o
+fields_from d r (Some ends) = own_fields r.row d r ends ++ slot_fields r.row d r ends
 
 -- the fields of entry j of the kept section i at addresses that are raised by d. A group's entries have none: their
 -- bytes stay as they were linked
 unfoldable pub fields : List ℕ → ℕ → ℕ → ℕ → List Field
-fields e d i j = fields_from d (reloc e i j) (origin e i (reloc e i j))
+fields e d i j = fields_from d (reloc e i j) (ends_of e i (reloc e i j))

@@ -1,23 +1,25 @@
--- Groups: the entries of one section that change one number, at one place and of one width (this project's own rule; the
--- arithmetic of the psABI on these fields isn't computed, and the linked bytes stay as they are).
--- A group's difference of symbols stays the same at every base where as many moving symbols are added as subtracted.
-use Rattle.std.specs.Prelude.{ℕ, zero, suc, ◌+◌, ◌^◌, ◌<◌, Bool, ◌==◌, List, if◌then◌else◌}
+-- Groups. A group is all entries of one section with the same place and the same width. Its sum starts at 0 and takes the
+-- entries in order: ADD of a moving symbol adds 1, SUB of one subtracts 1, SET makes it 1 for a moving symbol and 0 for any
+-- other (fixed, weak, undefined or bad), of which ADD and SUB change nothing. The group is balanced if its sum ends at 0:
+-- then the difference of symbols in its bytes is the same at every base. This is this project's own rule; the types are
+-- those of the RISC-V ELF psABI, "Relocations", whose arithmetic on these bytes isn't computed: they stay as they were linked.
+use Rattle.std.specs.Prelude.{ℕ, zero, suc, ◌+◌, Bool, ◌==◌, List, if◌then◌else◌}
 use Rattle.psabi_relocs.specs.declared.reloc.Reloc.{Reloc}
 use Rattle.psabi_relocs.specs.declared.row.Row.{Row}
 use Rattle.psabi_relocs.specs.declared.row.Row.TheVariants.{Group}
-use Rattle.psabi_relocs.specs.declared.row.Lane.{Lane}
-use Rattle.psabi_relocs.specs.declared.row.Lane.TheVariants.{Bits8, Bits16, Bits32, Bits6, Uleb128}
+use Rattle.psabi_relocs.specs.declared.row.Width.{Width}
 use Rattle.psabi_relocs.specs.declared.row.Step.{Step}
 use Rattle.psabi_relocs.specs.declared.row.Step.TheVariants.{Add, Sub, Set}
 use Rattle.psabi_relocs.specs.declared.group.Sum.{Sum}
-use Rattle.psabi_relocs.specs.declared.group.Sums.{Sums}
 use Rattle.psabi_relocs.specs.Class.{is_moving}
+use Rattle.psabi_relocs.specs.Row.{is_same}
 use Rattle.psabi_relocs.specs.Reloc.{reloc}
 
+-- a sum is plus - minus, and starts at 0
 abbrev pub no_sum : Sum
 no_sum = record { plus = 0; minus = 0 }
 
--- how often one symbol counts: not at all where it stands still
+-- how often one symbol counts: not at all where it doesn't move
 abbrev pub count : Bool → ℕ
 count moves = if moves then 1 else 0
 
@@ -27,41 +29,20 @@ stepped Add moves s = record { plus = s.plus + count moves; minus = s.minus }
 stepped Sub moves s = record { plus = s.plus; minus = s.minus + count moves }
 stepped Set moves s = record { plus = count moves; minus = 0 }
 
--- no sums of any width
-abbrev pub no_sums : Sums
-no_sums = record { bits8 = no_sum; bits16 = no_sum; bits32 = no_sum; bits6 = no_sum; uleb128 = no_sum }
+-- the step of a row in the sum of a width: a group's row of that width has one, other rows have none
+abbrev pub row_step : Width → Row → Bool → Sum → Sum
+row_step width (Group own step) moves s = if is_same own width then stepped step moves s else s
+row_step width _ moves s = s
 
-abbrev pub sum_of : Lane → Sums → Sum
-sum_of Bits8 s = s.bits8
-sum_of Bits16 s = s.bits16
-sum_of Bits32 s = s.bits32
-sum_of Bits6 s = s.bits6
-sum_of Uleb128 s = s.uleb128
+-- the step of an entry in the sum of the group at the place q and of a width
+abbrev pub entry_step : ℕ → Width → Reloc → Sum → Sum
+entry_step q width r s = if r.place == q then row_step width r.row (is_moving r.class) s else s
 
-abbrev pub with_sum : Lane → Sum → Sums → Sums
-with_sum Bits8 sum s = record s { bits8 = sum }
-with_sum Bits16 sum s = record s { bits16 = sum }
-with_sum Bits32 sum s = record s { bits32 = sum }
-with_sum Bits6 sum s = record s { bits6 = sum }
-with_sum Uleb128 sum s = record s { uleb128 = sum }
+-- the sum of the group at the place q and of a width, over the first n entries
+unfoldable pub sum_below : List ℕ → ℕ → ℕ → Width → ℕ → Sum
+sum_below e i q width zero = no_sum
+sum_below e i q width (suc n) = entry_step q width (reloc e i n) (sum_below e i q width n)
 
--- the step of one entry in the sum of its width; other entries have none
-abbrev pub row_step : Row → Bool → Sums → Sums
-row_step (Group lane step) moves s = with_sum lane (stepped step moves (sum_of lane s)) s
-row_step _ moves s = s
-
--- the step of an entry in the sums at the address q
-abbrev pub entry_step : ℕ → Reloc → Sums → Sums
-entry_step q r s = if r.place == q then row_step r.row (is_moving r.class) s else s
-
--- the sums of the entries at the address q among the first n, one for each width
-unfoldable pub sums_below : List ℕ → ℕ → ℕ → ℕ → Sums
-sums_below e i q zero = no_sums
-sums_below e i q (suc n) = entry_step q (reloc e i n) (sums_below e i q n)
-
--- both counts of each sum can take one more in 32 bits
-abbrev pub CanStep : Sums → Type 0
-CanStep s = (lane : Lane) → ((sum_of lane s).plus + 1 < 2 ^ 32) × ((sum_of lane s).minus + 1 < 2 ^ 32)
-
-abbrev pub is_even : Sum → Bool
-is_even s = s.plus == s.minus
+-- the sum is 0
+abbrev pub is_balanced : Sum → Bool
+is_balanced s = s.plus == s.minus

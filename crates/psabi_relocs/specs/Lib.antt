@@ -4,11 +4,12 @@
 -- Reloc: the entries of a kept section with their symbols.
 -- Bytes: the linked bytes by address.
 -- Pair: high parts, low parts and GOT slots.
--- Group: differences of symbols.
+-- Group: groups, their sums, and which are balanced.
 -- Shape: how a word has a value.
 -- Field: the fields of an entry and their values.
 -- Fault: the first fault of an entry.
 -- Effect: what an accepted entry asks of a loader.
+-- Sums: the sums of all widths at one place, for the index alone.
 -- Index: what is known of a section's index.
 pub mod Search
 pub mod Class
@@ -21,4 +22,5 @@ pub mod Shape
 pub mod Field
 pub mod Fault
 pub mod Effect
+pub mod Sums
 pub mod Index

@@ -3,8 +3,8 @@ use Rattle.std.specs.Prelude.{ℕ, Bool, true, false, ◌||◌, ◌==◌, if◌t
 use Rattle.psabi_relocs.specs.declared.row.Row.{Row}
 use Rattle.psabi_relocs.specs.declared.row.Row.TheVariants.{Unknown, Mark, Pointer, Absolute, Relative, Call, Got, Low, Group}
 use Rattle.psabi_relocs.specs.declared.row.Shape.TheVariants.{Word, High, LowI, LowS, Branch, Jump}
-use Rattle.psabi_relocs.specs.declared.row.Lane.{Lane}
-use Rattle.psabi_relocs.specs.declared.row.Lane.TheVariants.{Bits8, Bits16, Bits32, Bits6, Uleb128}
+use Rattle.psabi_relocs.specs.declared.row.Width.{Width}
+use Rattle.psabi_relocs.specs.declared.row.Width.TheVariants.{Bits8, Bits16, Bits32, Bits6, Uleb128}
 use Rattle.psabi_relocs.specs.declared.row.Step.TheVariants.{Add, Sub, Set}
 
 -- the row of a type's number
@@ -39,19 +39,27 @@ row_of k =
     else Unknown
 
 -- how many bytes of a number are a group's field: of a ULEB128 number the first
-abbrev pub lane_len : Lane → ℕ
-lane_len Bits8 = 1
-lane_len Bits16 = 2
-lane_len Bits32 = 4
-lane_len Bits6 = 1
-lane_len Uleb128 = 1
+abbrev pub width_len : Width → ℕ
+width_len Bits8 = 1
+width_len Bits16 = 2
+width_len Bits32 = 4
+width_len Bits6 = 1
+width_len Uleb128 = 1
+
+abbrev pub is_same : Width → Width → Bool
+is_same Bits8 Bits8 = true
+is_same Bits16 Bits16 = true
+is_same Bits32 Bits32 = true
+is_same Bits6 Bits6 = true
+is_same Uleb128 Uleb128 = true
+is_same _ _ = false
 
 -- how many bytes from P on are the field
 abbrev pub field_len : Row → ℕ
 field_len Unknown = 0
 field_len Mark = 0
 field_len Call = 8
-field_len (Group lane step) = lane_len lane
+field_len (Group width step) = width_len width
 field_len _ = 4
 
 -- NONE, ALIGN and RELAX say nothing of the linked bytes

@@ -1,10 +1,13 @@
 //! Groups: the entries that change one number, counted.
 
-ghost use Rattle.std.specs.Prelude.{◌≡◌, ◌+◌, ◌^◌, ◌<◌};
+ghost use Rattle.std.specs.Prelude.{◌≡◌, ◌+◌, ◌^◌, ◌<◌, if◌then◌else◌};
 ghost use Rattle.psabi_relocs.specs.declared.row.Row.TheVariants.{Group};
-ghost use Rattle.psabi_relocs.specs.Group.{stepped, no_sum, no_sums, sum_of, with_sum, row_step};
+ghost use Rattle.psabi_relocs.specs.declared.row.Width.{Width};
+ghost use Rattle.psabi_relocs.specs.Row.{is_same};
+ghost use Rattle.psabi_relocs.specs.Group.{no_sum, stepped, row_step};
+ghost use Rattle.psabi_relocs.specs.Sums.{no_sums, sum_of};
 
-use crate::row::{Lane, Step};
+use crate::row::{Step, Width};
 
 /// How many moving symbols a group adds and subtracts.
 #[derive(Clone, Copy, Debug, PartialEq, Eq)]
@@ -71,34 +74,34 @@ impl Sums {
     }
 
     /// The sum of one width.
-    pub fn sum(&self, lane: Lane) -> Sum
-        ensures { result ≡ sum_of lane self.now }
+    pub fn sum(&self, width: Width) -> Sum
+        ensures { result ≡ sum_of width self.now }
     {
-        match lane {
-            Lane::Bits8 => self.bits8,
-            Lane::Bits16 => self.bits16,
-            Lane::Bits32 => self.bits32,
-            Lane::Bits6 => self.bits6,
-            Lane::Uleb128 => self.uleb128,
+        match width {
+            Width::Bits8 => self.bits8,
+            Width::Bits16 => self.bits16,
+            Width::Bits32 => self.bits32,
+            Width::Bits6 => self.bits6,
+            Width::Uleb128 => self.uleb128,
         }
     }
 
     /// The sums with another one of one width.
-    fn with(self, lane: Lane, sum: Sum) -> Sums
-        ensures { result ≡ with_sum lane sum self }
+    fn with(self, width: Width, sum: Sum) -> Sums
+        ensures { (other : Width) → sum_of other result ≡ (if is_same width other then sum else sum_of other self) }
     {
-        match lane {
-            Lane::Bits8 => Sums { bits8: sum, ..self },
-            Lane::Bits16 => Sums {
+        match width {
+            Width::Bits8 => Sums { bits8: sum, ..self },
+            Width::Bits16 => Sums {
                 bits16: sum,
                 ..self
             },
-            Lane::Bits32 => Sums {
+            Width::Bits32 => Sums {
                 bits32: sum,
                 ..self
             },
-            Lane::Bits6 => Sums { bits6: sum, ..self },
-            Lane::Uleb128 => Sums {
+            Width::Bits6 => Sums { bits6: sum, ..self },
+            Width::Uleb128 => Sums {
                 uleb128: sum,
                 ..self
             },
@@ -106,11 +109,11 @@ impl Sums {
     }
 
     /// The sums after an entry's step with its symbol.
-    pub fn stepped(self, lane: Lane, step: Step, moves: bool) -> Sums
-        requires plus { (sum_of lane self).plus + 1 < 2 ^ 32 }
-        requires minus { (sum_of lane self).minus + 1 < 2 ^ 32 }
-        ensures { result ≡ row_step (Group lane step) moves self }
+    pub fn stepped(self, width: Width, step: Step, moves: bool) -> Sums
+        requires plus { (sum_of width self).plus + 1 < 2 ^ 32 }
+        requires minus { (sum_of width self).minus + 1 < 2 ^ 32 }
+        ensures { (other : Width) → sum_of other result ≡ row_step other (Group width step) moves (sum_of other self) }
     {
-        self.with(lane, self.sum(lane).stepped(step, moves))
+        self.with(width, self.sum(width).stepped(step, moves))
     }
 }

@@ -12,9 +12,9 @@ ghost use Rattle.psabi_relocs.specs.Class.{is_moving};
 ghost use Rattle.psabi_relocs.specs.Reloc.{target_section};
 ghost use Rattle.psabi_relocs.specs.Bytes.{holds, word_in};
 ghost use Rattle.psabi_relocs.specs.Pair.{high_of, low_immediate, slot_of, own_slot};
-ghost use Rattle.psabi_relocs.specs.Group.{is_even};
+ghost use Rattle.psabi_relocs.specs.Group.{is_balanced};
 ghost use Rattle.psabi_relocs.specs.Shape.{has_value};
-ghost use Rattle.psabi_relocs.specs.Field.{own_origin, slot_origin, high_origin, pair_origin, absolute, relative, own_fields};
+ghost use Rattle.psabi_relocs.specs.Field.{own_ends, slot_ends, high_ends, pair_ends, absolute, relative, own_fields};
 ghost use Rattle.psabi_relocs.specs.Fault.{is_weak, is_fixed, is_slot_outside, is_place_outside, is_lone_low, is_unpaired, holds_value, slot_word, mismatches, is_mismatch, first_fault, reloc_fault};
 ghost use Rattle.psabi_relocs.specs.Effect.{moving_effect, effect};
 ghost use Rattle.psabi_relocs.specs.Index.{IsPairs};
@@ -105,7 +105,7 @@ fn absolute(reloc: &Reloc) -> u32
 /// S + A - P modulo 2^32.
 #[tactic(auto, unfolding(crate::specs::Field::relative))]
 fn distance(reloc: &Reloc) -> u32
-    ensures { result ≡ relative 0 (own_origin reloc.now) }
+    ensures { result ≡ relative 0 (own_ends reloc.now) }
 {
     reloc
         .value
@@ -116,18 +116,18 @@ fn distance(reloc: &Reloc) -> u32
 /// G - P modulo 2^32.
 #[tactic(auto, unfolding(crate::specs::Field::relative))]
 fn slot_distance(place: u32, slot: u32) -> u32
-    ensures { result ≡ relative 0 (slot_origin place slot) }
+    ensures { result ≡ relative 0 (slot_ends place slot) }
 {
     slot.wrapping_sub(place)
 }
 
 /// The distance of an entry that is no low part: from P to its symbol, or to the slot of a GOT entry.
-#[tactic(auto, unfolding(crate::specs::Field::high_origin))]
+#[tactic(auto, unfolding(crate::specs::Field::high_ends))]
 fn high_distance(elf: &Elf<'_>, pairs: &Pairs, section: u32, reloc: &Reloc) -> Option<u32>
     requires accepted { IsAccepted elf.now }
     requires kept { is_kept elf.now section ≡ true }
     requires pairs { IsPairs elf.now section pairs.now }
-    ensures { result ≡ option_map (relative 0) (high_origin elf.now section reloc.now) }
+    ensures { result ≡ option_map (relative 0) (high_ends elf.now section reloc.now) }
 {
     match reloc.row {
         Row::Got => {
@@ -144,7 +144,7 @@ fn pair_distance(elf: &Elf<'_>, pairs: &Pairs, section: u32, address: u32) -> Op
     requires accepted { IsAccepted elf.now }
     requires kept { is_kept elf.now section ≡ true }
     requires pairs { IsPairs elf.now section pairs.now }
-    ensures { result ≡ option_map (relative 0) (pair_origin elf.now section (high_of elf.now section address)) }
+    ensures { result ≡ option_map (relative 0) (pair_ends elf.now section (high_of elf.now section address)) }
 {
     let high = reloc_at(elf, section, *pairs.high.get(&address)?);
     high_distance(elf, pairs, section, &high)
@@ -218,8 +218,8 @@ fn is_lone_low(elf: &Elf<'_>, pairs: &Pairs, section: u32, reloc: &Reloc) -> boo
 }
 
 /// Whether a group adds and subtracts unlike numbers of symbols that move.
-fn is_uneven(sum: Sum) -> bool
-    ensures { result ≡ not (is_even sum) }
+fn is_unbalanced(sum: Sum) -> bool
+    ensures { result ≡ not (is_balanced sum) }
 {
     sum.plus != sum.minus
 }
@@ -231,7 +231,7 @@ fn is_unpaired(elf: &Elf<'_>, pairs: &Pairs, section: u32, reloc: &Reloc) -> boo
 {
     match reloc.row {
         Row::Got => !pairs.low.contains_key(&reloc.place),
-        Row::Group(lane, _) => is_uneven(sums_at(&pairs.sums, reloc.place).sum(lane)),
+        Row::Group(width, _) => is_unbalanced(sums_at(&pairs.sums, reloc.place).sum(width)),
         _ => false,
     }
 }
@@ -253,7 +253,7 @@ fn is_call_wrong(elf: &Elf<'_>, section: u32, reloc: &Reloc) -> bool
     requires kept { is_kept elf.now section ≡ true }
     requires no_fault { layout_fault elf.now ≡ None }
     requires holds { holds (target_section elf.now section) reloc.now.place 8 ≡ true }
-    ensures { result ≡ not (list_all (holds_value elf.now (target_section elf.now section)) (own_fields Row.Call 0 reloc.now (own_origin reloc.now))) }
+    ensures { result ≡ not (list_all (holds_value elf.now (target_section elf.now section)) (own_fields Row.Call 0 reloc.now (own_ends reloc.now))) }
 {
     let value = distance(reloc);
     is_wrong(elf, section, Shape::High, reloc.place, value)
@@ -283,7 +283,7 @@ fn is_got_wrong(elf: &Elf<'_>, pairs: &Pairs, section: u32, reloc: &Reloc, slot:
     requires pairs { IsPairs elf.now section pairs.now }
     requires row { reloc.now.row ≡ Row.Got }
     requires holds { holds (target_section elf.now section) reloc.now.place 4 ≡ true }
-    ensures { result ≡ mismatches elf.now (target_section elf.now section) reloc.now (Some (slot_origin reloc.now.place slot)) }
+    ensures { result ≡ mismatches elf.now (target_section elf.now section) reloc.now (Some (slot_ends reloc.now.place slot)) }
 {
     is_wrong(
         elf,
@@ -296,7 +296,7 @@ fn is_got_wrong(elf: &Elf<'_>, pairs: &Pairs, section: u32, reloc: &Reloc, slot:
 }
 
 /// Whether a field at P or a slot doesn't hold its value, or a GOT entry has an addend.
-#[tactic(auto, using(crate::proofs::Checks::inside_holds), unfolding(crate::specs::Fault::is_mismatch, crate::specs::Fault::holds_value, crate::specs::Field::origin, crate::specs::Field::high_origin, crate::specs::Fault::is_slot_wrong))]
+#[tactic(auto, using(crate::proofs::Checks::inside_holds), unfolding(crate::specs::Fault::is_mismatch, crate::specs::Fault::holds_value, crate::specs::Field::ends_of, crate::specs::Field::high_ends, crate::specs::Fault::is_slot_wrong))]
 fn is_mismatch(elf: &Elf<'_>, pairs: &Pairs, section: u32, reloc: &Reloc, slot: Option<u32>) -> bool
     requires accepted { IsAccepted elf.now }
     requires kept { is_kept elf.now section ≡ true }

@@ -24,5 +24,5 @@ pub use group::{Sum, Sums};
 pub use judgement::{check, slot_of};
 pub use pairs::Pairs;
 pub use reloc::{Reloc, reloc_at};
-pub use row::{Lane, Row, Shape, Step};
+pub use row::{Row, Shape, Step, Width};
 pub use spans::{Span, Spans, spans_of};

@@ -8,13 +8,15 @@ ghost use Rattle.elf32_reader.specs.Header.{count_of};
 ghost use Rattle.elf32_reader.specs.Sections.{section};
 ghost use Rattle.elf32_reader.specs.Relas.{is_kept};
 ghost use Rattle.flat_layout.specs.Numbering.{has_bytes};
+ghost use Rattle.psabi_relocs.specs.declared.row.Width.{Width};
 ghost use Rattle.psabi_relocs.specs.Search.{first_below};
 ghost use Rattle.psabi_relocs.specs.Class.{is_moving};
 ghost use Rattle.psabi_relocs.specs.Row.{is_high, is_low};
 ghost use Rattle.psabi_relocs.specs.Bytes.{holds};
 ghost use Rattle.psabi_relocs.specs.Pair.{is_high_at, names};
-ghost use Rattle.psabi_relocs.specs.Group.{CanStep, entry_step};
-ghost use Rattle.psabi_relocs.specs.Index.{IsPairs, sums_or_none};
+ghost use Rattle.psabi_relocs.specs.Group.{entry_step};
+ghost use Rattle.psabi_relocs.specs.Sums.{sums_or_none, sum_of, CanStep};
+ghost use Rattle.psabi_relocs.specs.Index.{IsPairs};
 
 use crate::bytes::holds;
 use crate::group::Sums;
@@ -122,15 +124,15 @@ pub fn sums_at(sums: &BTreeMap<u32, Sums>, place: u32) -> Sums
 
 /// Takes in an entry's step in a group, if it has one.
 fn note_step(sums: &mut BTreeMap<u32, Sums>, reloc: &Reloc) -> Result<(), AllocError>
-    requires room { CanStep (sums_or_none (tree.get nat_cmp sums.old reloc.now.place)) }
-    ensures { OnOk result ((q : ℕ) →
-        sums_or_none (tree.get nat_cmp sums.new q) ≡ entry_step q reloc.now (sums_or_none (tree.get nat_cmp sums.old q))) }
+    requires room { (width : Width) → CanStep (sum_of width (sums_or_none (tree.get nat_cmp sums.old reloc.now.place))) }
+    ensures { OnOk result ((q : ℕ) (width : Width) →
+        sum_of width (sums_or_none (tree.get nat_cmp sums.new q)) ≡ entry_step q width reloc.now (sum_of width (sums_or_none (tree.get nat_cmp sums.old q)))) }
 {
-    if let Row::Group(lane, step) = reloc.row {
+    if let Row::Group(width, step) = reloc.row {
         let before = sums_at(sums, reloc.place);
         sums.insert(
             reloc.place,
-            before.stepped(lane, step, reloc.class.is_moving()),
+            before.stepped(width, step, reloc.class.is_moving()),
         )?;
     }
     Ok(())
@@ -151,13 +153,13 @@ fn stored_sections(alloc: Global, elf: &Elf<'_>) -> Result<BTreeMap<u32, u32>, A
 impl Pairs {
     /// Takes in an entry. `target` is the section that it applies to.
     fn note(&mut self, target: &Section, reloc: &Reloc, entry: u32) -> Result<(), AllocError>
-        requires room { CanStep (sums_or_none (tree.get nat_cmp self.old.sums reloc.now.place)) }
+        requires room { (width : Width) → CanStep (sum_of width (sums_or_none (tree.get nat_cmp self.old.sums reloc.now.place))) }
         ensures high { OnOk result ((q : ℕ) →
             tree.get nat_cmp self.new.high q ≡ option_or (tree.get nat_cmp self.old.high q) (if is_high_at q reloc.now then Some entry else None)) }
         ensures low { OnOk result ((q : ℕ) →
             tree.get nat_cmp self.new.low q ≡ option_or (tree.get nat_cmp self.old.low q) (if names target.now q reloc.now then Some entry else None)) }
-        ensures sums { OnOk result ((q : ℕ) →
-            sums_or_none (tree.get nat_cmp self.new.sums q) ≡ entry_step q reloc.now (sums_or_none (tree.get nat_cmp self.old.sums q))) }
+        ensures sums { OnOk result ((q : ℕ) (width : Width) →
+            sum_of width (sums_or_none (tree.get nat_cmp self.new.sums q)) ≡ entry_step q width reloc.now (sum_of width (sums_or_none (tree.get nat_cmp self.old.sums q)))) }
         ensures stored { self.new.stored ≡ self.old.stored }
     {
         note_high(&mut self.high, reloc, entry)?;

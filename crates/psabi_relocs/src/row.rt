@@ -1,7 +1,7 @@
 //! The relocation types: RISC-V ELF psABI, "Relocations".
 
 ghost use Rattle.std.specs.Prelude.{◌≡◌};
-ghost use Rattle.psabi_relocs.specs.Row.{row_of, lane_len, field_len};
+ghost use Rattle.psabi_relocs.specs.Row.{row_of, width_len, field_len};
 
 /// How an instruction or a word has a value.
 #[derive(Clone, Copy, Debug, PartialEq, Eq)]
@@ -22,7 +22,7 @@ pub enum Shape {
 
 /// Which number the entries of a group change.
 #[derive(Clone, Copy, Debug, PartialEq, Eq)]
-pub enum Lane {
+pub enum Width {
     Bits8,
     Bits16,
     Bits32,
@@ -60,7 +60,7 @@ pub enum Row {
     /// The low part of the value of another entry: PCREL_LO12_I, PCREL_LO12_S.
     Low(Shape),
     /// A step of a difference of symbols: ADD, SUB and SET of some width.
-    Group(Lane, Step),
+    Group(Width, Step),
 }
 
 impl Row {
@@ -82,20 +82,20 @@ impl Row {
             26 => Row::Absolute(Shape::High),
             27 => Row::Absolute(Shape::LowI),
             28 => Row::Absolute(Shape::LowS),
-            33 => Row::Group(Lane::Bits8, Step::Add),
-            34 => Row::Group(Lane::Bits16, Step::Add),
-            35 => Row::Group(Lane::Bits32, Step::Add),
-            37 => Row::Group(Lane::Bits8, Step::Sub),
-            38 => Row::Group(Lane::Bits16, Step::Sub),
-            39 => Row::Group(Lane::Bits32, Step::Sub),
-            52 => Row::Group(Lane::Bits6, Step::Sub),
-            53 => Row::Group(Lane::Bits6, Step::Set),
-            54 => Row::Group(Lane::Bits8, Step::Set),
-            55 => Row::Group(Lane::Bits16, Step::Set),
-            56 => Row::Group(Lane::Bits32, Step::Set),
+            33 => Row::Group(Width::Bits8, Step::Add),
+            34 => Row::Group(Width::Bits16, Step::Add),
+            35 => Row::Group(Width::Bits32, Step::Add),
+            37 => Row::Group(Width::Bits8, Step::Sub),
+            38 => Row::Group(Width::Bits16, Step::Sub),
+            39 => Row::Group(Width::Bits32, Step::Sub),
+            52 => Row::Group(Width::Bits6, Step::Sub),
+            53 => Row::Group(Width::Bits6, Step::Set),
+            54 => Row::Group(Width::Bits8, Step::Set),
+            55 => Row::Group(Width::Bits16, Step::Set),
+            56 => Row::Group(Width::Bits32, Step::Set),
             57 | 59 => Row::Relative(Shape::Word),
-            60 => Row::Group(Lane::Uleb128, Step::Set),
-            61 => Row::Group(Lane::Uleb128, Step::Sub),
+            60 => Row::Group(Width::Uleb128, Step::Set),
+            61 => Row::Group(Width::Uleb128, Step::Sub),
             _ => Row::Unknown,
         }
     }
@@ -107,21 +107,21 @@ impl Row {
         match self {
             Row::Unknown | Row::Mark => 0,
             Row::Call => 8,
-            Row::Group(lane, _) => lane.field_len(),
+            Row::Group(width, _) => width.field_len(),
             _ => 4,
         }
     }
 }
 
-impl Lane {
+impl Width {
     /// How many bytes of the number are the field: of a ULEB128 number the first.
     fn field_len(self) -> u32
-        ensures { result ≡ lane_len self }
+        ensures { result ≡ width_len self }
     {
         match self {
-            Lane::Bits8 | Lane::Bits6 | Lane::Uleb128 => 1,
-            Lane::Bits16 => 2,
-            Lane::Bits32 => 4,
+            Width::Bits8 | Width::Bits6 | Width::Uleb128 => 1,
+            Width::Bits16 => 2,
+            Width::Bits32 => 4,
         }
     }
 }

@@ -2,7 +2,7 @@ use Rattle.std.proofs.Common.{◌≡◌, refl, subst, arith}
 use Rattle.elf32_reader.specs.Relas.{rela_count}
 use Rattle.elf32_reader.proofs.Places.{is_kept_below, is_kept_info}
 use Rattle.psabi_relocs.proofs.IndexSearches.{first_below_zero}
-use Rattle.psabi_relocs.proofs.IndexEntries.{HasEntries, sums_below_zero, one_more, all_entries}
+use Rattle.psabi_relocs.proofs.IndexEntries.{HasEntries, sum_below_zero, one_more, all_entries}
 use Rattle.psabi_relocs.proofs.GroupCounts.{can_step}
 use Rattle.psabi_relocs.proofs.pairs.Pairs.of.Goals as goal
 
@@ -16,7 +16,7 @@ pub loop-entry-init : goal.loop-entry-init
 loop-entry-init c = record {
   high = λ q. rw (c.new.ensures.empty, first_below_zero) refl;
   low = λ q. rw (c.new-2.ensures.empty, first_below_zero) refl;
-  sums = λ q. rw (c.new-3.ensures.empty, sums_below_zero) refl;
+  sums = λ q width. rw c.new-3.ensures.empty (sum_below_zero _ _ q width);
   stored = c.in_ok-stored_sections.ensures;
 }
 
@@ -24,7 +24,7 @@ pub note-requires : goal.note-requires
 note-requires c =
     let place = c.reloc_at.result.place in
     record {
-      room = rw (c.loop-entry.invariant.sums place) (can_step c.args.elf.now c.args.section place c.loop-entry.entry (omega arith));
+      room = λ width. rw (c.loop-entry.invariant.sums place width) (can_step c.args.elf.now c.args.section place width c.loop-entry.entry (omega arith));
     }
 
 pub loop-entry-preserved : goal.loop-entry-preserved
