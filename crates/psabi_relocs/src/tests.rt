@@ -2,7 +2,7 @@
 //! Words and immediates are those of binutils' assembler, with its text beside them.
 
 ghost use Rattle.std.specs.Prelude.{◌≡◌, ◌<◌, ◌==◌, length, IfOk, IfSome};
-ghost use Rattle.std.specs.List.{list_any};
+ghost use Rattle.std.specs.List.{All, list_any};
 ghost use Rattle.elf32_reader.specs.Relas.{is_kept};
 ghost use Rattle.elf32_reader.specs.Symbols.{is_symtab};
 ghost use Rattle.elf_maker.specs.Given.{IsPart, HasPlainName};
@@ -67,6 +67,9 @@ const AX: u32 = 6;
 const SHN_ABS: u16 = 0xfff1;
 
 const MARK: Entry = (0, 0, 0, 0);
+
+/// The value of symbols that move.
+const S: u32 = 0x10020;
 
 const NO_SYMBOL: (Class, u32) = (Class::Fixed, 0);
 
@@ -366,31 +369,27 @@ fn rows_and_classes(rt: HostRuntime) -> Result<(), Fail> {
 /// One entry at TEXT: its type, the first two words of .text, the symbol's class and value, and the addend.
 type Single = (u8, [u32; 2], Class, u32, i32, Answer);
 
+/// A word at TEXT that points to some address.
+const TO_10028: Answer = Ok(Effect::Word {
+    place: TEXT,
+    target: 0x10028,
+});
+
+const TO_LAST: Answer = Ok(Effect::Word {
+    place: TEXT,
+    target: 0xffff_fffe,
+});
+
+const TO_11804: Answer = Ok(Effect::Word {
+    place: TEXT,
+    target: 0x11804,
+});
+
 const SINGLES: [Single; 62] = [
     // 32
-    (
-        1,
-        [0x10028, 0],
-        Class::Moves,
-        0x10024,
-        4,
-        Ok(Effect::Word {
-            place: 0x10000,
-            target: 0x10028,
-        }),
-    ),
+    (1, [0x10028, 0], Class::Moves, 0x10024, 4, TO_10028),
     (1, [0x10029, 0], Class::Moves, 0x10024, 4, MISMATCH),
-    (
-        1,
-        [0xffff_fffe, 0],
-        Class::Moves,
-        1,
-        -3,
-        Ok(Effect::Word {
-            place: 0x10000,
-            target: 0xffff_fffe,
-        }),
-    ),
+    (1, [0xffff_fffe, 0], Class::Moves, 1, -3, TO_LAST),
     (1, [0, 0], Class::Fixed, 0xffff_ffff, 1, STILL),
     (1, [1, 0], Class::Fixed, 0xffff_ffff, 1, MISMATCH),
     (1, [0, 0], Class::Weak, 0, 0, STILL),
@@ -651,12 +650,12 @@ fn faults(rt: HostRuntime) -> Result<(), Fail> {
     Ok(())
 }
 
-/// AUIPC at TEXT and LW behind it load from the slot at GOT, which holds the symbol's value 0x10020.
+/// auipc a0, 1 at TEXT and lw a0, 0(a0) behind it load the symbol's value from the slot at GOT.
 const GOT_SLOT: Sample = Sample {
     text: [0x1517, 0x0005_2503, 0, 0],
-    got: [0x10020, 0, 0, 0],
+    got: [S, 0, 0, 0],
     symbols: [
-        (Class::Moves, 0x10020),
+        (Class::Moves, S),
         (Class::Moves, TEXT),
         (Class::Moves, TEXT + 8),
         (Class::Fixed, TEXT),
@@ -665,36 +664,64 @@ const GOT_SLOT: Sample = Sample {
     ..EMPTY
 };
 
-/// The slot at `place` of a symbol of value 0x10020.
-const fn slot(place: u32) -> Answer {
-    Ok(Effect::Slot {
-        place,
-        target: 0x10020,
-    })
-}
+/// The first slot of .got, for a symbol of value S.
+const FIRST_SLOT: Answer = Ok(Effect::Slot {
+    place: GOT,
+    target: S,
+});
 
-/// The same with another class and value of the symbol, and another word in the slot.
-fn got_of(class: Class, value: u32, word: u32) -> Sample {
+const SECOND_SLOT: Answer = Ok(Effect::Slot {
+    place: 0x11004,
+    target: S,
+});
+
+const LAST_SLOT: Answer = Ok(Effect::Slot {
+    place: 0x1100c,
+    target: S,
+});
+
+/// The same two instructions and entries: the class and the value of the symbol, the addend, LW, the words of .got, and
+/// what GOT_HI20 is. The low part holds its value by the definition of G.
+type Got = (Class, u32, i32, u32, [u32; 4], Answer);
+
+const GOTS: [Got; 15] = [
+    (Class::Moves, S, 0, 0x0005_2503, [S, 0, 0, 0], FIRST_SLOT),
+    (Class::Moves, S, 0, 0x0005_2503, [S + 4, 0, 0, 0], MISMATCH),
+    (Class::Weak, S, 0, 0x0005_2503, [0, 0, 0, 0], STILL),
+    (Class::Weak, 4, 0, 0x0005_2503, [4, 0, 0, 0], MISMATCH),
+    (Class::Fixed, 7, 0, 0x0005_2503, [7, 0, 0, 0], STILL),
+    (Class::Undefined, 0, 0, 0x0005_2503, [0, 0, 0, 0], UNDEFINED),
+    (Class::Moves, S, 4, 0x0005_2503, [S, 0, 0, 0], MISMATCH),
+    (Class::Moves, S, 4, 0x0005_2503, [S + 4, 0, 0, 0], MISMATCH),
+    // the last slot of .got, one in two stored sections, and one between two
+    (Class::Moves, S, 0, 0x00c5_2503, [0, 0, 0, S], LAST_SLOT),
+    (Class::Moves, S, 0, 0x00d5_2503, [0, 0, 0, S << 8], OUTSIDE),
+    (Class::Moves, S, 0, 0x8005_2503, [0, 0, 0, 0], OUTSIDE),
+    // the last slot of the section behind, one that passes its end by a byte, and one in .bss, with an addend
+    (Class::Weak, 0, 0, 0x01c5_2503, [0, 0, 0, 0], STILL),
+    (Class::Weak, 0, 0, 0x01d5_2503, [0, 0, 0, 0], OUTSIDE),
+    (Class::Weak, 0, 0, 0x0205_2503, [0, 0, 0, 0], OUTSIDE),
+    (Class::Weak, 0, 4, 0x0205_2503, [0, 0, 0, 0], OUTSIDE),
+];
+
+fn got(row: &Got) -> Sample {
+    let (class, value, addend, low, got, _) = *row;
     let [_, place, other, fixed] = GOT_SLOT.symbols;
-    Sample {
-        got: [word, 0, 0, 0],
-        symbols: [(class, value), place, other, fixed],
-        ..GOT_SLOT
-    }
-}
-
-/// The same with other words at the low part and in .got.
-fn got_by(low: u32, got: [u32; 4]) -> Sample {
+    let [_, load, ..] = GOT_SLOT.entries;
     Sample {
         text: [0x1517, low, 0, 0],
         got,
-        ..GOT_SLOT
+        symbols: [(class, value), place, other, fixed],
+        entries: [(20, TEXT, 1, addend), load, MARK, MARK],
+        ..EMPTY
     }
 }
 
-/// The same with other entries.
-fn got_with(entries: [Entry; 4]) -> Sample {
+/// GOT_SLOT with other words of .text and of .got, and other entries.
+fn got_with(text: [u32; 4], got: [u32; 4], entries: [Entry; 4]) -> Sample {
     Sample {
+        text,
+        got,
         entries,
         ..GOT_SLOT
     }
@@ -703,112 +730,76 @@ fn got_with(entries: [Entry; 4]) -> Sample {
 /// GOT entries, with their slots and low parts.
 #[test]
 fn got_entries(rt: HostRuntime) -> Result<(), Fail> {
-    let s_type = [(20, TEXT, 1, 0), (25, TEXT + 4, 2, 0), MARK, MARK];
+    let alloc = rt.alloc();
+    for row in &GOTS {
+        let found = judged(alloc, &file(alloc, &got(row))?, TEXT_RELAS)?;
+        let want = [row.5, STILL, STILL, STILL];
+        assert_eq!(rt; found.as_slice(), want.as_slice(), "{row:?}");
+    }
+    let Sample { text, got, .. } = GOT_SLOT;
+    let high = (20, TEXT, 1, 0);
     let cases = [
-        ("a slot", GOT_SLOT, [slot(GOT), STILL, STILL, STILL]),
-        (
-            "a wrong slot",
-            got_of(Class::Moves, 0x10020, 0x10024),
-            [MISMATCH, STILL, STILL, STILL],
-        ),
-        (
-            "a weak symbol",
-            got_of(Class::Weak, 0x10020, 0),
-            [STILL, STILL, STILL, STILL],
-        ),
-        (
-            "a weak symbol and a wrong slot",
-            got_of(Class::Weak, 4, 4),
-            [MISMATCH, STILL, STILL, STILL],
-        ),
-        (
-            "a fixed symbol",
-            got_of(Class::Fixed, 7, 7),
-            [STILL, STILL, STILL, STILL],
-        ),
-        (
-            "an undefined symbol: its low part is judged all the same",
-            got_of(Class::Undefined, 0, 0),
-            [UNDEFINED, STILL, STILL, STILL],
-        ),
-        (
-            "an addend, though the slot holds S + A",
-            Sample {
-                got: [0x10024, 0, 0, 0],
-                ..got_with([(20, TEXT, 1, 4), (24, TEXT + 4, 2, 0), MARK, MARK])
-            },
-            [MISMATCH, STILL, STILL, STILL],
-        ),
-        (
-            "an addend, and the slot holds S",
-            got_with([(20, TEXT, 1, 4), (24, TEXT + 4, 2, 0), MARK, MARK]),
-            [MISMATCH, STILL, STILL, STILL],
-        ),
         (
             "sw a0, 4(a0)",
-            Sample {
-                text: [0x1517, 0x00a5_2223, 0, 0],
-                got: [0, 0x10020, 0, 0],
-                ..got_with(s_type)
-            },
-            [slot(GOT + 4), STILL, STILL, STILL],
+            got_with(
+                [0x1517, 0x00a5_2223, 0, 0],
+                [0, S, 0, 0],
+                [high, (25, TEXT + 4, 2, 0), MARK, MARK],
+            ),
+            [SECOND_SLOT, STILL, STILL, STILL],
         ),
         (
-            "from TEXT + 8 by lw a0, -4(a0)",
-            Sample {
-                text: [0, 0, 0x1517, 0xffc5_2503],
-                got: [0, 0x10020, 0, 0],
-                ..got_with([(20, TEXT + 8, 1, 0), (24, TEXT + 12, 3, 0), MARK, MARK])
-            },
-            [slot(GOT + 4), STILL, STILL, STILL],
+            "lw a0, -4(a0) with AUIPC at TEXT + 8",
+            got_with(
+                [0, 0, 0x1517, 0xffc5_2503],
+                [0, S, 0, 0],
+                [(20, TEXT + 8, 1, 0), (24, TEXT + 12, 3, 0), MARK, MARK],
+            ),
+            [SECOND_SLOT, STILL, STILL, STILL],
         ),
         (
-            "a second low part is compared with the first",
-            Sample {
-                text: [0x1517, 0x0005_2503, 0x0005_2503, 0x0045_2503],
-                ..got_with([
-                    (20, TEXT, 1, 0),
+            "further low parts are compared with the first",
+            got_with(
+                [0x1517, 0x0005_2503, 0x0005_2503, 0x0045_2503],
+                got,
+                [
+                    high,
                     (24, TEXT + 4, 2, 0),
                     (24, TEXT + 8, 2, 0),
                     (24, TEXT + 12, 2, 0),
-                ])
-            },
-            [slot(GOT), STILL, STILL, MISMATCH],
+                ],
+            ),
+            [FIRST_SLOT, STILL, STILL, MISMATCH],
         ),
         (
-            "the first low part in the table gives the slot",
-            Sample {
-                text: [0x1517, 0x0005_2503, 0x0045_2503, 0],
-                got: [0x10020, 0x10020, 0, 0],
-                ..got_with([
-                    (24, TEXT + 8, 2, 0),
-                    (24, TEXT + 4, 2, 0),
-                    (20, TEXT, 1, 0),
-                    MARK,
-                ])
-            },
-            [STILL, MISMATCH, slot(GOT + 4), STILL],
+            "the first is the first entry",
+            got_with(
+                [0x1517, 0x0005_2503, 0x0045_2503, 0],
+                [S, S, 0, 0],
+                [(24, TEXT + 8, 2, 0), (24, TEXT + 4, 2, 0), high, MARK],
+            ),
+            [STILL, MISMATCH, SECOND_SLOT, STILL],
         ),
         (
             "a low part with an addend doesn't name it",
-            got_with([(20, TEXT, 1, 0), (24, TEXT + 4, 2, 4), MARK, MARK]),
+            got_with(text, got, [high, (24, TEXT + 4, 2, 4), MARK, MARK]),
             [UNPAIRED, LONE_LOW, STILL, STILL],
         ),
         (
-            "nor one whose symbol stands still",
-            got_with([(20, TEXT, 1, 0), (24, TEXT + 4, 4, 0), MARK, MARK]),
+            "nor does one whose symbol stands still",
+            got_with(text, got, [high, (24, TEXT + 4, 4, 0), MARK, MARK]),
             [UNPAIRED, LONE_LOW, STILL, STILL],
         ),
         (
-            "nor one outside the section",
-            got_with([(20, TEXT, 1, 0), (24, TEXT + 13, 2, 0), MARK, MARK]),
+            "nor does one outside the section",
+            got_with(text, got, [high, (24, TEXT + 13, 2, 0), MARK, MARK]),
             [UNPAIRED, OUTSIDE, STILL, STILL],
         ),
         (
-            "nor one of another section, though its own bytes lie there",
+            "nor does one of another section",
             Sample {
                 got_entry: (24, GOT, 2, 0),
-                ..got_with([(20, TEXT, 1, 0), MARK, MARK, MARK])
+                ..got_with(text, got, [high, MARK, MARK, MARK])
             },
             [UNPAIRED, STILL, STILL, STILL],
         ),
@@ -816,64 +807,18 @@ fn got_entries(rt: HostRuntime) -> Result<(), Fail> {
             "a place outside has no slot, and its low part no value",
             Sample {
                 symbols: [
-                    (Class::Moves, 0x10020),
+                    (Class::Moves, S),
                     (Class::Moves, TEXT + 13),
                     NO_SYMBOL,
                     NO_SYMBOL,
                 ],
-                ..got_with([(20, TEXT + 13, 1, 0), (24, TEXT + 4, 2, 0), MARK, MARK])
-            },
-            [OUTSIDE, STILL, STILL, STILL],
-        ),
-        (
-            "the last slot of .got",
-            got_by(0x00c5_2503, [0, 0, 0, 0x10020]),
-            [slot(GOT + 12), STILL, STILL, STILL],
-        ),
-        (
-            "a slot in two stored sections",
-            got_by(0x00d5_2503, [0, 0, 0, 0x0100_2000]),
-            [OUTSIDE, STILL, STILL, STILL],
-        ),
-        (
-            "the last word of the section behind",
-            Sample {
-                text: [0x1517, 0x01c5_2503, 0, 0],
-                ..got_of(Class::Weak, 0, 0)
-            },
-            [STILL, STILL, STILL, STILL],
-        ),
-        (
-            "a slot that passes its end by a byte",
-            Sample {
-                text: [0x1517, 0x01d5_2503, 0, 0],
-                ..got_of(Class::Weak, 0, 0)
-            },
-            [OUTSIDE, STILL, STILL, STILL],
-        ),
-        (
-            "a slot in .bss",
-            Sample {
-                text: [0x1517, 0x0205_2503, 0, 0],
-                ..got_of(Class::Weak, 0, 0)
-            },
-            [OUTSIDE, STILL, STILL, STILL],
-        ),
-        (
-            "a slot between two sections",
-            got_by(0x8005_2503, [0; 4]),
-            [OUTSIDE, STILL, STILL, STILL],
-        ),
-        (
-            "a slot below the first section, and an addend",
-            Sample {
-                text: [0x8000_0517, 0x0005_2503, 0, 0],
-                ..got_with([(20, TEXT, 1, 4), (24, TEXT + 4, 2, 0), MARK, MARK])
+                entries: [(20, TEXT + 13, 1, 0), (24, TEXT + 4, 2, 0), MARK, MARK],
+                ..GOT_SLOT
             },
             [OUTSIDE, STILL, STILL, STILL],
         ),
     ];
-    expect_cases(&rt, rt.alloc(), &cases)
+    expect_cases(&rt, alloc, &cases)
 }
 
 /// Two high parts of the same upper 20 bits, and low parts that name TEXT.
@@ -899,7 +844,23 @@ fn paired(entries: [Entry; 4]) -> Sample {
     Sample { entries, ..PAIRED }
 }
 
-/// PCREL_HI20 and its low parts, across the entries of sections.
+/// auipc a0, 2 and lw a0, -2048(a0) reach symbol 1 at 0x11804, behind the image's end. A word and an instruction have its
+/// address. The one entry for .got is a low part of that of .text, and .bss has no bytes.
+const TO_POINTER: Sample = Sample {
+    text: [0x11804, 0x2517, 0x8005_2503, 0],
+    symbols: [NO_SYMBOL, (Class::Moves, TEXT + 4), NO_SYMBOL, NO_SYMBOL],
+    entries: [
+        (23, TEXT + 4, 1, 0),
+        (24, TEXT + 8, 2, 0),
+        (1, TEXT, 1, 0),
+        (26, TEXT, 1, 0),
+    ],
+    got_entry: (24, GOT, 2, 0),
+    bss_entry: (1, BSS, 0, 0),
+    ..EMPTY
+};
+
+/// PCREL_HI20 and its low parts, the global pointer, and entries of other sections.
 #[test]
 fn pairs(rt: HostRuntime) -> Result<(), Fail> {
     let cases = [
@@ -975,26 +936,27 @@ fn pairs(rt: HostRuntime) -> Result<(), Fail> {
             [LONE_LOW, STILL, STILL, STILL],
         ),
     ];
-    expect_cases(&rt, rt.alloc(), &cases)?;
     let alloc = rt.alloc();
-    let unstored = Sample {
-        got_entry: (24, GOT, 3, 0),
-        bss_entry: (1, BSS, 0, 0),
-        ..PAIRED
-    };
-    let bytes = file(alloc, &unstored)?;
-    assert_eq!(rt;
-        judged(alloc, &bytes, GOT_RELAS)?.as_slice(),
-        [LONE_LOW].as_slice()
-    );
-    assert_eq!(rt;
-        judged(alloc, &bytes, BSS_RELAS)?.as_slice(),
-        [OUTSIDE].as_slice()
-    );
+    expect_cases(&rt, alloc, &cases)?;
+    let name = b"__global_pointer$";
+    let pointer = named(alloc, name, 0x11804, 0x10, SHN_ABS)?.ok_or("a zero")?;
+    let bytes = file_with(alloc, &TO_POINTER, pointer)?;
+    let tables = [
+        (
+            TEXT_RELAS,
+            [STILL, STILL, TO_11804, ABSOLUTE_CODE].as_slice(),
+        ),
+        (GOT_RELAS, [LONE_LOW].as_slice()),
+        (BSS_RELAS, [OUTSIDE].as_slice()),
+    ];
+    for (section, want) in tables {
+        let found = judged(alloc, &bytes, section)?;
+        assert_eq!(rt; found.as_slice(), want, "section {section}");
+    }
     Ok(())
 }
 
-/// Symbols 1 and 2 move, 3 is fixed, and 4 is weak, undefined or bad.
+/// Symbols 1 and 2 move, 3 is fixed, and 4 is of a class.
 fn group(class: Class, entries: [Entry; 4]) -> Sample {
     Sample {
         symbols: [
@@ -1008,190 +970,90 @@ fn group(class: Class, entries: [Entry; 4]) -> Sample {
     }
 }
 
-/// Entries at TEXT with no addend, each by its type and its symbol. Those of type 0 are marks.
-type Group = (&'static str, [(u8, u32); 4], Class, [Answer; 4]);
+/// Entries at TEXT, each by its type and its symbol, with marks behind them, and what each but the marks is. Symbol 4 is
+/// weak.
+type Group = ([(u8, u32); 4], Answer);
 
-const GROUPS: [Group; 25] = [
-    (
-        "SET6 and SUB6",
-        [(53, 1), (52, 2), (0, 0), (0, 0)],
-        Class::Weak,
-        [STILL, STILL, STILL, STILL],
-    ),
-    (
-        "SUB32",
-        [(39, 1), (0, 0), (0, 0), (0, 0)],
-        Class::Weak,
-        [UNPAIRED, STILL, STILL, STILL],
-    ),
-    (
-        "ADD32",
-        [(35, 1), (0, 0), (0, 0), (0, 0)],
-        Class::Weak,
-        [UNPAIRED, STILL, STILL, STILL],
-    ),
-    (
-        "SET32",
-        [(56, 1), (0, 0), (0, 0), (0, 0)],
-        Class::Weak,
-        [UNPAIRED, STILL, STILL, STILL],
-    ),
-    (
-        "ADD32 and SUB32",
-        [(35, 1), (39, 2), (0, 0), (0, 0)],
-        Class::Weak,
-        [STILL, STILL, STILL, STILL],
-    ),
-    (
-        "SUB32 and ADD32",
-        [(39, 1), (35, 2), (0, 0), (0, 0)],
-        Class::Weak,
-        [STILL, STILL, STILL, STILL],
-    ),
-    (
-        "SET32 and SUB32",
-        [(56, 1), (39, 2), (0, 0), (0, 0)],
-        Class::Weak,
-        [STILL, STILL, STILL, STILL],
-    ),
-    (
-        "ADD16 and SUB16",
-        [(34, 1), (38, 2), (0, 0), (0, 0)],
-        Class::Weak,
-        [STILL, STILL, STILL, STILL],
-    ),
-    (
-        "SET16 and SUB16",
-        [(55, 1), (38, 2), (0, 0), (0, 0)],
-        Class::Weak,
-        [STILL, STILL, STILL, STILL],
-    ),
-    (
-        "ADD8 and SUB8",
-        [(33, 1), (37, 2), (0, 0), (0, 0)],
-        Class::Weak,
-        [STILL, STILL, STILL, STILL],
-    ),
-    (
-        "SET8, ADD8, SUB8 and SUB8",
-        [(54, 1), (33, 2), (37, 1), (37, 2)],
-        Class::Weak,
-        [STILL, STILL, STILL, STILL],
-    ),
-    (
-        "SET_ULEB128 and SUB_ULEB128",
-        [(60, 1), (61, 2), (0, 0), (0, 0)],
-        Class::Weak,
-        [STILL, STILL, STILL, STILL],
-    ),
-    (
-        "two groups of two widths",
-        [(35, 1), (38, 2), (39, 1), (34, 2)],
-        Class::Weak,
-        [STILL, STILL, STILL, STILL],
-    ),
-    (
-        "ADD32 and SUB16",
-        [(35, 1), (38, 2), (0, 0), (0, 0)],
-        Class::Weak,
-        [UNPAIRED, UNPAIRED, STILL, STILL],
-    ),
-    (
-        "SET8 and SUB6",
-        [(54, 1), (52, 2), (0, 0), (0, 0)],
-        Class::Weak,
-        [UNPAIRED, UNPAIRED, STILL, STILL],
-    ),
-    (
-        "SET6 and SUB_ULEB128",
-        [(53, 1), (61, 2), (0, 0), (0, 0)],
-        Class::Weak,
-        [UNPAIRED, UNPAIRED, STILL, STILL],
-    ),
-    (
-        "SET8 forgets SUB8 before it",
-        [(37, 1), (54, 1), (37, 2), (0, 0)],
-        Class::Weak,
-        [STILL, STILL, STILL, STILL],
-    ),
-    (
-        "SUB8 and SET8",
-        [(37, 1), (54, 2), (0, 0), (0, 0)],
-        Class::Weak,
-        [UNPAIRED, UNPAIRED, STILL, STILL],
-    ),
-    (
-        "SET8 of a fixed symbol forgets ADD8",
-        [(33, 1), (54, 3), (0, 0), (0, 0)],
-        Class::Weak,
-        [STILL, STILL, STILL, STILL],
-    ),
-    (
-        "fixed symbols, a weak one and the empty one",
-        [(35, 3), (39, 4), (39, 0), (56, 3)],
-        Class::Weak,
-        [STILL, STILL, STILL, STILL],
-    ),
-    (
-        "ADD32 of a fixed symbol and SUB32 of one that moves",
-        [(35, 3), (39, 1), (0, 0), (0, 0)],
-        Class::Weak,
-        [UNPAIRED, UNPAIRED, STILL, STILL],
-    ),
-    (
-        "two sums of 1",
-        [(35, 1), (35, 2), (39, 1), (0, 0)],
-        Class::Weak,
-        [UNPAIRED, UNPAIRED, UNPAIRED, STILL],
-    ),
-    (
-        "an undefined symbol counts as a fixed one",
-        [(35, 1), (35, 4), (39, 2), (0, 0)],
-        Class::Undefined,
-        [STILL, UNDEFINED, STILL, STILL],
-    ),
-    (
-        "and a bad one",
-        [(35, 1), (39, 4), (0, 0), (0, 0)],
-        Class::Bad,
-        [UNPAIRED, BAD_SYMBOL, STILL, STILL],
-    ),
-    (
-        "SET32 of a bad one",
-        [(35, 1), (56, 4), (0, 0), (0, 0)],
-        Class::Bad,
-        [STILL, BAD_SYMBOL, STILL, STILL],
-    ),
+const GROUPS: [Group; 24] = [
+    // SET6 and SUB6
+    ([(53, 1), (52, 2), (0, 0), (0, 0)], STILL),
+    ([(52, 1), (0, 0), (0, 0), (0, 0)], UNPAIRED),
+    ([(53, 1), (0, 0), (0, 0), (0, 0)], UNPAIRED),
+    // ADD32, SUB32 and SET32
+    ([(39, 1), (0, 0), (0, 0), (0, 0)], UNPAIRED),
+    ([(35, 1), (0, 0), (0, 0), (0, 0)], UNPAIRED),
+    ([(56, 1), (0, 0), (0, 0), (0, 0)], UNPAIRED),
+    ([(35, 1), (39, 2), (0, 0), (0, 0)], STILL),
+    ([(39, 1), (35, 2), (0, 0), (0, 0)], STILL),
+    ([(56, 1), (39, 2), (0, 0), (0, 0)], STILL),
+    ([(35, 1), (35, 2), (39, 1), (0, 0)], UNPAIRED),
+    // ADD16, SUB16 and SET16, and ADD8 and SUB8
+    ([(34, 1), (38, 2), (0, 0), (0, 0)], STILL),
+    ([(55, 1), (38, 2), (0, 0), (0, 0)], STILL),
+    ([(33, 1), (37, 2), (0, 0), (0, 0)], STILL),
+    // SET8, ADD8, SUB8, SUB8, and SET8 in other places
+    ([(54, 1), (33, 2), (37, 1), (37, 2)], STILL),
+    ([(37, 1), (54, 1), (37, 2), (0, 0)], STILL),
+    ([(37, 1), (54, 2), (0, 0), (0, 0)], UNPAIRED),
+    ([(33, 1), (54, 3), (0, 0), (0, 0)], STILL),
+    // SET_ULEB128 and SUB_ULEB128
+    ([(60, 1), (61, 2), (0, 0), (0, 0)], STILL),
+    // two widths: two groups, and none that is even
+    ([(35, 1), (38, 2), (39, 1), (34, 2)], STILL),
+    ([(35, 1), (38, 2), (0, 0), (0, 0)], UNPAIRED),
+    ([(54, 1), (52, 2), (0, 0), (0, 0)], UNPAIRED),
+    ([(53, 1), (61, 2), (0, 0), (0, 0)], UNPAIRED),
+    // symbols that stand still: fixed, weak and the empty one
+    ([(35, 3), (39, 4), (39, 0), (56, 3)], STILL),
+    ([(35, 3), (39, 1), (0, 0), (0, 0)], UNPAIRED),
 ];
 
 /// Differences of symbols.
 #[test]
 fn groups(rt: HostRuntime) -> Result<(), Fail> {
     let alloc = rt.alloc();
-    for (name, entries, class, want) in &GROUPS {
-        let entries = entries.map(|(kind, symbol)| (kind, TEXT, symbol, 0));
-        let found = judged(alloc, &file(alloc, &group(*class, entries))?, TEXT_RELAS)?;
-        assert_eq!(rt; found.as_slice(), want.as_slice(), "{name}");
+    for (entries, want) in &GROUPS {
+        let sample = group(
+            Class::Weak,
+            entries.map(|(kind, symbol)| (kind, TEXT, symbol, 0)),
+        );
+        let found = judged(alloc, &file(alloc, &sample)?, TEXT_RELAS)?;
+        let wants = entries.map(|(kind, _)| if kind == 0 { STILL } else { *want });
+        assert_eq!(rt; found.as_slice(), wants.as_slice(), "{entries:?}");
     }
-    let apart = [
+    let add = (35, TEXT, 1, 0);
+    let sub = (39, TEXT, 2, 0);
+    let cases = [
         (
-            "ADD32 and SUB32 at two places",
-            group(
-                Class::Weak,
-                [(35, TEXT, 1, 0), (39, TEXT + 1, 2, 0), MARK, MARK],
-            ),
+            "an undefined symbol counts as a fixed one",
+            group(Class::Undefined, [add, (35, TEXT, 4, 0), sub, MARK]),
+            [STILL, UNDEFINED, STILL, STILL],
+        ),
+        (
+            "and a bad one",
+            group(Class::Bad, [add, (39, TEXT, 4, 0), MARK, MARK]),
+            [UNPAIRED, BAD_SYMBOL, STILL, STILL],
+        ),
+        (
+            "SET32 of a bad one",
+            group(Class::Bad, [add, (56, TEXT, 4, 0), MARK, MARK]),
+            [STILL, BAD_SYMBOL, STILL, STILL],
+        ),
+        (
+            "two places",
+            group(Class::Weak, [add, (39, TEXT + 1, 2, 0), MARK, MARK]),
             [UNPAIRED, UNPAIRED, STILL, STILL],
         ),
         (
-            "ADD32 and SUB32 of two sections",
+            "two sections",
             Sample {
-                got_entry: (39, TEXT, 2, 0),
-                ..group(Class::Weak, [(35, TEXT, 1, 0), MARK, MARK, MARK])
+                got_entry: sub,
+                ..group(Class::Weak, [add, MARK, MARK, MARK])
             },
             [UNPAIRED, STILL, STILL, STILL],
         ),
     ];
-    expect_cases(&rt, alloc, &apart)
+    expect_cases(&rt, alloc, &cases)
 }
 
 /// The entries of a kept section, and the bytes that each has.
@@ -1220,24 +1082,12 @@ fn slot_in(alloc: Global, bytes: &[u8], section: u32, place: u32) -> Result<Opti
     Ok(slot_of(&elf, &pairs, section, place))
 }
 
-const fn span(place: u32, len: u32, recorded: bool) -> Span {
-    Span {
-        place,
-        len,
-        recorded,
-    }
-}
+/// What is said of an entry: its row, its symbol's class and value, the addend, the length of its field and whether that is
+/// recorded, and where it has a slot, whether the slot at GOT is.
+type Told = (Row, (Class, u32), u32, u32, bool, Option<bool>);
 
-/// An entry as it is read, and its bytes.
-const fn read(
-    row: Row,
-    place: u32,
-    symbol: (Class, u32),
-    addend: u32,
-    own: Span,
-    slot: Option<Span>,
-) -> (Reloc, Spans) {
-    let (class, value) = symbol;
+fn told(place: u32, row: Told) -> (Reloc, Spans) {
+    let (row, (class, value), addend, len, recorded, slot) = row;
     (
         Reloc {
             row,
@@ -1246,21 +1096,32 @@ const fn read(
             class,
             addend,
         },
-        Spans { own, slot },
+        Spans {
+            own: Span {
+                place,
+                len,
+                recorded,
+            },
+            slot: slot.map(|recorded| Span {
+                place: GOT,
+                len: 4,
+                recorded,
+            }),
+        },
     )
 }
 
-/// Entries as they are read, their bytes, and the slots at places. S of a weak symbol is 0.
+/// Entries as they are read, their bytes, and the slots at places. The value of a weak symbol is 0.
 #[test]
 fn entries_and_bytes(rt: HostRuntime) -> Result<(), Fail> {
     let alloc = rt.alloc();
+    let value = (Class::Moves, S);
+    let place = (Class::Moves, TEXT);
+    let weak = (Class::Weak, 0);
+    let load = Row::Low(Shape::LowI);
+    let add = Row::Group(Lane::Bits8, Step::Add);
     let moving = Sample {
-        symbols: [
-            (Class::Moves, 0x10020),
-            (Class::Moves, TEXT),
-            NO_SYMBOL,
-            (Class::Weak, 9),
-        ],
+        symbols: [value, place, NO_SYMBOL, (Class::Weak, 9)],
         entries: [
             (20, TEXT, 1, 0),
             (24, TEXT + 4, 2, 0),
@@ -1278,76 +1139,23 @@ fn entries_and_bytes(rt: HostRuntime) -> Result<(), Fail> {
         ],
         ..moving
     };
-    let value = (Class::Moves, 0x10020);
-    let place = (Class::Moves, TEXT);
-    let weak = (Class::Weak, 0);
-    let load = read(
-        Row::Low(Shape::LowI),
-        TEXT + 4,
-        place,
-        0,
-        span(TEXT + 4, 4, false),
-        None,
-    );
     let cases = [
         (
             moving,
             [
-                read(
-                    Row::Got,
-                    TEXT,
-                    value,
-                    0,
-                    span(TEXT, 4, false),
-                    Some(span(GOT, 4, true)),
-                ),
-                load,
-                read(
-                    Row::Pointer,
-                    TEXT + 8,
-                    place,
-                    0xffff_fffc,
-                    span(TEXT + 8, 4, true),
-                    None,
-                ),
-                read(
-                    Row::Group(Lane::Bits8, Step::Add),
-                    TEXT + 12,
-                    weak,
-                    1,
-                    span(TEXT + 12, 1, false),
-                    None,
-                ),
+                told(TEXT, (Row::Got, value, 0, 4, false, Some(true))),
+                told(TEXT + 4, (load, place, 0, 4, false, None)),
+                told(TEXT + 8, (Row::Pointer, place, 0xffff_fffc, 4, true, None)),
+                told(TEXT + 12, (add, weak, 1, 1, false, None)),
             ],
         ),
         (
             standing,
             [
-                read(
-                    Row::Got,
-                    TEXT,
-                    weak,
-                    0,
-                    span(TEXT, 4, false),
-                    Some(span(GOT, 4, false)),
-                ),
-                load,
-                read(
-                    Row::Call,
-                    TEXT + 8,
-                    value,
-                    0,
-                    span(TEXT + 8, 8, false),
-                    None,
-                ),
-                read(
-                    Row::Mark,
-                    TEXT + 12,
-                    (Class::Fixed, 0),
-                    4,
-                    span(TEXT + 12, 0, false),
-                    None,
-                ),
+                told(TEXT, (Row::Got, weak, 0, 4, false, Some(false))),
+                told(TEXT + 4, (load, place, 0, 4, false, None)),
+                told(TEXT + 8, (Row::Call, value, 0, 8, false, None)),
+                told(TEXT + 12, (Row::Mark, NO_SYMBOL, 4, 0, false, None)),
             ],
         ),
     ];
@@ -1356,41 +1164,68 @@ fn entries_and_bytes(rt: HostRuntime) -> Result<(), Fail> {
         assert_eq!(rt; found.as_slice(), want.as_slice());
     }
     let bytes = file(alloc, &moving)?;
-    let slots = [(TEXT, Some(GOT)), (TEXT + 4, None), (GOT, None)];
-    for (place, want) in slots {
-        assert_eq!(rt;
-            slot_in(alloc, &bytes, TEXT_RELAS, place)?,
-            want,
-            "{place:#x}"
-        );
+    for (place, want) in [(TEXT, Some(GOT)), (TEXT + 4, None), (GOT, None)] {
+        let found = slot_in(alloc, &bytes, TEXT_RELAS, place)?;
+        assert_eq!(rt; found, want, "{place:#x}");
     }
     Ok(())
 }
 
-/// The global pointer behind the image's end: a distance to it by auipc a0, 2 and lw a0, -2048(a0), a word, and an
-/// instruction with its address.
-#[test]
-fn global_pointer(rt: HostRuntime) -> Result<(), Fail> {
-    let alloc = rt.alloc();
-    let name = b"__global_pointer$";
-    let pointer = named(alloc, name, 0x11800, 0x10, SHN_ABS)?.ok_or("a zero")?;
-    let sample = Sample {
-        text: [0x2517, 0x8005_2503, 0x11800, 0],
-        symbols: [NO_SYMBOL, (Class::Moves, TEXT), NO_SYMBOL, NO_SYMBOL],
-        entries: [
-            (23, TEXT, 1, 0),
-            (24, TEXT + 4, 2, 0),
-            (1, TEXT + 8, 1, 0),
-            (26, TEXT, 1, 0),
+/// How many entries stand at one place.
+const CROWD: u32 = 20_000;
+
+/// An entry of the crowd at TEXT, in which four kinds take turns: PCREL_HI20, a low part of it, ADD8 and SUB8.
+fn crowd_entry(index: u32) -> MakeRela
+    ensures part { result.part ≡ 0 }
+    ensures symbol { result.symbol < 5 }
+{
+    let (kind, symbol) = match index % 4 {
+        0 => (23, 2),
+        1 => (24, 1),
+        2 => (33, 1),
+        _ => (37, 2),
+    };
+    rela(0, (kind, TEXT, symbol, 0))
+}
+
+fn crowd(alloc: Global) -> Result<Vec<MakeRela>, AllocError>
+    ensures count { IfOk result (λ relas. length relas.items ≡ 20000) }
+    ensures relas { IfOk result (λ relas. All (λ r. (r.part ≡ 0) × (r.symbol < 5)) relas.items) }
+{
+    let mut relas = Vec::new(alloc);
+    for index in 0..CROWD {
+        relas.push(crowd_entry(index))?;
+    }
+    Ok(relas)
+}
+
+/// A file of .text alone, with auipc a0, 1 at TEXT, whose I immediate is 0, and the crowd.
+fn crowded(alloc: Global) -> Result<Vec<u8>, AllocError> {
+    make(
+        alloc,
+        &[progbits(alloc, AX, TEXT, [0x1517, 0, 0, 0])?],
+        &[
+            symbol(alloc, (Class::Moves, TEXT)),
+            symbol(alloc, (Class::Moves, 0x11000)),
+            symbol(alloc, NO_SYMBOL),
+            symbol(alloc, NO_SYMBOL),
         ],
-        ..EMPTY
-    };
-    let found = judged(alloc, &file_with(alloc, &sample, pointer)?, TEXT_RELAS)?;
-    let word = Effect::Word {
-        place: TEXT + 8,
-        target: 0x11800,
-    };
-    let want = [STILL, STILL, Ok(word), ABSOLUTE_CODE];
-    assert_eq!(rt; found.as_slice(), want.as_slice());
+        &crowd(alloc)?,
+        TEXT,
+    )
+}
+
+/// The relocation section of a file with one part.
+const FIRST_RELAS: u32 = 4;
+
+/// Each entry of the crowd by itself: this ends in a moment.
+#[test]
+fn many_at_one_place(rt: HostRuntime) -> Result<(), Fail> {
+    let alloc = rt.alloc();
+    let found = judged(alloc, &crowded(alloc)?, FIRST_RELAS)?;
+    assert_eq!(rt; found.len(), 20_000);
+    for answer in &found {
+        assert_eq!(rt; *answer, STILL);
+    }
     Ok(())
 }
