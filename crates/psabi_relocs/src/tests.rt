@@ -844,6 +844,16 @@ fn paired(entries: [Entry; 4]) -> Sample {
     Sample { entries, ..PAIRED }
 }
 
+/// One high part, of another symbol, and its low part.
+fn paired_by(symbol: (Class, u32)) -> Sample {
+    let [_, other, place, fixed] = PAIRED.symbols;
+    Sample {
+        symbols: [symbol, other, place, fixed],
+        entries: [(23, TEXT, 1, 0), (24, TEXT + 4, 3, 0), MARK, MARK],
+        ..PAIRED
+    }
+}
+
 /// auipc a0, 2 and lw a0, -2048(a0) reach symbol 1 at 0x11804, behind the image's end. A word and an instruction have its
 /// address. The one entry for .got is a low part of that of .text, and .bss has no bytes.
 const TO_POINTER: Sample = Sample {
@@ -900,8 +910,18 @@ fn pairs(rt: HostRuntime) -> Result<(), Fail> {
             [ABS_PCREL, MISMATCH, STILL, STILL],
         ),
         (
-            "a low part with an addend",
-            paired([(23, TEXT, 1, 0), (24, TEXT + 4, 3, 1), MARK, MARK]),
+            "an undefined symbol has its value",
+            paired_by((Class::Undefined, 0x11010)),
+            [UNDEFINED, STILL, STILL, STILL],
+        ),
+        (
+            "and a weak one 0",
+            paired_by((Class::Weak, 0x11010)),
+            [WEAK_PCREL, MISMATCH, STILL, STILL],
+        ),
+        (
+            "a low part with an addend, and with another value",
+            paired([(23, TEXT, 2, 0), (24, TEXT + 4, 3, 1), MARK, MARK]),
             [STILL, LONE_LOW, STILL, STILL],
         ),
         (
