@@ -280,23 +280,23 @@ const ROWS: [(u8, Row); 30] = [
     (26, Row::Absolute(Shape::High)),
     (27, Row::Absolute(Shape::LowI)),
     (28, Row::Absolute(Shape::LowS)),
-    (33, Row::Group(Lane::Bits8, Step::Add)),
-    (34, Row::Group(Lane::Bits16, Step::Add)),
-    (35, Row::Group(Lane::Bits32, Step::Add)),
-    (37, Row::Group(Lane::Bits8, Step::Sub)),
-    (38, Row::Group(Lane::Bits16, Step::Sub)),
-    (39, Row::Group(Lane::Bits32, Step::Sub)),
+    (33, Row::Group(Width::Bits8, Step::Add)),
+    (34, Row::Group(Width::Bits16, Step::Add)),
+    (35, Row::Group(Width::Bits32, Step::Add)),
+    (37, Row::Group(Width::Bits8, Step::Sub)),
+    (38, Row::Group(Width::Bits16, Step::Sub)),
+    (39, Row::Group(Width::Bits32, Step::Sub)),
     (43, Row::Mark),
     (51, Row::Mark),
-    (52, Row::Group(Lane::Bits6, Step::Sub)),
-    (53, Row::Group(Lane::Bits6, Step::Set)),
-    (54, Row::Group(Lane::Bits8, Step::Set)),
-    (55, Row::Group(Lane::Bits16, Step::Set)),
-    (56, Row::Group(Lane::Bits32, Step::Set)),
+    (52, Row::Group(Width::Bits6, Step::Sub)),
+    (53, Row::Group(Width::Bits6, Step::Set)),
+    (54, Row::Group(Width::Bits8, Step::Set)),
+    (55, Row::Group(Width::Bits16, Step::Set)),
+    (56, Row::Group(Width::Bits32, Step::Set)),
     (57, Row::Relative(Shape::Word)),
     (59, Row::Relative(Shape::Word)),
-    (60, Row::Group(Lane::Uleb128, Step::Set)),
-    (61, Row::Group(Lane::Uleb128, Step::Sub)),
+    (60, Row::Group(Width::Uleb128, Step::Set)),
+    (61, Row::Group(Width::Uleb128, Step::Sub)),
 ];
 
 /// The row of a number by the list above.
@@ -1139,7 +1139,7 @@ fn entries_and_bytes(rt: HostRuntime) -> Result<(), Fail> {
     let place = (Class::Moves, TEXT);
     let weak = (Class::Weak, 0);
     let load = Row::Low(Shape::LowI);
-    let add = Row::Group(Lane::Bits8, Step::Add);
+    let add = Row::Group(Width::Bits8, Step::Add);
     let moving = Sample {
         symbols: [value, place, NO_SYMBOL, (Class::Weak, 9)],
         entries: [
