@@ -20,7 +20,6 @@ mod spans;
 pub use class::{Class, class_of};
 pub use effect::Effect;
 pub use fault::RelocFault;
-pub use group::{Sum, Sums};
 pub use judgement::{check, slot_of};
 pub use pairs::Pairs;
 pub use reloc::{Reloc, reloc_at};
