@@ -5,12 +5,14 @@ use Rattle.std.proofs.lemmas.List.{length-append, get_or-take, get_or-drop, get_
 use Rattle.std.proofs.lemmas.List.Concat.{flat_map-cons}
 use Rattle.std.proofs.lemmas.List.FromFn.{fill_by_all}
 use Rattle.byteorder.specs.Endian.{big_number, big_bytes, IsRead}
-use Rattle.bflt_format.specs.Numbers.{IsBytes, big_at}
+use Rattle.byte_words.specs.Numbers.{IsBytes}
+use Rattle.bflt_format.specs.Numbers.{big_at}
 use Rattle.bflt_format.specs.Spelling.{words_text}
+use Rattle.byte_words.specs.Numbers.{number_at}
 
 -- the word's four bytes
 pub big_at_is : (y : List ℕ) (at : ℕ) → big_at y at ≡ get_or y at 0 * 16777216 + get_or y (at + 1) 0 * 65536 + get_or y (at + 2) 0 * 256 + get_or y (at + 3) 0
-unfolding big_at
+unfolding number_at
 big_at_is y at =
     let zeroth : get_or (drop at y) 0 0 ≡ get_or y at 0 = get_or-drop at y 0 0 ∙ ap (λ k. get_or y k 0) (let e : at + 0 ≡ at = omega arith in e) in
     omega (arith, zeroth, get_or-drop at y 1 0, get_or-drop at y 2 0, get_or-drop at y 3 0)

@@ -1,6 +1,4 @@
 pub mod Samples
-pub mod Below
-pub mod Painting
 pub mod Overlap
 pub mod Headers
 pub mod BigWords

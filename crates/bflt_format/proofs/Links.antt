@@ -6,14 +6,14 @@ use Rattle.std.proofs.lemmas.Bool.{cases_Bool, cases_lt, and_parts, and_from, le
 use Rattle.std.proofs.lemmas.List.{append-nil}
 use Rattle.byteorder.specs.Endian.{big_bytes}
 use Rattle.bflt_format.specs.Numbers.{big_at}
-use Rattle.bflt_format.specs.Patches.{Patch, spans, painted, bytes_below, from_base, big_word, little_word}
+use Rattle.byte_words.specs.Patches.{Patch, spans, painted, bytes_below, from_base, big_word, little_word}
 use Rattle.bflt_format.specs.Values.{Values, stored, image_size}
 use Rattle.bflt_format.specs.Fault.{is_near}
 use Rattle.bflt_format.specs.Image.{link, flat_image}
 use Rattle.bflt_format.specs.Rising.{rising}
 use Rattle.bflt_format.proofs.BigWords.{big_at_same, big_at_bytes}
 use Rattle.bflt_format.proofs.Overlap.{covers}
-use Rattle.bflt_format.proofs.Painting.{AllShow, is_spanned, painted_at, painted_none, byte_below, byte_past}
+use Rattle.byte_words.proofs.Painting.{AllShow, is_spanned, painted_at, painted_none, byte_below, byte_past}
 use Rattle.bflt_format.proofs.Rising.{has, has_at, rising_has, rising_rises, rises_at, length-rising_below}
 
 -- ---- one patch for each place of a list

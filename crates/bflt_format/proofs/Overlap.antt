@@ -2,11 +2,11 @@
 use Rattle.std.proofs.Common.{◌≡◌, ℕ, zero, suc, ◌+◌, ◌-◌, ◌<◌, ◌≤◌, Bool, true, false, ◌&&◌, ◌||◌, ltb, leb, List, [], ◌∷◌, length, get_or, replicate, refl, sym, ap, ◌∙◌, arith, inl, inr}
 use Rattle.std.proofs.lemmas.Bool.{cases_Bool}
 use Rattle.std.proofs.lemmas.Bool.Decides.{nat_tests}
-use Rattle.bflt_format.specs.Numbers.{any_below}
-use Rattle.bflt_format.specs.Patches.{Patch, spans, patched, laid}
+use Rattle.byte_words.specs.Search.{any_below}
+use Rattle.byte_words.specs.Patches.{Patch, spans, patched, laid}
 use Rattle.bflt_format.specs.Fault.{is_near, meets_earlier}
-use Rattle.bflt_format.proofs.Below.{any_below_more, any_below_same, any_below_or}
-use Rattle.bflt_format.proofs.Painting.{within, patched_on, patched_off, laid_is_patched}
+use Rattle.byte_words.proofs.Searches.{any_below_next, any_below_same, any_below_or}
+use Rattle.byte_words.proofs.Painting.{within, patched_on, patched_off, laid_is_patched}
 
 -- the word at place r has the byte at p
 abbrev pub covers : ℕ → ℕ → Bool
@@ -72,9 +72,9 @@ marks_more covered records i marks fits = record {
         | inl on ↦
             let here = covers_spans r p ∙ on in
             let one = patched_on mark (λ k. get_or covered k 0) p here ∙ one_at (p - r) (let w = within mark p here in omega (arith, w.from, w.to)) in
-            ap (ltb 0) (now ∙ one) ∙ sym (any_below_more tests i ∙ ap (λ b. any_below tests i || b) on ∙ or_true (any_below tests i))
+            ap (ltb 0) (now ∙ one) ∙ sym (any_below_next tests i ∙ ap (λ b. any_below tests i || b) on ∙ or_true (any_below tests i))
         | inr off ↦
             let same = patched_off mark (λ k. get_or covered k 0) p (covers_spans r p ∙ off) in
-            ap (ltb 0) (now ∙ same) ∙ marks.each p ∙ sym (any_below_more tests i ∙ ap (λ b. any_below tests i || b) off ∙ or_false (any_below tests i))
+            ap (ltb 0) (now ∙ same) ∙ marks.each p ∙ sym (any_below_next tests i ∙ ap (λ b. any_below tests i || b) off ∙ or_false (any_below tests i))
       ];
 }

@@ -5,12 +5,13 @@ use Rattle.std.proofs.lemmas.Bool.{le-ltb, le-leb, eq-eqb, ltb-false, and_from, 
 use Rattle.std.proofs.lemmas.List.{append-nil, length-append, length-take, length-drop, take_at, drop_at}
 use Rattle.std.proofs.lemmas.List.FromFn.{fill_by_all, length-map-range_with_len}
 use Rattle.bflt_format.specs.declared.fault.FlatFault.{FlatFault}
-use Rattle.bflt_format.specs.Numbers.{IsBytes, big_at}
+use Rattle.byte_words.specs.Numbers.{IsBytes}
+use Rattle.bflt_format.specs.Numbers.{big_at}
 use Rattle.bflt_format.specs.Values.{Values, stored, image_size, ram_values}
 use Rattle.bflt_format.specs.Header.{magic, revision, entry, data_start, data_end, bss_end, stack_size, reloc_start, reloc_count, flags, record_at, flat_values}
 use Rattle.bflt_format.specs.Fault.{is_known, is_in_order, is_out_of_bounds, is_entry, is_table_bad, header_rows, header_fault, is_near, passes_data, meets_earlier, targets_past, record_rows, record_fault, values_fault, flat_fault, or_else, IsHeader}
 use Rattle.bflt_format.specs.Spelling.{words_text, header_words, spell, Spells}
-use Rattle.bflt_format.proofs.Below.{none_below, any_below_none}
+use Rattle.byte_words.proofs.Searches.{none_below, any_below_none}
 use Rattle.bflt_format.proofs.Headers.{AreClear, rows_clear, first_of_clear, is_header}
 use Rattle.bflt_format.proofs.BigWords.{big_at_fits, big_at_behind, length-words_text, word_of_text}
 
@@ -183,9 +184,9 @@ spells_read y small h none =
       stack = h.stack;
       flags = h.known;
       count = omega (arith, count, small);
-      inside = λ k lt. ltb-false _ _ (any_below_none (passes_data (stored f) f.records) (length f.records) rows.0 k lt);
-      apart = λ j k before lt. any_below_none (λ j. is_near (get_or f.records j 0) (get_or f.records k 0)) k (any_below_none (meets_earlier f.records) (length f.records) rows.1.0 k lt) j before;
-      targets = λ k lt. ltb-false _ _ (any_below_none (targets_past (image_size f) f.body f.records) (length f.records) rows.1.1.0 k lt);
+      inside = λ k lt. ltb-false _ _ (any_below_none (passes_data (stored f) f.records) (length f.records) k rows.0 lt);
+      apart = λ j k before lt. any_below_none (λ j. is_near (get_or f.records j 0) (get_or f.records k 0)) k j (any_below_none (meets_earlier f.records) (length f.records) k rows.1.0 lt) before;
+      targets = λ k lt. ltb-false _ _ (any_below_none (targets_past (image_size f) f.body f.records) (length f.records) k rows.1.1.0 lt);
     }
 
 or_else_none : (a b : Option FlatFault) → or_else a b ≡ None → (a ≡ None) × (b ≡ None)

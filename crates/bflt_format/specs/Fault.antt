@@ -2,7 +2,8 @@
 use Rattle.std.specs.Prelude.{◌≡◌, ℕ, ◌+◌, ◌-◌, ◌*◌, ◌%◌, ◌<◌, ◌≤◌, Bool, true, false, not, ◌&&◌, ◌||◌, ◌==◌, nat_lt, nat_le, List, [], ◌∷◌, length, slice_index, Option, Some, None}
 use Rattle.bflt_format.specs.declared.fault.FlatFault.{FlatFault}
 use Rattle.bflt_format.specs.declared.fault.FlatFault.TheVariants.{Short, Magic, Revision, Flags, Bounds, DataAlign, Entry, StackSize, RecordTable, RecordRange, RecordOverlap, TargetRange}
-use Rattle.bflt_format.specs.Numbers.{big_at, any_below}
+use Rattle.bflt_format.specs.Numbers.{big_at}
+use Rattle.byte_words.specs.Search.{any_below}
 use Rattle.bflt_format.specs.Values.{Values, stored, image_size}
 use Rattle.bflt_format.specs.Header.{magic, revision, entry, data_start, data_end, bss_end, stack_size, reloc_start, reloc_count, flags, flat_values}
 

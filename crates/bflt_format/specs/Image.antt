@@ -1,7 +1,7 @@
 -- The bytes of a loaded flat file, after Linux's fs/binfmt_flat.c.
 use Rattle.std.specs.Prelude.{ℕ, ◌+◌, ◌%◌, ◌^◌, ◌==◌, if◌then◌else◌, List, [], map, slice_index, Option}
 use Rattle.bflt_format.specs.Numbers.{big_at}
-use Rattle.bflt_format.specs.Patches.{Patch, painted, from_base, little_word}
+use Rattle.byte_words.specs.Patches.{Patch, painted, from_base, little_word}
 use Rattle.bflt_format.specs.Values.{Values, image_size}
 
 -- the big-endian number at record r becomes an address above b, little-endian; a word 0 stays as it is

@@ -1,6 +1,6 @@
 -- Laws of the format, each the contract of a public function.
 use Rattle.std.specs.Prelude.{◌≡◌, ℕ, List, None}
-use Rattle.bflt_format.specs.Numbers.{IsBytes}
+use Rattle.byte_words.specs.Numbers.{IsBytes}
 use Rattle.bflt_format.specs.Values.{Values}
 use Rattle.bflt_format.specs.Header.{flat_values}
 use Rattle.bflt_format.specs.Fault.{flat_fault}

@@ -1,5 +1,4 @@
 pub mod Numbers
-pub mod Patches
 pub mod Rising
 pub mod Values
 pub mod Header

@@ -5,7 +5,7 @@ ghost use Rattle.std.specs.Prelude.{◌≡◌, ◌≤◌, length};
 ghost use Rattle.bflt_format.specs.Fault.{header_fault, is_out_of_bounds, is_entry, is_table_bad};
 
 use crate::fault::FlatFault;
-use crate::words::word;
+use byte_words::big_word;
 
 /// The bytes of the header, behind which the text begins.
 pub const LEN: u32 = 64;
@@ -48,26 +48,26 @@ pub fn header_fault_of(bytes: &[u8]) -> Option<FlatFault>
     if bytes.len() < LEN as usize {
         return Some(FlatFault::Short);
     }
-    if word(bytes, 0) != MAGIC {
+    if big_word(bytes, 0) != MAGIC {
         return Some(FlatFault::Magic);
     }
-    if word(bytes, 4) != REVISION {
+    if big_word(bytes, 4) != REVISION {
         return Some(FlatFault::Revision);
     }
-    let flags = word(bytes, FLAGS);
+    let flags = big_word(bytes, FLAGS);
     if flags != RAM && flags != RAM_AND_KTRACE {
         return Some(FlatFault::Flags);
     }
     if is_out_of_bounds(bytes) {
         return Some(FlatFault::Bounds);
     }
-    if word(bytes, DATA_START) % 32 != 0 {
+    if big_word(bytes, DATA_START) % 32 != 0 {
         return Some(FlatFault::DataAlign);
     }
     if !is_entry(bytes) {
         return Some(FlatFault::Entry);
     }
-    if word(bytes, STACK_SIZE) > MOST_STACK {
+    if big_word(bytes, STACK_SIZE) > MOST_STACK {
         return Some(FlatFault::StackSize);
     }
     if is_table_bad(bytes) {
@@ -81,9 +81,9 @@ fn is_out_of_bounds(bytes: &[u8]) -> bool
     requires { 64 ≤ length bytes.now }
     ensures { result ≡ is_out_of_bounds bytes.now }
 {
-    let data_start = word(bytes, DATA_START);
-    let data_end = word(bytes, DATA_END);
-    let bss_end = word(bytes, BSS_END);
+    let data_start = big_word(bytes, DATA_START);
+    let data_end = big_word(bytes, DATA_END);
+    let bss_end = big_word(bytes, BSS_END);
     let in_order = LEN <= data_start && data_start <= data_end && data_end <= bss_end;
     !in_order || bytes.len() < data_end as usize || bss_end - LEN > MOST_IMAGE
 }
@@ -93,8 +93,8 @@ fn is_entry(bytes: &[u8]) -> bool
     requires { 64 ≤ length bytes.now }
     ensures { result ≡ is_entry bytes.now }
 {
-    let entry = word(bytes, ENTRY);
-    let data_end = word(bytes, DATA_END);
+    let entry = big_word(bytes, ENTRY);
+    let data_end = big_word(bytes, DATA_END);
     entry % 4 == 0 && LEN <= entry && u64::from(entry) + 4 <= u64::from(data_end)
 }
 
@@ -103,8 +103,8 @@ fn is_table_bad(bytes: &[u8]) -> bool
     requires { 64 ≤ length bytes.now }
     ensures { result ≡ is_table_bad bytes.now }
 {
-    let start = word(bytes, RELOC_START);
-    let count = word(bytes, RELOC_COUNT);
+    let start = big_word(bytes, RELOC_START);
+    let count = big_word(bytes, RELOC_COUNT);
     let end = u64::from(start) + 4 * u64::from(count);
-    count > 0 && (start < word(bytes, DATA_END) || (bytes.len() as u64) < end)
+    count > 0 && (start < big_word(bytes, DATA_END) || (bytes.len() as u64) < end)
 }

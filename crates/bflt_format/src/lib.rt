@@ -9,7 +9,6 @@ mod header;
 mod laws;
 mod reading;
 mod records;
-mod words;
 mod writing;
 
 pub use fault::FlatFault;

@@ -10,7 +10,7 @@ use crate::header::{
     BSS_END, DATA_END, DATA_START, ENTRY, FLAGS, LEN, STACK_SIZE, header_fault_of,
 };
 use crate::records::{record_fault_of, records_of};
-use crate::words::word;
+use byte_words::big_word;
 use std::alloc::Global;
 
 impl Flat {
@@ -26,21 +26,21 @@ impl Flat {
         if let Some(fault) = header_fault_of(bytes) {
             return Err(fault);
         }
-        let data_start = word(bytes, DATA_START);
-        let data_end = word(bytes, DATA_END);
-        let bss_end = word(bytes, BSS_END);
+        let data_start = big_word(bytes, DATA_START);
+        let data_end = big_word(bytes, DATA_END);
+        let bss_end = big_word(bytes, BSS_END);
         let records = records_of(alloc, bytes)?;
         let body = &bytes[LEN as usize..data_end as usize];
         if let Some(fault) = record_fault_of(alloc, bss_end - LEN, body, &records)? {
             return Err(fault);
         }
         Ok(Flat {
-            entry: word(bytes, ENTRY),
+            entry: big_word(bytes, ENTRY),
             text: data_start - LEN,
             data_len: data_end - data_start,
             bss: bss_end - data_end,
-            stack: word(bytes, STACK_SIZE),
-            flags: word(bytes, FLAGS),
+            stack: big_word(bytes, STACK_SIZE),
+            flags: big_word(bytes, FLAGS),
             body: Vec::from_slice(alloc, body)?,
             records,
         })

@@ -2,14 +2,15 @@
 
 ghost use Rattle.std.specs.Prelude.{◌≡◌, ℕ, ◌+◌, ◌*◌, ◌<◌, ◌≤◌, [], ◌∷◌, ◌||◌, nat_lt, length, map, slice_index, IfOk};
 ghost use Rattle.std.specs.List.{range_with_len};
-ghost use Rattle.bflt_format.specs.Numbers.{big_at, any_below};
-ghost use Rattle.bflt_format.specs.Patches.{laid};
+ghost use Rattle.bflt_format.specs.Numbers.{big_at};
+ghost use Rattle.byte_words.specs.Search.{any_below};
+ghost use Rattle.byte_words.specs.Patches.{laid};
 ghost use Rattle.bflt_format.specs.Header.{reloc_count, record_at};
 ghost use Rattle.bflt_format.specs.Fault.{IsHeader, record_fault, passes_data, meets_earlier, targets_past};
 
 use crate::fault::FlatFault;
 use crate::header::{RELOC_COUNT, RELOC_START};
-use crate::words::word;
+use byte_words::big_word;
 use byteorder::{BigEndian, ByteOrder};
 use std::alloc::{AllocError, Global};
 
@@ -18,11 +19,11 @@ pub fn records_of(alloc: Global, bytes: &[u8]) -> Result<Vec<u32>, AllocError>
     requires { IsHeader bytes.now }
     ensures { IfOk result (λ v. v.items ≡ map (record_at bytes.now) (range_with_len 0 (reloc_count bytes.now))) }
 {
-    let count = word(bytes, RELOC_COUNT) as usize;
+    let count = big_word(bytes, RELOC_COUNT) as usize;
     if count == 0 {
         return Ok(Vec::new(alloc));
     }
-    let start = word(bytes, RELOC_START) as usize;
+    let start = big_word(bytes, RELOC_START) as usize;
     let mut records = vec![in alloc; 0; count]?;
     BigEndian::read_u32_into(&bytes[start..start + 4 * count], &mut records);
     Ok(records)
@@ -51,7 +52,7 @@ pub fn record_fault_of(
 }
 
 /// Some record's word does not lie in the first `stored` bytes.
-#[tactic(auto, using(crate::proofs::Below::any_below_more), unfolding(crate::specs::Fault::passes_data))]
+#[tactic(auto, using(byte_words::proofs::Searches::any_below_next), unfolding(crate::specs::Fault::passes_data))]
 fn has_record_past(stored: usize, records: &[u32]) -> bool
     ensures { result ≡ any_below (passes_data stored records.now) (length records.now) }
 {
@@ -98,13 +99,13 @@ fn cover(covered: &mut [u8], at: usize)
 }
 
 /// The number at some record is past the image's end.
-#[tactic(auto, using(crate::proofs::Below::any_below_more), unfolding(crate::specs::Fault::targets_past))]
+#[tactic(auto, using(byte_words::proofs::Searches::any_below_next), unfolding(crate::specs::Fault::targets_past))]
 fn has_target_past(size: u32, body: &[u8], records: &[u32]) -> bool
     requires { (k : ℕ) → k < length records.now → slice_index records.now k + 4 ≤ length body.now }
     ensures { result ≡ any_below (targets_past size body.now records.now) (length records.now) }
 {
     for record in records {
-        if word(body, *record as usize) > size {
+        if big_word(body, *record as usize) > size {
             return true;
         }
     }

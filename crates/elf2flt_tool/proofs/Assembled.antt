@@ -1,11 +1,11 @@
 -- The parts that the conversion makes are those of the definition.
 use Rattle.std.proofs.Common.{◌≡◌, ℕ, ◌+◌, ◌*◌, ◌/◌, ◌<◌, ◌≤◌, List, All, length, map, filter, get_or, slice_index, None, refl, sym, ap, ◌∙◌}
 use Rattle.std.proofs.lemmas.List.{length-map, get_or-map}
-use Rattle.bflt_format.specs.Numbers.{IsBytes}
-use Rattle.bflt_format.specs.Patches.{painted, bytes_below}
+use Rattle.byte_words.specs.Numbers.{IsBytes}
+use Rattle.byte_words.specs.Patches.{painted, bytes_below}
 use Rattle.bflt_format.specs.Values.{ram_values}
 use Rattle.bflt_format.specs.Rising.{rising}
-use Rattle.bflt_format.proofs.Painting.{bytes_below_same, byte_below, painted_same}
+use Rattle.byte_words.proofs.Painting.{bytes_below_same, byte_below, painted_same}
 use Rattle.bflt_format.proofs.Rising.{has, has_at}
 use Rattle.flat_layout.specs.declared.layout.Layout.{Layout}
 use Rattle.flat_layout.specs.Layout.{layout, size_of}

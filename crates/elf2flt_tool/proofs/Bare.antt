@@ -9,15 +9,16 @@ use Rattle.elf32_reader.specs.Header.{count_of}
 use Rattle.elf32_reader.specs.Sections.{section, content}
 use Rattle.elf32_reader.specs.Faults.{elf_fault}
 use Rattle.elf32_reader.proofs.Facts.{stored_fits}
-use Rattle.bflt_format.specs.Patches.{spans, patched, painted}
-use Rattle.bflt_format.specs.Numbers.{IsBytes}
-use Rattle.bflt_format.proofs.Painting.{within, spans_within, patched_on, patched_off}
+use Rattle.byte_words.specs.Patches.{spans, patched, painted}
+use Rattle.byte_words.specs.Numbers.{IsBytes}
+use Rattle.byte_words.proofs.Painting.{within, spans_within, patched_on, patched_off}
 use Rattle.bflt_format.proofs.Links.{word_at, word_none}
 use Rattle.flat_layout.specs.Numbering.{is_laid_out, has_bytes}
 use Rattle.flat_layout.specs.Layout.{layout, off, stored_end}
 use Rattle.elf2flt_tool.specs.Image.{section_patch, bare, word_of}
 use Rattle.elf2flt_tool.proofs.Members.{has-range, range_has}
 use Rattle.elf2flt_tool.proofs.Laid.{IsLaid}
+use Rattle.byte_words.specs.Numbers.{number_at}
 
 -- the byte at n is one of section i's
 record IsOf (e : List ℕ) (i n : ℕ) : Type 0 where
@@ -146,7 +147,7 @@ bare_fits e bytes n = painted_fits e (range_with_len 0 (count_of e)) (λ n. 0) b
 
 -- the number of four bytes that a list and a picture have in common
 number_of_word : (m : ℕ → ℕ) (y : List ℕ) (p q : ℕ) → ((j : ℕ) → j < 4 → m (p + j) ≡ slice_index y (q + j)) → word_of m p ≡ u32_at y q
-unfolding u32_at word_of
+unfolding number_at word_of
 number_of_word m y p q same =
     let first : m p ≡ slice_index y (q + 0) = let place : p + 0 ≡ p = omega arith in rw place at (same 0 (omega arith)) in
     let second = same 1 (omega arith) in

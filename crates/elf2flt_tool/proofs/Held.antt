@@ -11,10 +11,10 @@ use Rattle.elf32_reader.specs.Faults.{elf_fault}
 use Rattle.elf32_reader.specs.Relas.{is_kept}
 use Rattle.elf32_reader.proofs.Facts.{u32_at_fits}
 use Rattle.elf32_reader.proofs.Places.{is_kept_info, is_kept_allocated}
-use Rattle.elf32_reader.proofs.Searches.{and_rest}
+use Rattle.byte_words.proofs.Searches.{and_rest}
 use Rattle.flat_layout.specs.Numbering.{has_bytes, end_of}
 use Rattle.flat_layout.specs.Layout.{layout, off, stored_end}
-use Rattle.bflt_format.specs.Numbers.{IsBytes}
+use Rattle.byte_words.specs.Numbers.{IsBytes}
 use Rattle.psabi_relocs.specs.declared.reloc.Reloc.{Reloc}
 use Rattle.psabi_relocs.specs.declared.row.Row.{Row}
 use Rattle.psabi_relocs.specs.declared.row.Row.TheVariants.{Unknown, Mark, Pointer, Absolute, Relative, Call, Got, Low, Group}

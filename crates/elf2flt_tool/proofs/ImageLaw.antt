@@ -1,7 +1,7 @@
 -- The laws of the conversion: the flat file says what the file is converted to, has no fault, and loads to the file's image.
 use Rattle.std.proofs.Common.{◌≡◌, ℕ, ◌≤◌, not, List, map, filter, None, ap, sym, ◌∙◌}
-use Rattle.bflt_format.specs.Numbers.{IsBytes}
-use Rattle.bflt_format.specs.Patches.{painted, from_base}
+use Rattle.byte_words.specs.Numbers.{IsBytes}
+use Rattle.byte_words.specs.Patches.{painted, from_base}
 use Rattle.bflt_format.specs.Header.{flat_values}
 use Rattle.bflt_format.specs.Image.{flat_image}
 use Rattle.bflt_format.proofs.Spelled.{values_back, no_fault}

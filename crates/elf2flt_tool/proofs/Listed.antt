@@ -2,8 +2,8 @@
 use Rattle.std.proofs.Common.{◌≡◌, ℕ, ◌+◌, ◌%◌, ◌^◌, ◌<◌, ◌≤◌, inl, inr, Bool, true, false, nat_eq, nat_lt, List, [], ◌∷◌, map, filter, refl, ap, sym, ◌∙◌, arith, subst, if◌then◌else◌}
 use Rattle.std.specs.List.{AllByRecursion as Each}
 use Rattle.std.proofs.lemmas.Bool.{cases_Bool, or_parts, ltb-false, eqb-true, eqb-false}
-use Rattle.bflt_format.specs.Numbers.{IsBytes}
-use Rattle.bflt_format.specs.Patches.{big_word, little_word}
+use Rattle.byte_words.specs.Numbers.{IsBytes}
+use Rattle.byte_words.specs.Patches.{big_word, little_word}
 use Rattle.bflt_format.proofs.Rising.{has}
 use Rattle.bflt_format.proofs.Links.{AreWords, addressed}
 use Rattle.flat_layout.specs.declared.layout.Layout.{Layout}

@@ -13,7 +13,7 @@ use Rattle.elf32_reader.proofs.Facts.{option_or-none}
 use Rattle.flat_layout.specs.declared.fault.LayoutFault.{LayoutFault}
 use Rattle.flat_layout.specs.Layout.{layout}
 use Rattle.flat_layout.specs.Fault.{layout_fault}
-use Rattle.bflt_format.specs.Numbers.{IsBytes}
+use Rattle.byte_words.specs.Numbers.{IsBytes}
 use Rattle.psabi_relocs.specs.Field.{fields}
 use Rattle.psabi_relocs.specs.Fault.{reloc_fault}
 use Rattle.elf2flt_tool.specs.declared.refusal.Refusal.{Refusal}

@@ -8,7 +8,7 @@ use Rattle.elf32_reader.specs.Header.{count_of}
 use Rattle.elf32_reader.specs.Sections.{section, is_allocated}
 use Rattle.elf32_reader.specs.Relas.{is_kept, rela_count}
 use Rattle.elf32_reader.proofs.Places.{is_kept_info, is_kept_allocated}
-use Rattle.elf32_reader.proofs.Searches.{and_rest}
+use Rattle.byte_words.proofs.Searches.{and_rest}
 use Rattle.flat_layout.specs.declared.layout.Layout.{Layout}
 use Rattle.flat_layout.specs.Numbering.{has_bytes}
 use Rattle.flat_layout.specs.Layout.{layout, off, stored_end}

@@ -4,7 +4,7 @@ use Rattle.std.specs.List.{AllByRecursion as Each}
 use Rattle.std.specs.Option.{option_map, option_or}
 use Rattle.std.proofs.lemmas.Bool.{cases_Bool, and_parts}
 use Rattle.elf32_reader.specs.Relas.{rela_count}
-use Rattle.elf32_reader.specs.Search.{first}
+use Rattle.byte_words.specs.Search.{first}
 use Rattle.psabi_relocs.specs.declared.fault.RelocFault.{RelocFault}
 use Rattle.psabi_relocs.specs.declared.fault.RelocFault.TheVariants as faults
 use Rattle.psabi_relocs.specs.declared.class.Class.{Class}

@@ -1,11 +1,11 @@
 -- What an accepted file is converted to can be said in a flat file.
 use Rattle.std.proofs.Common.{◌≡◌, ℕ, ◌+◌, ◌≤◌, List, length, None, refl, ap, arith}
-use Rattle.bflt_format.specs.Numbers.{IsBytes}
-use Rattle.bflt_format.specs.Patches.{painted, bytes_below}
+use Rattle.byte_words.specs.Numbers.{IsBytes}
+use Rattle.byte_words.specs.Patches.{painted, bytes_below}
 use Rattle.bflt_format.specs.Rising.{rising}
 use Rattle.bflt_format.specs.Values.{stored, image_size}
 use Rattle.bflt_format.specs.Spelling.{Spells}
-use Rattle.bflt_format.proofs.Painting.{length-bytes_below}
+use Rattle.byte_words.proofs.Painting.{length-bytes_below}
 use Rattle.bflt_format.proofs.Links.{AreWords, HasRecords, has_records}
 use Rattle.bflt_format.proofs.Links as links
 use Rattle.flat_layout.specs.Layout.{layout, size_of, stored_end}

@@ -3,8 +3,8 @@ use Rattle.std.proofs.Common.{◌≡◌, ℕ, zero, suc, ◌+◌, ◌-◌, ◌<�
 use Rattle.std.specs.List.{AllByRecursion as Each}
 use Rattle.std.proofs.lemmas.Bool.{cases_Bool}
 use Rattle.byteorder.specs.Endian.{little_bytes}
-use Rattle.bflt_format.specs.Patches.{spans, patched, little_word}
-use Rattle.bflt_format.proofs.Painting.{within, patched_on, patched_off}
+use Rattle.byte_words.specs.Patches.{spans, patched, little_word}
+use Rattle.byte_words.proofs.Painting.{within, patched_on, patched_off}
 use Rattle.flat_layout.specs.Layout.{layout, off}
 use Rattle.psabi_relocs.specs.Shape.{put}
 use Rattle.psabi_relocs.specs.Field.{Field}

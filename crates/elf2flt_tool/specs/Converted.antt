@@ -1,6 +1,6 @@
 -- The flat file ("flat.h" of uClinux, version 4) that an ELF file is converted to: text and data with big-endian numbers at the recorded places, and ascending records.
 use Rattle.std.specs.Prelude.{ℕ, ◌+◌, ◌*◌, ◌/◌, List, map}
-use Rattle.bflt_format.specs.Patches.{Patch, painted, bytes_below, big_word}
+use Rattle.byte_words.specs.Patches.{Patch, painted, bytes_below, big_word}
 use Rattle.bflt_format.specs.Values.{Values}
 use Rattle.bflt_format.specs.Spelling.{spell}
 use Rattle.bflt_format.specs.Rising.{rising}

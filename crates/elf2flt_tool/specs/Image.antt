@@ -3,7 +3,7 @@
 use Rattle.std.specs.Prelude.{ℕ, ◌+◌, not, List, [], ◌∷◌, map, filter, Option, if◌then◌else◌}
 use Rattle.std.specs.List.{range_with_len}
 use Rattle.byteorder.specs.Endian.{little_number}
-use Rattle.bflt_format.specs.Patches.{Patch, patched, painted, from_base, little_word}
+use Rattle.byte_words.specs.Patches.{Patch, patched, painted, from_base, little_word}
 use Rattle.elf32_reader.specs.Header.{count_of}
 use Rattle.elf32_reader.specs.Sections.{section, content}
 use Rattle.flat_layout.specs.declared.layout.Layout.{Layout}

@@ -1,6 +1,6 @@
 -- The laws of the conversion, over definitions alone. A file is a list of bytes.
 use Rattle.std.specs.Prelude.{◌≡◌, ℕ, ◌≤◌, List, None}
-use Rattle.bflt_format.specs.Numbers.{IsBytes}
+use Rattle.byte_words.specs.Numbers.{IsBytes}
 use Rattle.bflt_format.specs.Header.{flat_values}
 use Rattle.bflt_format.specs.Fault.{flat_fault}
 use Rattle.bflt_format.specs.Image.{flat_image}

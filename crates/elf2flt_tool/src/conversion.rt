@@ -122,6 +122,23 @@ fn converted_flat(
 /// # Errors
 ///
 /// The first fault of the file, in the order of the variants of `Refusal`, or want of memory.
+pub fn flat_file(alloc: Global, bytes: &[u8], stack: u32) -> Result<Flat, Refusal>
+    requires some_stack { 16 ≤ stack }
+    requires stack_limit { stack ≤ 1048576 }
+    ensures { MatchResult result
+        (λ file. (fault bytes.now ≡ None) × (file ≡ converted bytes.now stack))
+        (λ refusal. (refusal ≡ Refusal.Memory) ⊎ (fault bytes.now ≡ Some refusal)) }
+{
+    let elf = Elf::read(bytes)?;
+    let layout = Layout::of(&elf)?;
+    converted_flat(alloc, &elf, &layout, stack)
+}
+
+/// The bytes of that flat file.
+///
+/// # Errors
+///
+/// As `flat_file`.
 pub fn convert(alloc: Global, bytes: &[u8], stack: u32) -> Result<Vec<u8>, Refusal>
     requires some_stack { 16 ≤ stack }
     requires stack_limit { stack ≤ 1048576 }
@@ -129,8 +146,6 @@ pub fn convert(alloc: Global, bytes: &[u8], stack: u32) -> Result<Vec<u8>, Refus
         (λ out. (fault bytes.now ≡ None) × (out.items ≡ flat bytes.now stack))
         (λ refusal. (refusal ≡ Refusal.Memory) ⊎ (fault bytes.now ≡ Some refusal)) }
 {
-    let elf = Elf::read(bytes)?;
-    let layout = Layout::of(&elf)?;
-    let flat = converted_flat(alloc, &elf, &layout, stack)?;
-    Ok(flat.write()?)
+    let file = flat_file(alloc, bytes, stack)?;
+    Ok(file.write()?)
 }

@@ -4,7 +4,7 @@ ghost use Rattle.std.specs.Prelude.{◌≡◌, ◌+◌, ◌<◌, ◌≤◌, true
 ghost use Rattle.elf32_reader.specs.Accepted.{IsAccepted};
 ghost use Rattle.elf32_reader.specs.Header.{count_of};
 ghost use Rattle.elf32_reader.specs.Sections.{section};
-ghost use Rattle.bflt_format.specs.Patches.{laid, patched, painted, bytes_below};
+ghost use Rattle.byte_words.specs.Patches.{laid, patched, painted, bytes_below};
 ghost use Rattle.flat_layout.specs.Layout.{layout as layout_of};
 ghost use Rattle.flat_layout.specs.Fault.{layout_fault};
 ghost use Rattle.flat_layout.specs.Numbering.{has_bytes};

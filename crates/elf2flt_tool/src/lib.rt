@@ -19,6 +19,6 @@ mod target;
 mod tests;
 mod word;
 
-pub use conversion::convert;
+pub use conversion::{convert, flat_file};
 pub use laws::{flat_law, image_law};
 pub use refusal::Refusal;

@@ -11,7 +11,7 @@ use Rattle.elf32_reader.specs.Numbers.{u8_at, u16_at, u32_at}
 use Rattle.elf32_reader.specs.declared.section.Section.{Section}
 use Rattle.elf32_reader.specs.declared.symbol.Symbol.{Symbol}
 use Rattle.elf32_reader.specs.declared.rela.Rela.{Rela}
-use Rattle.elf32_reader.specs.Search.{any_below, first}
+use Rattle.byte_words.specs.Search.{any_below, first}
 use Rattle.elf32_reader.specs.Header.{count_of}
 use Rattle.elf32_reader.specs.Sections.{section, is_allocated, is_stored, has_content}
 use Rattle.elf32_reader.specs.Symbols.{is_symtab, symbol_count, symbol}
@@ -19,8 +19,9 @@ use Rattle.elf32_reader.specs.Relas.{is_kept, rela_count, rela_place, addend_wor
 use Rattle.elf32_reader.specs.Faults.{has_table, header_fault, passes_end, is_nameless, is_bad_symtab, is_symbolless, is_bad_rela, section_fault, elf_fault}
 use Rattle.elf32_reader.specs.Accepted.{IsAccepted}
 use Rattle.elf32_reader.specs.Tables.{HasTable, HasRanges, IsSymtab, IsRelas, IsElf}
-use Rattle.elf32_reader.proofs.Searches.{or_parts, and_rest, any_below_none}
+use Rattle.byte_words.proofs.Searches.{or_parts, and_rest, any_below_none}
 use Rattle.elf32_reader.proofs.Places.{is_symtab_below, is_kept_below, allocated_has_content, link_is_symtab}
+use Rattle.byte_words.specs.Numbers.{byte_at, number_at}
 
 -- where no row holds, the first one doesn't, and no later one does
 pub first_none : {F : Type 0} (b : Bool) (f : F) (rows : List (Bool × F)) → first ((b, f) ∷ rows) ≡ None → (b ≡ false) × (first rows ≡ None)
@@ -175,18 +176,18 @@ entry_symbol e i j clear is below = (is_relas_of e i clear is).symbols j below
 
 -- numbers of a list of bytes, by their width
 pub u8_at_fits : (e : List ℕ) (at : ℕ) → ((k : ℕ) → slice_index e k < 256) → u8_at e at < 256
-unfolding u8_at
+unfolding byte_at
 u8_at_fits e at bytes = bytes at
 
 drop_bytes : (e : List ℕ) (at : ℕ) → ((k : ℕ) → slice_index e k < 256) → (k : ℕ) → slice_index (drop at e) k < 256
 drop_bytes e at bytes k = rw get_or-drop (bytes _)
 
 pub u16_at_fits : (e : List ℕ) (at : ℕ) → ((k : ℕ) → slice_index e k < 256) → u16_at e at < 2 ^ 16
-unfolding u16_at
+unfolding number_at
 u16_at_fits e at bytes = little_from-lt 0 2 (drop at e) (drop_bytes e at bytes)
 
 pub u32_at_fits : (e : List ℕ) (at : ℕ) → ((k : ℕ) → slice_index e k < 256) → u32_at e at < 2 ^ 32
-unfolding u32_at
+unfolding number_at
 u32_at_fits e at bytes = little_from-lt 0 4 (drop at e) (drop_bytes e at bytes)
 
 pub addend_word_fits : (e : List ℕ) (i j : ℕ) → IsAccepted e → addend_word e i j < 2 ^ 32

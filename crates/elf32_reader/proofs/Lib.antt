@@ -1,8 +1,6 @@
--- Searches  laws of any_below
 -- Places    what lies in the file
 -- Facts     what is known of an accepted file, for the crates above
 -- Samples   the definitions, computed on a file of 356 bytes
-pub mod Searches
 pub mod Places
 pub mod Facts
 pub mod Samples

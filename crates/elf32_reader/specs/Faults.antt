@@ -6,7 +6,7 @@ use Rattle.std.specs.Int.Bits.{bit_and}
 use Rattle.elf32_reader.specs.declared.fault.ElfFault.{ElfFault}
 use Rattle.elf32_reader.specs.declared.fault.ElfFault.TheVariants.{Short, Magic, Class, Order, Version, FileType, Machine, Flags, SectionTable, SectionRange, SymbolRange, RelaShape}
 use Rattle.elf32_reader.specs.Numbers.{u8_at, u16_at, u32_at}
-use Rattle.elf32_reader.specs.Search.{any_below, first}
+use Rattle.byte_words.specs.Search.{any_below, first}
 use Rattle.elf32_reader.specs.Header.{table_of, count_of}
 use Rattle.elf32_reader.specs.Sections.{section, has_content, is_of_kind}
 use Rattle.elf32_reader.specs.Symbols.{is_symtab, symbol_count, symbol}

@@ -1,6 +1,5 @@
 -- What an ELF32 file says, read from its bytes e by place (System V ABI, ELF32).
 -- Numbers   u8_at e p, u16_at e p, u32_at e p: numbers by place
--- Search    any_below p n: some index below n passes; first rows: the first row that holds
 -- Header    entry_of e, table_of e, count_of e
 -- Sections  section e i, is_allocated s, is_stored s, has_content s, content e s, is_of_kind e i k
 -- Symbols   is_symtab e t, symbol_count e t, symbol e t j, name_of e t j
@@ -9,7 +8,6 @@
 -- Accepted  IsAccepted e: what is known of a file that was read
 -- Tables    what follows from it, by parts
 pub mod Numbers
-pub mod Search
 pub mod Header
 pub mod Sections
 pub mod Symbols

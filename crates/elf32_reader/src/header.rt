@@ -5,7 +5,7 @@ ghost use Rattle.elf32_reader.specs.Header.{entry_of, table_of, count_of};
 ghost use Rattle.elf32_reader.specs.Faults.{has_magic, is_current, has_table, header_fault};
 
 use crate::fault::ElfFault;
-use crate::numbers::{byte, half, word};
+use byte_words::{byte, half, word};
 
 /// The bytes of a file header.
 pub const HEADER_LEN: usize = 52;

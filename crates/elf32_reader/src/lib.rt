@@ -9,7 +9,6 @@
 mod elf;
 mod fault;
 mod header;
-mod numbers;
 mod rela;
 mod section;
 mod symbol;

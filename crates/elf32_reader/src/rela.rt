@@ -1,7 +1,7 @@
 //! Relocation sections (System V ABI, ELF32, "Relocation").
 
 ghost use Rattle.std.specs.Prelude.{◌≡◌, ◌<◌, ◌&&◌, nat_le, true};
-ghost use Rattle.elf32_reader.specs.Search.{any_below};
+ghost use Rattle.byte_words.specs.Search.{any_below};
 ghost use Rattle.elf32_reader.specs.Header.{count_of};
 ghost use Rattle.elf32_reader.specs.Sections.{section};
 ghost use Rattle.elf32_reader.specs.Relas.{is_static_relocation, is_kept, rela_count, rela_place, rela};
@@ -9,9 +9,9 @@ ghost use Rattle.elf32_reader.specs.Faults.{is_symbolless, has_rela_shape, is_ba
 ghost use Rattle.elf32_reader.specs.Tables.{HasTable, HasRanges};
 
 use crate::header::section_count;
-use crate::numbers::word;
 use crate::section::{Section, section_at};
 use crate::symbol::{is_symbol_table, symbols_in};
+use byte_words::word;
 
 const SHT_RELA: u32 = 4;
 
@@ -112,7 +112,7 @@ fn lacks_symbol(bytes: &[u8], index: u32, entry: u32) -> bool
     symbols_in(bytes, section_at(bytes, index).link) <= rela_of(bytes, index, entry).symbol
 }
 
-#[tactic(auto, using(crate::proofs::Searches::any_below_zero, crate::proofs::Searches::any_below_more))]
+#[tactic(auto, using(byte_words::proofs::Searches::any_below_zero, byte_words::proofs::Searches::any_below_more))]
 fn some_lacks_symbol(bytes: &[u8], index: u32) -> bool
     requires ranges { HasRanges bytes.now }
     requires kept { is_kept bytes.now index ≡ true }
@@ -149,7 +149,7 @@ fn is_bad(bytes: &[u8], index: u32) -> bool
 }
 
 /// Whether some relocation section is refused.
-#[tactic(auto, using(crate::proofs::Searches::any_below_zero, crate::proofs::Searches::any_below_more))]
+#[tactic(auto, using(byte_words::proofs::Searches::any_below_zero, byte_words::proofs::Searches::any_below_more))]
 pub fn some_rela_is_bad(bytes: &[u8]) -> bool
     requires { HasRanges bytes.now }
     ensures { result ≡ any_below (is_bad_rela bytes.now) (count_of bytes.now) }

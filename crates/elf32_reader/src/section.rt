@@ -1,14 +1,14 @@
 //! Section headers (System V ABI, ELF32, "Sections").
 
 ghost use Rattle.std.specs.Prelude.{◌≡◌, ◌+◌, ◌<◌, ◌≤◌, length};
-ghost use Rattle.elf32_reader.specs.Search.{any_below};
+ghost use Rattle.byte_words.specs.Search.{any_below};
 ghost use Rattle.elf32_reader.specs.Header.{count_of};
 ghost use Rattle.elf32_reader.specs.Sections.{section, is_allocated, is_stored, has_content, content, is_of_kind};
 ghost use Rattle.elf32_reader.specs.Faults.{passes_end};
 ghost use Rattle.elf32_reader.specs.Tables.{HasTable};
 
 use crate::header::{header_place, section_count};
-use crate::numbers::word;
+use byte_words::word;
 
 const SHT_NULL: u32 = 0;
 
@@ -113,7 +113,7 @@ fn passes(bytes: &[u8], index: u32) -> bool
 }
 
 /// Whether the content of some section passes the file's end.
-#[tactic(auto, using(crate::proofs::Searches::any_below_zero, crate::proofs::Searches::any_below_more))]
+#[tactic(auto, using(byte_words::proofs::Searches::any_below_zero, byte_words::proofs::Searches::any_below_more))]
 pub fn some_passes(bytes: &[u8]) -> bool
     requires { HasTable bytes.now }
     ensures { result ≡ any_below (passes_end bytes.now) (count_of bytes.now) }

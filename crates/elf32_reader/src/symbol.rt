@@ -2,7 +2,7 @@
 
 ghost use Rattle.std.specs.Prelude.{◌≡◌, ◌<◌, ◌==◌, length, take, true, position};
 ghost use Rattle.std.specs.List.{before_first};
-ghost use Rattle.elf32_reader.specs.Search.{any_below};
+ghost use Rattle.byte_words.specs.Search.{any_below};
 ghost use Rattle.elf32_reader.specs.Header.{count_of};
 ghost use Rattle.elf32_reader.specs.Sections.{section, content};
 ghost use Rattle.elf32_reader.specs.Symbols.{is_symtab, symbol_count, symbol_place, symbol, name_of};
@@ -10,8 +10,8 @@ ghost use Rattle.elf32_reader.specs.Faults.{is_nameless, has_symbol_shape, is_ba
 ghost use Rattle.elf32_reader.specs.Tables.{HasTable, HasRanges, IsSymtab};
 
 use crate::header::section_count;
-use crate::numbers::{byte, half, word};
 use crate::section::{content_at, has_kind, section_at};
+use byte_words::{byte, half, word};
 
 const SHT_SYMTAB: u32 = 2;
 
@@ -114,7 +114,7 @@ fn lacks_name(bytes: &[u8], table: u32, index: u32) -> bool
     strings_size(bytes, table) <= symbol_of(bytes, table, index).name
 }
 
-#[tactic(auto, using(crate::proofs::Searches::any_below_zero, crate::proofs::Searches::any_below_more))]
+#[tactic(auto, using(byte_words::proofs::Searches::any_below_zero, byte_words::proofs::Searches::any_below_more))]
 fn some_lacks_name(bytes: &[u8], table: u32) -> bool
     requires ranges { HasRanges bytes.now }
     requires table { is_symtab bytes.now table ≡ true }
@@ -138,7 +138,7 @@ fn is_bad(bytes: &[u8], table: u32) -> bool
 }
 
 /// Whether some symbol table is misshapen, or has a symbol whose name isn't in its string table.
-#[tactic(auto, using(crate::proofs::Searches::any_below_zero, crate::proofs::Searches::any_below_more))]
+#[tactic(auto, using(byte_words::proofs::Searches::any_below_zero, byte_words::proofs::Searches::any_below_more))]
 pub fn some_symtab_is_bad(bytes: &[u8]) -> bool
     requires { HasRanges bytes.now }
     ensures { result ≡ any_below (is_bad_symtab bytes.now) (count_of bytes.now) }

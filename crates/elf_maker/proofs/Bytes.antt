@@ -8,29 +8,30 @@ use Rattle.elf32_reader.specs.declared.section.Section.{Section}
 use Rattle.elf32_reader.specs.Numbers.{u8_at, u16_at, u32_at}
 use Rattle.elf32_reader.specs.Sections.{header_at}
 use Rattle.elf_maker.specs.Spelling.{words_text, section_text}
+use Rattle.byte_words.specs.Numbers.{byte_at, number_at}
 
 -- what stands behind a front
 pub drop_behind : {X : Type 0} (front rest : List X) (n at : ℕ) → length front ≡ n → drop (n + at) (front ++ rest) ≡ drop at rest
 drop_behind front rest n at len = sym (drop-drop at n (front ++ rest)) ∙ ap (drop at) (drop_at front rest n len)
 
 pub u32_from : (y : List ℕ) (at k : ℕ) → u32_at y (at + k) ≡ u32_at (drop at y) k
-unfolding u32_at
+unfolding number_at
 u32_from y at k = ap (little_number 4) (sym (drop-drop k at y))
 
 pub u16_from : (y : List ℕ) (at k : ℕ) → u16_at y (at + k) ≡ u16_at (drop at y) k
-unfolding u16_at
+unfolding number_at
 u16_from y at k = ap (little_number 2) (sym (drop-drop k at y))
 
 pub u8_from : (y : List ℕ) (at k : ℕ) → u8_at y (at + k) ≡ u8_at (drop at y) k
-unfolding u8_at
+unfolding byte_at
 u8_from y at k = sym (get_or-drop at y k 0)
 
 pub u32_from_zero : (y : List ℕ) (at : ℕ) → u32_at y at ≡ u32_at (drop at y) 0
-unfolding u32_at
+unfolding number_at
 u32_from_zero y at = refl
 
 pub word_at : (ns rest : List ℕ) (k : ℕ) → k < length ns → get_or ns k 0 < 2 ^ 32 → u32_at (words_text ns ++ rest) (4 * k) ≡ get_or ns k 0
-unfolding u32_at words_text
+unfolding number_at words_text
 word_at [] rest k below fits = absurd (omega arith)
 word_at (n ∷ ns) rest zero below fits = little_number-reads_back 4 n (flat_map (little_bytes 4) ns ++ rest) fits
 word_at (n ∷ ns) rest (suc k) below fits =

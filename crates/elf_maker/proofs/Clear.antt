@@ -5,7 +5,7 @@ use Rattle.std.proofs.lemmas.Bool.{and_from, and_left, and_right, or_from, le-lt
 use Rattle.std.proofs.lemmas.List.{length-append}
 use Rattle.elf32_reader.specs.declared.section.Section.{Section}
 use Rattle.elf32_reader.specs.Numbers.{u8_at, u16_at, u32_at}
-use Rattle.elf32_reader.specs.Search.{any_below}
+use Rattle.byte_words.specs.Search.{any_below}
 use Rattle.elf32_reader.specs.Header.{table_of, count_of}
 use Rattle.elf32_reader.specs.Sections.{section, is_allocated, has_content, is_of_kind}
 use Rattle.elf32_reader.specs.Symbols.{is_symtab}
@@ -13,6 +13,7 @@ use Rattle.elf32_reader.specs.Relas.{is_static_relocation, is_kept}
 use Rattle.elf32_reader.specs.Faults.{has_magic, is_current, has_table, header_fault, passes_end, is_bad_symtab, is_bad_rela, section_fault, elf_fault}
 use Rattle.elf_maker.specs.Spelling.{Item, words_text, halves_text, header_text}
 use Rattle.elf_maker.proofs.Places.{Stands, length-header_text, table_read, count_read}
+use Rattle.byte_words.specs.Numbers.{byte_at, number_at}
 
 pub none_below : (p : ℕ → Bool) (n : ℕ) → ((k : ℕ) → k < n → p k ≡ false) → any_below p n ≡ false
 unfolding any_below
@@ -29,35 +30,35 @@ header_none y long magic class order current type machine flags table =
     rw (short, magic, class, order, current, type, machine, flags, table) refl
 
 magic_is : (entry table count : ℕ) (rest : List ℕ) → has_magic (header_text entry table count ++ rest) ≡ true
-unfolding has_magic u8_at header_text
+unfolding has_magic byte_at header_text
 magic_is entry table count rest = refl
 
 class_is : (entry table count : ℕ) (rest : List ℕ) → u8_at (header_text entry table count ++ rest) 4 ≡ 1
-unfolding u8_at header_text
+unfolding byte_at header_text
 class_is entry table count rest = refl
 
 order_is : (entry table count : ℕ) (rest : List ℕ) → u8_at (header_text entry table count ++ rest) 5 ≡ 1
-unfolding u8_at header_text
+unfolding byte_at header_text
 order_is entry table count rest = refl
 
 current_is : (entry table count : ℕ) (rest : List ℕ) → is_current (header_text entry table count ++ rest) ≡ true
-unfolding is_current u8_at u32_at header_text words_text halves_text
+unfolding is_current byte_at number_at header_text words_text halves_text
 current_is entry table count rest = refl
 
 type_is : (entry table count : ℕ) (rest : List ℕ) → u16_at (header_text entry table count ++ rest) 16 ≡ 2
-unfolding u16_at header_text words_text halves_text
+unfolding number_at header_text words_text halves_text
 type_is entry table count rest = refl
 
 machine_is : (entry table count : ℕ) (rest : List ℕ) → u16_at (header_text entry table count ++ rest) 18 ≡ 243
-unfolding u16_at header_text words_text halves_text
+unfolding number_at header_text words_text halves_text
 machine_is entry table count rest = refl
 
 flags_are : (entry table count : ℕ) (rest : List ℕ) → bit_and (u32_at (header_text entry table count ++ rest) 36) 15 ≡ 0
-unfolding u32_at header_text words_text halves_text
+unfolding number_at header_text words_text halves_text
 flags_are entry table count rest = refl
 
 entsize_is : (entry table count : ℕ) (rest : List ℕ) → u16_at (header_text entry table count ++ rest) 46 ≡ 40
-unfolding u16_at header_text words_text halves_text
+unfolding number_at header_text words_text halves_text
 entsize_is entry table count rest = refl
 
 has_table_from : (y : List ℕ) → u16_at y 46 ≡ 40 → 0 < count_of y → count_of y ≤ 4096 → table_of y + 40 * count_of y ≤ length y → has_table y ≡ true

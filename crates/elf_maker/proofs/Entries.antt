@@ -20,6 +20,7 @@ use Rattle.elf_maker.specs.Spelling.{Item, words_text, halves_text, symbol_text,
 use Rattle.elf_maker.proofs.Bytes.{drop_behind, u8_from, u16_from, u32_from, u32_from_zero, word_at, piece_at}
 use Rattle.elf_maker.proofs.Places.{Stands}
 use Rattle.elf_maker.proofs.Sizes.{length-symbol_text}
+use Rattle.byte_words.specs.Numbers.{byte_at, number_at}
 
 -- ---- contents
 
@@ -41,7 +42,7 @@ same_symbol s t n v z f o x = λ i. record { name = n i; value = v i; size = z i
 
 pub symbol_read : (y : List ℕ) (at n : ℕ) (s : MakeSymbol) (more : List ℕ) → drop at y ≡ symbol_text n s ++ more → n < 2 ^ 32 → FitsSymbol s
     → symbol_at y at ≡ record { name = n; value = s.value; size = 0; info = s.info; other = 0; shndx = s.shndx }
-unfolding symbol_text words_text halves_text u8_at u16_at
+unfolding symbol_text words_text halves_text byte_at number_at
 symbol_read y at n s more here below fits =
     let ns = n ∷ s.value ∷ 0 ∷ [] in
     let tail = (s.info ∷ 0 ∷ halves_text (s.shndx ∷ [])) ++ more in

@@ -30,6 +30,7 @@ use Rattle.elf_maker.proofs.Places.{file_of, IsSound, Stands, length-table, entr
 use Rattle.elf_maker.proofs.Entries.{inside, content_is, same_symbol, symbol_read, Begins, symbols_at, before_zero, name_at, rela_read}
 use Rattle.elf_maker.proofs.Sections.{at_all, Fine, relas_item, behind, all_are, relocated_below, relocated_has, relocated_part, sound, part_stands, symtab_stands, strtab_stands, relas_stand, each_section}
 use Rattle.elf_maker.proofs.Clear.{none_below, header_clear, IsClear, sections_clear, no_fault_from, range_sized, range_nobits, range_null, no_symtab, symtab_clear, not_static, allocated_static, not_kept, rela_clear, allocated_from, unallocated_from}
+use Rattle.byte_words.specs.Numbers.{byte_at, number_at}
 
 -- ---- the file header
 
@@ -144,7 +145,7 @@ header_made parts symbols relas entry f = file_header_clear entry (all_items par
 -- ---- the symbol table
 
 no_symbol_read : (y : List ℕ) (at : ℕ) (more : List ℕ) → drop at y ≡ no_symbol ++ more → symbol_at y at ≡ record { name = 0; value = 0; size = 0; info = 0; other = 0; shndx = 0 }
-unfolding u8_at u16_at u32_at
+unfolding byte_at number_at
 no_symbol_read y at more here =
     same_symbol (symbol_at y at) (record { name = 0; value = 0; size = 0; info = 0; other = 0; shndx = 0 })
     (u32_from_zero y at ∙ ap (λ z. u32_at z 0) here)

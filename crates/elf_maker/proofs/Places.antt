@@ -11,6 +11,7 @@ use Rattle.elf32_reader.specs.Sections.{header_at, section}
 use Rattle.elf_maker.specs.Spelling.{Item, placed, contents, words_text, halves_text, header_text, section_text, file_text, null_section}
 use Rattle.elf_maker.proofs.Bytes.{drop_behind, header_read, entry_at, piece_at, FitsSection}
 use Rattle.elf_maker.proofs.Laid.{length-placed, flat_map_room}
+use Rattle.byte_words.specs.Numbers.{number_at}
 
 -- ---- the file header
 
@@ -23,17 +24,17 @@ unfolding section_text words_text
 length-section_text s = refl
 
 pub entry_read : (entry table count : ℕ) (rest : List ℕ) → entry < 2 ^ 32 → entry_of (header_text entry table count ++ rest) ≡ entry
-unfolding entry_of header_text words_text halves_text u32_at
+unfolding entry_of header_text words_text halves_text number_at
 entry_read entry table count rest fits =
     little_number-reads_back 4 entry (words_text (0 ∷ table ∷ 0 ∷ []) ++ (halves_text (52 ∷ 0 ∷ 0 ∷ 40 ∷ count ∷ 0 ∷ []) ++ rest)) fits
 
 pub table_read : (entry table count : ℕ) (rest : List ℕ) → table < 2 ^ 32 → table_of (header_text entry table count ++ rest) ≡ table
-unfolding table_of header_text words_text halves_text u32_at
+unfolding table_of header_text words_text halves_text number_at
 table_read entry table count rest fits =
     little_number-reads_back 4 table (words_text (0 ∷ []) ++ (halves_text (52 ∷ 0 ∷ 0 ∷ 40 ∷ count ∷ 0 ∷ []) ++ rest)) fits
 
 pub count_read : (entry table count : ℕ) (rest : List ℕ) → count < 2 ^ 16 → count_of (header_text entry table count ++ rest) ≡ count
-unfolding count_of header_text words_text halves_text u16_at
+unfolding count_of header_text words_text halves_text number_at
 count_read entry table count rest fits = little_number-reads_back 2 count (halves_text (0 ∷ []) ++ rest) fits
 
 -- ---- sections and their contents

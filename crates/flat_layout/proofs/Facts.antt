@@ -1,14 +1,14 @@
 -- What is known of a file without a layout fault: the rows that don't hold, and the sizes of its image.
 use Rattle.std.proofs.Common.{◌≡◌, ℕ, ◌+◌, ◌%◌, ◌^◌, ◌<◌, ◌≤◌, List, [], ◌∷◌, Bool, true, false, not, None, refl, arith}
 use Rattle.std.proofs.lemmas.Bool.{and_parts, not-false, ltb-false}
-use Rattle.elf32_reader.specs.Search.{first}
+use Rattle.byte_words.specs.Search.{first}
 use Rattle.elf32_reader.specs.Header.{count_of}
 use Rattle.elf32_reader.specs.Sections.{section}
 use Rattle.flat_layout.specs.declared.fault.LayoutFault.TheVariants.{NoSections, TooLarge, Overlap, Dynamic, Tls, EntryOutside}
 use Rattle.flat_layout.specs.Numbering.{is_laid_out, has_bytes, is_written, end_of, lowest, highest, raised_start, distance, start_of}
 use Rattle.flat_layout.specs.Layout.{size_of, stored_end, written_from, text_of, layout}
 use Rattle.flat_layout.specs.Fault.{has_sections, some_ends_too_high, is_too_large, has_overlap, has_dynamic, has_tls, is_entry_outside, layout_fault}
-use Rattle.elf32_reader.proofs.Searches.{or_parts}
+use Rattle.byte_words.proofs.Searches.{or_parts}
 use Rattle.flat_layout.proofs.Bounds.{greatest_at, greatest_le, least_at, least_le_none}
 
 -- no row of the fault table holds

@@ -2,10 +2,10 @@
 use Rattle.std.proofs.Common.{◌≡◌, ℕ, zero, suc, ◌+◌, ◌-◌, ◌%◌, ◌^◌, ◌<◌, ◌≤◌, ◌≢◌, ◌⊎◌, List, Bool, true, false, not, ◌&&◌, None, refl, sym, ◌∙◌, arith, inl, inr, nat_lt, nat_le, nat_eq}
 use Rattle.std.proofs.lemmas.Bool.{and_parts, and_from, and_cases, not-false, ltb-false, leb-true, eqb-true, cases_lt, or_cases}
 use Rattle.elf32_reader.specs.declared.section.Section.{Section}
-use Rattle.elf32_reader.specs.Search.{any_below}
+use Rattle.byte_words.specs.Search.{any_below}
 use Rattle.elf32_reader.specs.Header.{count_of, entry_of}
 use Rattle.elf32_reader.specs.Sections.{section}
-use Rattle.elf32_reader.proofs.Searches.{or_parts, and_rest, any_below_none}
+use Rattle.byte_words.proofs.Searches.{or_parts, and_rest, any_below_none}
 use Rattle.flat_layout.specs.declared.layout.Layout.{Layout}
 use Rattle.flat_layout.specs.Numbering.{is_laid_out, has_bytes, is_executable, end_of, lowest, highest, distance, start_of}
 use Rattle.flat_layout.specs.Layout.{off, size_of, stored_end, layout}

@@ -1,7 +1,7 @@
 -- The definitions computed on the file of the example `convert-one-word`, linked at 0x10000 and at zero.
 use Rattle.std.proofs.Common.{◌≡◌, ℕ, ◌+◌, ◌/◌, ◌%◌, List, [], ◌∷◌, None, refl}
 use Rattle.elf32_reader.specs.Numbers.{u8_at, u16_at, u32_at}
-use Rattle.elf32_reader.specs.Search.{any_below}
+use Rattle.byte_words.specs.Search.{any_below}
 use Rattle.elf32_reader.specs.Header.{entry_of, table_of, count_of}
 use Rattle.elf32_reader.specs.Sections.{section, is_allocated, is_stored, has_content, is_of_kind}
 use Rattle.elf32_reader.specs.Symbols.{is_symtab, symbol_count, symbol_place, symbol}
@@ -11,6 +11,7 @@ use Rattle.flat_layout.specs.Extremes.{least_below, greatest_below}
 use Rattle.flat_layout.specs.Numbering.{lowest, highest, raised_start, distance, start_of}
 use Rattle.flat_layout.specs.Layout.{stored_end, written_from, text_of, layout}
 use Rattle.flat_layout.specs.Fault.{has_sections, some_ends_too_high, is_too_large, meets_below, has_overlap, has_dynamic, has_tls, is_entry_outside, layout_fault}
+use Rattle.byte_words.specs.Numbers.{byte_at, number_at}
 
 -- words of four bytes, the lowest byte first
 abbrev words : List ℕ → List ℕ
@@ -38,22 +39,22 @@ one_word base = words (
     ∷ [])
 
 one_word-read : elf_fault (one_word 0x10000) ≡ None
-unfolding u8_at u16_at u32_at any_below table_of count_of section is_allocated has_content is_of_kind is_symtab symbol_count symbol_place symbol is_static_relocation is_kept rela_count rela_place rela has_magic is_current has_table header_fault passes_end is_nameless has_symbol_shape is_bad_symtab is_symbolless has_rela_shape is_bad_rela section_fault elf_fault
+unfolding byte_at number_at any_below table_of count_of section is_allocated has_content is_of_kind is_symtab symbol_count symbol_place symbol is_static_relocation is_kept rela_count rela_place rela has_magic is_current has_table header_fault passes_end is_nameless has_symbol_shape is_bad_symtab is_symbolless has_rela_shape is_bad_rela section_fault elf_fault
 one_word-read = refl
 
 one_word-fault : layout_fault (one_word 0x10000) ≡ None
-unfolding u16_at u32_at any_below entry_of table_of count_of section is_allocated is_stored least_below greatest_below lowest highest raised_start distance has_sections some_ends_too_high is_too_large meets_below has_overlap has_dynamic has_tls is_entry_outside layout_fault
+unfolding number_at any_below entry_of table_of count_of section is_allocated is_stored least_below greatest_below lowest highest raised_start distance has_sections some_ends_too_high is_too_large meets_below has_overlap has_dynamic has_tls is_entry_outside layout_fault
 one_word-fault = refl
 
 one_word-layout : layout (one_word 0x10000) ≡ record { v0 = 0xffc0; text = 64; data_len = 12; bss = 0; entry = 64 }
-unfolding u16_at u32_at entry_of table_of count_of section is_allocated is_stored least_below greatest_below lowest highest raised_start distance start_of stored_end written_from text_of layout
+unfolding number_at entry_of table_of count_of section is_allocated is_stored least_below greatest_below lowest highest raised_start distance start_of stored_end written_from text_of layout
 one_word-layout = refl
 
 -- linked at zero V0 is -64
 at_zero-fault : layout_fault (one_word 0) ≡ None
-unfolding u16_at u32_at any_below entry_of table_of count_of section is_allocated is_stored least_below greatest_below lowest highest raised_start distance has_sections some_ends_too_high is_too_large meets_below has_overlap has_dynamic has_tls is_entry_outside layout_fault
+unfolding number_at any_below entry_of table_of count_of section is_allocated is_stored least_below greatest_below lowest highest raised_start distance has_sections some_ends_too_high is_too_large meets_below has_overlap has_dynamic has_tls is_entry_outside layout_fault
 at_zero-fault = refl
 
 at_zero-layout : layout (one_word 0) ≡ record { v0 = 0xffffffc0; text = 64; data_len = 12; bss = 0; entry = 64 }
-unfolding u16_at u32_at entry_of table_of count_of section is_allocated is_stored least_below greatest_below lowest highest raised_start distance start_of stored_end written_from text_of layout
+unfolding number_at entry_of table_of count_of section is_allocated is_stored least_below greatest_below lowest highest raised_start distance start_of stored_end written_from text_of layout
 at_zero-layout = refl

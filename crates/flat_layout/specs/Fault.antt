@@ -2,7 +2,7 @@
 use Rattle.std.specs.Prelude.{ℕ, ◌+◌, ◌%◌, ◌^◌, Bool, not, ◌&&◌, ◌||◌, nat_lt, nat_le, ◌==◌, List, [], ◌∷◌, Option}
 use Rattle.std.specs.Int.Bits.{bit_and}
 use Rattle.elf32_reader.specs.declared.section.Section.{Section}
-use Rattle.elf32_reader.specs.Search.{any_below, first}
+use Rattle.byte_words.specs.Search.{any_below, first}
 use Rattle.elf32_reader.specs.Header.{count_of, entry_of}
 use Rattle.elf32_reader.specs.Sections.{section}
 use Rattle.flat_layout.specs.declared.fault.LayoutFault.{LayoutFault}

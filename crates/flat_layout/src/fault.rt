@@ -3,7 +3,7 @@
 ghost use Rattle.std.specs.Prelude.{◌≡◌, ◌<◌};
 ghost use Rattle.elf32_reader.specs.Header.{count_of};
 ghost use Rattle.elf32_reader.specs.Sections.{section};
-ghost use Rattle.elf32_reader.specs.Search.{any_below};
+ghost use Rattle.byte_words.specs.Search.{any_below};
 ghost use Rattle.flat_layout.specs.Fault.{has_sections, ends_too_high, some_ends_too_high, is_too_large, meets, meets_below, has_overlap, is_dynamic, has_dynamic, is_tls, has_tls, holds_code, is_entry_outside, layout_fault};
 
 use crate::numbering::{
@@ -44,7 +44,7 @@ pub enum LayoutFault {
     EntryOutside,
 }
 
-#[tactic(auto, using(elf32_reader::proofs::Searches::any_below_zero, elf32_reader::proofs::Searches::any_below_more), unfolding(crate::specs::Fault::has_sections))]
+#[tactic(auto, using(byte_words::proofs::Searches::any_below_zero, byte_words::proofs::Searches::any_below_more), unfolding(crate::specs::Fault::has_sections))]
 fn has_sections(elf: &Elf<'_>) -> bool
     ensures { result ≡ has_sections elf.now }
 {
@@ -62,7 +62,7 @@ fn ends_too_high(section: &Section) -> bool
     is_laid_out(section) && end_of(section) > ADDRESS_END
 }
 
-#[tactic(auto, using(elf32_reader::proofs::Searches::any_below_zero, elf32_reader::proofs::Searches::any_below_more), unfolding(crate::specs::Fault::some_ends_too_high))]
+#[tactic(auto, using(byte_words::proofs::Searches::any_below_zero, byte_words::proofs::Searches::any_below_more), unfolding(crate::specs::Fault::some_ends_too_high))]
 fn some_ends_too_high(elf: &Elf<'_>) -> bool
     ensures { result ≡ some_ends_too_high elf.now }
 {
@@ -91,7 +91,7 @@ fn meets(section: &Section, other: &Section) -> bool
 }
 
 /// Whether a section below `index` has a byte in common with the one at `index`.
-#[tactic(auto, using(elf32_reader::proofs::Searches::any_below_zero, elf32_reader::proofs::Searches::any_below_more), unfolding(crate::specs::Fault::meets_below))]
+#[tactic(auto, using(byte_words::proofs::Searches::any_below_zero, byte_words::proofs::Searches::any_below_more), unfolding(crate::specs::Fault::meets_below))]
 fn meets_below(elf: &Elf<'_>, index: u32) -> bool
     requires { index < count_of elf.now }
     ensures { result ≡ meets_below elf.now index }
@@ -105,7 +105,7 @@ fn meets_below(elf: &Elf<'_>, index: u32) -> bool
     false
 }
 
-#[tactic(auto, using(elf32_reader::proofs::Searches::any_below_zero, elf32_reader::proofs::Searches::any_below_more), unfolding(crate::specs::Fault::has_overlap))]
+#[tactic(auto, using(byte_words::proofs::Searches::any_below_zero, byte_words::proofs::Searches::any_below_more), unfolding(crate::specs::Fault::has_overlap))]
 fn has_overlap(elf: &Elf<'_>) -> bool
     ensures { result ≡ has_overlap elf.now }
 {
@@ -123,7 +123,7 @@ fn is_dynamic(section: &Section) -> bool
     is_laid_out(section) && matches!(section.kind, SHT_DYNAMIC | SHT_DYNSYM | SHT_RELA | SHT_REL)
 }
 
-#[tactic(auto, using(elf32_reader::proofs::Searches::any_below_zero, elf32_reader::proofs::Searches::any_below_more), unfolding(crate::specs::Fault::has_dynamic))]
+#[tactic(auto, using(byte_words::proofs::Searches::any_below_zero, byte_words::proofs::Searches::any_below_more), unfolding(crate::specs::Fault::has_dynamic))]
 fn has_dynamic(elf: &Elf<'_>) -> bool
     ensures { result ≡ has_dynamic elf.now }
 {
@@ -141,7 +141,7 @@ fn is_tls(section: &Section) -> bool
     is_laid_out(section) && section.flags & SHF_TLS != 0
 }
 
-#[tactic(auto, using(elf32_reader::proofs::Searches::any_below_zero, elf32_reader::proofs::Searches::any_below_more), unfolding(crate::specs::Fault::has_tls))]
+#[tactic(auto, using(byte_words::proofs::Searches::any_below_zero, byte_words::proofs::Searches::any_below_more), unfolding(crate::specs::Fault::has_tls))]
 fn has_tls(elf: &Elf<'_>) -> bool
     ensures { result ≡ has_tls elf.now }
 {
@@ -163,7 +163,7 @@ fn holds_code(address: u32, section: &Section) -> bool
         && u64::from(address) + INSTRUCTION_LEN <= end_of(section)
 }
 
-#[tactic(auto, using(elf32_reader::proofs::Searches::any_below_zero, elf32_reader::proofs::Searches::any_below_more))]
+#[tactic(auto, using(byte_words::proofs::Searches::any_below_zero, byte_words::proofs::Searches::any_below_more))]
 fn some_holds_code(elf: &Elf<'_>, address: u32) -> bool
     ensures { result ≡ any_below (λ i. holds_code address (section elf.now i)) (count_of elf.now) }
 {

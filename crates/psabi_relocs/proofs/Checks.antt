@@ -5,7 +5,7 @@ use Rattle.elf32_reader.specs.declared.section.Section.{Section}
 use Rattle.elf32_reader.specs.Header.{count_of}
 use Rattle.elf32_reader.specs.Sections.{section, is_allocated}
 use Rattle.elf32_reader.specs.Relas.{is_kept, rela_count}
-use Rattle.elf32_reader.proofs.Searches.{or_parts, and_rest, any_below_none}
+use Rattle.byte_words.proofs.Searches.{or_parts, and_rest, any_below_none}
 use Rattle.elf32_reader.proofs.Places.{is_kept_info, is_kept_allocated}
 use Rattle.flat_layout.specs.Numbering.{is_laid_out, end_of}
 use Rattle.flat_layout.specs.Fault.{ends_too_high, some_ends_too_high, is_too_large, layout_fault}

@@ -8,6 +8,7 @@ use Rattle.elf32_reader.specs.declared.section.Section.{Section}
 use Rattle.elf32_reader.specs.Numbers.{u32_at}
 use Rattle.elf32_reader.specs.Sections.{content, is_stored}
 use Rattle.psabi_relocs.specs.Bytes.{holds}
+use Rattle.byte_words.specs.Numbers.{number_at}
 
 -- what the test says
 pub record Holds (s : Section) (a n : ℕ) : Type 0 where
@@ -30,7 +31,7 @@ number-take n m xs few fits =
 -- the word at a place of the content is the file's
 pub number-content : (e : List ℕ) (s : Section) (k : ℕ) → s.offset + s.size ≤ length e → k + 4 ≤ s.size
     → little_number 4 (drop k (content e s)) ≡ u32_at e (s.offset + k)
-unfolding content u32_at
+unfolding content number_at
 number-content e s k fits inside =
     let m = s.size - k in
     let parts : s.size ≡ k + m = omega arith in

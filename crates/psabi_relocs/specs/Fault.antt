@@ -5,7 +5,7 @@ use Rattle.std.specs.Prelude.{ℕ, Bool, true, false, not, ◌&&◌, ◌||◌, �
 use Rattle.std.specs.List.{list_all}
 use Rattle.std.specs.Option.{is_none}
 use Rattle.elf32_reader.specs.declared.section.Section.{Section}
-use Rattle.elf32_reader.specs.Search.{first}
+use Rattle.byte_words.specs.Search.{first}
 use Rattle.elf32_reader.specs.Sections.{section}
 use Rattle.elf32_reader.specs.Relas.{rela_count}
 use Rattle.psabi_relocs.specs.declared.class.Class.TheVariants as classes

@@ -5,7 +5,8 @@ use Rattle.rv32im_table.specs.declared.instr.Instr.{Instr}
 use Rattle.rv32im_table.specs.Table.{decoded}
 use Rattle.rv32im_step.specs.declared.regs.Regs.{Regs}
 use Rattle.rv32im_step.specs.Asked.{reads, effect_asked, asked}
-use Rattle.rv32im_step.specs.Memory.{Bytes, fetch_of, loaded}
+use Rattle.byte_words.specs.ByteMap.{Bytes}
+use Rattle.rv32im_step.specs.Memory.{fetch_of, loaded}
 
 pub asked_on :
     (regs : Regs) (m : Bytes) (w : ℕ → Bool) (word : ℕ) (instr : Instr) → Ok word ≡ loaded m (fetch_of regs.pc) →

@@ -12,7 +12,8 @@ use Rattle.rv32im_step.specs.Integer.{add}
 use Rattle.rv32im_step.specs.Registers.{with_register, following}
 use Rattle.rv32im_step.specs.Word.{wrap, signed}
 use Rattle.rv32im_step.specs.Meaning.{Meaning, next, call, trap, refused, misaligned, goes, jumps, branches, sets_loaded, loads, stores, same, even, changes, row, effect, decoded_effect, fetched_effect, meaning}
-use Rattle.rv32im_step.specs.Memory.{Bytes, fetch_of, load_of, store_of, loaded, little_bytes, with_byte, with_bytes, all_writable, stored}
+use Rattle.byte_words.specs.ByteMap.{Bytes, little_bytes, with_byte, with_bytes}
+use Rattle.rv32im_step.specs.Memory.{fetch_of, load_of, store_of, loaded, all_writable, stored}
 
 -- the map has the same bytes, and those that may not be written are as they were
 pub record Keeps (m : Bytes) (w : ℕ → Bool) (now : Bytes) : Type 0 where

@@ -6,7 +6,8 @@ use Rattle.rv32im_table.specs.Immediate.{imm_i, imm_s, imm_j}
 use Rattle.rv32im_table.specs.Table.{decoded}
 use Rattle.rv32im_step.specs.declared.regs.Regs.{Regs}
 use Rattle.rv32im_step.specs.Asked.{effect_asked, asked}
-use Rattle.rv32im_step.specs.ByteBus.{byte_of, writable_of}
+use Rattle.byte_words.specs.ByteMap.{byte_of}
+use Rattle.rv32im_step.specs.ByteBus.{writable_of}
 use Rattle.rv32im_step.specs.Integer.{sra}
 use Rattle.rv32im_step.specs.Meaning.{trap, effect, meaning}
 use Rattle.rv32im_step.specs.Memory.{fetch_of, load_of, store_of, loaded, stored}

@@ -7,7 +7,8 @@ use Rattle.rv32im_table.specs.Table.{decoded}
 use Rattle.rv32im_step.specs.declared.access.Access.{Access}
 use Rattle.rv32im_step.specs.declared.regs.Regs.{Regs}
 use Rattle.rv32im_step.specs.Integer.{add}
-use Rattle.rv32im_step.specs.Memory.{Bytes, fetch_of, load_of, store_of, loaded, stored}
+use Rattle.byte_words.specs.ByteMap.{Bytes}
+use Rattle.rv32im_step.specs.Memory.{fetch_of, load_of, store_of, loaded, stored}
 use Rattle.rv32im_step.specs.Registers.{register}
 
 -- an access, and whether it was carried out: else it was refused

@@ -2,7 +2,7 @@
 use Rattle.std.specs.Prelude.{◌≡◌, ℕ, Bool, false, is_some}
 use Rattle.rv32im_step.specs.declared.regs.Regs.{Regs}
 use Rattle.rv32im_step.specs.Meaning.{next, meaning}
-use Rattle.rv32im_step.specs.Memory.{Bytes}
+use Rattle.byte_words.specs.ByteMap.{Bytes}
 
 -- an instruction adds no byte to the map and takes none away
 abbrev pub BytesStay : Type 0

@@ -10,7 +10,8 @@ use Rattle.rv32im_step.specs.declared.regs.Regs.{Regs}
 use Rattle.rv32im_step.specs.declared.stop.Stop.{Stop}
 use Rattle.rv32im_step.specs.declared.stop.Stop.TheVariants.{Next, Call, Trap, Refused}
 use Rattle.rv32im_step.specs.Integer.{add, sub, slt, sltu, sll, srl, sra}
-use Rattle.rv32im_step.specs.Memory.{Bytes, fetch_of, load_of, store_of, loaded, stored}
+use Rattle.byte_words.specs.ByteMap.{Bytes}
+use Rattle.rv32im_step.specs.Memory.{fetch_of, load_of, store_of, loaded, stored}
 use Rattle.rv32im_step.specs.Multiply.{mul, mulh, mulhsu, mulhu, div, divu, rem, remu}
 use Rattle.rv32im_step.specs.Registers.{register, with_register, following, setting}
 use Rattle.rv32im_step.specs.Word.{wrap, signed}

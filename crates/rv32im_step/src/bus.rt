@@ -2,7 +2,8 @@
 
 ghost use Rattle.std.specs.Prelude.{◌≡◌, ◌⊎◌, ℕ, ◌^◌, ◌<◌, Bool, List, [], ◌++◌, Err, Ok, IfOk, MatchResult};
 ghost use Rattle.rv32im_step.specs.Asked.{Asked, reads, writes};
-ghost use Rattle.rv32im_step.specs.Memory.{Bytes, fetch_of, load_of, store_of, loaded, stored};
+ghost use Rattle.byte_words.specs.ByteMap.{Bytes};
+ghost use Rattle.rv32im_step.specs.Memory.{fetch_of, load_of, store_of, loaded, stored};
 
 use crate::access::Access;
 

@@ -2,9 +2,11 @@
 
 ghost use Rattle.std.specs.Prelude.{◌≡◌, ◌⊎◌, ◌+◌, ◌^◌, ◌<◌, ◌≤◌, length, IfSome};
 ghost use Rattle.std.proofs.Common.{refl, ◌∙◌};
-ghost use Rattle.rv32im_step.specs.ByteBus.{byte_of, writable_of, place_of, little, overwritten};
+ghost use Rattle.byte_words.specs.ByteMap.{byte_of, place_of, little, overwritten};
+ghost use Rattle.rv32im_step.specs.ByteBus.{writable_of};
 ghost use Rattle.rv32im_step.specs.Meaning.{Means, meaning};
-ghost use Rattle.rv32im_step.specs.Memory.{reading, little_bytes};
+ghost use Rattle.rv32im_step.specs.Memory.{reading};
+ghost use Rattle.byte_words.specs.ByteMap.{little_bytes};
 
 use crate::access::{Access, AccessKind};
 use crate::bus::Bus;
@@ -22,7 +24,7 @@ pub struct ByteBus<'a> {
 
 /// The index of `len` bytes from `addr` on, if all of them are in an array of `total` bytes.
 #[inline]
-#[tactic(auto, unfolding(crate::specs::ByteBus::place_of))]
+#[tactic(auto, unfolding(byte_words::specs::ByteMap::place_of))]
 fn place(base: u32, total: usize, addr: u32, len: u32) -> Option<usize>
     requires { len ≤ 4 }
     ensures { result ≡ place_of base total addr len }

@@ -1,7 +1,7 @@
 //! Jumps and branches: RISC-V unprivileged ISA, RV32I, "Control Transfer Instructions".
 
 ghost use Rattle.std.specs.Prelude.{◌≡◌, ◌<◌, ◌+◌, ◌-◌, ◌%◌, ◌^◌};
-ghost use Rattle.rv32im_step.specs.Memory.{Bytes};
+ghost use Rattle.byte_words.specs.ByteMap.{Bytes};
 ghost use Rattle.rv32im_step.specs.Meaning.{Means, jumps, branches, even};
 ghost use Rattle.rv32im_step.specs.Registers.{register};
 ghost use Rattle.rv32im_step.specs.Word.{wrap};

@@ -9,6 +9,7 @@ use Rattle.elf2flt_tool.specs.declared.refusal.Refusal.TheVariants as refusal
 use Rattle.psabi_relocs.specs.declared.fault.RelocFault.TheVariants.{AbsoluteCode}
 use Rattle.suite_top.specs.Texts.{refusal_tail, convert_line, check_line}
 use Rattle.suite_top.specs.Words.{convert, check, command_of}
+use Rattle.byte_words.specs.Numbers.{number_at}
 
 -- the header of its flat file, and what that says
 abbrev header : List ℕ
@@ -19,7 +20,7 @@ abbrev numbers : Numbers
 numbers = record { text = 64; data_len = 12; bss = 0; stack = 4096; records = 1; entry = 128 }
 
 header_is_read : numbers_of header ≡ numbers
-unfolding big_at
+unfolding number_at
 header_is_read = refl
 
 line_is_told : convert_line numbers ≡ codes "text 64 data 12 bss 0 stack 4096 records 1 entry 128\n"

@@ -1,9 +1,8 @@
 //! The header of a flat file: big-endian words of four bytes.
-ghost use Rattle.std.specs.Prelude.{◌≡◌, ◌+◌, ◌≤◌, length};
-ghost use Rattle.bflt_format.specs.Numbers.{big_at};
+ghost use Rattle.std.specs.Prelude.{◌≡◌, ◌≤◌, length};
 ghost use Rattle.suite_top.specs.Header.{numbers_of};
 
-use byteorder::{BigEndian, ByteOrder};
+use byte_words::big_word;
 
 /// What the header of a flat file says of its parts: sizes in bytes, the number of records, and
 /// where the program starts, counted from the start of the file.
@@ -17,30 +16,20 @@ pub struct Numbers {
     pub entry: u32,
 }
 
-/// The word whose first byte is byte `at` of the file.
-#[tactic(auto, unfolding(bflt_format::specs::Numbers::big_at))]
-pub fn word(flat: &[u8], at: usize) -> u32
-    requires { at + 4 ≤ length flat.now }
-    ensures { result ≡ big_at flat.now at }
-{
-    let (_, rest) = flat.split_at(at);
-    BigEndian::read_u32(rest)
-}
-
 /// The numbers in the header of this flat file.
 pub fn read_numbers(flat: &[u8]) -> Numbers
     requires { 64 ≤ length flat.now }
     ensures { result ≡ numbers_of flat.now }
 {
-    let data_start = word(flat, 12);
-    let data_end = word(flat, 16);
-    let bss_end = word(flat, 20);
+    let data_start = big_word(flat, 12);
+    let data_end = big_word(flat, 16);
+    let bss_end = big_word(flat, 20);
     Numbers {
         text: data_start.saturating_sub(64),
         data_len: data_end.saturating_sub(data_start),
         bss: bss_end.saturating_sub(data_end),
-        stack: word(flat, 24),
-        records: word(flat, 32),
-        entry: word(flat, 8),
+        stack: big_word(flat, 24),
+        records: big_word(flat, 32),
+        entry: big_word(flat, 8),
     }
 }

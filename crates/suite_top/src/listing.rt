@@ -8,10 +8,11 @@ ghost use Rattle.suite_top.specs.Listing.{part_lines, header_lines, record_line,
 ghost use Rattle.suite_top.specs.Course.{Follows};
 
 use crate::answer::Answer;
-use crate::header::word;
+
 use crate::loading::{Loading, load_file};
 use crate::status::Status;
 use bflt_format::{Flat, FlatFault};
+use byte_words::big_word;
 use host_io::Host;
 use std::alloc::{AllocError, Global};
 
@@ -83,7 +84,7 @@ fn push_record(text: &mut String, body: &[u8], place: u32) -> Result<(), AllocEr
     requires { place + 4 ≤ length body.now }
     ensures { IfOk result (λ _. string_bytes text.new ≡ string_bytes text.old ++ record_line body.now place) }
 {
-    let number = word(body, place as usize);
+    let number = big_word(body, place as usize);
     writeln!(text, "record {place} word {number}")
 }
 

@@ -1,9 +1,9 @@
 use Rattle.std.proofs.Common.{◌≡◌, true, false, length, replicate, refl, sym, ap, ◌∙◌, arith, rules}
 use Rattle.std.proofs.lemmas.Bool.{or_from}
 use Rattle.std.proofs.lemmas.List.{length-replicate}
-use Rattle.bflt_format.specs.Numbers.{any_below}
+use Rattle.byte_words.specs.Search.{any_below}
 use Rattle.bflt_format.specs.Fault.{meets_earlier}
-use Rattle.bflt_format.proofs.Below.{any_below_found, any_below_more}
+use Rattle.byte_words.proofs.Searches.{any_below_found, any_below_next}
 use Rattle.bflt_format.proofs.Overlap.{meets_by_marks, no_marks, marks_more}
 use Rattle.bflt_format.proofs.records.has_overlap.Goals as goal
 
@@ -24,6 +24,6 @@ loop-record-preserved c =
     let met = meets_by_marks c.loop-record.covered c.args.records.now c.loop-record.record-index c.loop-record.invariant.2 in
     let here : meets_earlier c.args.records.now c.loop-record.record-index ≡ false = cc in (
       omega arith,
-      any_below_more (meets_earlier c.args.records.now) c.loop-record.record-index ∙ or_from (any_below (meets_earlier c.args.records.now) c.loop-record.record-index) (meets_earlier c.args.records.now c.loop-record.record-index) c.loop-record.invariant.1 here,
+      any_below_next (meets_earlier c.args.records.now) c.loop-record.record-index ∙ or_from (any_below (meets_earlier c.args.records.now) c.loop-record.record-index) (meets_earlier c.args.records.now c.loop-record.record-index) c.loop-record.invariant.1 here,
       rw c.cover.ensures (marks_more c.loop-record.covered c.args.records.now c.loop-record.record-index c.loop-record.invariant.2 (let inside = c.requires c.loop-record.record-index c.loop-record-test.true in omega arith)),
     )

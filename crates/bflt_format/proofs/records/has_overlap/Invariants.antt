@@ -1,5 +1,5 @@
 use Rattle.std.proofs.Common.{◌≡◌, false, length}
-use Rattle.bflt_format.specs.Numbers.{any_below}
+use Rattle.byte_words.specs.Search.{any_below}
 use Rattle.bflt_format.specs.Fault.{meets_earlier}
 use Rattle.bflt_format.proofs.Overlap.{AreMarks}
 use Rattle.bflt_format.proofs.records.has_overlap.Given as goal

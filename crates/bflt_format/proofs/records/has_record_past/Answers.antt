@@ -1,8 +1,8 @@
 use Rattle.std.proofs.Common.{length, refl, sym, arith}
 use Rattle.std.proofs.lemmas.Bool.{lt-ltb}
-use Rattle.bflt_format.specs.Numbers.{any_below}
+use Rattle.byte_words.specs.Search.{any_below}
 use Rattle.bflt_format.specs.Fault.{passes_data}
-use Rattle.bflt_format.proofs.Below.{any_below_found}
+use Rattle.byte_words.proofs.Searches.{any_below_found}
 use Rattle.bflt_format.proofs.records.has_record_past.Goals as goal
 
 pub loop-record-init : goal.loop-record-init

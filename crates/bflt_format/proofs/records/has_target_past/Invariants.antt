@@ -1,5 +1,5 @@
 use Rattle.std.proofs.Common.{◌≡◌, false}
-use Rattle.bflt_format.specs.Numbers.{any_below}
+use Rattle.byte_words.specs.Search.{any_below}
 use Rattle.bflt_format.specs.Fault.{targets_past}
 use Rattle.bflt_format.proofs.records.has_target_past.Given as goal
 

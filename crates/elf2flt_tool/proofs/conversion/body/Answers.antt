@@ -1,5 +1,5 @@
 use Rattle.std.proofs.Common.{◌≡◌, ◌+◌, length, ◌∙◌, ap}
-use Rattle.bflt_format.proofs.Painting.{length-bytes_below}
+use Rattle.byte_words.proofs.Painting.{length-bytes_below}
 use Rattle.elf2flt_tool.specs.Image.{bare}
 use Rattle.elf2flt_tool.proofs.Painted.{written_back}
 use Rattle.elf2flt_tool.proofs.Assembled.{body-painted}

@@ -1,25 +1,10 @@
-use Rattle.std.proofs.Common.{◌∙◌, ap, inr}
-use Rattle.std.proofs.lemmas.Result.{err_from_is_err_and}
+use Rattle.std.proofs.Common.{◌∙◌, ap}
 use Rattle.bflt_format.specs.Spelling.{spell}
 use Rattle.elf2flt_tool.specs.Converted.{flat}
-use Rattle.elf2flt_tool.proofs.Faults.{fault-elf, fault-layout}
 use Rattle.elf2flt_tool.proofs.conversion.convert.Goals as goal
-
-pub returns-in_err-elf : goal.returns-in_err-elf
-returns-in_err-elf c =
-    let p = err_from_is_err_and c.from_residual.result c.from_residual.ensures.1 in
-    rw (p.1, p.2) (inr (fault-elf c.args.bytes.now _ c.in_err-elf.ensures))
-
-pub returns-in_err-layout : goal.returns-in_err-layout
-returns-in_err-layout c =
-    let p = err_from_is_err_and c.from_residual-in_err-layout.result c.from_residual-in_err-layout.ensures.1 in
-    let read = c.in_ok-elf.ensures in
-    let laid = rw read.1 at c.in_err-layout.ensures in
-    rw (p.1, p.2) (inr (fault-layout c.args.bytes.now _ read.0 laid))
 
 pub returns : goal.returns
 unfolding flat
 returns c =
-    let read = c.in_ok-elf.ensures in
-    let found = rw read.1 at c.in_ok-flat.ensures in
+    let found = c.in_ok-file.ensures in
     (found.0, c.in_ok-write.ensures ∙ ap spell found.1)

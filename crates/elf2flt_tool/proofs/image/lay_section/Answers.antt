@@ -2,7 +2,7 @@ use Rattle.std.proofs.Common.{◌≡◌, true, false, sym}
 use Rattle.elf32_reader.specs.Sections.{section, content}
 use Rattle.elf32_reader.proofs.Facts.{stored_fits}
 use Rattle.elf32_reader.proofs.Places.{length_content}
-use Rattle.bflt_format.specs.Patches.{Patch}
+use Rattle.byte_words.specs.Patches.{Patch}
 use Rattle.flat_layout.specs.Numbering.{has_bytes}
 use Rattle.flat_layout.specs.Layout.{off, layout}
 use Rattle.elf2flt_tool.proofs.Painted.{laid-below, laid-nothing, section_patch-stored, section_patch-other, is_stored_of}

@@ -2,8 +2,8 @@ use Rattle.std.proofs.Common.{◌≡◌, ◌+◌, ◌<◌, length, map, replicat
 use Rattle.std.specs.List.{range_with_len}
 use Rattle.std.proofs.lemmas.List.FromFn.{map-range_with_len_more}
 use Rattle.elf32_reader.specs.Header.{count_of}
-use Rattle.bflt_format.specs.Patches.{painted, bytes_below}
-use Rattle.bflt_format.proofs.Painting.{length-bytes_below}
+use Rattle.byte_words.specs.Patches.{painted, bytes_below}
+use Rattle.byte_words.proofs.Painting.{length-bytes_below}
 use Rattle.flat_layout.proofs.Facts.{size_le, text-data, laid_out}
 use Rattle.flat_layout.proofs.Numbers.{is_numbered, stored_inside}
 use Rattle.elf2flt_tool.specs.Image.{section_patch, bare}

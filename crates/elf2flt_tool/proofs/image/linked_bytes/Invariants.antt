@@ -1,6 +1,6 @@
 use Rattle.std.proofs.Common.{◌≡◌, ◌+◌, map}
 use Rattle.std.specs.List.{range_with_len}
-use Rattle.bflt_format.specs.Patches.{painted, bytes_below}
+use Rattle.byte_words.specs.Patches.{painted, bytes_below}
 use Rattle.elf2flt_tool.specs.Image.{section_patch}
 use Rattle.elf2flt_tool.proofs.image.linked_bytes.Given as goal
 

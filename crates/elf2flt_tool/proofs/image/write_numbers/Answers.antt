@@ -1,7 +1,7 @@
 use Rattle.std.proofs.Common.{◌+◌, ◌≤◌, ◌∷◌, [], length, map, take, get_or, slice_index, sym, ap, ◌∙◌}
 use Rattle.std.proofs.lemmas.List.{take_more, map-append}
-use Rattle.bflt_format.specs.Patches.{painted, bytes_below, laid, big_word}
-use Rattle.bflt_format.proofs.Painting.{bytes_below_list}
+use Rattle.byte_words.specs.Patches.{painted, bytes_below, laid, big_word}
+use Rattle.byte_words.proofs.Painting.{bytes_below_list}
 use Rattle.elf2flt_tool.specs.Converted.{number_patch}
 use Rattle.elf2flt_tool.proofs.Painted.{laid-push}
 use Rattle.elf2flt_tool.proofs.image.write_numbers.Goals as goal

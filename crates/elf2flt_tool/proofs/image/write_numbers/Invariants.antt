@@ -1,5 +1,5 @@
 use Rattle.std.proofs.Common.{◌≡◌, length, map, take, slice_index}
-use Rattle.bflt_format.specs.Patches.{painted, bytes_below}
+use Rattle.byte_words.specs.Patches.{painted, bytes_below}
 use Rattle.elf2flt_tool.specs.Converted.{number_patch}
 use Rattle.elf2flt_tool.proofs.image.write_numbers.Given as goal
 

@@ -1,5 +1,5 @@
 use Rattle.std.proofs.Common.{arith}
-use Rattle.elf32_reader.proofs.Searches.{any_below_at}
+use Rattle.byte_words.proofs.Searches.{any_below_at}
 use Rattle.elf32_reader.proofs.section.some_passes.Goals as goal
 
 pub returns-then-passes : goal.returns-then-passes

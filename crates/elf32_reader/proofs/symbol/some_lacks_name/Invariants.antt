@@ -1,5 +1,5 @@
 use Rattle.std.proofs.Common.{◌≡◌, false}
-use Rattle.elf32_reader.specs.Search.{any_below}
+use Rattle.byte_words.specs.Search.{any_below}
 use Rattle.elf32_reader.specs.Faults.{is_nameless}
 use Rattle.elf32_reader.proofs.symbol.some_lacks_name.Given as goal
 

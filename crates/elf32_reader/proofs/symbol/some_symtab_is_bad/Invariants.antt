@@ -1,5 +1,5 @@
 use Rattle.std.proofs.Common.{◌≡◌, false}
-use Rattle.elf32_reader.specs.Search.{any_below}
+use Rattle.byte_words.specs.Search.{any_below}
 use Rattle.elf32_reader.specs.Faults.{is_bad_symtab}
 use Rattle.elf32_reader.proofs.symbol.some_symtab_is_bad.Given as goal
 

@@ -1,5 +1,5 @@
 use Rattle.std.proofs.Common.{◌≡◌, false}
-use Rattle.elf32_reader.specs.Search.{any_below}
+use Rattle.byte_words.specs.Search.{any_below}
 use Rattle.elf32_reader.specs.Sections.{section}
 use Rattle.flat_layout.specs.Fault.{is_dynamic}
 use Rattle.flat_layout.proofs.fault.has_dynamic.Given as goal

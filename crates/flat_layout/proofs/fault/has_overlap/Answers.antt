@@ -1,5 +1,5 @@
 use Rattle.std.proofs.Common.{arith}
-use Rattle.elf32_reader.proofs.Searches.{any_below_at}
+use Rattle.byte_words.proofs.Searches.{any_below_at}
 use Rattle.flat_layout.specs.Fault.{has_overlap}
 use Rattle.flat_layout.proofs.fault.has_overlap.Goals as goal
 

@@ -1,5 +1,5 @@
 use Rattle.std.proofs.Common.{arith}
-use Rattle.elf32_reader.proofs.Searches.{any_below_at}
+use Rattle.byte_words.proofs.Searches.{any_below_at}
 use Rattle.flat_layout.specs.Fault.{meets_below}
 use Rattle.flat_layout.proofs.fault.meets_below.Goals as goal
 

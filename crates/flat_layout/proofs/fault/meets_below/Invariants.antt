@@ -1,5 +1,5 @@
 use Rattle.std.proofs.Common.{◌≡◌, false}
-use Rattle.elf32_reader.specs.Search.{any_below}
+use Rattle.byte_words.specs.Search.{any_below}
 use Rattle.elf32_reader.specs.Sections.{section}
 use Rattle.flat_layout.specs.Fault.{meets}
 use Rattle.flat_layout.proofs.fault.meets_below.Given as goal

@@ -1,5 +1,5 @@
 use Rattle.std.proofs.Common.{◌≡◌, false}
-use Rattle.elf32_reader.specs.Search.{any_below}
+use Rattle.byte_words.specs.Search.{any_below}
 use Rattle.elf32_reader.specs.Sections.{section}
 use Rattle.flat_layout.specs.Fault.{ends_too_high}
 use Rattle.flat_layout.proofs.fault.some_ends_too_high.Given as goal

@@ -8,25 +8,25 @@ pub returns-in-Some-2 : goal.returns-in-Some-2
 returns-in-Some-2 c =
     let y = c.args.bytes.now in
     let clear : header_fault y ≡ None = cc in
-    let whole = read_fault y c.word-data_end.result c.word-bss_end.result c.deref.result.now clear c.word-data_end.ensures c.word-bss_end.ensures (c.deref.ensures.value ∙ c.in_ok-records.ensures) in
+    let whole = read_fault y c.big_word-data_end.result c.big_word-bss_end.result c.deref.result.now clear c.big_word-data_end.ensures c.big_word-bss_end.ensures (c.deref.ensures.value ∙ c.in_ok-records.ensures) in
     inr (whole ∙ sym c.in_ok-fault.ensures ∙ c.in-Some-2.is)
 
 pub invariant_of-result : goal.invariant_of-result
 invariant_of-result c =
     let y = c.args.bytes.now in
     let clear : header_fault y ≡ None = cc in
-    let whole = read_fault y c.word-data_end.result c.word-bss_end.result c.deref.result.now clear c.word-data_end.ensures c.word-bss_end.ensures (c.deref.ensures.value ∙ c.in_ok-records.ensures) in
+    let whole = read_fault y c.big_word-data_end.result c.big_word-bss_end.result c.deref.result.now clear c.big_word-data_end.ensures c.big_word-bss_end.ensures (c.deref.ensures.value ∙ c.in_ok-records.ensures) in
     let none : flat_fault y ≡ None = whole ∙ sym c.in_ok-fault.ensures ∙ c.in_default-2.is in
-    let same = read_values y c.word-data_start.result c.word-data_end.result c.word-bss_end.result _ c.word-data_start.ensures c.word-data_end.ensures c.word-bss_end.ensures
-    c.word.ensures refl refl refl c.word-2.ensures c.word-3.ensures c.in_ok-from_slice.ensures.items c.in_ok-records.ensures in
+    let same = read_values y c.big_word-data_start.result c.big_word-data_end.result c.big_word-bss_end.result _ c.big_word-data_start.ensures c.big_word-data_end.ensures c.big_word-bss_end.ensures
+    c.big_word.ensures refl refl refl c.big_word-2.ensures c.big_word-3.ensures c.in_ok-from_slice.ensures.items c.in_ok-records.ensures in
     subst Spells (sym same) (spells_bytes y (λ i. omega (arith, c.type_inv.bytes i)) none)
 
 pub returns : goal.returns
 returns c =
     let y = c.args.bytes.now in
     let clear : header_fault y ≡ None = cc in
-    let whole = read_fault y c.word-data_end.result c.word-bss_end.result c.deref.result.now clear c.word-data_end.ensures c.word-bss_end.ensures (c.deref.ensures.value ∙ c.in_ok-records.ensures) in (
+    let whole = read_fault y c.big_word-data_end.result c.big_word-bss_end.result c.deref.result.now clear c.big_word-data_end.ensures c.big_word-bss_end.ensures (c.deref.ensures.value ∙ c.in_ok-records.ensures) in (
       whole ∙ sym c.in_ok-fault.ensures ∙ c.in_default-2.is,
-      read_values y c.word-data_start.result c.word-data_end.result c.word-bss_end.result _ c.word-data_start.ensures c.word-data_end.ensures c.word-bss_end.ensures
-          c.word.ensures refl refl refl c.word-2.ensures c.word-3.ensures c.in_ok-from_slice.ensures.items c.in_ok-records.ensures,
+      read_values y c.big_word-data_start.result c.big_word-data_end.result c.big_word-bss_end.result _ c.big_word-data_start.ensures c.big_word-data_end.ensures c.big_word-bss_end.ensures
+          c.big_word.ensures refl refl refl c.big_word-2.ensures c.big_word-3.ensures c.in_ok-from_slice.ensures.items c.in_ok-records.ensures,
     )

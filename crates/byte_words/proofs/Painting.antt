@@ -4,7 +4,7 @@ use Rattle.std.proofs.lemmas.Bool.{cases_lt, ltb-true, leb-true, lt-ltb, le-ltb,
 use Rattle.std.proofs.lemmas.List.{length-take, length-append, length-drop, get_or_append_left, get_or-append_right, get_or-take, get_or-drop, get_or_past, ext_get_or}
 use Rattle.std.proofs.lemmas.List.FromFn.{fill_by_all, length-map-range_with_len, get_or-map-range_with_len}
 use Rattle.byteorder.specs.Endian.{big_bytes}
-use Rattle.bflt_format.specs.Patches.{Patch, spans, patched, painted, bytes_below, big_word, laid}
+use Rattle.byte_words.specs.Patches.{Patch, spans, patched, painted, bytes_below, big_word, laid}
 
 -- ---- which bytes a patch has
 

@@ -1,7 +1,7 @@
--- Laws of `any_below`, and of a table of rows of which none holds.
+-- Laws of `any_below`, and of tests joined by `or` and `and`.
 use Rattle.std.proofs.Common.{◌≡◌, ℕ, zero, suc, ◌+◌, ◌<◌, inl, inr, Bool, true, false, ◌||◌, ◌&&◌, sym, ◌∙◌, ap, refl, arith, add-one}
 use Rattle.std.proofs.lemmas.Bool.{cases_lt}
-use Rattle.elf32_reader.specs.Search.{any_below}
+use Rattle.byte_words.specs.Search.{any_below}
 
 pub or_parts : (x y : Bool) → (x || y) ≡ false → (x ≡ false) × (y ≡ false)
 or_parts true y e = (e, absurd (cc))
@@ -54,3 +54,33 @@ any_below_found p (suc n) i below here =
 -- the same, as a search finds it
 pub any_below_at : (p : ℕ → Bool) (n i : ℕ) → i < n → true ≡ p i → true ≡ any_below p n
 any_below_at p n i below here = sym (any_below_found p n i below (sym here))
+
+-- the search goes one further
+pub any_below_next : (p : ℕ → Bool) (n : ℕ) → any_below p (n + 1) ≡ (any_below p n || p n)
+unfolding any_below
+any_below_next p n = rw add-one refl
+
+-- where each fails, none below n passes
+pub none_below : (p : ℕ → Bool) (n : ℕ) → ((k : ℕ) → k < n → p k ≡ false) → any_below p n ≡ false
+unfolding any_below
+none_below p zero each = refl
+none_below p (suc n) each = or_from (any_below p n) (p n) (none_below p n (λ k lt. each k (omega arith))) (each n (omega arith))
+
+-- tests that agree below n
+pub any_below_same : (p q : ℕ → Bool) (n : ℕ) → ((k : ℕ) → k < n → p k ≡ q k) → any_below p n ≡ any_below q n
+unfolding any_below
+any_below_same p q zero each = refl
+any_below_same p q (suc n) each = rw (any_below_same p q n (λ k lt. each k (omega arith)), each n (omega arith)) refl
+
+swap_or : (a b x y : Bool) → ((a || b) || (x || y)) ≡ ((a || x) || (b || y))
+swap_or true b x y = refl
+swap_or false true true y = refl
+swap_or false true false y = refl
+swap_or false false true y = refl
+swap_or false false false y = refl
+
+-- one test or the other
+pub any_below_or : (p q : ℕ → Bool) (n : ℕ) → any_below (λ k. p k || q k) n ≡ (any_below p n || any_below q n)
+unfolding any_below
+any_below_or p q zero = refl
+any_below_or p q (suc n) = rw (any_below_or p q n) (swap_or (any_below p n) (any_below q n) (p n) (q n))

@@ -1,0 +1,6 @@
+-- Searches    laws of any_below, and of tests joined by `or` and `and`
+-- Painting    bytes under patches
+-- ByteArrays  what one array of bytes is as a map
+pub mod Searches
+pub mod Painting
+pub mod ByteArrays

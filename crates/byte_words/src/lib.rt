@@ -1,0 +1,10 @@
+//! What bytes are, below all formats and machines: numbers in bytes, in either order; bytes by number,
+//! and what is laid over them; bytes by address.
+//!
+//! What may stand here: definitions that name no format, no instruction and no file, their laws, and
+//! the reading of a number at a place.
+#![tactic(auto)]
+
+mod numbers;
+
+pub use numbers::{big_word, byte, half, word};
