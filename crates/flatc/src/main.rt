@@ -9,6 +9,7 @@ mod program;
 
 use host_io::{ErrSink, FolderHost, OutSink};
 use program::{end, read_arguments};
+use std::process;
 use std::process::ExitCode;
 
 fn main(rt: HostRuntime) -> ExitCode {
@@ -16,7 +17,8 @@ fn main(rt: HostRuntime) -> ExitCode {
     let words = read_arguments(&rt);
     let mut out = OutSink::new(rt.stdout());
     let mut report = ErrSink::new(rt.stderr());
-    let mut host = FolderHost::new(rt);
+    let number = process::id(rt.process());
+    let mut host = FolderHost::new(rt, "flatc", number);
     let status = end(alloc, words, &mut host, &mut out, &mut report);
     ExitCode::from(status.code())
 }
