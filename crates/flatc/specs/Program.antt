@@ -3,6 +3,7 @@ use Rattle.std.specs.Prelude.{◌≡◌, ◌⊎◌, ℕ, List, [], Option, Some,
 use Rattle.host_io.specs.Host.{Told}
 use Rattle.suite_top.specs.declared.status.Status.{Status}
 use Rattle.suite_top.specs.declared.status.Status.TheVariants.{Done}
+use Rattle.suite_top.specs.Status.{code_of}
 use Rattle.suite_top.specs.Early.{memory_said}
 use Rattle.suite_top.specs.Seen.{Seen}
 use Rattle.suite_top.specs.Delivery.{Delivers}
@@ -21,3 +22,8 @@ Ends page_of (Some words) host host_now out out_now report report_now status =
 Ends page_of None host host_now out out_now report report_now status =
     CarriesOut [] host host_now out out_now report report_now status
     ⊎ ((host_now ≡ host) × Delivers memory_said out out_now report report_now status)
+
+-- the exit status is the code of the status that the program ends with
+abbrev pub Exits : (page_of : List (List ℕ) → Option (List ℕ)) (words : Option (List (List ℕ))) (host host_now : Seen Told) (out out_now report report_now : Seen (List ℕ)) → ℕ → Type 0
+Exits page_of words host host_now out out_now report report_now code =
+    (status : Status) × (code ≡ code_of status) × Ends page_of words host host_now out out_now report report_now status

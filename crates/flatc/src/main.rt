@@ -7,18 +7,19 @@
 mod pages;
 mod program;
 
-use host_io::{ErrSink, FolderHost, OutSink};
+use host_io::{ErrSink, FolderHost, OutSink, StreamSink};
 use program::{end, read_arguments};
+use std::process;
 use std::process::ExitCode;
 
 fn main(rt: HostRuntime) -> ExitCode {
     let alloc = rt.alloc();
     let words = read_arguments(&rt);
-    let mut out = OutSink::new(rt.stdout());
-    let mut report = ErrSink::new(rt.stderr());
-    let mut host = FolderHost::new(rt);
-    let status = end(alloc, words, &mut host, &mut out, &mut report);
-    ExitCode::from(status.code())
+    let mut out: OutSink = StreamSink::new(rt.stdout());
+    let mut report: ErrSink = StreamSink::new(rt.stderr());
+    let number = process::id(rt.process());
+    let mut host = FolderHost::new(rt, "flatc", number);
+    end(alloc, words, &mut host, &mut out, &mut report)
 }
 
 #[cfg(test)]

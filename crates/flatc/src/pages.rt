@@ -15,8 +15,15 @@ usage: flatc COMMAND WORDS
   --help                        write this page
   --version                     write the version
 
-Exit status: 0 done, 1 wrong words, 2 a file can't be read, 3 a file is refused,
-7 standard output or error can't be written, 8 out of memory, 9 a file can't be written.
+exit status:
+
+  0   done
+  1   wrong words
+  2   a file can't be read
+  3   a file is refused
+  7   standard output or error can't be written
+  8   out of memory
+  9   a file can't be written
 
 Read on in README.md.
 ";

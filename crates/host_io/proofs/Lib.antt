@@ -1,3 +1,4 @@
+pub mod BoundedRead
 pub mod CallSet
 pub mod Faulted
 pub mod FilesOf

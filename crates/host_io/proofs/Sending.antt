@@ -15,9 +15,9 @@ takes-append (Some taken) mid new xs ys first second = (rw first at second) ∙ 
 pub sent-more : (old mid new : Option (List ℕ)) (bytes rest left : List ℕ) (n : ℕ) → Sent old mid bytes rest → Takes mid new (take n rest) → left ≡ drop n rest → Sent old new bytes left
 sent-more old mid new bytes rest left n sent more is =
     record {
-      front = sent.front ++ take n rest;
-      whole = sent.whole ∙ rw is (rw append_assoc (ap (λ xs. sent.front ++ xs) (sym (take-append-drop n rest))));
-      taken = takes-append old mid new sent.front (take n rest) sent.taken more;
+      prefix = sent.prefix ++ take n rest;
+      whole = sent.whole ∙ rw is (rw append_assoc (ap (λ xs. sent.prefix ++ xs) (sym (take-append-drop n rest))));
+      taken = takes-append old mid new sent.prefix (take n rest) sent.taken more;
     }
 
 -- a write that took something raised no count

@@ -8,13 +8,13 @@ use Rattle.host_io.specs.declared.sink.SinkError.TheVariants.{Failed}
 abbrev pub Takes : Option (List ℕ) → Option (List ℕ) → List ℕ → Type 0
 Takes old new bytes = new ≡ option_map (λ taken. taken ++ bytes) old
 
--- the sink took a front of these bytes, and this rest is left
+-- the sink took a prefix of these bytes, and this rest is left
 pub record Sent (old new : Option (List ℕ)) (bytes rest : List ℕ) : Type 0 where
-  pub front : List ℕ
-  pub whole : bytes ≡ front ++ rest
-  pub taken : Takes old new front
+  pub prefix : List ℕ
+  pub whole : bytes ≡ prefix ++ rest
+  pub taken : Takes old new prefix
 
--- the sink took a front of these bytes, and not all of them
+-- the sink took a prefix of these bytes, and not all of them
 abbrev pub TakesPrefix : Option (List ℕ) → Option (List ℕ) → List ℕ → Type 0
 TakesPrefix old new bytes = (rest : List ℕ) × (0 < length rest) × Sent old new bytes rest
 

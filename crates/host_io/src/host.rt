@@ -23,7 +23,7 @@ pub enum HostError {
     /// The outside refused or broke off. The count of faults rose.
     #[error("the host failed")]
     Failed,
-    /// Want of memory.
+    /// Out of memory.
     #[error("out of memory")]
     Memory,
 }

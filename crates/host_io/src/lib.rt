@@ -9,6 +9,8 @@ mod folder_host;
 mod host;
 mod mem_host;
 mod mem_sink;
+mod reading;
+mod replacing;
 mod sink;
 mod stream_sink;
 

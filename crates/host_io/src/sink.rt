@@ -13,7 +13,7 @@ pub enum SinkError {
     /// The outside refused. The count of faults rose.
     #[error("the sink failed")]
     Failed,
-    /// Want of memory.
+    /// Out of memory.
     #[error("out of memory")]
     Memory,
 }
@@ -46,7 +46,7 @@ pub trait Sink {
 }
 
 /// Writes all bytes, in as many writes as the sink wants; none for no bytes.
-/// After an error the sink has taken a front of them, and not all.
+/// After an error the sink has taken a prefix of them, and not all.
 pub fn write_whole<S: Sink>(alloc: Global, sink: &mut S, bytes: &[u8]) -> Result<(), SinkError>
     ensures ok { OnOk result (Takes (S.told sink.old) (S.told sink.new) bytes.now) }
     ensures err { OnErr result (TakesPrefix (S.told sink.old) (S.told sink.new) bytes.now) }

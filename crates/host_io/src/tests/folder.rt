@@ -1,0 +1,172 @@
+//! The host over real files, in a folder of the test's own.
+
+use super::broken_files::{BrokenFiles, Step};
+use super::check_loads;
+use crate::FolderHost;
+use crate::host::{Host, HostError, Loaded};
+use std::os::unix::fs::{PermissionsExt, symlink};
+use std::process::Abort;
+use std::rt::Files;
+use std::test::Fail;
+use std::{env, fs, io, process};
+
+/// A new folder of this name, for this process alone.
+fn make_folder(rt: &HostRuntime, name: &str) -> io::Result<String> {
+    let temporary = env::temp_dir(rt)?;
+    let number = process::id(rt.process());
+    let folder = format!(in rt.alloc();
+        "{}/host_io-{name}-{number}",
+        temporary.as_path().display()
+    )?;
+    fs::create_dir(rt, folder.as_str())?;
+    Ok(folder)
+}
+
+/// How many names stand in a folder.
+fn count_names<R: Files + AllocGlobal + Clone + Drop>(rt: &R, folder: &str) -> io::Result<usize> {
+    let mut count = 0usize;
+    for entry in fs::read_dir(rt, folder)? {
+        entry?;
+        count = count.saturating_add(1);
+    }
+    Ok(count)
+}
+
+#[test]
+fn folder_host_loads(rt: HostRuntime) -> Result<(), Fail> {
+    let alloc = rt.alloc();
+    let folder = make_folder(&rt, "loads")?;
+    let file = format!(in alloc; "{folder}/a.flt")?;
+    let missing = format!(in alloc; "{folder}/missing")?;
+    fs::write(&rt, file.as_str(), b"abc")?;
+    let loads = [
+        (file.as_str(), 3, Ok(Loaded::All), b"abc".as_slice()),
+        (file.as_str(), 2, Ok(Loaded::TooLong), b""),
+        (missing.as_str(), 9, Err(HostError::Failed), b""),
+        (folder.as_str(), 9, Err(HostError::Failed), b""),
+        ("/dev/zero", 9, Ok(Loaded::TooLong), b""),
+        ("/dev/null", 0, Ok(Loaded::All), b""),
+    ];
+    let mut host = FolderHost::new(rt.clone()?, "host_io", 7);
+    check_loads(&rt, alloc, &mut host, &loads)?;
+    fs::remove_dir_all(&rt, folder.as_str())?;
+    Ok(())
+}
+
+/// What stands in a folder after stores: a file of mode 0600, and a link to it.
+fn check_folder<R: Abort + Files + AllocGlobal + Clone + Drop>(
+    rt: &R,
+    folder: &str,
+) -> Result<(), Fail> {
+    let file = format!(in rt.alloc(); "{folder}/a.flt")?;
+    let link = format!(in rt.alloc(); "{folder}/link")?;
+    let about = fs::metadata(rt, file.as_str())?;
+    assert_eq!(rt; about.permissions().mode() & 0o777, 0o600);
+    assert_eq!(rt;
+        fs::read(rt, file.as_str())?.as_slice(),
+        b"newer".as_slice()
+    );
+    assert_eq!(rt;
+        fs::read(rt, link.as_str())?.as_slice(),
+        b"newer".as_slice()
+    );
+    assert_eq!(rt; count_names(rt, folder)?, 2);
+    Ok(())
+}
+
+#[test]
+fn folder_host_stores(rt: HostRuntime) -> Result<(), Fail> {
+    let alloc = rt.alloc();
+    let folder = make_folder(&rt, "stores")?;
+    let file = format!(in alloc; "{folder}/a.flt")?;
+    let link = format!(in alloc; "{folder}/link")?;
+    fs::write(&rt, file.as_str(), b"old, and longer")?;
+    fs::set_permissions(&rt, file.as_str(), fs::Permissions::from_mode(0o600))?;
+    symlink(&rt, file.as_str(), link.as_str())?;
+    let stores = [
+        (link.as_str(), b"linked".as_slice(), Err(HostError::Failed)),
+        (file.as_str(), b"newer", Ok(())),
+        (folder.as_str(), b"x", Err(HostError::Failed)),
+        ("/no such folder/a.flt", b"x", Err(HostError::Failed)),
+        ("/dev/null", b"x", Ok(())),
+        ("/dev/full", b"x", Err(HostError::Failed)),
+    ];
+    let mut host = FolderHost::new(rt.clone()?, "host_io", 7);
+    for (name, bytes, want) in stores {
+        assert_eq!(rt; host.store(alloc, name, bytes), want, "{name}");
+    }
+    check_folder(&rt, folder.as_str())?;
+    fs::remove_dir_all(&rt, folder.as_str())?;
+    Ok(())
+}
+
+#[test]
+fn folder_host_loads_a_long_file(rt: HostRuntime) -> Result<(), Fail> {
+    let alloc = rt.alloc();
+    let folder = make_folder(&rt, "long")?;
+    let file = format!(in alloc; "{folder}/long")?;
+    let mut bytes = vec![in alloc; 0u8; 200_001]?;
+    for (number, byte) in bytes.iter_mut().enumerate() {
+        *byte = (number % 251) as u8;
+    }
+    fs::write(&rt, file.as_str(), bytes.as_slice())?;
+    let loads = [
+        (file.as_str(), 200_001, Ok(Loaded::All), bytes.as_slice()),
+        (file.as_str(), 200_000, Ok(Loaded::TooLong), b""),
+        (file.as_str(), 16_384, Ok(Loaded::TooLong), b""),
+    ];
+    let mut host = FolderHost::new(rt.clone()?, "host_io", 7);
+    check_loads(&rt, alloc, &mut host, &loads)?;
+    fs::remove_dir_all(&rt, folder.as_str())?;
+    Ok(())
+}
+
+/// How many files another run left in the folder of a store.
+const LEFT: u32 = 2500;
+
+#[test]
+fn a_store_leaves_what_other_runs_left(rt: HostRuntime) -> Result<(), Fail> {
+    let alloc = rt.alloc();
+    let folder = make_folder(&rt, "left")?;
+    let file = format!(in alloc; "{folder}/a.flt")?;
+    for number in 0..LEFT {
+        let left = format!(in alloc; "{folder}/.host_io-{}.tmp", 7 + number)?;
+        fs::write(&rt, left.as_str(), b"left")?;
+    }
+    let mut host = FolderHost::new(rt.clone()?, "host_io", 7);
+    assert_eq!(rt; host.store(alloc, file.as_str(), b"new"), Ok(()));
+    assert_eq!(rt; fs::read(&rt, file.as_str())?.as_slice(), b"new".as_slice());
+    assert_eq!(rt; count_names(&rt, folder.as_str())?, LEFT as usize + 1);
+    for number in 0..LEFT {
+        let left = format!(in alloc; "{folder}/.host_io-{}.tmp", 7 + number)?;
+        assert_eq!(rt;
+            fs::read(&rt, left.as_str())?.as_slice(),
+            b"left".as_slice()
+        );
+    }
+    fs::remove_dir_all(&rt, folder.as_str())?;
+    Ok(())
+}
+
+#[test]
+fn a_failed_store_leaves_the_old_file_alone(rt: HostRuntime) -> Result<(), Fail> {
+    let alloc = rt.alloc();
+    let folder = make_folder(&rt, "failed")?;
+    let file = format!(in alloc; "{folder}/a.flt")?;
+    let missing = format!(in alloc; "{folder}/missing")?;
+    fs::write(&rt, file.as_str(), b"old")?;
+    for step in [Step::Access, Step::Write, Step::Sync, Step::Rename] {
+        let mut host = FolderHost::new(BrokenFiles::new(rt.clone()?, step), "host_io", 7);
+        for name in [file.as_str(), missing.as_str()] {
+            let want = match step {
+                Step::Access if name == missing.as_str() => continue,
+                _ => Err(HostError::Failed),
+            };
+            assert_eq!(rt; host.store(alloc, name, b"newer"), want, "{step:?}");
+        }
+        assert_eq!(rt; fs::read(&rt, file.as_str())?.as_slice(), b"old".as_slice());
+        assert_eq!(rt; count_names(&rt, folder.as_str())?, 1, "{step:?}");
+    }
+    fs::remove_dir_all(&rt, folder.as_str())?;
+    Ok(())
+}
