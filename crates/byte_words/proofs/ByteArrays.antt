@@ -1,11 +1,11 @@
 -- What one array of bytes is as a map.
-use Rattle.std.proofs.Common.{◌≡◌, ℕ, zero, suc, ◌+◌, ◌-◌, ◌≤◌, ◌<◌, ◌^◌, length, List, [], ◌∷◌, arith, refl, ap, ◌∙◌, sym, inl, inr, ◌≢◌, length-set}
+use Rattle.std.proofs.Common.{◌≡◌, ℕ, zero, suc, ◌+◌, ◌-◌, ◌/◌, ◌≤◌, ◌<◌, ◌^◌, length, List, [], ◌∷◌, arith, refl, ap, ◌∙◌, sym, inl, inr, ◌≢◌, length-set}
 use Rattle.std.specs.Prelude.{Option, Some, None, slice_get, slice_index, slice_set}
 use Rattle.std.proofs.lemmas.Bool.Decides.{nat_tests}
 use Rattle.std.proofs.lemmas.Option.{slice_get_past, slice_get-get_or}
 use Rattle.std.proofs.lemmas.List.{get_or-set_same, get_or-set_other}
 use Rattle.std.proofs.lemmas.Bool.{cases_lt}
-use Rattle.byte_words.specs.ByteMap.{with_low, number, with_byte, with_bytes, byte_of, place_of, little, overwritten}
+use Rattle.byte_words.specs.ByteMap.{little_bytes, with_low, number, with_byte, with_bytes, byte_of, place_of, little, overwritten}
 use Rattle.byte_words.specs.Patches.{laid}
 use Rattle.byte_words.proofs.Laid.{length-overwritten, overwritten_is_laid}
 
@@ -85,6 +85,12 @@ pub byte_of-laid :
     byte_of base (laid bytes at vs) ≡ with_bytes (byte_of base bytes) (base + at) vs
 byte_of-laid base bytes at vs within =
     ap (byte_of base) (sym (overwritten_is_laid bytes at vs within)) ∙ byte_of-overwritten base bytes at vs within
+
+-- ---- as many bytes as were asked for
+
+pub length-little_bytes : (len n : ℕ) → length (little_bytes len n) ≡ len
+length-little_bytes zero n = refl
+length-little_bytes (suc len) n = ap suc (length-little_bytes len (n / 256))
 
 -- ---- the place of a range
 

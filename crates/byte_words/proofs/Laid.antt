@@ -16,14 +16,14 @@ length-laid old at bytes fits =
 -- before the bytes stands what stood there
 pub laid_before : (old : List ℕ) (at : ℕ) (bytes : List ℕ) → at + length bytes ≤ length old → (i : ℕ) → i < at → get_or (laid old at bytes) i 0 ≡ get_or old i 0
 laid_before old at bytes fits i lt =
-    let front : length (take at old) ≡ at = omega (arith, length-take at old) in
+    let prefix : length (take at old) ≡ at = omega (arith, length-take at old) in
     let left : get_or (laid old at bytes) i 0 ≡ get_or (take at old) i 0 = get_or_append_left (take at old) (bytes ++ drop (at + length bytes) old) 0 i (omega arith) in
     left ∙ get_or-take at old i 0 lt
 
 behind : (old : List ℕ) (at : ℕ) (bytes : List ℕ) → at + length bytes ≤ length old → (i : ℕ) → at ≤ i → get_or (laid old at bytes) i 0 ≡ get_or (bytes ++ drop (at + length bytes) old) (i - at) 0
 behind old at bytes fits i from =
-    let front : length (take at old) ≡ at = omega (arith, length-take at old) in
-    get_or-append_right (take at old) (bytes ++ drop (at + length bytes) old) at i 0 front from
+    let prefix : length (take at old) ≡ at = omega (arith, length-take at old) in
+    get_or-append_right (take at old) (bytes ++ drop (at + length bytes) old) at i 0 prefix from
 
 -- then the bytes
 pub laid_inside : (old : List ℕ) (at : ℕ) (bytes : List ℕ) → at + length bytes ≤ length old → (i : ℕ) → at ≤ i → i < at + length bytes → get_or (laid old at bytes) i 0 ≡ get_or bytes (i - at) 0

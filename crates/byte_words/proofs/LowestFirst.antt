@@ -1,5 +1,5 @@
 -- A number's bytes in a map and in a list are the same bytes.
-use Rattle.std.proofs.Common.{◌≡◌, ℕ, zero, suc, ◌+◌, ◌*◌, ◌/◌, ◌%◌, ◌^◌, List, ◌∷◌, length, drop, refl, sym, ap, ◌∙◌, arith}
+use Rattle.std.proofs.Common.{◌≡◌, ℕ, zero, suc, ◌+◌, ◌*◌, ◌/◌, ◌%◌, ◌^◌, List, ◌∷◌, drop, refl, sym, ap, ◌∙◌, arith}
 use Rattle.std.specs.Prelude.{slice_index}
 use Rattle.std.specs.Int.{byte_at, bytes_low_first}
 use Rattle.std.proofs.Math.Nat.{div-div-eq-div-mul, div-one, pow-suc}
@@ -8,10 +8,6 @@ use Rattle.byteorder.specs.Endian.{little_from}
 use Rattle.byteorder.specs.Endian as text
 use Rattle.byte_words.specs.Numbers.{low_first, number_at}
 use Rattle.byte_words.specs.ByteMap.{little_bytes, little}
-
-pub length-little_bytes : (len n : ℕ) → length (little_bytes len n) ≡ len
-length-little_bytes zero n = refl
-length-little_bytes (suc len) n = ap suc (length-little_bytes len (n / 256))
 
 byte_is : (j n : ℕ) → byte_at j n ≡ n / 256 ^ j % 256
 byte_is zero n = ap (λ k. k % 256) (sym (div-one n))

@@ -15,7 +15,7 @@ use Rattle.elf_maker.specs.declared.given.MakeSymbol.{MakeSymbol}
 use Rattle.elf_maker.specs.declared.given.MakeRela.{MakeRela}
 use Rattle.elf_maker.specs.Given.{relas_of, relocated}
 
--- the fields of the file header that aren't read (System V ABI, ELF32, "ELF Header")
+-- the fields of the file header that are the same in each file (System V ABI, ELF32, "ELF Header")
 pub record HasHeader (e : List ℕ) : Type 0 where
   -- e_ident: the magic number, ELFCLASS32, ELFDATA2LSB, EV_CURRENT, and for the rest zeros
   pub ident : take 16 e ≡ 0x7f ∷ 0x45 ∷ 0x4c ∷ 0x46 ∷ 1 ∷ 1 ∷ 1 ∷ replicate 9 0
