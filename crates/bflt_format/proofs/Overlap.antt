@@ -6,7 +6,8 @@ use Rattle.byte_words.specs.Search.{any_below}
 use Rattle.byte_words.specs.Patches.{Patch, spans, patched, laid}
 use Rattle.bflt_format.specs.Fault.{is_near, meets_earlier}
 use Rattle.byte_words.proofs.Searches.{any_below_next, any_below_same, any_below_or}
-use Rattle.byte_words.proofs.Painting.{within, patched_on, patched_off, laid_is_patched}
+use Rattle.byte_words.proofs.Painting.{within, patched_on, patched_off}
+use Rattle.byte_words.proofs.Laid.{laid_is_patched}
 
 -- the word at place r has the byte at p
 abbrev pub covers : ℕ → ℕ → Bool

@@ -1,12 +1,13 @@
 -- What one array of bytes is as a map.
 use Rattle.std.proofs.Common.{◌≡◌, ℕ, zero, suc, ◌+◌, ◌-◌, ◌/◌, ◌≤◌, ◌<◌, ◌^◌, length, List, [], ◌∷◌, arith, refl, ap, ◌∙◌, sym, inl, inr, ◌≢◌, length-set}
-use Rattle.std.specs.Prelude.{nat_le, Option, Some, None, slice_get, slice_index, slice_set}
+use Rattle.std.specs.Prelude.{Option, Some, None, slice_get, slice_index, slice_set}
 use Rattle.std.proofs.lemmas.Bool.Decides.{nat_tests}
-use Rattle.std.proofs.lemmas.Grind.{common_steps}
 use Rattle.std.proofs.lemmas.Option.{slice_get_past, slice_get-get_or}
 use Rattle.std.proofs.lemmas.List.{get_or-set_same, get_or-set_other}
 use Rattle.std.proofs.lemmas.Bool.{cases_lt}
-use Rattle.byte_words.specs.ByteMap.{Bytes, with_low, number, little_bytes, with_byte, with_bytes, byte_of, place_of, little, overwritten}
+use Rattle.byte_words.specs.ByteMap.{little_bytes, with_low, number, with_byte, with_bytes, byte_of, place_of, little, overwritten}
+use Rattle.byte_words.specs.Patches.{laid}
+use Rattle.byte_words.proofs.Laid.{length-overwritten, overwritten_is_laid}
 
 -- ---- one byte
 
@@ -69,10 +70,6 @@ number_within base bytes at (suc len) within =
 
 -- ---- the bytes written
 
-pub length-overwritten : (bytes : List ℕ) (at : ℕ) (vs : List ℕ) → length (overwritten bytes at vs) ≡ length bytes
-length-overwritten bytes at [] = refl
-length-overwritten bytes at (v ∷ vs) = grind (arith, common_steps, length-overwritten bytes (at + 1) vs)
-
 pub byte_of-overwritten :
     (base : ℕ) (bytes : List ℕ) (at : ℕ) (vs : List ℕ) → at + length vs ≤ length bytes →
     byte_of base (overwritten bytes at vs) ≡ with_bytes (byte_of base bytes) (base + at) vs
@@ -81,6 +78,15 @@ byte_of-overwritten base bytes at (v ∷ vs) within =
     let next : base + at + 1 ≡ base + (at + 1) = omega arith in
     let same : at < length (overwritten bytes (at + 1) vs) = omega (arith, length-overwritten bytes (at + 1) vs) in
     rw (next, ← byte_of-overwritten base bytes (at + 1) vs (omega arith)) (λ q i. byte_of-set base (overwritten bytes (at + 1) vs) at v same i q)
+
+-- and so are bytes laid over the array
+pub byte_of-laid :
+    (base : ℕ) (bytes : List ℕ) (at : ℕ) (vs : List ℕ) → at + length vs ≤ length bytes →
+    byte_of base (laid bytes at vs) ≡ with_bytes (byte_of base bytes) (base + at) vs
+byte_of-laid base bytes at vs within =
+    ap (byte_of base) (sym (overwritten_is_laid bytes at vs within)) ∙ byte_of-overwritten base bytes at vs within
+
+-- ---- as many bytes as were asked for
 
 pub length-little_bytes : (len n : ℕ) → length (little_bytes len n) ≡ len
 length-little_bytes zero n = refl

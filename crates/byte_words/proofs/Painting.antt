@@ -1,10 +1,9 @@
 -- Bytes under patches.
-use Rattle.std.proofs.Common.{◌≡◌, ℕ, ◌+◌, ◌-◌, ◌<◌, ◌≤◌, Bool, true, false, ◌||◌, ltb, leb, List, [], ◌∷◌, ◌++◌, length, take, drop, get_or, refl, sym, ap, ◌∙◌, arith, inl, inr, ◌⊎◌}
-use Rattle.std.proofs.lemmas.Bool.{cases_lt, ltb-true, leb-true, lt-ltb, le-ltb, le-leb, lt-leb, and_parts, and_from, and_left, and_right, false≢true, or_parts, or_cases, cases_Bool, both_ways}
-use Rattle.std.proofs.lemmas.List.{length-take, length-append, length-drop, get_or_append_left, get_or-append_right, get_or-take, get_or-drop, get_or_past, ext_get_or}
+use Rattle.std.proofs.Common.{◌≡◌, ℕ, ◌+◌, ◌-◌, ◌<◌, ◌≤◌, Bool, true, false, ◌||◌, ltb, leb, List, [], ◌∷◌, length, get_or, refl, sym, ◌∙◌, arith, inl, inr, ◌⊎◌}
+use Rattle.std.proofs.lemmas.Bool.{ltb-true, leb-true, lt-ltb, le-ltb, le-leb, lt-leb, and_parts, and_from, and_left, and_right, false≢true, or_parts, or_cases, cases_Bool, both_ways}
+use Rattle.std.proofs.lemmas.List.{get_or_past, ext_get_or}
 use Rattle.std.proofs.lemmas.List.FromFn.{fill_by_all, length-map-range_with_len, get_or-map-range_with_len}
-use Rattle.byteorder.specs.Endian.{big_bytes}
-use Rattle.byte_words.specs.Patches.{Patch, spans, patched, painted, bytes_below, big_word, laid}
+use Rattle.byte_words.specs.Patches.{Patch, spans, patched, painted, bytes_below}
 
 -- ---- which bytes a patch has
 
@@ -40,26 +39,6 @@ patched_off p m i e = rw e refl
 
 -- ---- bytes of a list
 
--- bytes written over a list are a patch on what it held
-pub laid_is_patched : (old : List ℕ) (p : Patch) → p.at + length p.bytes ≤ length old → (i : ℕ) → get_or (laid old p.at p.bytes) i 0 ≡ patched p (λ k. get_or old k 0) i
-laid_is_patched old p fits i =
-    let front : length (take p.at old) ≡ p.at = omega (arith, length-take p.at old) in
-    elim (cases_lt i p.at) [
-      | inl lt ↦
-          let left : get_or (laid old p.at p.bytes) i 0 ≡ get_or (take p.at old) i 0 = get_or_append_left (take p.at old) (p.bytes ++ drop (p.at + length p.bytes) old) 0 i (omega arith) in
-          left ∙ get_or-take p.at old i 0 lt ∙ sym (patched_off p (λ k. get_or old k 0) i (spans_below p i lt))
-      | inr from ↦
-          let right : get_or (laid old p.at p.bytes) i 0 ≡ get_or (p.bytes ++ drop (p.at + length p.bytes) old) (i - p.at) 0 = get_or-append_right (take p.at old) (p.bytes ++ drop (p.at + length p.bytes) old) p.at i 0 front from in
-          elim (cases_lt i (p.at + length p.bytes)) [
-            | inl to ↦
-                right ∙ get_or_append_left p.bytes (drop (p.at + length p.bytes) old) 0 (i - p.at) (omega arith) ∙ sym (patched_on p (λ k. get_or old k 0) i (spans_within p i (record { from = from; to = to })))
-            | inr past ↦
-                let place : (p.at + length p.bytes) + ((i - p.at) - length p.bytes) ≡ i = omega arith in
-                right ∙ get_or-append_right p.bytes (drop (p.at + length p.bytes) old) (length p.bytes) (i - p.at) 0 refl (omega arith)
-                ∙ get_or-drop (p.at + length p.bytes) old ((i - p.at) - length p.bytes) 0 ∙ ap (λ k. get_or old k 0) place ∙ sym (patched_off p (λ k. get_or old k 0) i (spans_past p i past))
-          ]
-    ]
-
 -- the first n bytes of a list are those of its look-up
 pub bytes_below_list : (xs : List ℕ) → bytes_below (length xs) (λ i. get_or xs i 0) ≡ xs
 unfolding bytes_below
@@ -82,19 +61,6 @@ pub bytes_below_same : (n : ℕ) (m w : ℕ → ℕ) → ((i : ℕ) → i < n �
 bytes_below_same n m w same =
     ext_get_or 0 (bytes_below n m) (bytes_below n w) (omega (arith, length-bytes_below n m, length-bytes_below n w))
     (λ i lt. let below : i < n = omega (arith, length-bytes_below n m) in byte_below n m i below ∙ same i below ∙ sym (byte_below n w i below))
-
--- bytes written over a list, as a picture
-pub laid_picture : (old : List ℕ) (p : Patch) → p.at + length p.bytes ≤ length old → (λ i. get_or (laid old p.at p.bytes) i 0) ≡ patched p (λ i. get_or old i 0)
-laid_picture old p fits = λ i k. laid_is_patched old p fits k i
-
--- a number written over four bytes, the highest byte first
-pub word_picture : (old : List ℕ) (at n : ℕ) → at + 4 ≤ length old → (λ i. get_or (laid old at (big_bytes 4 n)) i 0) ≡ patched (big_word at n) (λ i. get_or old i 0)
-unfolding big_word
-word_picture old at n fits = laid_picture old (big_word at n) fits
-
-pub length-laid : (old : List ℕ) (at : ℕ) (bytes : List ℕ) → at + length bytes ≤ length old → length (laid old at bytes) ≡ length old
-length-laid old at bytes fits =
-    omega (arith, length-append (take at old) (bytes ++ drop (at + length bytes) old), length-append bytes (drop (at + length bytes) old), length-take at old, length-drop (at + length bytes) old)
 
 -- ---- many patches
 

@@ -1,6 +1,6 @@
 -- Bytes by address, as a map, and one array of bytes that stands from a base address on. Numbers are
 -- little-endian.
-use Rattle.std.specs.Prelude.{ℕ, zero, suc, ◌+◌, ◌-◌, ◌*◌, ◌/◌, ◌%◌, ◌^◌, Bool, ◌&&◌, ◌==◌, nat_le, if◌then◌else◌, Option, Some, None, List, [], ◌∷◌, slice_get, slice_index, slice_set}
+use Rattle.std.specs.Prelude.{ℕ, zero, suc, ◌+◌, ◌-◌, ◌*◌, ◌/◌, ◌%◌, ◌^◌, ◌&&◌, ◌==◌, nat_le, if◌then◌else◌, Option, Some, None, List, [], ◌∷◌, slice_get, slice_index, slice_set}
 
 -- the byte at each address, where there is one
 abbrev pub Bytes : Type 0
@@ -41,7 +41,7 @@ place_of base total addr len =
     if nat_le base addr && (nat_le (addr + len) (base + total) && nat_le (addr + len) (2 ^ 32)) then Some (addr - base)
     else None
 
--- the number that `len` bytes from an index on spell
+-- the number that `len` bytes from an index on spell: `number_at low_first len bytes at`
 abbrev pub little : List ℕ → ℕ → ℕ → ℕ
 little bytes at zero = 0
 little bytes at (suc len) = slice_index bytes at + 256 * little bytes (at + 1) len

@@ -29,7 +29,7 @@ bytes_below n m = map m (range_with_len 0 n)
 unfoldable pub from_base : ℕ → ℕ → (ℕ → ℕ) → ℕ → Option ℕ
 from_base b size m a = if nat_le b a && nat_lt a (b + size) then Some (m (a - b)) else None
 
--- a number of four bytes from place `at` on, the highest byte first
+-- a number of four bytes from number `at` on, the highest byte first
 unfoldable pub big_word : ℕ → ℕ → Patch
 big_word at n = record { at = at; bytes = big_bytes 4 n }
 
@@ -37,6 +37,6 @@ big_word at n = record { at = at; bytes = big_bytes 4 n }
 unfoldable pub little_word : ℕ → ℕ → Patch
 little_word at n = record { at = at; bytes = little_bytes 4 n }
 
--- a list of bytes with others written over it from place `at` on
+-- a list of bytes with others laid over it from index `at` on
 abbrev pub laid : List ℕ → ℕ → List ℕ → List ℕ
 laid old at bytes = take at old ++ (bytes ++ drop (at + length bytes) old)

@@ -1,10 +1,10 @@
--- Some index that passes, and the first row of a table that holds.
-use Rattle.std.specs.Prelude.{ℕ, zero, suc, Bool, false, ◌||◌, if◌then◌else◌, List, [], ◌∷◌, Option, Some, None}
+-- Some number that passes, and the first row of a table that holds.
+use Rattle.std.specs.Prelude.{ℕ, Bool, if◌then◌else◌, List, [], ◌∷◌, Option, Some, None}
+use Rattle.std.specs.List.{list_any, range_with_len}
 
--- some index below n passes p
+-- some number below n passes p
 unfoldable pub any_below : (ℕ → Bool) → ℕ → Bool
-any_below p zero = false
-any_below p (suc n) = any_below p n || p n
+any_below p n = list_any p (range_with_len 0 n)
 
 -- what stands beside the first test that holds
 abbrev pub first : {F : Type 0} → List (Bool × F) → Option F

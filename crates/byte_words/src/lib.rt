@@ -2,9 +2,12 @@
 //! and what is laid over them; bytes by address.
 //!
 //! What may stand here: definitions that name no format, no instruction and no file, their laws, and
-//! the reading of a number at a place.
+//! the reading of a number at an offset. What may not: anything that knows why the bytes are there.
 #![tactic(auto)]
 
 mod numbers;
 
 pub use numbers::{big_word, byte, half, word};
+
+#[cfg(test)]
+mod tests;

@@ -1,11 +1,11 @@
-//! Numbers by place in a slice of bytes.
+//! Numbers in a slice of bytes, by the offset of their first byte.
 
 ghost use Rattle.std.specs.Prelude.{◌≡◌, ◌+◌, ◌<◌, ◌≤◌, length};
 ghost use Rattle.byte_words.specs.Numbers.{low_first, high_first, byte_at, number_at};
 
 use byteorder::{BigEndian, ByteOrder, LittleEndian};
 
-/// The byte at a place.
+/// The byte at an offset.
 #[tactic(auto, unfolding(crate::specs::Numbers::byte_at))]
 pub fn byte(bytes: &[u8], at: usize) -> u8
     requires { at < length bytes.now }
@@ -14,7 +14,7 @@ pub fn byte(bytes: &[u8], at: usize) -> u8
     bytes[at]
 }
 
-/// The number of two bytes from a place on, the lowest first.
+/// The number of two bytes from an offset on, the lowest first.
 #[tactic(auto, unfolding(crate::specs::Numbers::number_at))]
 pub fn half(bytes: &[u8], at: usize) -> u16
     requires { at + 2 ≤ length bytes.now }
@@ -23,7 +23,7 @@ pub fn half(bytes: &[u8], at: usize) -> u16
     LittleEndian::read_u16(bytes.split_at(at).1)
 }
 
-/// The number of four bytes from a place on, the lowest first.
+/// The number of four bytes from an offset on, the lowest first.
 #[tactic(auto, unfolding(crate::specs::Numbers::number_at))]
 pub fn word(bytes: &[u8], at: usize) -> u32
     requires { at + 4 ≤ length bytes.now }
@@ -32,7 +32,7 @@ pub fn word(bytes: &[u8], at: usize) -> u32
     LittleEndian::read_u32(bytes.split_at(at).1)
 }
 
-/// The number of four bytes from a place on, the highest first.
+/// The number of four bytes from an offset on, the highest first.
 #[tactic(auto, unfolding(crate::specs::Numbers::number_at))]
 pub fn big_word(bytes: &[u8], at: usize) -> u32
     requires { at + 4 ≤ length bytes.now }

@@ -7,7 +7,8 @@ use Rattle.elf32_reader.specs.declared.section.Section.{Section}
 use Rattle.elf32_reader.specs.Sections.{section, is_allocated, is_stored, has_content, content}
 use Rattle.elf32_reader.proofs.Places.{allocated_has_content}
 use Rattle.byte_words.specs.Patches.{Patch, spans, patched, painted, bytes_below, laid}
-use Rattle.byte_words.proofs.Painting.{laid_picture, length-laid, bytes_below_list, bytes_below_same, length-bytes_below, byte_below, patched_off, painted_same, spans_below, spans_past}
+use Rattle.byte_words.proofs.Laid.{laid_picture, length-laid}
+use Rattle.byte_words.proofs.Painting.{bytes_below_list, bytes_below_same, length-bytes_below, byte_below, patched_off, painted_same, spans_below, spans_past}
 use Rattle.flat_layout.specs.Numbering.{has_bytes}
 use Rattle.flat_layout.specs.Layout.{layout, off}
 use Rattle.elf2flt_tool.specs.Image.{section_patch}

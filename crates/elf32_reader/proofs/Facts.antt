@@ -15,7 +15,7 @@ use Rattle.byte_words.specs.Search.{any_below, first}
 use Rattle.elf32_reader.specs.Header.{count_of}
 use Rattle.elf32_reader.specs.Sections.{section, is_allocated, is_stored, has_content}
 use Rattle.elf32_reader.specs.Symbols.{is_symtab, symbol_count, symbol}
-use Rattle.elf32_reader.specs.Relas.{is_kept, rela_count, rela_place, addend_word, rela}
+use Rattle.elf32_reader.specs.Relas.{is_kept, rela_count, entry_offset, addend_word, rela}
 use Rattle.elf32_reader.specs.Faults.{has_table, header_fault, passes_end, is_nameless, is_bad_symtab, is_symbolless, is_bad_rela, section_fault, elf_fault}
 use Rattle.elf32_reader.specs.Accepted.{IsAccepted}
 use Rattle.elf32_reader.specs.Tables.{HasTable, HasRanges, IsSymtab, IsRelas, IsElf}
@@ -256,7 +256,7 @@ pub record FitsRela (r : Rela) : Type 0 where
 pub rela_fits_words : (e : List ℕ) (i j : ℕ) → ((k : ℕ) → slice_index e k < 256) → FitsRela (rela e i j)
 unfolding rela
 rela_fits_words e i j bytes =
-    let info = u32_at_fits e (rela_place e i j + 4) bytes in
+    let info = u32_at_fits e (entry_offset e i j + 4) bytes in
     record {
       offset = u32_at_fits e _ bytes;
       symbol = omega arith;

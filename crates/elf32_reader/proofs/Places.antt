@@ -5,8 +5,8 @@ use Rattle.std.proofs.lemmas.Grind.{common_steps}
 use Rattle.elf32_reader.specs.declared.section.Section.{Section}
 use Rattle.elf32_reader.specs.Header.{count_of}
 use Rattle.elf32_reader.specs.Sections.{section, is_allocated, is_stored, has_content, content, is_of_kind}
-use Rattle.elf32_reader.specs.Symbols.{is_symtab, symbol_count, symbol_place}
-use Rattle.elf32_reader.specs.Relas.{is_static_relocation, is_kept, rela_count, rela_place}
+use Rattle.elf32_reader.specs.Symbols.{is_symtab, symbol_count, symbol_offset}
+use Rattle.elf32_reader.specs.Relas.{is_static_relocation, is_kept, rela_count, entry_offset}
 use Rattle.elf32_reader.specs.Faults.{has_symbol_shape, has_rela_shape}
 use Rattle.elf32_reader.specs.Tables.{HasRanges}
 
@@ -37,8 +37,8 @@ pub allocated_has_content : (s : Section) → is_allocated s ≡ true → is_sto
 unfolding is_allocated is_stored has_content
 allocated_has_content s allocated stored = and_from _ _ (and_parts _ _ allocated).0 stored
 
-pub symbol_fits : (e : List ℕ) (t j : ℕ) → HasRanges e → is_symtab e t ≡ true → j < symbol_count e t → symbol_place e t j + 16 ≤ length e
-unfolding symbol_place symbol_count
+pub symbol_fits : (e : List ℕ) (t j : ℕ) → HasRanges e → is_symtab e t ≡ true → j < symbol_count e t → symbol_offset e t j + 16 ≤ length e
+unfolding symbol_offset symbol_count
 symbol_fits e t j ranges is below =
     let content = has_content_of_kind (section e t) 2 (is_symtab_kind e t is) refl refl in
     let fits = ranges.fits t (is_symtab_below e t is) content in
@@ -68,8 +68,8 @@ has_content_static s is =
       | inr rel ↦ has_content_of_kind s 9 (eqb-true _ _ rel) refl refl
     ]
 
-pub rela_fits : (e : List ℕ) (i j : ℕ) → HasRanges e → is_kept e i ≡ true → j < rela_count e i → rela_place e i j + 12 ≤ length e
-unfolding rela_place rela_count
+pub rela_fits : (e : List ℕ) (i j : ℕ) → HasRanges e → is_kept e i ≡ true → j < rela_count e i → entry_offset e i j + 12 ≤ length e
+unfolding entry_offset rela_count
 rela_fits e i j ranges is below =
     let content = has_content_static (section e i) (is_kept_static e i is) in
     let fits = ranges.fits i (is_kept_below e i is) content in

@@ -6,7 +6,7 @@ use Rattle.elf32_reader.specs.Numbers.{u16_at, u32_at}
 unfoldable pub entry_of : List ℕ → ℕ
 entry_of e = u32_at e 24
 
--- e_shoff: the place of the section header table
+-- e_shoff: the offset of the section header table
 unfoldable pub table_of : List ℕ → ℕ
 table_of e = u32_at e 32
 

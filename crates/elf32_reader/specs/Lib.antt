@@ -1,5 +1,5 @@
--- What an ELF32 file says, read from its bytes e by place (System V ABI, ELF32).
--- Numbers   u8_at e p, u16_at e p, u32_at e p: numbers by place
+-- What an ELF32 file says, read from its bytes e by offset (System V ABI, ELF32).
+-- Numbers   u8_at e p, u16_at e p, u32_at e p: numbers by offset
 -- Header    entry_of e, table_of e, count_of e
 -- Sections  section e i, is_allocated s, is_stored s, has_content s, content e s, is_of_kind e i k
 -- Symbols   is_symtab e t, symbol_count e t, symbol e t j, name_of e t j

@@ -1,5 +1,5 @@
--- Numbers of a file by place, the lowest byte first (System V ABI, ELF32, "Data Representation",
--- the encoding ELFDATA2LSB). A place past the end reads as 0.
+-- Numbers of a file by offset, the lowest byte first (System V ABI, ELF32, "Data Representation",
+-- the encoding ELFDATA2LSB). A byte past the end reads as 0.
 use Rattle.std.specs.Prelude.{ℕ, List}
 use Rattle.byte_words.specs.Numbers.{low_first, byte_at, number_at}
 

@@ -21,19 +21,19 @@ is_kept e i =
 unfoldable pub rela_count : List ℕ → ℕ → ℕ
 rela_count e i = (section e i).size / 12
 
--- the place of entry j of section i
-unfoldable pub rela_place : List ℕ → ℕ → ℕ → ℕ
-rela_place e i j = (section e i).offset + 12 * j
+-- the offset of entry j of section i
+unfoldable pub entry_offset : List ℕ → ℕ → ℕ → ℕ
+entry_offset e i j = (section e i).offset + 12 * j
 
 -- the addend of entry j of section i as the file has it, a number below 2^32
 unfoldable pub addend_word : List ℕ → ℕ → ℕ → ℕ
-addend_word e i j = u32_at e (rela_place e i j + 8)
+addend_word e i j = u32_at e (entry_offset e i j + 8)
 
 -- entry j of section i: r_info is the symbol's index times 256, plus the relocation's type
 unfoldable pub rela : List ℕ → ℕ → ℕ → Rela
 rela e i j = record {
-  offset = u32_at e (rela_place e i j);
-  symbol = u32_at e (rela_place e i j + 4) / 256;
-  kind = u32_at e (rela_place e i j + 4) % 256;
+  offset = u32_at e (entry_offset e i j);
+  symbol = u32_at e (entry_offset e i j + 4) / 256;
+  kind = u32_at e (entry_offset e i j + 4) % 256;
   addend = cast_signed w32 (addend_word e i j);
 }

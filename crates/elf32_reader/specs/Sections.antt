@@ -5,7 +5,7 @@ use Rattle.elf32_reader.specs.declared.section.Section.{Section}
 use Rattle.elf32_reader.specs.Numbers.{u32_at}
 use Rattle.elf32_reader.specs.Header.{table_of, count_of}
 
--- the section header at a place
+-- the section header at an offset
 abbrev pub header_at : List ℕ → ℕ → Section
 header_at e at = record {
   name = u32_at e at;

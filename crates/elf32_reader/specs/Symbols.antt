@@ -13,7 +13,7 @@ is_symtab e t = is_of_kind e t 2
 unfoldable pub symbol_count : List ℕ → ℕ → ℕ
 symbol_count e t = (section e t).size / 16
 
--- the symbol at a place
+-- the symbol at an offset
 abbrev pub symbol_at : List ℕ → ℕ → Symbol
 symbol_at e at = record {
   name = u32_at e at;
@@ -24,15 +24,15 @@ symbol_at e at = record {
   shndx = u16_at e (at + 14);
 }
 
--- the place of symbol j of table t
-unfoldable pub symbol_place : List ℕ → ℕ → ℕ → ℕ
-symbol_place e t j = (section e t).offset + 16 * j
+-- the offset of symbol j of table t
+unfoldable pub symbol_offset : List ℕ → ℕ → ℕ → ℕ
+symbol_offset e t j = (section e t).offset + 16 * j
 
 -- symbol j of table t
 unfoldable pub symbol : List ℕ → ℕ → ℕ → Symbol
-symbol e t j = symbol_at e (symbol_place e t j)
+symbol e t j = symbol_at e (symbol_offset e t j)
 
--- the name of symbol j of table t: the bytes from its place in the table's string table to the first
+-- the name of symbol j of table t: the bytes from its index in the table's string table to the first
 -- zero, or to that section's end
 unfoldable pub name_of : List ℕ → ℕ → ℕ → List ℕ
 name_of e t j = before_first (λ b. b == 0) (drop (symbol e t j).name (content e (section e (section e t).link)))

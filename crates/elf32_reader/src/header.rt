@@ -29,7 +29,7 @@ pub fn entry_address(bytes: &[u8]) -> u32
     word(bytes, 24)
 }
 
-/// e_shoff: where the section header table begins.
+/// e_shoff: the offset of the section header table.
 #[tactic(auto, unfolding(crate::specs::Header::table_of))]
 pub fn table_start(bytes: &[u8]) -> u32
     requires { 52 ≤ length bytes.now }
@@ -47,8 +47,8 @@ pub fn section_count(bytes: &[u8]) -> u32
     u32::from(half(bytes, 48))
 }
 
-/// The place of the section header of an index.
-pub fn header_place(bytes: &[u8], index: u32) -> usize
+/// The offset of the section header of an index.
+pub fn header_start(bytes: &[u8], index: u32) -> usize
     requires { 52 ≤ length bytes.now }
     ensures { result ≡ table_of bytes.now + 40 * index }
 {
@@ -83,10 +83,10 @@ fn has_section_table(bytes: &[u8]) -> bool
     half(bytes, 46) == SECTION_HEADER_LEN
         && count != 0
         && count <= MAX_SECTIONS
-        && header_place(bytes, count) <= bytes.len()
+        && header_start(bytes, count) <= bytes.len()
 }
 
-/// The first fault of the file header and of the place of the section header table.
+/// The first fault of the file header and of where the section header table lies.
 #[tactic(auto, unfolding(crate::specs::Faults::header_fault))]
 pub fn header_fault_of(bytes: &[u8]) -> Option<ElfFault>
     ensures { result ≡ header_fault bytes.now }

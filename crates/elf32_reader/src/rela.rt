@@ -4,7 +4,7 @@ ghost use Rattle.std.specs.Prelude.{◌≡◌, ◌<◌, ◌&&◌, nat_le, true};
 ghost use Rattle.byte_words.specs.Search.{any_below};
 ghost use Rattle.elf32_reader.specs.Header.{count_of};
 ghost use Rattle.elf32_reader.specs.Sections.{section};
-ghost use Rattle.elf32_reader.specs.Relas.{is_static_relocation, is_kept, rela_count, rela_place, rela};
+ghost use Rattle.elf32_reader.specs.Relas.{is_static_relocation, is_kept, rela_count, entry_offset, rela};
 ghost use Rattle.elf32_reader.specs.Faults.{is_symbolless, has_rela_shape, is_bad_rela};
 ghost use Rattle.elf32_reader.specs.Tables.{HasTable, HasRanges};
 
@@ -61,12 +61,12 @@ pub fn relas_in(bytes: &[u8], index: u32) -> u32
     section_at(bytes, index).size / RELA_LEN
 }
 
-/// The place of an entry.
-#[tactic(auto, using(crate::proofs::Places::is_kept_below), unfolding(crate::specs::Relas::rela_place))]
-fn place_of_rela(bytes: &[u8], index: u32, entry: u32) -> usize
+/// The offset of an entry.
+#[tactic(auto, using(crate::proofs::Places::is_kept_below), unfolding(crate::specs::Relas::entry_offset))]
+fn entry_start(bytes: &[u8], index: u32, entry: u32) -> usize
     requires header { HasTable bytes.now }
     requires kept { is_kept bytes.now index ≡ true }
-    ensures { result ≡ rela_place bytes.now index entry }
+    ensures { result ≡ entry_offset bytes.now index entry }
 {
     section_at(bytes, index).offset as usize + RELA_LEN as usize * entry as usize
 }
@@ -78,7 +78,7 @@ pub fn rela_of(bytes: &[u8], index: u32, entry: u32) -> Rela
     requires entry { entry < rela_count bytes.now index }
     ensures { result ≡ rela bytes.now index entry }
 {
-    let at = place_of_rela(bytes, index, entry);
+    let at = entry_start(bytes, index, entry);
     let info = word(bytes, at + 4);
     Rela {
         offset: word(bytes, at),

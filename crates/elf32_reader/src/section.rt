@@ -7,7 +7,7 @@ ghost use Rattle.elf32_reader.specs.Sections.{section, is_allocated, is_stored, 
 ghost use Rattle.elf32_reader.specs.Faults.{passes_end};
 ghost use Rattle.elf32_reader.specs.Tables.{HasTable};
 
-use crate::header::{header_place, section_count};
+use crate::header::{header_start, section_count};
 use byte_words::word;
 
 const SHT_NULL: u32 = 0;
@@ -19,14 +19,14 @@ const SHF_ALLOC: u32 = 2;
 /// A section header. Its fields are those of Elf32_Shdr, without the prefix `sh_`.
 #[derive(Clone, Copy, Debug, PartialEq, Eq)]
 pub struct Section {
-    /// The place of its name in the table of section names.
+    /// The index of its name in the table of section names.
     pub name: u32,
     /// sh_type.
     pub kind: u32,
     pub flags: u32,
     /// The address of its first byte in the running program.
     pub addr: u32,
-    /// The place of its first byte in the file.
+    /// The offset of its first byte in the file.
     pub offset: u32,
     /// In bytes.
     pub size: u32,
@@ -69,7 +69,7 @@ pub fn section_at(bytes: &[u8], index: u32) -> Section
     requires index { index < count_of bytes.now }
     ensures { result ≡ section bytes.now index }
 {
-    let at = header_place(bytes, index);
+    let at = header_start(bytes, index);
     Section {
         name: word(bytes, at),
         kind: word(bytes, at + 4),

@@ -5,7 +5,7 @@ ghost use Rattle.std.specs.List.{before_first};
 ghost use Rattle.byte_words.specs.Search.{any_below};
 ghost use Rattle.elf32_reader.specs.Header.{count_of};
 ghost use Rattle.elf32_reader.specs.Sections.{section, content};
-ghost use Rattle.elf32_reader.specs.Symbols.{is_symtab, symbol_count, symbol_place, symbol, name_of};
+ghost use Rattle.elf32_reader.specs.Symbols.{is_symtab, symbol_count, symbol_offset, symbol, name_of};
 ghost use Rattle.elf32_reader.specs.Faults.{is_nameless, has_symbol_shape, is_bad_symtab};
 ghost use Rattle.elf32_reader.specs.Tables.{HasTable, HasRanges, IsSymtab};
 
@@ -22,7 +22,7 @@ const SYMBOL_LEN: u32 = 16;
 /// A symbol. Its fields are those of Elf32_Sym, without the prefix `st_`.
 #[derive(Clone, Copy, Debug, PartialEq, Eq)]
 pub struct Symbol {
-    /// The place of its name in the string table.
+    /// The index of its name in the string table.
     pub name: u32,
     pub value: u32,
     /// In bytes.
@@ -52,12 +52,12 @@ pub fn symbols_in(bytes: &[u8], table: u32) -> u32
     section_at(bytes, table).size / SYMBOL_LEN
 }
 
-/// The place of a symbol.
-#[tactic(auto, using(crate::proofs::Places::is_symtab_below), unfolding(crate::specs::Symbols::symbol_place))]
-fn place_of_symbol(bytes: &[u8], table: u32, index: u32) -> usize
+/// The offset of a symbol.
+#[tactic(auto, using(crate::proofs::Places::is_symtab_below), unfolding(crate::specs::Symbols::symbol_offset))]
+fn symbol_start(bytes: &[u8], table: u32, index: u32) -> usize
     requires header { HasTable bytes.now }
     requires table { is_symtab bytes.now table ≡ true }
-    ensures { result ≡ symbol_place bytes.now table index }
+    ensures { result ≡ symbol_offset bytes.now table index }
 {
     section_at(bytes, table).offset as usize + SYMBOL_LEN as usize * index as usize
 }
@@ -69,7 +69,7 @@ pub fn symbol_of(bytes: &[u8], table: u32, index: u32) -> Symbol
     requires index { index < symbol_count bytes.now table }
     ensures { result ≡ symbol bytes.now table index }
 {
-    let at = place_of_symbol(bytes, table, index);
+    let at = symbol_start(bytes, table, index);
     Symbol {
         name: word(bytes, at),
         value: word(bytes, at + 4),
@@ -151,7 +151,7 @@ pub fn some_symtab_is_bad(bytes: &[u8]) -> bool
     false
 }
 
-fn zero_place(text: &[u8]) -> Option<usize>
+fn first_zero(text: &[u8]) -> Option<usize>
     ensures { result ≡ position (λ b. b == 0) text.now }
 {
     text.iter().position(|b| *b == 0)
@@ -161,7 +161,7 @@ fn zero_place(text: &[u8]) -> Option<usize>
 fn before_zero(text: &[u8]) -> &[u8]
     ensures { result.now ≡ before_first (λ b. b == 0) text.now }
 {
-    match zero_place(text) {
+    match first_zero(text) {
         Some(end) => text.split_at(end).0,
         None => text,
     }

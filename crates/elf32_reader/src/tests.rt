@@ -4,9 +4,10 @@ ghost use Rattle.elf32_reader.specs.Symbols.{is_symtab};
 use super::*;
 use crate::sample::ONE_WORD;
 use std::alloc::{AllocError, Global};
+use std::process::Abort;
 use std::test::*;
 
-/// The places of the section headers of the file of `convert-one-word`, after that of section 0.
+/// The offsets of the section headers of `ONE_WORD`, after that of section 0.
 const TEXT: usize = 156;
 
 const DATA: usize = 196;
@@ -17,7 +18,7 @@ const STRTAB: usize = 276;
 
 const RELA: usize = 316;
 
-/// Places in a section header.
+/// Offsets in a section header.
 const KIND: usize = 4;
 
 const FLAGS: usize = 8;
@@ -39,30 +40,18 @@ fn fault_of(bytes: &[u8]) -> Option<ElfFault> {
     }
 }
 
-/// The file with some bytes replaced, each given by its place.
-fn edited(alloc: Global, bytes: &[u8], edits: &[(usize, u8)]) -> Result<Vec<u8>, AllocError> {
-    let mut file = Vec::from_slice(alloc, bytes)?;
-    for (place, byte) in edits {
-        if *place < file.len() {
-            file[*place] = *byte;
+/// `ONE_WORD` with some bytes replaced, each given by its offset.
+fn edited(alloc: Global, edits: &[(usize, u8)]) -> Result<Vec<u8>, AllocError> {
+    let mut file = Vec::from_slice(alloc, &ONE_WORD)?;
+    for (offset, byte) in edits {
+        if *offset < file.len() {
+            file[*offset] = *byte;
         }
     }
     Ok(file)
 }
 
-/// The file with one byte replaced and then another.
-fn fault_after(alloc: Global, edits: [(usize, u8); 2]) -> Result<Option<ElfFault>, AllocError> {
-    Ok(fault_of(&edited(alloc, &ONE_WORD, &edits)?))
-}
-
-/// The file with the four bytes from a place all replaced by one.
-fn fault_with_word(alloc: Global, place: u8, byte: u8) -> Result<Option<ElfFault>, AllocError> {
-    let at = usize::from(place);
-    let edits = [(at, byte), (at + 1, byte), (at + 2, byte), (at + 3, byte)];
-    Ok(fault_of(&edited(alloc, &ONE_WORD, &edits)?))
-}
-
-/// The header of the table begins at 116 and ends with the file, so no shorter file is read.
+/// The section header table begins at 116 and ends with the file, so no shorter file is read.
 #[test]
 fn a_cut_file_is_refused(rt: HostRuntime) {
     let bytes: &[u8] = &ONE_WORD;
@@ -77,168 +66,111 @@ fn a_cut_file_is_refused(rt: HostRuntime) {
     assert_eq!(rt; fault_of(bytes), None);
 }
 
-/// Each word of the file header, replaced by 0 and by 0xffffffff.
-#[test]
-fn each_header_word_counts(rt: HostRuntime) -> Result<(), Fail> {
-    let cases = [
-        (0, Some(ElfFault::Magic), Some(ElfFault::Magic)),
-        (4, Some(ElfFault::Class), Some(ElfFault::Class)),
-        (8, None, None),
-        (12, None, None),
-        (16, Some(ElfFault::FileType), Some(ElfFault::FileType)),
-        (20, Some(ElfFault::Version), Some(ElfFault::Version)),
-        (24, None, None),
-        (28, None, None),
-        (
-            32,
-            Some(ElfFault::SectionRange),
-            Some(ElfFault::SectionTable),
-        ),
-        (36, None, Some(ElfFault::Flags)),
-        (40, None, None),
-        (
-            44,
-            Some(ElfFault::SectionTable),
-            Some(ElfFault::SectionTable),
-        ),
-        (
-            48,
-            Some(ElfFault::SectionTable),
-            Some(ElfFault::SectionTable),
-        ),
-    ];
-    for (place, at_zero, at_ones) in cases {
-        assert_eq!(rt;
-            fault_with_word(rt.alloc(), place, 0)?,
-            at_zero,
-            "0 at {place}"
-        );
-        assert_eq!(rt;
-            fault_with_word(rt.alloc(), place, 255)?,
-            at_ones,
-            "0xffffffff at {place}"
-        );
+/// Bytes that replace those of `ONE_WORD`, and the fault that the file then has.
+type Case<'a> = (&'a [(usize, u8)], Option<ElfFault>);
+
+fn expect_faults(rt: &impl Abort, alloc: Global, cases: &[Case<'_>]) -> Result<(), Fail> {
+    for (edits, want) in cases {
+        let file = edited(alloc, edits)?;
+        assert_eq!(rt; fault_of(&file), *want, "{edits:?}");
     }
     Ok(())
 }
 
-/// One file for each fault, most with a second one of a later row.
+/// A file with two faults has the first.
 #[test]
-fn one_file_for_each_fault(rt: HostRuntime) -> Result<(), Fail> {
-    assert_eq!(rt; fault_of(&ONE_WORD[..51]), Some(ElfFault::Short));
-    let cases = [
-        ([(0, 0x7e), (4, 2)], Some(ElfFault::Magic)),
-        ([(4, 2), (5, 2)], Some(ElfFault::Class)),
-        ([(5, 2), (6, 0)], Some(ElfFault::Order)),
-        ([(6, 0), (16, 3)], Some(ElfFault::Version)),
-        ([(16, 3), (18, 62)], Some(ElfFault::FileType)),
-        ([(18, 62), (36, 1)], Some(ElfFault::Machine)),
-        ([(36, 1), (46, 41)], Some(ElfFault::Flags)),
-        ([(36, 6), (36, 6)], Some(ElfFault::Flags)),
-        ([(36, 8), (36, 8)], Some(ElfFault::Flags)),
-        ([(36, 16), (37, 255)], None),
+fn faults_of_the_header(rt: HostRuntime) -> Result<(), Fail> {
+    let cases: [Case<'_>; 15] = [
+        (&[(0, 0x7e), (4, 2)], Some(ElfFault::Magic)),
+        (&[(4, 2), (5, 2)], Some(ElfFault::Class)),
+        (&[(5, 2), (6, 0)], Some(ElfFault::Order)),
+        (&[(6, 0), (16, 3)], Some(ElfFault::Version)),
+        (&[(23, 1)], Some(ElfFault::Version)),
+        (&[(16, 3), (18, 62)], Some(ElfFault::FileType)),
+        (&[(18, 62), (36, 1)], Some(ElfFault::Machine)),
+        (&[(36, 1), (46, 41)], Some(ElfFault::Flags)),
+        (&[(36, 6)], Some(ElfFault::Flags)),
+        (&[(36, 8)], Some(ElfFault::Flags)),
+        (&[(36, 16), (37, 255)], None),
         (
-            [(46, 41), (TEXT + SIZE + 3, 1)],
+            &[(46, 41), (TEXT + SIZE + 3, 1)],
             Some(ElfFault::SectionTable),
         ),
-        ([(48, 7), (48, 7)], Some(ElfFault::SectionTable)),
-        ([(32, 117), (32, 117)], Some(ElfFault::SectionTable)),
-        (
-            [(TEXT + SIZE + 3, 1), (80, 7)],
-            Some(ElfFault::SectionRange),
-        ),
-        ([(80, 7), (109, 2)], Some(ElfFault::SymbolRange)),
-        ([(109, 2), (109, 2)], Some(ElfFault::RelaShape)),
+        (&[(48, 0)], Some(ElfFault::SectionTable)),
+        (&[(48, 7)], Some(ElfFault::SectionTable)),
+        (&[(32, 117)], Some(ElfFault::SectionTable)),
     ];
-    for (edits, want) in cases {
-        assert_eq!(rt; fault_after(rt.alloc(), edits)?, want, "{edits:?}");
-    }
-    Ok(())
+    expect_faults(&rt, rt.alloc(), &cases)
 }
 
-/// A content that passes the end at 356 by a byte, and one that doesn't.
+/// The file ends at 356, which is 0x164. An empty content may stand there, and not behind it.
 #[test]
-fn section_ranges(rt: HostRuntime) -> Result<(), Fail> {
-    let cases = [
-        ([(TEXT + OFFSET, 0x5c), (TEXT + OFFSET + 1, 1)], None),
+fn faults_of_sections(rt: HostRuntime) -> Result<(), Fail> {
+    let cases: [Case<'_>; 7] = [
         (
-            [(TEXT + OFFSET, 0x5d), (TEXT + OFFSET + 1, 1)],
+            &[(TEXT + SIZE + 3, 1), (80, 7)],
             Some(ElfFault::SectionRange),
         ),
-        ([(TEXT + SIZE + 3, 1), (TEXT + KIND, 8)], None),
-        ([(TEXT + SIZE + 3, 1), (TEXT + KIND, 0)], None),
+        (&[(TEXT + OFFSET, 0x5c), (TEXT + OFFSET + 1, 1)], None),
         (
-            [(TEXT + SIZE + 3, 1), (SYMTAB + ENTSIZE, 17)],
+            &[(TEXT + OFFSET, 0x5d), (TEXT + OFFSET + 1, 1)],
+            Some(ElfFault::SectionRange),
+        ),
+        (&[(TEXT + SIZE + 3, 1), (TEXT + KIND, 8)], None),
+        (&[(TEXT + SIZE + 3, 1), (TEXT + KIND, 0)], None),
+        (
+            &[
+                (TEXT + SIZE, 0),
+                (TEXT + OFFSET, 0x64),
+                (TEXT + OFFSET + 1, 1),
+            ],
+            None,
+        ),
+        (
+            &[
+                (TEXT + SIZE, 0),
+                (TEXT + OFFSET, 0x65),
+                (TEXT + OFFSET + 1, 1),
+            ],
             Some(ElfFault::SectionRange),
         ),
     ];
-    for (edits, want) in cases {
-        assert_eq!(rt; fault_after(rt.alloc(), edits)?, want, "{edits:?}");
-    }
-    let at_end = edited(
-        rt.alloc(),
-        &ONE_WORD,
-        &[
-            (TEXT + SIZE, 0),
-            (TEXT + OFFSET, 0x64),
-            (TEXT + OFFSET + 1, 1),
-        ],
-    )?;
-    assert_eq!(rt; fault_of(&at_end), None, "nothing at the end");
-    let behind = edited(rt.alloc(), &at_end, &[(TEXT + OFFSET, 0x65)])?;
-    assert_eq!(rt;
-        fault_of(&behind),
-        Some(ElfFault::SectionRange),
-        "nothing behind the end"
-    );
-    Ok(())
+    expect_faults(&rt, rt.alloc(), &cases)
 }
 
 #[test]
-fn symbol_tables(rt: HostRuntime) -> Result<(), Fail> {
-    let cases = [
-        ([(80, 6), (80, 6)], None),
-        ([(80, 7), (RELA + KIND, 9)], Some(ElfFault::SymbolRange)),
-        (
-            [(SYMTAB + ENTSIZE, 17), (0, 0x7f)],
-            Some(ElfFault::SymbolRange),
-        ),
-        (
-            [(SYMTAB + SIZE, 33), (0, 0x7f)],
-            Some(ElfFault::SymbolRange),
-        ),
-        ([(SYMTAB + LINK, 2), (0, 0x7f)], Some(ElfFault::SymbolRange)),
-        ([(SYMTAB + LINK, 6), (0, 0x7f)], Some(ElfFault::SymbolRange)),
-        ([(STRTAB + SIZE, 1), (0, 0x7f)], Some(ElfFault::SymbolRange)),
-        ([(STRTAB + SIZE, 1), (80, 0)], None),
+fn faults_of_symbol_tables(rt: HostRuntime) -> Result<(), Fail> {
+    let cases: [Case<'_>; 8] = [
+        (&[(80, 7), (109, 2)], Some(ElfFault::SymbolRange)),
+        (&[(80, 6)], None),
+        (&[(SYMTAB + ENTSIZE, 17)], Some(ElfFault::SymbolRange)),
+        (&[(SYMTAB + SIZE, 33)], Some(ElfFault::SymbolRange)),
+        (&[(SYMTAB + LINK, 2)], Some(ElfFault::SymbolRange)),
+        (&[(SYMTAB + LINK, 6)], Some(ElfFault::SymbolRange)),
+        (&[(STRTAB + SIZE, 1)], Some(ElfFault::SymbolRange)),
+        (&[(STRTAB + SIZE, 1), (80, 0)], None),
     ];
-    for (edits, want) in cases {
-        assert_eq!(rt; fault_after(rt.alloc(), edits)?, want, "{edits:?}");
-    }
-    Ok(())
+    expect_faults(&rt, rt.alloc(), &cases)
 }
 
 /// Section 5 is kept, unless it is allocated or its info names a section that isn't: then its entries
 /// aren't looked at.
 #[test]
-fn relocation_sections(rt: HostRuntime) -> Result<(), Fail> {
-    let cases = [
-        ([(RELA + KIND, 9), (0, 0x7f)], Some(ElfFault::RelaShape)),
-        ([(RELA + ENTSIZE, 8), (0, 0x7f)], Some(ElfFault::RelaShape)),
-        ([(RELA + SIZE, 11), (0, 0x7f)], Some(ElfFault::RelaShape)),
-        ([(RELA + LINK, 4), (0, 0x7f)], Some(ElfFault::RelaShape)),
-        ([(RELA + LINK, 6), (0, 0x7f)], Some(ElfFault::RelaShape)),
-        ([(109, 2), (0, 0x7f)], Some(ElfFault::RelaShape)),
-        ([(RELA + INFO, 6), (0, 0x7f)], Some(ElfFault::RelaShape)),
-        ([(RELA + INFO, 6), (RELA + FLAGS, 2)], None),
-        ([(RELA + INFO, 3), (RELA + ENTSIZE, 8)], None),
-        ([(RELA + INFO, 0), (RELA + KIND, 9)], None),
-        ([(DATA + FLAGS, 1), (109, 2)], None),
+fn faults_of_relocations(rt: HostRuntime) -> Result<(), Fail> {
+    let cases: [Case<'_>; 11] = [
+        (&[(109, 2)], Some(ElfFault::RelaShape)),
+        (&[(RELA + KIND, 9)], Some(ElfFault::RelaShape)),
+        (&[(RELA + ENTSIZE, 8)], Some(ElfFault::RelaShape)),
+        (&[(RELA + SIZE, 11)], Some(ElfFault::RelaShape)),
+        (&[(RELA + LINK, 4)], Some(ElfFault::RelaShape)),
+        (&[(RELA + LINK, 6)], Some(ElfFault::RelaShape)),
+        (&[(RELA + INFO, 6)], Some(ElfFault::RelaShape)),
+        (&[(RELA + INFO, 6), (RELA + FLAGS, 2)], None),
+        (&[(RELA + INFO, 3), (RELA + ENTSIZE, 8)], None),
+        (&[(RELA + INFO, 0), (RELA + KIND, 9)], None),
+        (&[(DATA + FLAGS, 1), (109, 2)], None),
     ];
-    for (edits, want) in cases {
-        assert_eq!(rt; fault_after(rt.alloc(), edits)?, want, "{edits:?}");
-    }
-    Ok(())
+    expect_faults(&rt, rt.alloc(), &cases)
 }
 
 /// Whether a section is a symbol table.
@@ -254,6 +186,14 @@ fn symbol_in<'a>(elf: &'a Elf<'_>, table: u32, index: u32) -> Option<(Symbol, &'
         return None;
     }
     Some((elf.symbol(table, index), elf.name(table, index)))
+}
+
+/// The first two bytes of a symbol's name.
+fn initials_in<'a>(elf: &'a Elf<'_>, table: u32, index: u32) -> Option<&'a [u8]> {
+    if !is_table(elf, table) || index >= elf.symbols(table) {
+        return None;
+    }
+    Some(elf.name_start(table, index, 2))
 }
 
 fn rela_in(elf: &Elf<'_>, index: u32, entry: u32) -> Option<Rela> {
@@ -321,7 +261,6 @@ fn reads_sections(rt: HostRuntime) {
 fn reads_symbols_and_relocations(rt: HostRuntime) -> Result<(), Fail> {
     let cut = edited(
         rt.alloc(),
-        &ONE_WORD,
         &[
             (STRTAB + SIZE, 4),
             (112, 0xfc),
@@ -362,6 +301,10 @@ fn reads_symbols_and_relocations(rt: HostRuntime) -> Result<(), Fail> {
             }
         );
         assert_eq!(rt; its_name, name);
+        assert_eq!(rt;
+            initials_in(&elf, 3, 1).expect(&rt, "symbol 1"),
+            b"st".as_slice()
+        );
         assert!(rt; symbol_in(&elf, 3, 2).is_none());
         assert!(rt; symbol_in(&elf, 4, 0).is_none());
         let entry = rela_in(&elf, 5, 0).expect(&rt, "entry 0");

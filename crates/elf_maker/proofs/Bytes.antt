@@ -1,4 +1,4 @@
--- Numbers that stand in a list of bytes, behind a front.
+-- Numbers that stand in a list of bytes, behind a prefix.
 use Rattle.std.proofs.Common.{◌≡◌, ℕ, zero, suc, ◌+◌, ◌*◌, ◌^◌, ◌<◌, List, [], ◌∷◌, ◌++◌, length, take, drop, get_or, Some, refl, sym, ap, ◌∙◌, append_assoc, arith}
 use Rattle.std.specs.List.{flat_map, slice_get}
 use Rattle.std.proofs.lemmas.List.{length-append, drop-drop, drop_at, get_or-drop}
@@ -10,9 +10,9 @@ use Rattle.elf32_reader.specs.Sections.{header_at}
 use Rattle.elf_maker.specs.Spelling.{words_text, section_text}
 use Rattle.byte_words.specs.Numbers.{byte_at, number_at}
 
--- what stands behind a front
-pub drop_behind : {X : Type 0} (front rest : List X) (n at : ℕ) → length front ≡ n → drop (n + at) (front ++ rest) ≡ drop at rest
-drop_behind front rest n at len = sym (drop-drop at n (front ++ rest)) ∙ ap (drop at) (drop_at front rest n len)
+-- what stands behind a prefix
+pub drop_behind : {X : Type 0} (prefix rest : List X) (n at : ℕ) → length prefix ≡ n → drop (n + at) (prefix ++ rest) ≡ drop at rest
+drop_behind prefix rest n at len = sym (drop-drop at n (prefix ++ rest)) ∙ ap (drop at) (drop_at prefix rest n len)
 
 pub u32_from : (y : List ℕ) (at k : ℕ) → u32_at y (at + k) ≡ u32_at (drop at y) k
 unfolding number_at

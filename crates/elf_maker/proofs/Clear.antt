@@ -1,11 +1,10 @@
 -- The rows of the reader's table of faults, none of which holds.
-use Rattle.std.proofs.Common.{◌≡◌, ◌≢◌, ℕ, zero, suc, ◌+◌, ◌*◌, ◌^◌, ◌<◌, ◌≤◌, ◌==◌, ltb, not, Bool, true, false, List, ◌++◌, length, None, refl, ap, arith}
+use Rattle.std.proofs.Common.{◌≡◌, ◌≢◌, ℕ, ◌+◌, ◌*◌, ◌^◌, ◌<◌, ◌≤◌, ◌==◌, ltb, not, true, false, List, ◌++◌, length, None, refl, ap, arith}
 use Rattle.std.specs.Int.Bits.{bit_and}
 use Rattle.std.proofs.lemmas.Bool.{and_from, and_left, and_right, or_from, le-ltb, le-leb, eq-eqb, ne_eqb, not_from_true, not_from_false}
 use Rattle.std.proofs.lemmas.List.{length-append}
 use Rattle.elf32_reader.specs.declared.section.Section.{Section}
 use Rattle.elf32_reader.specs.Numbers.{u8_at, u16_at, u32_at}
-use Rattle.byte_words.specs.Search.{any_below}
 use Rattle.elf32_reader.specs.Header.{table_of, count_of}
 use Rattle.elf32_reader.specs.Sections.{section, is_allocated, has_content, is_of_kind}
 use Rattle.elf32_reader.specs.Symbols.{is_symtab}
@@ -13,12 +12,8 @@ use Rattle.elf32_reader.specs.Relas.{is_static_relocation, is_kept}
 use Rattle.elf32_reader.specs.Faults.{has_magic, is_current, has_table, header_fault, passes_end, is_bad_symtab, is_bad_rela, section_fault, elf_fault}
 use Rattle.elf_maker.specs.Spelling.{Item, words_text, halves_text, header_text}
 use Rattle.elf_maker.proofs.Places.{Stands, length-header_text, table_read, count_read}
+use Rattle.byte_words.proofs.Searches.{none_below}
 use Rattle.byte_words.specs.Numbers.{byte_at, number_at}
-
-pub none_below : (p : ℕ → Bool) (n : ℕ) → ((k : ℕ) → k < n → p k ≡ false) → any_below p n ≡ false
-unfolding any_below
-none_below p zero each = refl
-none_below p (suc n) each = or_from (any_below p n) (p n) (none_below p n (λ k lt. each k (omega arith))) (each n (omega arith))
 
 -- ---- the header
 

@@ -11,7 +11,7 @@ use Rattle.elf32_reader.specs.declared.rela.Rela.{Rela}
 use Rattle.elf32_reader.specs.Numbers.{u8_at, u16_at, u32_at}
 use Rattle.elf32_reader.specs.Sections.{section, content}
 use Rattle.elf32_reader.specs.Symbols.{symbol_at}
-use Rattle.elf32_reader.specs.Relas.{rela_place, addend_word, rela}
+use Rattle.elf32_reader.specs.Relas.{entry_offset, addend_word, rela}
 use Rattle.elf_maker.specs.declared.given.MakeSymbol.{MakeSymbol}
 use Rattle.elf_maker.specs.declared.given.MakeRela.{MakeRela}
 use Rattle.elf_maker.specs.Makes.{entry_of_rela}
@@ -54,10 +54,10 @@ symbol_read y at n s more here below fits =
     (u8_from y at 13 ∙ ap (λ z. u8_at z 13) here)
     (u16_from y at 14 ∙ ap (λ z. u16_at z 14) here ∙ little_number-reads_back 2 s.shndx more fits.shndx)
 
--- a front with what stands behind it
-pub record Begins (y front : List ℕ) : Type 0 where
+-- a prefix with what stands behind it
+pub record Begins (y prefix : List ℕ) : Type 0 where
   pub more : List ℕ
-  pub is : y ≡ front ++ more
+  pub is : y ≡ prefix ++ more
 
 pub symbols_at : (at : ℕ) (ss : List MakeSymbol) (j : ℕ) (s : MakeSymbol) (rest : List ℕ) → slice_get ss j ≡ Some s
     → Begins (drop (16 * j) (symbols_text at ss ++ rest)) (symbol_text (at + length (names_text (take j ss))) s)
@@ -103,10 +103,10 @@ name_at ss j s is = piece_at name_text ss j s is ∙ append_assoc s.name.items (
 same_rela : (r s : Rela) → r.offset ≡ s.offset → r.symbol ≡ s.symbol → r.kind ≡ s.kind → r.addend ≡ s.addend → r ≡ s
 same_rela r s o y k a = λ i. record { offset = o i; symbol = y i; kind = k i; addend = a i }
 
-pub rela_read : (e : List ℕ) (i j : ℕ) (r : MakeRela) (more : List ℕ) → drop (rela_place e i j) e ≡ rela_text r ++ more → FitsRela r → r.symbol < 2 ^ 24 → rela e i j ≡ entry_of_rela r
+pub rela_read : (e : List ℕ) (i j : ℕ) (r : MakeRela) (more : List ℕ) → drop (entry_offset e i j) e ≡ rela_text r ++ more → FitsRela r → r.symbol < 2 ^ 24 → rela e i j ≡ entry_of_rela r
 unfolding rela addend_word rela_text
 rela_read e i j r more here fits small =
-    let at = rela_place e i j in
+    let at = entry_offset e i j in
     let ns = r.offset ∷ (256 * r.symbol + r.kind) ∷ cast_unsigned w32 r.addend ∷ [] in
     let info : u32_at e (at + 4) ≡ 256 * r.symbol + r.kind = u32_from e at 4 ∙ ap (λ z. u32_at z 4) here ∙ word_at ns more 1 (omega arith) (omega (arith, fits.kind, small)) in
     same_rela (rela e i j) (entry_of_rela r)

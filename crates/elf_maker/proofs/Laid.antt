@@ -35,15 +35,15 @@ adds_more a b c xs ys first then_ = record {
       ∙ ap (λ bs. a.body.items ++ bs) (sym (flat_map-append (λ (x : Item). x.bytes) xs ys));
 }
 
--- what stands in front is no longer than all
-pub flat_map_front : {X : Type 0} (f : X → List ℕ) (xs : List X) (i : ℕ) → length (flat_map f (take i xs)) ≤ length (flat_map f xs)
-flat_map_front f xs i =
+-- a prefix is no longer than all
+pub flat_map_prefix : {X : Type 0} (f : X → List ℕ) (xs : List X) (i : ℕ) → length (flat_map f (take i xs)) ≤ length (flat_map f xs)
+flat_map_prefix f xs i =
     omega (arith, ap (λ ys. length (flat_map f ys)) (take-append-drop i xs), ap length (flat_map-append f (take i xs) (drop i xs)), length-append (flat_map f (take i xs)) (flat_map f (drop i xs)))
 
 pub flat_map_room : {X : Type 0} (f : X → List ℕ) (xs : List X) (i : ℕ) (d : X) → i < length xs → length (flat_map f (take i xs)) + length (f (get_or xs i d)) ≤ length (flat_map f xs)
 flat_map_room f xs i d below =
     let x = get_or xs i d in
-    omega (arith, flat_map_front f xs (i + 1), ap (λ ys. length (flat_map f ys)) (take_more xs i d below), ap length (flat_map-append f (take i xs) (x ∷ [])), length-append (flat_map f (take i xs)) (flat_map f (x ∷ [])), length-append (f x) [])
+    omega (arith, flat_map_prefix f xs (i + 1), ap (λ ys. length (flat_map f ys)) (take_more xs i d below), ap length (flat_map-append f (take i xs) (x ∷ [])), length-append (flat_map f (take i xs)) (flat_map f (x ∷ [])), length-append (f x) [])
 
 pub contents-parts : (parts : List Part) → contents (map part_item parts) ≡ flat_map (λ p. p.bytes.items) parts
 contents-parts [] = refl
@@ -56,7 +56,7 @@ parts_more a b c parts i p below is first then_ =
 
 pub parts_room : (a b : Writer) (parts : List Part) (i : ℕ) → Adds a b (map part_item (take i parts)) → length b.body.items ≤ length a.body.items + length (flat_map (λ p. p.bytes.items) parts)
 parts_room a b parts i added =
-    omega (arith, length-contents a b (map part_item (take i parts)) added, ap length (contents-parts (take i parts)), flat_map_front (λ (p : Part). p.bytes.items) parts i)
+    omega (arith, length-contents a b (map part_item (take i parts)) added, ap length (contents-parts (take i parts)), flat_map_prefix (λ (p : Part). p.bytes.items) parts i)
 
 -- ---- relocation sections
 
@@ -82,19 +82,19 @@ flat_map-tables (t ∷ tables) = ap (λ bs. t.items ++ bs) (flat_map-tables tabl
 pub tables_room : (a b : Writer) (t i : ℕ) (tables : List (Vec ℕ Global)) → Adds a b (relas_items t 0 (map (λ v. v.items) (take i tables))) → (d : Vec ℕ Global) → i < length tables
     → length b.body.items + length (get_or tables i d).items ≤ length a.body.items + length (flat_map (λ v. v.items) tables)
 tables_room a b t i tables added d below =
-    let front = take i tables in
+    let prefix = take i tables in
     omega (
       arith,
-      length-contents a b (relas_items t 0 (map (λ (v : Vec ℕ Global). v.items) front)) added,
-      ap length (contents-relas t 0 (map (λ (v : Vec ℕ Global). v.items) front)),
-      ap length (flat_map-tables front),
+      length-contents a b (relas_items t 0 (map (λ (v : Vec ℕ Global). v.items) prefix)) added,
+      ap length (contents-relas t 0 (map (λ (v : Vec ℕ Global). v.items) prefix)),
+      ap length (flat_map-tables prefix),
       flat_map_room (λ (v : Vec ℕ Global). v.items) tables i d below,
     )
 
 pub tables_more : (a b c : Writer) (t i : ℕ) (tables : List (Vec ℕ Global)) (v : Vec ℕ Global) → i < length tables → v ≡ get_or tables i v
     → Adds a b (relas_items t 0 (map (λ x. x.items) (take i tables))) → Adds b c (relas_items t i (v.items ∷ [])) → Adds a c (relas_items t 0 (map (λ x. x.items) (take (i + 1) tables)))
 tables_more a b c t i tables v below is first then_ =
-    let front = map (λ (x : Vec ℕ Global). x.items) (take i tables) in
-    let len : 0 + length front ≡ i = omega (arith, length-map (take i tables) (λ (x : Vec ℕ Global). x.items), length-take i tables) in
-    rw (map_more (λ (x : Vec ℕ Global). x.items) tables i v below, ← is, relas_items-append t 0 front (v.items ∷ []), len)
-    (adds_more a b c (relas_items t 0 front) (relas_items t i (v.items ∷ [])) first then_)
+    let prefix = map (λ (x : Vec ℕ Global). x.items) (take i tables) in
+    let len : 0 + length prefix ≡ i = omega (arith, length-map (take i tables) (λ (x : Vec ℕ Global). x.items), length-take i tables) in
+    rw (map_more (λ (x : Vec ℕ Global). x.items) tables i v below, ← is, relas_items-append t 0 prefix (v.items ∷ []), len)
+    (adds_more a b c (relas_items t 0 prefix) (relas_items t i (v.items ∷ [])) first then_)

@@ -13,23 +13,24 @@ use Rattle.elf32_reader.specs.declared.rela.Rela.{Rela}
 use Rattle.elf32_reader.specs.Numbers.{u8_at, u16_at, u32_at}
 use Rattle.elf32_reader.specs.Header.{entry_of, count_of}
 use Rattle.elf32_reader.specs.Sections.{section, is_allocated, content, is_of_kind}
-use Rattle.elf32_reader.specs.Symbols.{is_symtab, symbol_count, symbol_at, symbol_place, symbol, name_of}
-use Rattle.elf32_reader.specs.Relas.{is_static_relocation, is_kept, rela_count, rela_place, rela}
+use Rattle.elf32_reader.specs.Symbols.{is_symtab, symbol_count, symbol_at, symbol_offset, symbol, name_of}
+use Rattle.elf32_reader.specs.Relas.{is_static_relocation, is_kept, rela_count, entry_offset, rela}
 use Rattle.elf32_reader.specs.Faults.{header_fault, passes_end, is_nameless, has_symbol_shape, is_bad_symtab, is_symbolless, has_rela_shape, is_bad_rela}
 use Rattle.elf_maker.specs.declared.given.Part.{Part}
 use Rattle.elf_maker.specs.declared.given.MakeSymbol.{MakeSymbol}
 use Rattle.elf_maker.specs.declared.given.MakeRela.{MakeRela}
 use Rattle.elf_maker.specs.Given.{HasAlloc, IsPart, HasPlainName, IsRela, relas_of, relocated}
-use Rattle.elf_maker.specs.Makes.{HasPart, HasSymbol, HasSymbols, HasRelas, entry_of_rela, Makes}
+use Rattle.elf_maker.specs.Makes.{HasHeader, HasPart, HasTableHeader, HasSymbol, HasSymbols, HasRelas, entry_of_rela, Makes}
 use Rattle.elf_maker.specs.Fits.{FitsSymbol, FitsRela, FitsAll}
-use Rattle.elf_maker.specs.Spelling.{Item, contents, placed, null_section, section_text, file_text, header_of, part_header, part_item, table_header, table_item, no_symbol, symbol_text, name_text, names_text, symbols_text, symtab_text, strtab_text, symtab_item, strtab_item, rela_text, relas_text, all_items, spelled}
+use Rattle.elf_maker.specs.Spelling.{Item, contents, placed, null_section, section_text, file_text, header_text, words_text, halves_text, header_of, part_header, part_item, table_header, table_item, no_symbol, symbol_text, name_text, names_text, symbols_text, symtab_text, strtab_text, symtab_item, strtab_item, rela_text, relas_text, all_items, spelled}
 use Rattle.elf_maker.proofs.Bytes.{drop_behind, u8_from, u16_from, u32_from, u32_from_zero, entry_at}
-use Rattle.elf_maker.proofs.Laid.{length-placed, flat_map_front, flat_map_room}
+use Rattle.elf_maker.proofs.Laid.{length-placed, flat_map_prefix, flat_map_room}
 use Rattle.elf_maker.proofs.Sizes.{length-symtab_text, length-strtab_text, length-rela_text, length-relas_text}
 use Rattle.elf_maker.proofs.Places.{file_of, IsSound, Stands, length-table, entry_is, count_is, null_is}
 use Rattle.elf_maker.proofs.Entries.{inside, content_is, same_symbol, symbol_read, Begins, symbols_at, before_zero, name_at, rela_read}
 use Rattle.elf_maker.proofs.Sections.{at_all, Fine, relas_item, behind, all_are, relocated_below, relocated_has, relocated_part, sound, part_stands, symtab_stands, strtab_stands, relas_stand, each_section}
-use Rattle.elf_maker.proofs.Clear.{none_below, header_clear, IsClear, sections_clear, no_fault_from, range_sized, range_nobits, range_null, no_symtab, symtab_clear, not_static, allocated_static, not_kept, rela_clear, allocated_from, unallocated_from}
+use Rattle.elf_maker.proofs.Clear.{header_clear, IsClear, sections_clear, no_fault_from, range_sized, range_nobits, range_null, no_symtab, symtab_clear, not_static, allocated_static, not_kept, rela_clear, allocated_from, unallocated_from}
+use Rattle.byte_words.proofs.Searches.{none_below}
 use Rattle.byte_words.specs.Numbers.{byte_at, number_at}
 
 -- ---- the file header
@@ -41,6 +42,18 @@ file_header_clear entry items is =
     let body = contents items in
     let counted = count_is entry items is in
     header_clear entry (52 + length body) (length ss) (body ++ flat_map section_text ss) (omega (arith, is.body)) (omega arith) (omega (arith, is.count, length-placed 52 items)) (omega (arith, length-append body (flat_map section_text ss), length-table ss))
+
+has_header : (entry table count : ℕ) (rest : List ℕ) → HasHeader (header_text entry table count ++ rest)
+unfolding header_text words_text halves_text number_at
+has_header entry table count rest =
+    record { ident = refl; flags = refl; ehsize = refl; phoff = refl; phentsize = refl; phnum = refl; shstrndx = refl }
+
+file_has_header : (entry : ℕ) (items : List Item) → HasHeader (file_of entry items)
+unfolding file_text
+file_has_header entry items =
+    let ss = null_section ∷ placed 52 items in
+    let body = contents items in
+    has_header entry (52 + length body) (length ss) (body ++ flat_map section_text ss)
 
 -- ---- the fields of a section
 
@@ -61,6 +74,19 @@ table_fields e k kind bytes link info entsize st = record {
   link_is = ap (λ (s : Section). s.link) st.is;
   info_is = ap (λ (s : Section). s.info) st.is;
   entsize_is = ap (λ (s : Section). s.entsize) st.is;
+}
+
+has_table_header : (e : List ℕ) (k kind : ℕ) (bytes : List ℕ) (link info entsize : ℕ) → Stands e k (table_item kind bytes link info entsize) → HasTableHeader e k kind link info entsize
+unfolding table_header header_of
+has_table_header e k kind bytes link info entsize st = record {
+  kind = ap (λ (s : Section). s.kind) st.is;
+  flags = ap (λ (s : Section). s.flags) st.is;
+  addr = ap (λ (s : Section). s.addr) st.is;
+  name = ap (λ (s : Section). s.name) st.is;
+  link = ap (λ (s : Section). s.link) st.is;
+  info = ap (λ (s : Section). s.info) st.is;
+  addralign = ap (λ (s : Section). s.addralign) st.is;
+  entsize = ap (λ (s : Section). s.entsize) st.is;
 }
 
 table_range : (e : List ℕ) (k kind : ℕ) (bytes : List ℕ) (link info entsize : ℕ) → Stands e k (table_item kind bytes link info entsize) → passes_end e k ≡ false
@@ -138,6 +164,10 @@ null_made : (parts : List Part) (symbols : List MakeSymbol) (relas : List MakeRe
 unfolding spelled
 null_made parts symbols relas entry f = null_is entry (all_items parts symbols relas) (sound parts symbols relas entry f)
 
+has_header_made : (parts : List Part) (symbols : List MakeSymbol) (relas : List MakeRela) (entry : ℕ) → HasHeader (spelled parts symbols relas entry)
+unfolding spelled
+has_header_made parts symbols relas entry = file_has_header entry (all_items parts symbols relas)
+
 header_made : (parts : List Part) (symbols : List MakeSymbol) (relas : List MakeRela) (entry : ℕ) → Fine parts symbols relas entry → header_fault (spelled parts symbols relas entry) ≡ None
 unfolding spelled
 header_made parts symbols relas entry f = file_header_clear entry (all_items parts symbols relas) (sound parts symbols relas entry f)
@@ -156,13 +186,13 @@ no_symbol_read y at more here =
     (u16_from y at 14 ∙ ap (λ z. u16_at z 14) here)
 
 first_symbol : (e : List ℕ) (t : ℕ) (symbols : List MakeSymbol) (x : Item) → x.bytes ≡ symtab_text symbols → Stands e t x → symbol e t 0 ≡ record { name = 0; value = 0; size = 0; info = 0; other = 0; shndx = 0 }
-unfolding symbol symbol_place symtab_text
+unfolding symbol symbol_offset symtab_text
 first_symbol e t symbols x are st =
     no_symbol_read e ((section e t).offset + 16 * 0) (symbols_text 1 symbols ++ st.rest) (inside e t x st (16 * 0) ∙ ap (λ bs. bs ++ st.rest) are)
 
 symbol_here : (e : List ℕ) (t : ℕ) (symbols : List MakeSymbol) (x : Item) → x.bytes ≡ symtab_text symbols → Stands e t x → (j : ℕ) (s : MakeSymbol) → slice_get symbols j ≡ Some s
-    → Begins (drop (symbol_place e t (suc j)) e) (symbol_text (1 + length (names_text (take j symbols))) s)
-unfolding symbol_place symtab_text
+    → Begins (drop (symbol_offset e t (suc j)) e) (symbol_text (1 + length (names_text (take j symbols))) s)
+unfolding symbol_offset symtab_text
 symbol_here e t symbols x are st j s is =
     let later = symbols_text 1 symbols ++ st.rest in
     let found = symbols_at 1 symbols j s st.rest is in
@@ -180,7 +210,7 @@ symbol_is : (e : List ℕ) (t : ℕ) (symbols : List MakeSymbol) (x : Item) → 
 unfolding symbol strtab_text
 symbol_is e t symbols x are st j s is fits small =
     let here = symbol_here e t symbols x are st j s is in
-    symbol_read e (symbol_place e t (suc j)) (1 + length (names_text (take j symbols))) s here.more here.is (omega (arith, flat_map_front name_text symbols j, small)) fits
+    symbol_read e (symbol_offset e t (suc j)) (1 + length (names_text (take j symbols))) s here.more here.is (omega (arith, flat_map_prefix name_text symbols j, small)) fits
 
 strings_are : (e : List ℕ) (t u : ℕ) (symbols : List MakeSymbol) → (section e t).link ≡ u → Stands e u (strtab_item symbols) → content e (section e (section e t).link) ≡ strtab_text symbols
 strings_are e t u symbols link st = ap (λ k. content e (section e k)) link ∙ table_content e u 3 (strtab_text symbols) 0 0 0 st
@@ -220,6 +250,18 @@ strtab_small parts symbols relas entry f = omega (arith, length-strtab_text symb
 symtab_table : (parts : List Part) (symbols : List MakeSymbol) (relas : List MakeRela) (entry : ℕ) → Fine parts symbols relas entry → IsTable (spelled parts symbols relas entry) (length parts + 1) 2 (length (symtab_text symbols)) (length parts + 2) 1 16
 symtab_table parts symbols relas entry f = table_fields (spelled parts symbols relas entry) (length parts + 1) 2 (symtab_text symbols) (length parts + 2) 1 16 (symtab_stands parts symbols relas entry f)
 
+symtab_header : (parts : List Part) (symbols : List MakeSymbol) (relas : List MakeRela) (entry : ℕ) → Fine parts symbols relas entry → HasTableHeader (spelled parts symbols relas entry) (length parts + 1) 2 (length parts + 1 + 1) 1 16
+symtab_header parts symbols relas entry f =
+    let next : length parts + 2 ≡ length parts + 1 + 1 = omega arith in
+    subst (λ u. HasTableHeader (spelled parts symbols relas entry) (length parts + 1) 2 u 1 16) next
+    (has_table_header (spelled parts symbols relas entry) (length parts + 1) 2 (symtab_text symbols) (length parts + 2) 1 16 (symtab_stands parts symbols relas entry f))
+
+strtab_header : (parts : List Part) (symbols : List MakeSymbol) (relas : List MakeRela) (entry : ℕ) → Fine parts symbols relas entry → HasTableHeader (spelled parts symbols relas entry) (length parts + 1 + 1) 3 0 0 0
+strtab_header parts symbols relas entry f =
+    let next : length parts + 2 ≡ length parts + 1 + 1 = omega arith in
+    subst (λ u. HasTableHeader (spelled parts symbols relas entry) u 3 0 0 0) next
+    (has_table_header (spelled parts symbols relas entry) (length parts + 2) 3 (strtab_text symbols) 0 0 0 (strtab_stands parts symbols relas entry f))
+
 strtab_table : (parts : List Part) (symbols : List MakeSymbol) (relas : List MakeRela) (entry : ℕ) → Fine parts symbols relas entry → IsTable (spelled parts symbols relas entry) (length parts + 2) 3 (length (strtab_text symbols)) 0 0 0
 strtab_table parts symbols relas entry f = table_fields (spelled parts symbols relas entry) (length parts + 2) 3 (strtab_text symbols) 0 0 0 (strtab_stands parts symbols relas entry f)
 
@@ -256,7 +298,8 @@ symbols_made parts symbols relas entry f =
     let t = length parts + 1 in
     record {
       is = symtab_is parts symbols relas entry f;
-      strings = omega (arith, (symtab_table parts symbols relas entry f).link_is);
+      header = symtab_header parts symbols relas entry f;
+      strings = strtab_header parts symbols relas entry f;
       count = symbols_counted parts symbols relas entry f;
       no_symbol = no_symbol_made parts symbols relas entry f;
       no_name = no_name_is e t symbols (strings_made parts symbols relas entry f) (ap (λ (y : Symbol). y.name) (no_symbol_made parts symbols relas entry f));
@@ -336,8 +379,8 @@ unfolding rela_count
 relas_counted parts symbols relas entry f k p is = omega (arith, (relas_table parts symbols relas entry f k p is).size_is, length-relas_text relas p)
 
 rela_here : (e : List ℕ) (k : ℕ) (relas : List MakeRela) (p : ℕ) (x : Item) → x.bytes ≡ relas_text relas p → (st : Stands e k x) (j : ℕ) (r : MakeRela) → slice_get (relas_of p relas) j ≡ Some r
-    → drop (rela_place e k j) e ≡ rela_text r ++ (flat_map rela_text (drop (suc j) (relas_of p relas)) ++ st.rest)
-unfolding rela_place relas_text
+    → drop (entry_offset e k j) e ≡ rela_text r ++ (flat_map rela_text (drop (suc j) (relas_of p relas)) ++ st.rest)
+unfolding entry_offset relas_text
 rela_here e k relas p x are st j r is =
     inside e k x st (12 * j) ∙ ap (λ bs. drop (12 * j) (bs ++ st.rest)) are ∙ entry_at rela_text 12 length-rela_text (relas_of p relas) j r st.rest is
 
@@ -356,11 +399,9 @@ rela_made parts symbols relas entry f k p is j r found =
 relas_made : (parts : List Part) (symbols : List MakeSymbol) (relas : List MakeRela) (entry : ℕ) → Fine parts symbols relas entry → (k p : ℕ) → slice_get (relocated (length parts) relas) k ≡ Some p
     → HasRelas (spelled parts symbols relas entry) (length parts + 3 + k) (p + 1) (length parts + 1) (relas_of p relas)
 relas_made parts symbols relas entry f k p is =
-    let table = relas_table parts symbols relas entry f k p is in
     record {
       kept = relas_kept parts symbols relas entry f k p is;
-      info = table.info_is;
-      link = table.link_is;
+      header = has_table_header (spelled parts symbols relas entry) (length parts + 3 + k) 4 (relas_text relas p) (length parts + 1) (p + 1) 12 (relas_stand parts symbols relas entry f k p is);
       count = relas_counted parts symbols relas entry f k p is;
       each = rela_made parts symbols relas entry f k p is;
     }
@@ -476,6 +517,7 @@ makes parts symbols relas entry f =
     let counted = count_made parts symbols relas entry f in
     record {
       no_fault = no_fault_from e (header_made parts symbols relas entry f) (sections_clear e (λ k lt. each_clear parts symbols relas entry f k (omega (arith, counted))));
+      header = has_header_made parts symbols relas entry;
       start = start_made parts symbols relas entry f;
       count = counted;
       no_section = null_made parts symbols relas entry f;

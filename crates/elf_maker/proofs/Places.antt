@@ -5,7 +5,6 @@ use Rattle.std.proofs.lemmas.List.{append-nil, length-append, drop-append-le}
 use Rattle.std.proofs.lemmas.Option.{slice_get_within, get_or_from_slice_get}
 use Rattle.byteorder.specs.Numbers.{little_number-reads_back}
 use Rattle.elf32_reader.specs.declared.section.Section.{Section}
-use Rattle.elf32_reader.specs.Numbers.{u16_at, u32_at}
 use Rattle.elf32_reader.specs.Header.{entry_of, table_of, count_of}
 use Rattle.elf32_reader.specs.Sections.{header_at, section}
 use Rattle.elf_maker.specs.Spelling.{Item, placed, contents, words_text, halves_text, header_text, section_text, file_text, null_section}
@@ -115,9 +114,9 @@ unfolding file_text
 header_here entry items k s is =
     let ss = null_section ∷ placed 52 items in
     let body = contents items in
-    let front = header_text entry (52 + length body) (length ss) in
-    ap (drop (52 + length body + 40 * k)) (sym (append_assoc front body (flat_map section_text ss)))
-    ∙ drop_behind (front ++ body) (flat_map section_text ss) (52 + length body) (40 * k) (omega (arith, length-append front body, length-header_text entry (52 + length body) (length ss)))
+    let prefix = header_text entry (52 + length body) (length ss) in
+    ap (drop (52 + length body + 40 * k)) (sym (append_assoc prefix body (flat_map section_text ss)))
+    ∙ drop_behind (prefix ++ body) (flat_map section_text ss) (52 + length body) (40 * k) (omega (arith, length-append prefix body, length-header_text entry (52 + length body) (length ss)))
     ∙ ap (drop (40 * k)) (sym (append-nil (flat_map section_text ss)))
     ∙ entry_at section_text 40 length-section_text ss k s [] is
 

@@ -25,14 +25,14 @@ pub entries_more : (ss : List MakeSymbol) (i : ℕ) (s : MakeSymbol) (old new na
     → old ≡ no_symbol ++ symbols_text 1 (take i ss) → names ≡ 0 ∷ names_text (take i ss) → new ≡ old ++ symbol_text (length names) s
     → new ≡ no_symbol ++ symbols_text 1 (take (i + 1) ss)
 entries_more ss i s old new names below is olds are news =
-    let front = take i ss in
+    let prefix = take i ss in
     news ∙ ap (λ bs. bs ++ symbol_text (length names) s) olds
-    ∙ append_assoc no_symbol (symbols_text 1 front) (symbol_text (length names) s)
+    ∙ append_assoc no_symbol (symbols_text 1 prefix) (symbol_text (length names) s)
     ∙ ap (λ bs. no_symbol ++ bs)
-    (ap (λ n. symbols_text 1 front ++ symbol_text n s) (let e : length names ≡ 1 + length (names_text front) = omega (arith, ap length are) in e)
-    ∙ ap (λ bs. symbols_text 1 front ++ bs) (sym (append-nil (symbol_text (1 + length (names_text front)) s)))
-    ∙ sym (symbols_text-append 1 front (s ∷ []))
-    ∙ ap (symbols_text 1) (ap (λ x. front ++ x ∷ []) is ∙ sym (take_more ss i s below)))
+    (ap (λ n. symbols_text 1 prefix ++ symbol_text n s) (let e : length names ≡ 1 + length (names_text prefix) = omega (arith, ap length are) in e)
+    ∙ ap (λ bs. symbols_text 1 prefix ++ bs) (sym (append-nil (symbol_text (1 + length (names_text prefix)) s)))
+    ∙ sym (symbols_text-append 1 prefix (s ∷ []))
+    ∙ ap (symbols_text 1) (ap (λ x. prefix ++ x ∷ []) is ∙ sym (take_more ss i s below)))
 
 pub names_more : (ss : List MakeSymbol) (i : ℕ) (s : MakeSymbol) (old new : List ℕ) → i < length ss → s ≡ get_or ss i s
     → old ≡ 0 ∷ names_text (take i ss) → new ≡ old ++ name_text s → new ≡ 0 ∷ names_text (take (i + 1) ss)

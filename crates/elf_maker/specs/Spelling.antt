@@ -25,7 +25,7 @@ section_text s = words_text (s.name ∷ s.kind ∷ s.flags ∷ s.addr ∷ s.offs
 abbrev pub ident : List ℕ
 ident = 127 ∷ 69 ∷ 76 ∷ 70 ∷ 1 ∷ 1 ∷ 1 ∷ 0 ∷ 0 ∷ 0 ∷ 0 ∷ 0 ∷ 0 ∷ 0 ∷ 0 ∷ 0 ∷ []
 
--- a file header with the place of the section headers and their count
+-- a file header with the offset of the section headers and their count
 unfoldable pub header_text : ℕ → ℕ → ℕ → List ℕ
 header_text entry table count =
     ident ++ (halves_text (2 ∷ 243 ∷ []) ++ (words_text (1 ∷ entry ∷ 0 ∷ table ∷ 0 ∷ []) ++ halves_text (52 ∷ 0 ∷ 0 ∷ 40 ∷ count ∷ 0 ∷ [])))
@@ -35,12 +35,12 @@ unfoldable pub file_text : ℕ → List Section → List ℕ → List ℕ
 file_text entry sections body =
     header_text entry (52 + length body) (length sections) ++ (body ++ flat_map section_text sections)
 
--- a section before it has a place
+-- a section before it has an offset
 pub record Item : Type 0 where
   pub header : Section
   pub bytes : List ℕ
 
--- the headers of sections whose contents stand one after the other from a place on
+-- the headers of sections whose contents stand one after the other from an offset on
 abbrev pub placed : ℕ → List Item → List Section
 placed at [] = []
 placed at (item ∷ items) = record item.header { offset = at } ∷ placed (at + length item.bytes) items
@@ -57,7 +57,7 @@ pub record Adds (old new : Writer) (items : List Item) : Type 0 where
 abbrev pub null_section : Section
 null_section = record { name = 0; kind = 0; flags = 0; addr = 0; offset = 0; size = 0; link = 0; info = 0; addralign = 0; entsize = 0 }
 
--- a section header without a place
+-- a section header without its offset
 unfoldable pub header_of : (kind flags addr size link info entsize : ℕ) → Section
 header_of kind flags addr size link info entsize =
     record { name = 0; kind = kind; flags = flags; addr = addr; offset = 0; size = size; link = link; info = info; addralign = 1; entsize = entsize }
@@ -75,7 +75,7 @@ table_header kind size link info entsize = header_of kind 0 0 size link info ent
 abbrev pub table_item : ℕ → List ℕ → ℕ → ℕ → ℕ → Item
 table_item kind bytes link info entsize = record { header = table_header kind (length bytes) link info entsize; bytes = bytes }
 
--- a symbol whose name stands at a place of the string table
+-- a symbol whose name stands at an index of the string table
 unfoldable pub symbol_text : ℕ → MakeSymbol → List ℕ
 symbol_text at s = words_text (at ∷ s.value ∷ 0 ∷ []) ++ (s.info ∷ 0 ∷ halves_text (s.shndx ∷ []))
 
@@ -86,7 +86,7 @@ name_text s = s.name.items ++ 0 ∷ []
 abbrev pub names_text : List MakeSymbol → List ℕ
 names_text symbols = flat_map name_text symbols
 
--- symbols whose names stand one after the other from a place on
+-- symbols whose names stand one after the other from an index on
 abbrev pub symbols_text : ℕ → List MakeSymbol → List ℕ
 symbols_text at [] = []
 symbols_text at (s ∷ symbols) = symbol_text at s ++ symbols_text (at + length (name_text s)) symbols

@@ -23,7 +23,7 @@ const SYMBOL_LEN: u32 = 16;
 /// The bytes of a relocation with an addend.
 const RELA_LEN: u32 = 12;
 
-/// A section header without a place, whose numbers are known to fit.
+/// A section header without its offset, whose numbers are known to fit.
 #[tactic(auto, unfolding(crate::specs::Spelling::header_of))]
 fn section(
     kind: u32,
@@ -54,7 +54,7 @@ fn section(
     }
 }
 
-/// The section header of a part, without a place.
+/// The section header of a part, without its offset.
 #[tactic(auto, unfolding(crate::specs::Spelling::part_header))]
 fn part_section(part: &Part) -> Section
     ensures header { result ≡ part_header part.now }
@@ -63,7 +63,7 @@ fn part_section(part: &Part) -> Section
     section(part.kind, part.flags, part.addr, part.size, 0, 0, 0)
 }
 
-/// The section header of a table, without a place.
+/// The section header of a table, without its offset.
 #[tactic(auto, unfolding(crate::specs::Spelling::table_header))]
 fn table_section(kind: u32, size: u32, link: u32, info: u32, entsize: u32) -> Section
     ensures { result ≡ table_header kind size link info entsize }

@@ -43,7 +43,7 @@ impl SymbolTable {
     }
 }
 
-/// Adds a symbol whose name stands at a place.
+/// Adds a symbol whose name stands at an index of the string table.
 #[tactic(auto, unfolding(crate::specs::Spelling::symbol_text))]
 fn push_symbol(out: &mut Vec<u8>, name: u32, symbol: &MakeSymbol) -> Result<(), AllocError>
     ensures entry { OnOk result (out.new.items ≡ out.old.items ++ symbol_text name symbol.now) }

@@ -128,63 +128,6 @@ fn rela_in(elf: &Elf<'_>, index: u32, entry: u32) -> Option<Rela> {
     Some(elf.rela(index, entry))
 }
 
-/// A word of .data that points at .text.
-#[test]
-fn one_word(rt: HostRuntime) -> Result<(), Fail> {
-    let alloc = rt.alloc();
-    let text = progbits(alloc, 6, 0x10000, &[0x13, 0, 0, 0, 0x13, 0, 0, 0])?;
-    let data = progbits(alloc, 3, 0x10008, &[0, 0, 1, 0])?;
-    let start = symbol(alloc, b"start", 0x10000, 0x10, 1)?.ok_or("a zero")?;
-    let relas = [MakeRela {
-        part: 1,
-        offset: 0x10008,
-        symbol: 1,
-        kind: 1,
-        addend: 0,
-    }];
-    let file = make(alloc, &[text, data], &[start], &relas, 0x10000)?;
-    let elf = Elf::read(&file).expect(&rt, "it is read");
-    assert_eq!(rt; elf.entry(), 0x10000);
-    assert_eq!(rt; elf.sections(), 6);
-    let cases = [
-        (0, [0, 0, 0, 0, 0, 0, 0]),
-        (1, [1, 6, 0x10000, 8, 0, 0, 0]),
-        (2, [1, 3, 0x10008, 4, 0, 0, 0]),
-        (3, [2, 0, 0, 32, 4, 1, 16]),
-        (4, [3, 0, 0, 7, 0, 0, 0]),
-        (5, [4, 0, 0, 12, 3, 2, 12]),
-    ];
-    for (index, want) in cases {
-        assert_eq!(rt; section_in(&elf, index), Some(want), "section {index}");
-    }
-    assert_eq!(rt;
-        content_in(&elf, 1).expect(&rt, ".text"),
-        [0x13, 0, 0, 0, 0x13, 0, 0, 0].as_slice()
-    );
-    assert_eq!(rt;
-        content_in(&elf, 2).expect(&rt, ".data"),
-        [0, 0, 1, 0].as_slice()
-    );
-    let (none, no_name) = symbol_in(&elf, 3, 0).expect(&rt, "symbol 0");
-    assert_eq!(rt; none, symbol_of(0, 0, 0, 0));
-    assert!(rt; no_name.is_empty());
-    let (first, name) = symbol_in(&elf, 3, 1).expect(&rt, "symbol 1");
-    assert_eq!(rt; first, symbol_of(1, 0x10000, 0x10, 1));
-    assert_eq!(rt; name, b"start".as_slice());
-    assert!(rt; symbol_in(&elf, 3, 2).is_none());
-    assert_eq!(rt;
-        rela_in(&elf, 5, 0),
-        Some(Rela {
-            offset: 0x10008,
-            symbol: 1,
-            kind: 1,
-            addend: 0
-        })
-    );
-    assert!(rt; rela_in(&elf, 5, 1).is_none());
-    Ok(())
-}
-
 /// Relocations of two parts, mixed, with a part without content between them; weak, absolute and
 /// nameless symbols.
 #[test]
@@ -219,7 +162,12 @@ fn three_parts(rt: HostRuntime) -> Result<(), Fail> {
     for (index, want) in cases {
         assert_eq!(rt; section_in(&elf, index), Some(want), "section {index}");
     }
+    assert_eq!(rt;
+        content_in(&elf, 3).expect(&rt, ".data"),
+        [9, 10, 11, 12].as_slice()
+    );
     let names = [
+        (0, 0, 0, 0, b"".as_slice()),
         (1, 0, 0x20, 0, b"weak".as_slice()),
         (2, 0x20800, 0x10, 0xfff1, b"__global_pointer$".as_slice()),
         (3, 0xffff_ffff, 3, 3, b"".as_slice()),

@@ -53,7 +53,7 @@ impl Writer {
         })
     }
 
-    /// Adds a section, whose offset becomes the place of its content.
+    /// Adds a section, whose offset becomes that of its content.
     pub fn push(&mut self, section: Section, content: &[u8]) -> Result<(), AllocError>
         requires { length self.old.body.items < 2 ^ 31 }
         ensures { OnOk result (Adds self.old self.new (record { header = section; bytes = content.now } ∷ [])) }
@@ -80,7 +80,7 @@ impl Writer {
     }
 }
 
-/// The file header, with the place of the section headers and their count.
+/// The file header, with the offset of the section headers and their count.
 #[tactic(auto, unfolding(crate::specs::Spelling::header_text))]
 fn push_header(out: &mut Vec<u8>, entry: u32, table: u32, count: u16) -> Result<(), AllocError>
     ensures { OnOk result (out.new.items ≡ out.old.items ++ header_text entry table count) }

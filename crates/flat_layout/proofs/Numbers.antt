@@ -1,27 +1,17 @@
 -- The numbers of the bytes of a file without a layout fault.
-use Rattle.std.proofs.Common.{◌≡◌, ℕ, zero, suc, ◌+◌, ◌-◌, ◌%◌, ◌^◌, ◌<◌, ◌≤◌, ◌≢◌, ◌⊎◌, List, Bool, true, false, not, ◌&&◌, None, refl, sym, ◌∙◌, arith, inl, inr, nat_lt, nat_le, nat_eq}
-use Rattle.std.proofs.lemmas.Bool.{and_parts, and_from, and_cases, not-false, ltb-false, leb-true, eqb-true, cases_lt, or_cases}
+use Rattle.std.proofs.Common.{◌≡◌, ℕ, ◌+◌, ◌-◌, ◌%◌, ◌^◌, ◌<◌, ◌≤◌, ◌≢◌, ◌⊎◌, List, true, false, not, ◌&&◌, None, refl, sym, ◌∙◌, arith, inl, inr, nat_lt, nat_le, nat_eq}
+use Rattle.std.proofs.lemmas.Bool.{and_parts, and_from, and_cases, not-false, ltb-false, leb-true, eqb-true, cases_lt}
 use Rattle.elf32_reader.specs.declared.section.Section.{Section}
 use Rattle.byte_words.specs.Search.{any_below}
 use Rattle.elf32_reader.specs.Header.{count_of, entry_of}
 use Rattle.elf32_reader.specs.Sections.{section}
-use Rattle.byte_words.proofs.Searches.{or_parts, and_rest, any_below_none}
+use Rattle.byte_words.proofs.Searches.{or_parts, and_rest, any_below_none, any_below_some}
 use Rattle.flat_layout.specs.declared.layout.Layout.{Layout}
 use Rattle.flat_layout.specs.Numbering.{is_laid_out, has_bytes, is_executable, end_of, lowest, highest, distance, start_of}
 use Rattle.flat_layout.specs.Layout.{off, size_of, stored_end, layout}
 use Rattle.flat_layout.specs.Fault.{meets, meets_below, has_overlap, holds_code, is_entry_outside, layout_fault}
 use Rattle.flat_layout.proofs.Bounds.{greatest_at}
 use Rattle.flat_layout.proofs.Facts.{has_no_row, has_sizes, is_raised, lowest_at, highest_at, laid_out, text-data, size_of-layout}
-
--- some index that passes
-any_below_some : (p : ℕ → Bool) (n : ℕ) → any_below p n ≡ true → (i : ℕ) × ((i < n) × (p i ≡ true))
-unfolding any_below
-any_below_some p zero h = absurd (cc)
-any_below_some p (suc n) h =
-    elim (or_cases (any_below p n) (p n) h) [
-      | inl before ↦ (let found = any_below_some p n before in (found.0, (omega (arith, found.1.0), found.1.1)))
-      | inr here ↦ (n, (omega arith, here))
-    ]
 
 -- any number of an address has 32 bits
 pub off_fits : (l : Layout) (a : ℕ) → off l a < 2 ^ 32

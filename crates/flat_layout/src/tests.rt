@@ -102,8 +102,8 @@ fn faults(rt: HostRuntime) -> Result<(), Fail> {
     Ok(())
 }
 
-/// The examples `convert-one-word`, `convert-linked-at-zero`, `hi` and the programs of the demo, and images up to
-/// the limits: one that ends at 2^32, and one of 16 MiB.
+/// Images of two and three sections, at even and uneven addresses, up to the limits: one that begins below
+/// address 0, one that ends at 2^32, and one of 16 MiB.
 #[test]
 fn layouts(rt: HostRuntime) -> Result<(), Fail> {
     let one_word = Layout {
@@ -120,7 +120,7 @@ fn layouts(rt: HostRuntime) -> Result<(), Fail> {
         bss: 0,
         entry: 64,
     };
-    let table: [(u32, &[Header], Layout); 6] = [
+    let table: [(u32, &[Header], Layout); 8] = [
         (
             0x10000,
             &[DEBUG, TEXT, [PROGBITS, WA, 0x10008, 4]],
@@ -149,6 +149,34 @@ fn layouts(rt: HostRuntime) -> Result<(), Fail> {
                 text: 128,
                 data_len: 8,
                 ..one_word
+            },
+        ),
+        (
+            0x10000,
+            &[
+                [PROGBITS, AX, 0x10000, 64],
+                [NOBITS, WA, 0x10040, 32],
+                [PROGBITS, WA, 0x10060, 4],
+            ],
+            Layout {
+                text: 128,
+                data_len: 36,
+                ..one_word
+            },
+        ),
+        (
+            0x10014,
+            &[
+                [PROGBITS, AX, 0x10014, 48],
+                [PROGBITS, WA, 0x10044, 8],
+                [NOBITS, WA, 0x1004c, 4],
+            ],
+            Layout {
+                v0: 0x10000,
+                text: 64,
+                data_len: 12,
+                bss: 4,
+                entry: 20,
             },
         ),
         (

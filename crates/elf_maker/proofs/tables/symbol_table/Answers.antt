@@ -3,14 +3,14 @@ use Rattle.std.proofs.lemmas.List.{take_all}
 use Rattle.std.proofs.lemmas.List.Elements.{All-more}
 use Rattle.elf_maker.specs.Fits.{FitsSymbol}
 use Rattle.elf_maker.specs.Spelling.{no_symbol, name_text, names_text, symbols_text, symtab_text, strtab_text}
-use Rattle.elf_maker.proofs.Laid.{flat_map_front}
+use Rattle.elf_maker.proofs.Laid.{flat_map_prefix}
 use Rattle.elf_maker.proofs.Texts.{entries_more, names_more}
 use Rattle.elf_maker.proofs.tables.symbol_table.Goals as goal
 
 pub push-requires : goal.push-requires
 unfolding strtab_text
 push-requires c =
-    omega (arith, c.requires, ap length c.loop-symbol.invariant.names, flat_map_front name_text c.args.symbols.now c.loop-symbol.symbol-index)
+    omega (arith, c.requires, ap length c.loop-symbol.invariant.names, flat_map_prefix name_text c.args.symbols.now c.loop-symbol.symbol-index)
 
 pub loop-symbol-preserved : goal.loop-symbol-preserved
 loop-symbol-preserved c =
