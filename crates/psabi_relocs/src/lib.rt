@@ -25,6 +25,3 @@ pub use pairs::Pairs;
 pub use reloc::{Reloc, reloc_at};
 pub use row::{Row, Shape, Step, Width};
 pub use spans::{Span, Spans, spans_of};
-
-#[cfg(test)]
-mod tests;

@@ -15,10 +15,13 @@ mod refusals;
 mod slots;
 mod values;
 
-use super::*;
 use elf_maker::{MakeRela, MakeSymbol, Part, make};
 use elf32_reader::Elf;
 use flat_layout::Layout;
+use psabi_relocs::{
+    Class, Effect, Pairs, Reloc, RelocFault, Row, Shape, Span, Spans, Step, Width, check, class_of,
+    reloc_at, slot_of, spans_of,
+};
 use std::alloc::{AllocError, Global};
 use std::process::Abort;
 use std::test::*;

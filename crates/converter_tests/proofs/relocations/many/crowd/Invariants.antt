@@ -1,6 +1,6 @@
 use Rattle.std.proofs.Common.{◌≡◌, ◌<◌, length}
 use Rattle.std.specs.List.{All}
-use Rattle.psabi_relocs.proofs.tests.many.crowd.Given as goal
+use Rattle.converter_tests.proofs.relocations.many.crowd.Given as goal
 
 -- the entries so far
 abbrev pub invariant-loop-index : goal.invariant-loop-index
