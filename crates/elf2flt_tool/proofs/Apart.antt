@@ -14,7 +14,7 @@ use Rattle.flat_layout.specs.declared.layout.Layout.{Layout}
 use Rattle.flat_layout.specs.Layout.{layout, off}
 use Rattle.psabi_relocs.specs.declared.reloc.Reloc.{Reloc}
 use Rattle.psabi_relocs.specs.declared.row.Row.{Row}
-use Rattle.psabi_relocs.specs.declared.row.Row.TheVariants.{Unknown, Mark, Pointer, Absolute, Relative, Call, GotHi20, Low, Group}
+use Rattle.psabi_relocs.specs.declared.row.Row.TheVariants.{Pointer, GotHi20, Low}
 use Rattle.psabi_relocs.specs.declared.row.Shape.{Shape}
 use Rattle.psabi_relocs.specs.Class.{is_moving}
 use Rattle.psabi_relocs.specs.Row.{field_len, is_got_hi20, is_low}
@@ -72,42 +72,16 @@ entry_by l GotHi20 r (Some o) (Some g) own slot =
       few = one_few l g 4 (is_moving r.class);
       lens = (λ is. absurd (cc), (λ is. refl, tt));
     }
-entry_by l Unknown r None g own slot = still_entry l Unknown r None refl refl refl
-entry_by l Unknown r (Some o) g own slot = still_entry l Unknown r (Some o) refl refl refl
-entry_by l Mark r None g own slot = still_entry l Mark r None refl refl refl
-entry_by l Mark r (Some o) g own slot = still_entry l Mark r (Some o) refl refl refl
-entry_by l (Absolute shape) r None g own slot = still_entry l (Absolute shape) r None refl refl refl
-entry_by l (Absolute shape) r (Some o) g own slot = still_entry l (Absolute shape) r (Some o) refl refl refl
-entry_by l (Relative shape) r None g own slot = still_entry l (Relative shape) r None refl refl refl
-entry_by l (Relative shape) r (Some o) g own slot = still_entry l (Relative shape) r (Some o) refl refl refl
-entry_by l Call r None g own slot = still_entry l Call r None refl refl refl
-entry_by l Call r (Some o) g own slot = still_entry l Call r (Some o) refl refl refl
-entry_by l (Low shape) r None g own slot = still_entry l (Low shape) r None refl refl refl
-entry_by l (Low shape) r (Some o) g own slot = still_entry l (Low shape) r (Some o) refl refl refl
-entry_by l (Group width step) r None g own slot = still_entry l (Group width step) r None refl refl refl
-entry_by l (Group width step) r (Some o) g own slot = still_entry l (Group width step) r (Some o) refl refl refl
+entry_by l row r None g own slot = still_entry l row r None refl refl refl
+entry_by l row r (Some o) g own slot = still_entry l row r (Some o) refl refl refl
 
 pointer_high : (row : Row) → is_pointer row ≡ true → (is_low row ≡ false) × (is_got_hi20 row ≡ false)
 pointer_high Pointer is = (refl, refl)
-pointer_high GotHi20 is = absurd (cc)
-pointer_high Unknown is = absurd (cc)
-pointer_high Mark is = absurd (cc)
-pointer_high (Absolute shape) is = absurd (cc)
-pointer_high (Relative shape) is = absurd (cc)
-pointer_high Call is = absurd (cc)
-pointer_high (Low shape) is = absurd (cc)
-pointer_high (Group width step) is = absurd (cc)
+pointer_high _ is = absurd (cc)
 
 got_low : (row : Row) → is_got_hi20 row ≡ true → is_low row ≡ false
-got_low GotHi20 is = refl
-got_low Pointer is = refl
-got_low Unknown is = refl
-got_low Mark is = refl
-got_low (Absolute shape) is = refl
-got_low (Relative shape) is = refl
-got_low Call is = refl
 got_low (Low shape) is = absurd (cc)
-got_low (Group width step) is = refl
+got_low _ is = refl
 
 pub own_pointer : (e : List ℕ) (i : ℕ) (r : Reloc) → is_pointer r.row ≡ true → ends_of e i r ≡ Some (own_ends r)
 unfolding ends_of high_ends

@@ -17,7 +17,7 @@ use Rattle.flat_layout.specs.Layout.{layout, off, stored_end}
 use Rattle.byte_words.specs.Numbers.{IsBytes}
 use Rattle.psabi_relocs.specs.declared.reloc.Reloc.{Reloc}
 use Rattle.psabi_relocs.specs.declared.row.Row.{Row}
-use Rattle.psabi_relocs.specs.declared.row.Row.TheVariants.{Unknown, Mark, Pointer, Absolute, Relative, Call, GotHi20, Low, Group}
+use Rattle.psabi_relocs.specs.declared.row.Row.TheVariants.{Mark, Pointer, Absolute, Relative, Call, GotHi20, Low}
 use Rattle.psabi_relocs.specs.declared.row.Shape.TheVariants as shapes
 use Rattle.psabi_relocs.specs.Class.{is_moving}
 use Rattle.psabi_relocs.specs.Row.{field_len, is_mark, is_got_hi20, is_low}
@@ -90,15 +90,13 @@ record StandsIn (row : Row) (p : ℕ) (f : Field) : Type 0 where
   pointer : f.recorded ≡ true → f.shape ≡ shapes.Word
 
 own_places : (row : Row) (r : Reloc) (o : Ends) → Each (StandsIn row r.place) (own_fields row 0 r o)
-own_places Unknown r o = tt
-own_places Mark r o = tt
 own_places Pointer r o = (record { from = omega arith; to = omega arith; pointer = λ is. refl }, tt)
 own_places (Absolute shape) r o = (record { from = omega arith; to = omega arith; pointer = λ is. absurd (cc) }, tt)
 own_places (Relative shape) r o = (record { from = omega arith; to = omega arith; pointer = λ is. absurd (cc) }, tt)
 own_places Call r o = (record { from = omega arith; to = omega arith; pointer = λ is. absurd (cc) }, (record { from = omega arith; to = omega arith; pointer = λ is. absurd (cc) }, tt))
 own_places GotHi20 r o = (record { from = omega arith; to = omega arith; pointer = λ is. absurd (cc) }, tt)
 own_places (Low shape) r o = (record { from = omega arith; to = omega arith; pointer = λ is. absurd (cc) }, tt)
-own_places (Group width step) r o = tt
+own_places _ r o = tt
 
 -- the section that the entries of a kept section apply to
 pub record IsTarget (e : List ℕ) (i : ℕ) : Type 0 where
@@ -166,14 +164,7 @@ got_slot e i r o got plain from =
 
 got_is_high : (row : Row) → is_got_hi20 row ≡ true → is_low row ≡ false
 got_is_high GotHi20 is = refl
-got_is_high Unknown is = absurd (cc)
-got_is_high Mark is = absurd (cc)
-got_is_high Pointer is = absurd (cc)
-got_is_high (Absolute shape) is = absurd (cc)
-got_is_high (Relative shape) is = absurd (cc)
-got_is_high Call is = absurd (cc)
-got_is_high (Low shape) is = absurd (cc)
-got_is_high (Group width step) is = absurd (cc)
+got_is_high _ is = absurd (cc)
 
 slot_found : (e : List ℕ) (i : ℕ) (r : Reloc) (o : Ends) → IsTarget e i → IsRight e i r o → is_got_hi20 r.row ≡ true → ends_of e i r ≡ Some o → SlotStands e o.value
 slot_found e i r o t right got from =
@@ -214,14 +205,7 @@ slot_held e i r o t right got from =
 slots_held : (row : Row) (e : List ℕ) (r : Reloc) (o : Ends) → (is_got_hi20 row ≡ true → IsHeld e (record { place = o.value; shape = shapes.Word; value = moved 0 r % 2 ^ 32; recorded = is_moving r.class }))
     → Each (IsHeld e) (slot_fields row 0 r o)
 slots_held GotHi20 e r o held = (held refl, tt)
-slots_held Unknown e r o held = tt
-slots_held Mark e r o held = tt
-slots_held Pointer e r o held = tt
-slots_held (Absolute shape) e r o held = tt
-slots_held (Relative shape) e r o held = tt
-slots_held Call e r o held = tt
-slots_held (Low shape) e r o held = tt
-slots_held (Group width step) e r o held = tt
+slots_held _ e r o held = tt
 
 -- ---- an entry
 
@@ -242,14 +226,7 @@ entry_raised e d i r (Some o) all sound from =
 -- a mark has no field
 mark_fields : (row : Row) (d : ℕ) (r : Reloc) (o : Ends) → is_mark row ≡ true → own_fields row d r o ++ slot_fields row d r o ≡ []
 mark_fields Mark d r o is = refl
-mark_fields Unknown d r o is = absurd (cc)
-mark_fields Pointer d r o is = absurd (cc)
-mark_fields (Absolute shape) d r o is = absurd (cc)
-mark_fields (Relative shape) d r o is = absurd (cc)
-mark_fields Call d r o is = absurd (cc)
-mark_fields GotHi20 d r o is = absurd (cc)
-mark_fields (Low shape) d r o is = absurd (cc)
-mark_fields (Group width step) d r o is = absurd (cc)
+mark_fields _ d r o is = absurd (cc)
 
 mark_from : (d : ℕ) (r : Reloc) (o : Option Ends) → is_mark r.row ≡ true → fields_from d r o ≡ []
 mark_from d r None is = refl

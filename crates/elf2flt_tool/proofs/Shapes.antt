@@ -16,7 +16,7 @@ use Rattle.psabi_relocs.specs.declared.effect.Effect.{Effect}
 use Rattle.psabi_relocs.specs.declared.effect.Effect.TheVariants.{Still, Word}
 use Rattle.psabi_relocs.specs.declared.reloc.Reloc.{Reloc}
 use Rattle.psabi_relocs.specs.declared.row.Row.{Row}
-use Rattle.psabi_relocs.specs.declared.row.Row.TheVariants.{Unknown, Mark, Pointer, Absolute, Relative, Call, GotHi20, Low, Group}
+use Rattle.psabi_relocs.specs.declared.row.Row.TheVariants.{Mark, Pointer, GotHi20}
 use Rattle.psabi_relocs.specs.declared.spans.Span.{Span}
 use Rattle.psabi_relocs.specs.Class.{is_moving}
 use Rattle.psabi_relocs.specs.Row.{field_len, is_mark, is_got_hi20}
@@ -47,13 +47,7 @@ entry_shape : (row : Row) (r : Reloc) (g : Option ℕ)
 entry_shape Pointer r g = λ is. refl
 entry_shape GotHi20 r None = λ is. absurd (cc)
 entry_shape GotHi20 r (Some g) = (refl, refl, refl)
-entry_shape Unknown r g = λ is. absurd (cc)
-entry_shape Mark r g = λ is. absurd (cc)
-entry_shape (Absolute shape) r g = λ is. absurd (cc)
-entry_shape (Relative shape) r g = λ is. absurd (cc)
-entry_shape Call r g = λ is. absurd (cc)
-entry_shape (Low shape) r g = λ is. absurd (cc)
-entry_shape (Group width step) r g = λ is. absurd (cc)
+entry_shape _ r g = λ is. absurd (cc)
 
 pub spans_entry : (e : List ℕ) (i j : ℕ) → IsEntry (spans e i j)
 unfolding spans
@@ -69,13 +63,7 @@ moving_by _ r g = Still
 moving_is_by : (row : Row) (e : List ℕ) (i : ℕ) (r : Reloc) → moving_effect row e i r ≡ moving_by row r (slot_of e i r.place)
 moving_is_by Pointer e i r = refl
 moving_is_by GotHi20 e i r = refl
-moving_is_by Unknown e i r = refl
-moving_is_by Mark e i r = refl
-moving_is_by (Absolute shape) e i r = refl
-moving_is_by (Relative shape) e i r = refl
-moving_is_by Call e i r = refl
-moving_is_by (Low shape) e i r = refl
-moving_is_by (Group width step) e i r = refl
+moving_is_by _ e i r = refl
 
 abbrev fields_by : Row → Reloc → Option Ends → List Field
 fields_by row r None = []
@@ -119,20 +107,8 @@ words_by l GotHi20 r None (Some g) start own slot = absurd (let some = slot refl
 words_by l GotHi20 r (Some o) None start own slot = absurd (let some = slot refl in cc)
 words_by l GotHi20 r (Some o) (Some g) start own slot =
     slot_words l r o g start (let some : o ≡ slot_ends r.place g = (let s = slot refl in cc) in ap (λ o. o.value) some)
-words_by l Unknown r None g start own slot = still_words l (is_moving r.class)
-words_by l Unknown r (Some o) g start own slot = still_words l (is_moving r.class)
-words_by l Mark r None g start own slot = still_words l (is_moving r.class)
-words_by l Mark r (Some o) g start own slot = still_words l (is_moving r.class)
-words_by l (Absolute shape) r None g start own slot = still_words l (is_moving r.class)
-words_by l (Absolute shape) r (Some o) g start own slot = still_words l (is_moving r.class)
-words_by l (Relative shape) r None g start own slot = still_words l (is_moving r.class)
-words_by l (Relative shape) r (Some o) g start own slot = still_words l (is_moving r.class)
-words_by l Call r None g start own slot = still_words l (is_moving r.class)
-words_by l Call r (Some o) g start own slot = still_words l (is_moving r.class)
-words_by l (Low shape) r None g start own slot = still_words l (is_moving r.class)
-words_by l (Low shape) r (Some o) g start own slot = still_words l (is_moving r.class)
-words_by l (Group width step) r None g start own slot = still_words l (is_moving r.class)
-words_by l (Group width step) r (Some o) g start own slot = still_words l (is_moving r.class)
+words_by l _ r None g start own slot = still_words l (is_moving r.class)
+words_by l _ r (Some o) g start own slot = still_words l (is_moving r.class)
 
 -- an effect's word is that of the entry's fields
 pub effect_is : (e : List ℕ) (l : Layout) (i j : ℕ) → l.v0 < 2 ^ 32 → effect_words l (effect e i j) ≡ map (numbered l) (pointers (fields e 0 i j))
@@ -159,25 +135,11 @@ bytes_inside e k a n laid below allocated held some =
 
 mark_len : (row : Row) → is_mark row ≡ true → field_len row ≡ 0
 mark_len Mark is = refl
-mark_len Unknown is = absurd (cc)
-mark_len Pointer is = absurd (cc)
-mark_len (Absolute shape) is = absurd (cc)
-mark_len (Relative shape) is = absurd (cc)
-mark_len Call is = absurd (cc)
-mark_len GotHi20 is = absurd (cc)
-mark_len (Low shape) is = absurd (cc)
-mark_len (Group width step) is = absurd (cc)
+mark_len _ is = absurd (cc)
 
 got_plain : (row : Row) → is_got_hi20 row ≡ true → is_mark row ≡ false
-got_plain GotHi20 is = refl
 got_plain Mark is = absurd (cc)
-got_plain Unknown is = refl
-got_plain Pointer is = refl
-got_plain (Absolute shape) is = refl
-got_plain (Relative shape) is = refl
-got_plain Call is = refl
-got_plain (Low shape) is = refl
-got_plain (Group width step) is = refl
+got_plain _ is = refl
 
 -- what the test for places says of an entry that passes it
 record IsPlaced (e : List ℕ) (i : ℕ) (r : Reloc) : Type 0 where

@@ -11,7 +11,7 @@ use Rattle.psabi_relocs.specs.declared.class.Class.{Class}
 use Rattle.psabi_relocs.specs.declared.class.Class.TheVariants.{Moves, Fixed, Weak, Undefined, Bad}
 use Rattle.psabi_relocs.specs.declared.reloc.Reloc.{Reloc}
 use Rattle.psabi_relocs.specs.declared.row.Row.{Row}
-use Rattle.psabi_relocs.specs.declared.row.Row.TheVariants.{Unknown, Mark, Pointer, Absolute, Relative, Call, GotHi20, Low, Group}
+use Rattle.psabi_relocs.specs.declared.row.Row.TheVariants.{Mark, Absolute, Relative, Call, GotHi20, Low}
 use Rattle.psabi_relocs.specs.Search.{first_below}
 use Rattle.psabi_relocs.specs.Class.{is_moving}
 use Rattle.psabi_relocs.specs.Row.{is_unknown, is_mark, is_got_hi20, is_absolute, is_relative, is_high, is_low}
@@ -125,24 +125,11 @@ high_moves e i r o moves some = elim (cases_Bool (is_got_hi20 r.row)) [
 high_or_got : (row : Row) → is_high row ≡ true → is_got_hi20 row ≡ false → is_relative row ≡ true
 high_or_got GotHi20 high plain = absurd (cc)
 high_or_got (Relative shape) high plain = refl
-high_or_got Unknown high plain = absurd (cc)
-high_or_got Mark high plain = absurd (cc)
-high_or_got Pointer high plain = absurd (cc)
-high_or_got (Absolute shape) high plain = absurd (cc)
-high_or_got Call high plain = absurd (cc)
-high_or_got (Low shape) high plain = absurd (cc)
-high_or_got (Group width step) high plain = absurd (cc)
+high_or_got _ high plain = absurd (cc)
 
 high_no_mark : (row : Row) → is_high row ≡ true → is_mark row ≡ false
 high_no_mark Mark high = absurd (cc)
-high_no_mark GotHi20 high = refl
-high_no_mark (Relative shape) high = refl
-high_no_mark Unknown high = refl
-high_no_mark Pointer high = refl
-high_no_mark (Absolute shape) high = refl
-high_no_mark Call high = refl
-high_no_mark (Low shape) high = refl
-high_no_mark (Group width step) high = refl
+high_no_mark _ high = refl
 
 is_high_row : (q : ℕ) (r : Reloc) → is_high_at q r ≡ true → is_high r.row ≡ true
 unfolding is_high_at
@@ -170,13 +157,7 @@ has_distance row = is_relative row || is_got_hi20 row || is_low row
 distance_row : (row : Row) → has_distance row ≡ true → is_low row ≡ false → is_got_hi20 row ≡ false → is_relative row ≡ true
 distance_row (Relative shape) d low got = refl
 distance_row Call d low got = refl
-distance_row GotHi20 d low got = absurd (cc)
-distance_row (Low shape) d low got = absurd (cc)
-distance_row Unknown d low got = absurd (cc)
-distance_row Mark d low got = absurd (cc)
-distance_row Pointer d low got = absurd (cc)
-distance_row (Absolute shape) d low got = absurd (cc)
-distance_row (Group width step) d low got = absurd (cc)
+distance_row _ d low got = absurd (cc)
 
 -- the distance of an accepted entry is between what moves together
 pub ends_move : (e : List ℕ) (i : ℕ) (r : Reloc) (o : Ends) → AllSound e i → IsSound e i r → has_distance r.row ≡ true → ends_of e i r ≡ Some o → o.moves ≡ true
@@ -187,12 +168,9 @@ ends_move e i r o all sound distance some = elim (cases_Bool (is_low r.row)) [
 ]
 
 pub steady : (row : Row) (r : Reloc) (o : Ends) → (is_absolute row && is_moving r.class) ≡ false → (has_distance row ≡ true → o.moves ≡ true) → IsSteady row r o
-steady Unknown r o still moves = tt
-steady Mark r o still moves = tt
-steady Pointer r o still moves = tt
 steady (Absolute shape) r o still moves = still
 steady (Relative shape) r o still moves = moves refl
 steady Call r o still moves = moves refl
 steady GotHi20 r o still moves = moves refl
 steady (Low shape) r o still moves = moves refl
-steady (Group width step) r o still moves = tt
+steady _ r o still moves = tt
