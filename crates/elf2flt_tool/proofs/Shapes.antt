@@ -16,16 +16,16 @@ use Rattle.psabi_relocs.specs.declared.effect.Effect.{Effect}
 use Rattle.psabi_relocs.specs.declared.effect.Effect.TheVariants.{Still, Word}
 use Rattle.psabi_relocs.specs.declared.reloc.Reloc.{Reloc}
 use Rattle.psabi_relocs.specs.declared.row.Row.{Row}
-use Rattle.psabi_relocs.specs.declared.row.Row.TheVariants.{Unknown, Mark, Pointer, Absolute, Relative, Call, Got, Low, Group}
+use Rattle.psabi_relocs.specs.declared.row.Row.TheVariants.{Mark, Pointer, GotHi20}
 use Rattle.psabi_relocs.specs.declared.spans.Span.{Span}
 use Rattle.psabi_relocs.specs.Class.{is_moving}
-use Rattle.psabi_relocs.specs.Row.{field_len, is_mark, is_got}
+use Rattle.psabi_relocs.specs.Row.{field_len, is_mark, is_got_hi20}
 use Rattle.psabi_relocs.specs.Reloc.{reloc, target_section}
 use Rattle.psabi_relocs.specs.Bytes.{holds}
-use Rattle.psabi_relocs.specs.Pair.{slot_of, holds_slot, slot_section}
+use Rattle.psabi_relocs.specs.Slot.{slot_of, holds_slot, slot_section, is_slot_outside}
 use Rattle.psabi_relocs.specs.Field.{Field, Ends, own_ends, slot_ends, ends_of, absolute, own_fields, slot_fields, fields_from, fields}
 use Rattle.psabi_relocs.specs.Effect.{slot_effect, moving_effect, effect, is_pointer, own_span, slot_spans, spans}
-use Rattle.psabi_relocs.specs.Fault.{is_slot_outside, is_place_outside, reloc_fault}
+use Rattle.psabi_relocs.specs.Fault.{is_place_outside, reloc_fault}
 use Rattle.elf2flt_tool.specs.Relocs.{spans_in, spans_of}
 use Rattle.elf2flt_tool.specs.Image.{pointers}
 use Rattle.elf2flt_tool.specs.Word.{numbered}
@@ -43,17 +43,11 @@ use Rattle.elf2flt_tool.proofs.Marked.{IsEntry}
 -- ---- the form of an entry's spans
 
 entry_shape : (row : Row) (r : Reloc) (g : Option ℕ)
-    → IsEntry (record { place = r.place; len = field_len row; recorded = is_pointer row && is_moving r.class } ∷ (if is_got row then slot_spans r g else []))
+    → IsEntry (record { place = r.place; len = field_len row; recorded = is_pointer row && is_moving r.class } ∷ (if is_got_hi20 row then slot_spans r g else []))
 entry_shape Pointer r g = λ is. refl
-entry_shape Got r None = λ is. absurd (cc)
-entry_shape Got r (Some g) = (refl, refl, refl)
-entry_shape Unknown r g = λ is. absurd (cc)
-entry_shape Mark r g = λ is. absurd (cc)
-entry_shape (Absolute shape) r g = λ is. absurd (cc)
-entry_shape (Relative shape) r g = λ is. absurd (cc)
-entry_shape Call r g = λ is. absurd (cc)
-entry_shape (Low shape) r g = λ is. absurd (cc)
-entry_shape (Group width step) r g = λ is. absurd (cc)
+entry_shape GotHi20 r None = λ is. absurd (cc)
+entry_shape GotHi20 r (Some g) = (refl, refl, refl)
+entry_shape _ r g = λ is. absurd (cc)
 
 pub spans_entry : (e : List ℕ) (i j : ℕ) → IsEntry (spans e i j)
 unfolding spans
@@ -63,19 +57,13 @@ spans_entry e i j = entry_shape (reloc e i j).row (reloc e i j) (slot_of e i (re
 
 abbrev moving_by : Row → Reloc → Option ℕ → Effect
 moving_by Pointer r g = Word r.place (absolute 0 r)
-moving_by Got r g = slot_effect r g
+moving_by GotHi20 r g = slot_effect r g
 moving_by _ r g = Still
 
 moving_is_by : (row : Row) (e : List ℕ) (i : ℕ) (r : Reloc) → moving_effect row e i r ≡ moving_by row r (slot_of e i r.place)
 moving_is_by Pointer e i r = refl
-moving_is_by Got e i r = refl
-moving_is_by Unknown e i r = refl
-moving_is_by Mark e i r = refl
-moving_is_by (Absolute shape) e i r = refl
-moving_is_by (Relative shape) e i r = refl
-moving_is_by Call e i r = refl
-moving_is_by (Low shape) e i r = refl
-moving_is_by (Group width step) e i r = refl
+moving_is_by GotHi20 e i r = refl
+moving_is_by _ e i r = refl
 
 abbrev fields_by : Row → Reloc → Option Ends → List Field
 fields_by row r None = []
@@ -102,7 +90,7 @@ pointer_words l r o = elim (cases_Bool (is_moving r.class)) [
 ]
 
 slot_words : (l : Layout) (r : Reloc) (o : Ends) (g : ℕ) → l.v0 < 2 ^ 32 → o.value ≡ g
-    → map (numbered l) (pointers (fields_by Got r (Some o))) ≡ effect_words l (if is_moving r.class then slot_effect r (Some g) else Still)
+    → map (numbered l) (pointers (fields_by GotHi20 r (Some o))) ≡ effect_words l (if is_moving r.class then slot_effect r (Some g) else Still)
 unfolding numbered
 slot_words l r o g start same = elim (cases_Bool (is_moving r.class)) [
   | inl moves ↦ rw (moves, same) (ap (λ n. record { place = off l g; target = n } ∷ []) (off_moved l r.value true start))
@@ -110,29 +98,17 @@ slot_words l r o g start same = elim (cases_Bool (is_moving r.class)) [
 ]
 
 words_by : (l : Layout) (row : Row) (r : Reloc) (o : Option Ends) (g : Option ℕ) → l.v0 < 2 ^ 32 → (is_pointer row ≡ true → o ≡ Some (own_ends r))
-    → (is_got row ≡ true → o ≡ option_map (slot_ends r.place) g)
+    → (is_got_hi20 row ≡ true → o ≡ option_map (slot_ends r.place) g)
     → map (numbered l) (pointers (fields_by row r o)) ≡ effect_words l (if is_moving r.class then moving_by row r g else Still)
 words_by l Pointer r None g start own slot = absurd (let some = own refl in cc)
 words_by l Pointer r (Some o) g start own slot = pointer_words l r o
-words_by l Got r None None start own slot = still_words l (is_moving r.class)
-words_by l Got r None (Some g) start own slot = absurd (let some = slot refl in cc)
-words_by l Got r (Some o) None start own slot = absurd (let some = slot refl in cc)
-words_by l Got r (Some o) (Some g) start own slot =
+words_by l GotHi20 r None None start own slot = still_words l (is_moving r.class)
+words_by l GotHi20 r None (Some g) start own slot = absurd (let some = slot refl in cc)
+words_by l GotHi20 r (Some o) None start own slot = absurd (let some = slot refl in cc)
+words_by l GotHi20 r (Some o) (Some g) start own slot =
     slot_words l r o g start (let some : o ≡ slot_ends r.place g = (let s = slot refl in cc) in ap (λ o. o.value) some)
-words_by l Unknown r None g start own slot = still_words l (is_moving r.class)
-words_by l Unknown r (Some o) g start own slot = still_words l (is_moving r.class)
-words_by l Mark r None g start own slot = still_words l (is_moving r.class)
-words_by l Mark r (Some o) g start own slot = still_words l (is_moving r.class)
-words_by l (Absolute shape) r None g start own slot = still_words l (is_moving r.class)
-words_by l (Absolute shape) r (Some o) g start own slot = still_words l (is_moving r.class)
-words_by l (Relative shape) r None g start own slot = still_words l (is_moving r.class)
-words_by l (Relative shape) r (Some o) g start own slot = still_words l (is_moving r.class)
-words_by l Call r None g start own slot = still_words l (is_moving r.class)
-words_by l Call r (Some o) g start own slot = still_words l (is_moving r.class)
-words_by l (Low shape) r None g start own slot = still_words l (is_moving r.class)
-words_by l (Low shape) r (Some o) g start own slot = still_words l (is_moving r.class)
-words_by l (Group width step) r None g start own slot = still_words l (is_moving r.class)
-words_by l (Group width step) r (Some o) g start own slot = still_words l (is_moving r.class)
+words_by l _ r None g start own slot = still_words l (is_moving r.class)
+words_by l _ r (Some o) g start own slot = still_words l (is_moving r.class)
 
 -- an effect's word is that of the entry's fields
 pub effect_is : (e : List ℕ) (l : Layout) (i j : ℕ) → l.v0 < 2 ^ 32 → effect_words l (effect e i j) ≡ map (numbered l) (pointers (fields e 0 i j))
@@ -159,37 +135,23 @@ bytes_inside e k a n laid below allocated held some =
 
 mark_len : (row : Row) → is_mark row ≡ true → field_len row ≡ 0
 mark_len Mark is = refl
-mark_len Unknown is = absurd (cc)
-mark_len Pointer is = absurd (cc)
-mark_len (Absolute shape) is = absurd (cc)
-mark_len (Relative shape) is = absurd (cc)
-mark_len Call is = absurd (cc)
-mark_len Got is = absurd (cc)
-mark_len (Low shape) is = absurd (cc)
-mark_len (Group width step) is = absurd (cc)
+mark_len _ is = absurd (cc)
 
-got_plain : (row : Row) → is_got row ≡ true → is_mark row ≡ false
-got_plain Got is = refl
+got_plain : (row : Row) → is_got_hi20 row ≡ true → is_mark row ≡ false
 got_plain Mark is = absurd (cc)
-got_plain Unknown is = refl
-got_plain Pointer is = refl
-got_plain (Absolute shape) is = refl
-got_plain (Relative shape) is = refl
-got_plain Call is = refl
-got_plain (Low shape) is = refl
-got_plain (Group width step) is = refl
+got_plain _ is = refl
 
 -- what the test for places says of an entry that passes it
 record IsPlaced (e : List ℕ) (i : ℕ) (r : Reloc) : Type 0 where
   own : holds (target_section e i) r.place (field_len r.row) ≡ true
-  slot : (is_got r.row && is_slot_outside e (slot_of e i r.place)) ≡ false
+  slot : (is_got_hi20 r.row && is_slot_outside e (slot_of e i r.place)) ≡ false
 
 is_placed : (e : List ℕ) (i j : ℕ) → reloc_fault e i j ≡ None → is_mark (reloc e i j).row ≡ false → IsPlaced e i (reloc e i j)
 unfolding is_place_outside
 is_placed e i j none plain =
     let r = reloc e i j in
     let sound = sound_entry e i j none plain in
-    let parts = or_parts (not (holds (target_section e i) r.place (field_len r.row))) (is_got r.row && is_slot_outside e (slot_of e i r.place)) sound.place in
+    let parts = or_parts (not (holds (target_section e i) r.place (field_len r.row))) (is_got_hi20 r.row && is_slot_outside e (slot_of e i r.place)) sound.place in
     record { own = not-false _ parts.0; slot = parts.1 }
 
 own_inside : (e : List ℕ) (i j : ℕ) → IsLaid e → is_kept e i ≡ true → reloc_fault e i j ≡ None → IsInside (layout e) (stored_end e) (own_span (reloc e i j))
@@ -209,11 +171,11 @@ slot_at e g (Some k) laid is some =
     let allocated = and_parts (is_allocated (section e k)) _ stored.0 in
     bytes_inside e k g 4 laid at.below allocated.0 parts.1 (omega arith)
 
-slot_inside : (e : List ℕ) (i j g : ℕ) → IsLaid e → reloc_fault e i j ≡ None → is_got (reloc e i j).row ≡ true → slot_of e i (reloc e i j).place ≡ Some g
+slot_inside : (e : List ℕ) (i j g : ℕ) → IsLaid e → reloc_fault e i j ≡ None → is_got_hi20 (reloc e i j).row ≡ true → slot_of e i (reloc e i j).place ≡ Some g
     → off (layout e) g + 4 ≤ stored_end e
 slot_inside e i j g laid none got some =
     let placed = is_placed e i j none (got_plain (reloc e i j).row got) in
-    let here = and_rest (is_got (reloc e i j).row) (is_slot_outside e (slot_of e i (reloc e i j).place)) placed.slot got in
+    let here = and_rest (is_got_hi20 (reloc e i j).row) (is_slot_outside e (slot_of e i (reloc e i j).place)) placed.slot got in
     slot_at e g (slot_section e g) laid refl (rw some at here)
 
 slots_inside : (l : Layout) (n : ℕ) (r : Reloc) (g : Option ℕ) → ((k : ℕ) → g ≡ Some k → off l k + 4 ≤ n) → Each (IsInside l n) (slot_spans r g)
@@ -226,7 +188,7 @@ unfolding spans
 spans_inside e i j laid kept none =
     let r = reloc e i j in
     let own = own_inside e i j laid kept none in
-    elim (cases_Bool (is_got r.row)) [
+    elim (cases_Bool (is_got_hi20 r.row)) [
       | inl got ↦ rw got (own, slots_inside (layout e) (stored_end e) r (slot_of e i r.place) (λ k is. slot_inside e i j k laid none got is))
       | inr other ↦ rw other (own, tt)
     ]

@@ -8,23 +8,26 @@ mod bytes;
 mod class;
 mod effect;
 mod fault;
+mod field;
 mod group;
+mod judged;
 mod judgement;
+mod kept;
 mod pairs;
 mod reloc;
 mod row;
 mod shape;
 mod slot;
 mod spans;
+mod stored;
+mod types;
 
 pub use class::{Class, class_of};
 pub use effect::Effect;
 pub use fault::RelocFault;
-pub use judgement::{check, slot_of};
+pub use judgement::{Checked, check};
 pub use pairs::Pairs;
 pub use reloc::{Reloc, reloc_at};
 pub use row::{Row, Shape, Step, Width};
-pub use spans::{Span, Spans, spans_of};
-
-#[cfg(test)]
-mod tests;
+pub use spans::{Span, Spans};
+pub use stored::StoredSections;
