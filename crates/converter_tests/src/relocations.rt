@@ -284,7 +284,7 @@ fn is_kept(elf: &Elf<'_>, section: u32) -> bool
     section < elf.sections() && elf.kept(section)
 }
 
-/// What the entries of a kept section are, one by one.
+/// What the entries of a kept section are, one by one, in a file that has a layout.
 fn judged(alloc: Global, bytes: &[u8], section: u32) -> Result<Vec<Answer>, Fail> {
     let elf = Elf::read(bytes)?;
     let _layout = Layout::of(&elf)?;
