@@ -38,9 +38,9 @@ fn add_entry(
         (λ refusal. (refusal ≡ Refusal.Memory) ⊎ (entry_fault elf.now section entry ≡ Some refusal)) }
 {
     match check(elf, layout, pairs, section, entry) {
-        Ok(effect) => {
+        Ok(_) => {
             let spans = spans_of(elf, pairs, section, entry);
-            found.note(layout, &effect, &spans)?;
+            found.note(layout, &spans)?;
             Ok(())
         }
         Err(fault) => Err(Refusal::Reloc {
