@@ -19,8 +19,8 @@ use elf_maker::{MakeRela, MakeSymbol, Part, make};
 use elf32_reader::Elf;
 use flat_layout::Layout;
 use psabi_relocs::{
-    Class, Effect, Pairs, Reloc, RelocFault, Row, Shape, Span, Spans, Step, Width, check, class_of,
-    reloc_at, slot_of, spans_of,
+    Class, Effect, Pairs, Reloc, RelocFault, Row, Shape, Span, Spans, Step, StoredSections, Width,
+    check, class_of, reloc_at,
 };
 use std::alloc::{AllocError, Global};
 use std::process::Abort;
@@ -287,14 +287,16 @@ fn is_kept(elf: &Elf<'_>, section: u32) -> bool
 /// What the entries of a kept section are, one by one.
 fn judged(alloc: Global, bytes: &[u8], section: u32) -> Result<Vec<Answer>, Fail> {
     let elf = Elf::read(bytes)?;
-    let layout = Layout::of(&elf)?;
+    let _layout = Layout::of(&elf)?;
     if !is_kept(&elf, section) {
         return Err("it isn't kept")?;
     }
+    let stored = StoredSections::of(alloc, &elf)?;
     let pairs = Pairs::of(alloc, &elf, section)?;
     let mut found = Vec::new(alloc);
     for index in 0..elf.relas(section) {
-        found.push(check(&elf, &layout, &pairs, section, index))?;
+        let answer = check(&elf, &stored, &pairs, section, index);
+        found.push(answer.map(|checked| checked.effect))?;
     }
     Ok(found)
 }

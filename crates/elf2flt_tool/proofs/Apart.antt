@@ -14,12 +14,12 @@ use Rattle.flat_layout.specs.declared.layout.Layout.{Layout}
 use Rattle.flat_layout.specs.Layout.{layout, off}
 use Rattle.psabi_relocs.specs.declared.reloc.Reloc.{Reloc}
 use Rattle.psabi_relocs.specs.declared.row.Row.{Row}
-use Rattle.psabi_relocs.specs.declared.row.Row.TheVariants.{Unknown, Mark, Pointer, Absolute, Relative, Call, Got, Low, Group}
+use Rattle.psabi_relocs.specs.declared.row.Row.TheVariants.{Unknown, Mark, Pointer, Absolute, Relative, Call, GotHi20, Low, Group}
 use Rattle.psabi_relocs.specs.declared.row.Shape.{Shape}
 use Rattle.psabi_relocs.specs.Class.{is_moving}
-use Rattle.psabi_relocs.specs.Row.{field_len, is_got, is_low}
+use Rattle.psabi_relocs.specs.Row.{field_len, is_got_hi20, is_low}
 use Rattle.psabi_relocs.specs.Reloc.{reloc}
-use Rattle.psabi_relocs.specs.Pair.{slot_of}
+use Rattle.psabi_relocs.specs.Slot.{slot_of}
 use Rattle.psabi_relocs.specs.Field.{Field, Ends, own_ends, slot_ends, high_ends, ends_of, own_fields, slot_fields, fields_from, fields}
 use Rattle.psabi_relocs.specs.declared.spans.Span.{Span}
 use Rattle.psabi_relocs.specs.Effect.{is_pointer, slot_spans, spans}
@@ -38,7 +38,7 @@ fields_by row r None = []
 fields_by row r (Some o) = own_fields row 0 r o ++ slot_fields row 0 r o
 
 abbrev spans_by : Row → Reloc → Option ℕ → List Span
-spans_by row r g = record { place = r.place; len = field_len row; recorded = is_pointer row && is_moving r.class } ∷ (if is_got row then slot_spans r g else [])
+spans_by row r g = record { place = r.place; len = field_len row; recorded = is_pointer row && is_moving r.class } ∷ (if is_got_hi20 row then slot_spans r g else [])
 
 one_place : (l : Layout) (p v n : ℕ) (s : Shape) (moves : Bool)
     → pointer_places l (record { place = p; shape = s; value = v; recorded = moves } ∷ []) ≡ recorded_places l (record { place = p; len = n; recorded = moves } ∷ [])
@@ -55,17 +55,17 @@ one_few : (l : Layout) (p n : ℕ) (moves : Bool) → length (recorded_places l 
 one_few l p n true = omega arith
 one_few l p n false = omega arith
 
-still_entry : (l : Layout) (row : Row) (r : Reloc) (o : Option Ends) → is_pointer row ≡ false → is_got row ≡ false → pointer_places l (fields_by row r o) ≡ [] → IsEntry l (fields_by row r o) (spans_by row r None)
+still_entry : (l : Layout) (row : Row) (r : Reloc) (o : Option Ends) → is_pointer row ≡ false → is_got_hi20 row ≡ false → pointer_places l (fields_by row r o) ≡ [] → IsEntry l (fields_by row r o) (spans_by row r None)
 still_entry l row r o plain other none = rw (plain, other) (record { places = none; few = omega arith; lens = (λ is. absurd (cc), tt) })
 
 entry_by : (l : Layout) (row : Row) (r : Reloc) (o : Option Ends) (g : Option ℕ) → (is_pointer row ≡ true → o ≡ Some (own_ends r))
-    → (is_got row ≡ true → o ≡ option_map (slot_ends r.place) g) → IsEntry l (fields_by row r o) (spans_by row r g)
+    → (is_got_hi20 row ≡ true → o ≡ option_map (slot_ends r.place) g) → IsEntry l (fields_by row r o) (spans_by row r g)
 entry_by l Pointer r None g own slot = absurd (let some = own refl in cc)
 entry_by l Pointer r (Some o) g own slot = record { places = one_place l r.place _ 4 _ (is_moving r.class); few = one_few l r.place 4 (is_moving r.class); lens = (λ is. refl, tt) }
-entry_by l Got r None None own slot = record { places = refl; few = omega arith; lens = (λ is. absurd (cc), tt) }
-entry_by l Got r None (Some g) own slot = absurd (let some = slot refl in cc)
-entry_by l Got r (Some o) None own slot = absurd (let some = slot refl in cc)
-entry_by l Got r (Some o) (Some g) own slot =
+entry_by l GotHi20 r None None own slot = record { places = refl; few = omega arith; lens = (λ is. absurd (cc), tt) }
+entry_by l GotHi20 r None (Some g) own slot = absurd (let some = slot refl in cc)
+entry_by l GotHi20 r (Some o) None own slot = absurd (let some = slot refl in cc)
+entry_by l GotHi20 r (Some o) (Some g) own slot =
     let same : o.value ≡ g = (let some : o ≡ slot_ends r.place g = (let s = slot refl in cc) in ap (λ o. o.value) some) in
     record {
       places = one_place l o.value _ 4 _ (is_moving r.class) ∙ ap (λ g. recorded_places l (record { place = g; len = 4; recorded = is_moving r.class } ∷ [])) same;
@@ -87,9 +87,9 @@ entry_by l (Low shape) r (Some o) g own slot = still_entry l (Low shape) r (Some
 entry_by l (Group width step) r None g own slot = still_entry l (Group width step) r None refl refl refl
 entry_by l (Group width step) r (Some o) g own slot = still_entry l (Group width step) r (Some o) refl refl refl
 
-pointer_high : (row : Row) → is_pointer row ≡ true → (is_low row ≡ false) × (is_got row ≡ false)
+pointer_high : (row : Row) → is_pointer row ≡ true → (is_low row ≡ false) × (is_got_hi20 row ≡ false)
 pointer_high Pointer is = (refl, refl)
-pointer_high Got is = absurd (cc)
+pointer_high GotHi20 is = absurd (cc)
 pointer_high Unknown is = absurd (cc)
 pointer_high Mark is = absurd (cc)
 pointer_high (Absolute shape) is = absurd (cc)
@@ -98,8 +98,8 @@ pointer_high Call is = absurd (cc)
 pointer_high (Low shape) is = absurd (cc)
 pointer_high (Group width step) is = absurd (cc)
 
-got_low : (row : Row) → is_got row ≡ true → is_low row ≡ false
-got_low Got is = refl
+got_low : (row : Row) → is_got_hi20 row ≡ true → is_low row ≡ false
+got_low GotHi20 is = refl
 got_low Pointer is = refl
 got_low Unknown is = refl
 got_low Mark is = refl
@@ -113,7 +113,7 @@ pub own_pointer : (e : List ℕ) (i : ℕ) (r : Reloc) → is_pointer r.row ≡ 
 unfolding ends_of high_ends
 own_pointer e i r is = let plain = pointer_high r.row is in rw (plain.0, plain.1) refl
 
-pub got_ends : (e : List ℕ) (i : ℕ) (r : Reloc) → is_got r.row ≡ true → ends_of e i r ≡ option_map (slot_ends r.place) (slot_of e i r.place)
+pub got_ends : (e : List ℕ) (i : ℕ) (r : Reloc) → is_got_hi20 r.row ≡ true → ends_of e i r ≡ option_map (slot_ends r.place) (slot_of e i r.place)
 unfolding ends_of high_ends
 got_ends e i r is = rw (got_low r.row is, is) refl
 

@@ -17,16 +17,16 @@ use Rattle.flat_layout.specs.Layout.{layout, off, stored_end}
 use Rattle.byte_words.specs.Numbers.{IsBytes}
 use Rattle.psabi_relocs.specs.declared.reloc.Reloc.{Reloc}
 use Rattle.psabi_relocs.specs.declared.row.Row.{Row}
-use Rattle.psabi_relocs.specs.declared.row.Row.TheVariants.{Unknown, Mark, Pointer, Absolute, Relative, Call, Got, Low, Group}
+use Rattle.psabi_relocs.specs.declared.row.Row.TheVariants.{Unknown, Mark, Pointer, Absolute, Relative, Call, GotHi20, Low, Group}
 use Rattle.psabi_relocs.specs.declared.row.Shape.TheVariants as shapes
 use Rattle.psabi_relocs.specs.Class.{is_moving}
-use Rattle.psabi_relocs.specs.Row.{field_len, is_mark, is_got, is_low}
+use Rattle.psabi_relocs.specs.Row.{field_len, is_mark, is_got_hi20, is_low}
 use Rattle.psabi_relocs.specs.Reloc.{reloc, target_section}
 use Rattle.psabi_relocs.specs.Bytes.{holds, word_in}
-use Rattle.psabi_relocs.specs.Pair.{slot_of, holds_slot, slot_section}
+use Rattle.psabi_relocs.specs.Slot.{slot_of, holds_slot, slot_section, is_slot_outside, word_of_slot, slot_word, is_slot_wrong}
 use Rattle.psabi_relocs.specs.Shape.{has_value}
-use Rattle.psabi_relocs.specs.Field.{Field, Ends, moved, slot_ends, high_ends, ends_of, own_fields, slot_fields, fields_from, fields}
-use Rattle.psabi_relocs.specs.Fault.{is_slot_outside, is_place_outside, holds_value, word_of_slot, slot_word, is_slot_wrong, is_mismatch, reloc_fault}
+use Rattle.psabi_relocs.specs.Field.{Field, Ends, moved, slot_ends, high_ends, ends_of, own_fields, slot_fields, fields_from, fields, holds_value, is_mismatch}
+use Rattle.psabi_relocs.specs.Fault.{is_place_outside, reloc_fault}
 use Rattle.elf2flt_tool.specs.Image.{bare, word_of}
 use Rattle.elf2flt_tool.proofs.Members.{each-append, each-weaker}
 use Rattle.elf2flt_tool.proofs.Laid.{IsLaid}
@@ -96,7 +96,7 @@ own_places Pointer r o = (record { from = omega arith; to = omega arith; pointer
 own_places (Absolute shape) r o = (record { from = omega arith; to = omega arith; pointer = λ is. absurd (cc) }, tt)
 own_places (Relative shape) r o = (record { from = omega arith; to = omega arith; pointer = λ is. absurd (cc) }, tt)
 own_places Call r o = (record { from = omega arith; to = omega arith; pointer = λ is. absurd (cc) }, (record { from = omega arith; to = omega arith; pointer = λ is. absurd (cc) }, tt))
-own_places Got r o = (record { from = omega arith; to = omega arith; pointer = λ is. absurd (cc) }, tt)
+own_places GotHi20 r o = (record { from = omega arith; to = omega arith; pointer = λ is. absurd (cc) }, tt)
 own_places (Low shape) r o = (record { from = omega arith; to = omega arith; pointer = λ is. absurd (cc) }, tt)
 own_places (Group width step) r o = tt
 
@@ -122,14 +122,14 @@ own_held e i r f t place stands value =
 -- what the last two rows say of the bytes at P and of the slot
 record IsRight (e : List ℕ) (i : ℕ) (r : Reloc) (o : Ends) : Type 0 where
   place : holds (target_section e i) r.place (field_len r.row) ≡ true
-  slot : (is_got r.row && is_slot_outside e (slot_of e i r.place)) ≡ false
+  slot : (is_got_hi20 r.row && is_slot_outside e (slot_of e i r.place)) ≡ false
   values : list_all (holds_value e (target_section e i)) (own_fields r.row 0 r o) ≡ true
   word : is_slot_wrong e r o.value ≡ false
 
 is_right : (e : List ℕ) (i : ℕ) (r : Reloc) (o : Ends) → IsSound e i r → ends_of e i r ≡ Some o → IsRight e i r o
 unfolding is_place_outside is_mismatch
 is_right e i r o sound from =
-    let place = or_parts (not (holds (target_section e i) r.place (field_len r.row))) (is_got r.row && is_slot_outside e (slot_of e i r.place)) sound.place in
+    let place = or_parts (not (holds (target_section e i) r.place (field_len r.row))) (is_got_hi20 r.row && is_slot_outside e (slot_of e i r.place)) sound.place in
     let value = or_parts (not (list_all (holds_value e (target_section e i)) (own_fields r.row 0 r o))) (is_slot_wrong e r o.value) (rw from at sound.mismatch) in
     record { place = not-false _ place.0; slot = place.1; values = not-false _ value.0; word = value.1 }
 
@@ -158,14 +158,14 @@ slot_at e i g t (Some k) is some =
     let stands = stands_at e k g t.clear t.laid at.below allocated.0 held.stored held.from held.to in
     record { inside = stands.inside; word = stands.word ∙ ap (word_of_slot e g) (sym is) }
 
-got_slot : (e : List ℕ) (i : ℕ) (r : Reloc) (o : Ends) → is_got r.row ≡ true → is_low r.row ≡ false → ends_of e i r ≡ Some o → slot_of e i r.place ≡ Some o.value
+got_slot : (e : List ℕ) (i : ℕ) (r : Reloc) (o : Ends) → is_got_hi20 r.row ≡ true → is_low r.row ≡ false → ends_of e i r ≡ Some o → slot_of e i r.place ≡ Some o.value
 unfolding ends_of high_ends
 got_slot e i r o got plain from =
     let m = mapped (slot_ends r.place) (slot_of e i r.place) o (rw (plain, got) at from) in
     m.is ∙ ap Some (ap (λ o. o.value) m.to)
 
-got_is_high : (row : Row) → is_got row ≡ true → is_low row ≡ false
-got_is_high Got is = refl
+got_is_high : (row : Row) → is_got_hi20 row ≡ true → is_low row ≡ false
+got_is_high GotHi20 is = refl
 got_is_high Unknown is = absurd (cc)
 got_is_high Mark is = absurd (cc)
 got_is_high Pointer is = absurd (cc)
@@ -175,16 +175,16 @@ got_is_high Call is = absurd (cc)
 got_is_high (Low shape) is = absurd (cc)
 got_is_high (Group width step) is = absurd (cc)
 
-slot_found : (e : List ℕ) (i : ℕ) (r : Reloc) (o : Ends) → IsTarget e i → IsRight e i r o → is_got r.row ≡ true → ends_of e i r ≡ Some o → SlotStands e o.value
+slot_found : (e : List ℕ) (i : ℕ) (r : Reloc) (o : Ends) → IsTarget e i → IsRight e i r o → is_got_hi20 r.row ≡ true → ends_of e i r ≡ Some o → SlotStands e o.value
 slot_found e i r o t right got from =
     let some = got_slot e i r o got (got_is_high r.row got) from in
-    let here = and_rest (is_got r.row) (is_slot_outside e (slot_of e i r.place)) right.slot got in
+    let here = and_rest (is_got_hi20 r.row) (is_slot_outside e (slot_of e i r.place)) right.slot got in
     slot_at e i o.value t (slot_section e o.value) refl (rw some at here)
 
-slot_right : (e : List ℕ) (r : Reloc) (g : ℕ) → is_got r.row ≡ true → is_slot_wrong e r g ≡ false → slot_word e g ≡ r.value
+slot_right : (e : List ℕ) (r : Reloc) (g : ℕ) → is_got_hi20 r.row ≡ true → is_slot_wrong e r g ≡ false → slot_word e g ≡ r.value
 unfolding is_slot_wrong
 slot_right e r g got right =
-    let parts = or_parts (not (nat_eq r.addend 0)) (not (nat_eq (slot_word e g) r.value)) (and_rest (is_got r.row) _ right got) in
+    let parts = or_parts (not (nat_eq r.addend 0)) (not (nat_eq (slot_word e g) r.value)) (and_rest (is_got_hi20 r.row) _ right got) in
     eqb-true _ _ (not-false _ parts.1)
 
 slot_fits : (e : List ℕ) (g : ℕ) → IsBytes e → (k : Option ℕ) → word_of_slot e g k < 2 ^ 32
@@ -199,7 +199,7 @@ unmoved : (v : ℕ) (moves : Bool) → v < 2 ^ 32 → (v + (if moves then 0 else
 unmoved v true fits = omega arith
 unmoved v false fits = omega arith
 
-slot_held : (e : List ℕ) (i : ℕ) (r : Reloc) (o : Ends) → IsTarget e i → IsRight e i r o → is_got r.row ≡ true → ends_of e i r ≡ Some o
+slot_held : (e : List ℕ) (i : ℕ) (r : Reloc) (o : Ends) → IsTarget e i → IsRight e i r o → is_got_hi20 r.row ≡ true → ends_of e i r ≡ Some o
     → IsHeld e (record { place = o.value; shape = shapes.Word; value = moved 0 r % 2 ^ 32; recorded = is_moving r.class })
 slot_held e i r o t right got from =
     let stands = slot_found e i r o t right got from in
@@ -211,9 +211,9 @@ slot_held e i r o t right got from =
       pointer = λ is. refl;
     }
 
-slots_held : (row : Row) (e : List ℕ) (r : Reloc) (o : Ends) → (is_got row ≡ true → IsHeld e (record { place = o.value; shape = shapes.Word; value = moved 0 r % 2 ^ 32; recorded = is_moving r.class }))
+slots_held : (row : Row) (e : List ℕ) (r : Reloc) (o : Ends) → (is_got_hi20 row ≡ true → IsHeld e (record { place = o.value; shape = shapes.Word; value = moved 0 r % 2 ^ 32; recorded = is_moving r.class }))
     → Each (IsHeld e) (slot_fields row 0 r o)
-slots_held Got e r o held = (held refl, tt)
+slots_held GotHi20 e r o held = (held refl, tt)
 slots_held Unknown e r o held = tt
 slots_held Mark e r o held = tt
 slots_held Pointer e r o held = tt
@@ -247,7 +247,7 @@ mark_fields Pointer d r o is = absurd (cc)
 mark_fields (Absolute shape) d r o is = absurd (cc)
 mark_fields (Relative shape) d r o is = absurd (cc)
 mark_fields Call d r o is = absurd (cc)
-mark_fields Got d r o is = absurd (cc)
+mark_fields GotHi20 d r o is = absurd (cc)
 mark_fields (Low shape) d r o is = absurd (cc)
 mark_fields (Group width step) d r o is = absurd (cc)
 

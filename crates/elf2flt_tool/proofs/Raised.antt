@@ -2,7 +2,7 @@
 use Rattle.std.proofs.Common.{◌≡◌, ℕ, ◌+◌, ◌%◌, ◌^◌, Bool, true, false, [], ◌∷◌, map, refl, ap, arith, if◌then◌else◌}
 use Rattle.psabi_relocs.specs.declared.reloc.Reloc.{Reloc}
 use Rattle.psabi_relocs.specs.declared.row.Row.{Row}
-use Rattle.psabi_relocs.specs.declared.row.Row.TheVariants.{Unknown, Mark, Pointer, Absolute, Relative, Call, Got, Low, Group}
+use Rattle.psabi_relocs.specs.declared.row.Row.TheVariants.{Unknown, Mark, Pointer, Absolute, Relative, Call, GotHi20, Low, Group}
 use Rattle.psabi_relocs.specs.declared.row.Shape.TheVariants as shapes
 use Rattle.psabi_relocs.specs.Class.{is_moving}
 use Rattle.psabi_relocs.specs.Field.{Field, Ends, absolute, relative, still, own_fields, slot_fields}
@@ -19,7 +19,7 @@ IsSteady Pointer r o = Unit
 IsSteady (Absolute shape) r o = is_moving r.class ≡ false
 IsSteady (Relative shape) r o = o.moves ≡ true
 IsSteady Call r o = o.moves ≡ true
-IsSteady Got r o = o.moves ≡ true
+IsSteady GotHi20 r o = o.moves ≡ true
 IsSteady (Low shape) r o = o.moves ≡ true
 IsSteady (Group width step) r o = Unit
 
@@ -51,7 +51,7 @@ own_raised Pointer d r o steady = ap (λ v. record { place = r.place; shape = sh
 own_raised (Absolute shape) d r o steady = ap (λ v. still r.place shape v ∷ []) (absolute_same d r steady)
 own_raised (Relative shape) d r o steady = ap (λ v. still r.place shape v ∷ []) (relative_same d o steady)
 own_raised Call d r o steady = ap (λ v. still r.place shapes.High v ∷ still (r.place + 4) shapes.LowI v ∷ []) (relative_same d o steady)
-own_raised Got d r o steady = ap (λ v. still r.place shapes.High v ∷ []) (relative_same d o steady)
+own_raised GotHi20 d r o steady = ap (λ v. still r.place shapes.High v ∷ []) (relative_same d o steady)
 own_raised (Low shape) d r o steady = ap (λ v. still r.place shape v ∷ []) (relative_same d o steady)
 own_raised (Group width step) d r o steady = refl
 
@@ -62,6 +62,6 @@ slots_raised Pointer d r o = refl
 slots_raised (Absolute shape) d r o = refl
 slots_raised (Relative shape) d r o = refl
 slots_raised Call d r o = refl
-slots_raised Got d r o = ap (λ v. record { place = o.value; shape = shapes.Word; value = v; recorded = is_moving r.class } ∷ []) (slot_raised d r.value (is_moving r.class))
+slots_raised GotHi20 d r o = ap (λ v. record { place = o.value; shape = shapes.Word; value = v; recorded = is_moving r.class } ∷ []) (slot_raised d r.value (is_moving r.class))
 slots_raised (Low shape) d r o = refl
 slots_raised (Group width step) d r o = refl

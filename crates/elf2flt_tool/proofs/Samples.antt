@@ -2,7 +2,6 @@
 use Rattle.std.proofs.Common.{◌≡◌, ℕ, List, [], ◌∷◌, None, refl}
 use Rattle.elf32_reader.specs.Faults.{has_magic, is_current, has_table, header_fault, passes_end, is_nameless, has_symbol_shape, is_bad_symtab, is_symbolless, has_rela_shape, is_bad_rela, section_fault, elf_fault}
 use Rattle.elf32_reader.specs.Header.{entry_of, table_of, count_of}
-use Rattle.elf32_reader.specs.Numbers.{u8_at, u16_at, u32_at}
 use Rattle.elf32_reader.specs.Relas.{is_static_relocation, is_kept, rela_count, rela_place, addend_word, rela}
 use Rattle.byte_words.specs.Search.{any_below}
 use Rattle.elf32_reader.specs.Sections.{section, is_allocated, is_stored, has_content, content, is_of_kind}
@@ -11,17 +10,17 @@ use Rattle.flat_layout.specs.Extremes.{least_below, greatest_below}
 use Rattle.flat_layout.specs.Fault.{has_sections, some_ends_too_high, is_too_large, meets_below, has_overlap, has_dynamic, has_tls, is_entry_outside, layout_fault}
 use Rattle.flat_layout.specs.Layout.{off, stored_end, written_from, text_of, layout}
 use Rattle.flat_layout.specs.Numbering.{lowest, highest, raised_start, distance, start_of}
-use Rattle.bflt_format.specs.Numbers.{big_at}
 use Rattle.byte_words.specs.Patches.{spans, patched, bytes_below, from_base, big_word, little_word}
 use Rattle.bflt_format.specs.Spelling.{spell}
 use Rattle.psabi_relocs.specs.Class.{class, value_of}
 use Rattle.psabi_relocs.specs.Row.{row_of}
 use Rattle.psabi_relocs.specs.Search.{first_below}
 use Rattle.psabi_relocs.specs.Reloc.{reloc}
-use Rattle.psabi_relocs.specs.Pair.{is_high_at, high_of, names, low_of, slot_by, slot_of, holds_slot, slot_section}
+use Rattle.psabi_relocs.specs.Pair.{is_high_at, high_of, names, low_of}
 use Rattle.psabi_relocs.specs.Group.{sum_below}
-use Rattle.psabi_relocs.specs.Field.{high_ends, ends_of, absolute, relative, fields}
-use Rattle.psabi_relocs.specs.Fault.{is_place_outside, is_lone_low, is_unpaired, holds_value, slot_word, is_slot_wrong, is_mismatch, first_fault, reloc_fault}
+use Rattle.psabi_relocs.specs.Slot.{slot_by, slot_of, holds_slot, slot_section, slot_word, is_slot_wrong}
+use Rattle.psabi_relocs.specs.Field.{high_ends, ends_of, absolute, relative, fields, holds_value, is_mismatch}
+use Rattle.psabi_relocs.specs.Fault.{is_place_outside, is_lone_low, is_unpaired, first_fault, reloc_fault}
 use Rattle.psabi_relocs.specs.Effect as effects
 use Rattle.elf2flt_tool.specs.Converted.{number_patch, body_of, converted, flat}
 use Rattle.elf2flt_tool.specs.Fault as faults

@@ -16,16 +16,16 @@ use Rattle.psabi_relocs.specs.declared.effect.Effect.{Effect}
 use Rattle.psabi_relocs.specs.declared.effect.Effect.TheVariants.{Still, Word}
 use Rattle.psabi_relocs.specs.declared.reloc.Reloc.{Reloc}
 use Rattle.psabi_relocs.specs.declared.row.Row.{Row}
-use Rattle.psabi_relocs.specs.declared.row.Row.TheVariants.{Unknown, Mark, Pointer, Absolute, Relative, Call, Got, Low, Group}
+use Rattle.psabi_relocs.specs.declared.row.Row.TheVariants.{Unknown, Mark, Pointer, Absolute, Relative, Call, GotHi20, Low, Group}
 use Rattle.psabi_relocs.specs.declared.spans.Span.{Span}
 use Rattle.psabi_relocs.specs.Class.{is_moving}
-use Rattle.psabi_relocs.specs.Row.{field_len, is_mark, is_got}
+use Rattle.psabi_relocs.specs.Row.{field_len, is_mark, is_got_hi20}
 use Rattle.psabi_relocs.specs.Reloc.{reloc, target_section}
 use Rattle.psabi_relocs.specs.Bytes.{holds}
-use Rattle.psabi_relocs.specs.Pair.{slot_of, holds_slot, slot_section}
+use Rattle.psabi_relocs.specs.Slot.{slot_of, holds_slot, slot_section, is_slot_outside}
 use Rattle.psabi_relocs.specs.Field.{Field, Ends, own_ends, slot_ends, ends_of, absolute, own_fields, slot_fields, fields_from, fields}
 use Rattle.psabi_relocs.specs.Effect.{slot_effect, moving_effect, effect, is_pointer, own_span, slot_spans, spans}
-use Rattle.psabi_relocs.specs.Fault.{is_slot_outside, is_place_outside, reloc_fault}
+use Rattle.psabi_relocs.specs.Fault.{is_place_outside, reloc_fault}
 use Rattle.elf2flt_tool.specs.Relocs.{spans_in, spans_of}
 use Rattle.elf2flt_tool.specs.Image.{pointers}
 use Rattle.elf2flt_tool.specs.Word.{numbered}
@@ -42,10 +42,10 @@ use Rattle.elf2flt_tool.proofs.Meeting.{IsEntry}
 -- ---- the form of an entry's spans
 
 entry_shape : (row : Row) (r : Reloc) (g : Option ℕ)
-    → IsEntry (record { place = r.place; len = field_len row; recorded = is_pointer row && is_moving r.class } ∷ (if is_got row then slot_spans r g else []))
+    → IsEntry (record { place = r.place; len = field_len row; recorded = is_pointer row && is_moving r.class } ∷ (if is_got_hi20 row then slot_spans r g else []))
 entry_shape Pointer r g = λ is. refl
-entry_shape Got r None = λ is. absurd (cc)
-entry_shape Got r (Some g) = (refl, refl, refl)
+entry_shape GotHi20 r None = λ is. absurd (cc)
+entry_shape GotHi20 r (Some g) = (refl, refl, refl)
 entry_shape Unknown r g = λ is. absurd (cc)
 entry_shape Mark r g = λ is. absurd (cc)
 entry_shape (Absolute shape) r g = λ is. absurd (cc)
@@ -79,12 +79,12 @@ mark_len Pointer is = absurd (cc)
 mark_len (Absolute shape) is = absurd (cc)
 mark_len (Relative shape) is = absurd (cc)
 mark_len Call is = absurd (cc)
-mark_len Got is = absurd (cc)
+mark_len GotHi20 is = absurd (cc)
 mark_len (Low shape) is = absurd (cc)
 mark_len (Group width step) is = absurd (cc)
 
-got_plain : (row : Row) → is_got row ≡ true → is_mark row ≡ false
-got_plain Got is = refl
+got_plain : (row : Row) → is_got_hi20 row ≡ true → is_mark row ≡ false
+got_plain GotHi20 is = refl
 got_plain Mark is = absurd (cc)
 got_plain Unknown is = refl
 got_plain Pointer is = refl
@@ -97,14 +97,14 @@ got_plain (Group width step) is = refl
 -- what the test for places says of an entry that passes it
 record IsPlaced (e : List ℕ) (i : ℕ) (r : Reloc) : Type 0 where
   own : holds (target_section e i) r.place (field_len r.row) ≡ true
-  slot : (is_got r.row && is_slot_outside e (slot_of e i r.place)) ≡ false
+  slot : (is_got_hi20 r.row && is_slot_outside e (slot_of e i r.place)) ≡ false
 
 is_placed : (e : List ℕ) (i j : ℕ) → reloc_fault e i j ≡ None → is_mark (reloc e i j).row ≡ false → IsPlaced e i (reloc e i j)
 unfolding is_place_outside
 is_placed e i j none plain =
     let r = reloc e i j in
     let sound = sound_entry e i j none plain in
-    let parts = or_parts (not (holds (target_section e i) r.place (field_len r.row))) (is_got r.row && is_slot_outside e (slot_of e i r.place)) sound.place in
+    let parts = or_parts (not (holds (target_section e i) r.place (field_len r.row))) (is_got_hi20 r.row && is_slot_outside e (slot_of e i r.place)) sound.place in
     record { own = not-false _ parts.0; slot = parts.1 }
 
 own_inside : (e : List ℕ) (i j : ℕ) → IsLaid e → is_kept e i ≡ true → reloc_fault e i j ≡ None → IsInside (layout e) (stored_end e) (own_span (reloc e i j))
@@ -124,11 +124,11 @@ slot_at e g (Some k) laid is some =
     let allocated = and_parts (is_allocated (section e k)) _ stored.0 in
     bytes_inside e k g 4 laid at.below allocated.0 parts.1 (omega arith)
 
-slot_inside : (e : List ℕ) (i j g : ℕ) → IsLaid e → reloc_fault e i j ≡ None → is_got (reloc e i j).row ≡ true → slot_of e i (reloc e i j).place ≡ Some g
+slot_inside : (e : List ℕ) (i j g : ℕ) → IsLaid e → reloc_fault e i j ≡ None → is_got_hi20 (reloc e i j).row ≡ true → slot_of e i (reloc e i j).place ≡ Some g
     → off (layout e) g + 4 ≤ stored_end e
 slot_inside e i j g laid none got some =
     let placed = is_placed e i j none (got_plain (reloc e i j).row got) in
-    let here = and_rest (is_got (reloc e i j).row) (is_slot_outside e (slot_of e i (reloc e i j).place)) placed.slot got in
+    let here = and_rest (is_got_hi20 (reloc e i j).row) (is_slot_outside e (slot_of e i (reloc e i j).place)) placed.slot got in
     slot_at e g (slot_section e g) laid refl (rw some at here)
 
 slots_inside : (l : Layout) (n : ℕ) (r : Reloc) (g : Option ℕ) → ((k : ℕ) → g ≡ Some k → off l k + 4 ≤ n) → Each (IsInside l n) (slot_spans r g)
@@ -141,7 +141,7 @@ unfolding spans
 spans_inside e i j laid kept none =
     let r = reloc e i j in
     let own = own_inside e i j laid kept none in
-    elim (cases_Bool (is_got r.row)) [
+    elim (cases_Bool (is_got_hi20 r.row)) [
       | inl got ↦ rw got (own, slots_inside (layout e) (stored_end e) r (slot_of e i r.place) (λ k is. slot_inside e i j k laid none got is))
       | inr other ↦ rw other (own, tt)
     ]

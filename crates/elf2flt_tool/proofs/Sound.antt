@@ -11,14 +11,15 @@ use Rattle.psabi_relocs.specs.declared.class.Class.{Class}
 use Rattle.psabi_relocs.specs.declared.class.Class.TheVariants.{Moves, Fixed, Weak, Undefined, Bad}
 use Rattle.psabi_relocs.specs.declared.reloc.Reloc.{Reloc}
 use Rattle.psabi_relocs.specs.declared.row.Row.{Row}
-use Rattle.psabi_relocs.specs.declared.row.Row.TheVariants.{Unknown, Mark, Pointer, Absolute, Relative, Call, Got, Low, Group}
+use Rattle.psabi_relocs.specs.declared.row.Row.TheVariants.{Unknown, Mark, Pointer, Absolute, Relative, Call, GotHi20, Low, Group}
 use Rattle.psabi_relocs.specs.Search.{first_below}
 use Rattle.psabi_relocs.specs.Class.{is_moving}
-use Rattle.psabi_relocs.specs.Row.{is_unknown, is_mark, is_got, is_absolute, is_relative, is_high, is_low}
+use Rattle.psabi_relocs.specs.Row.{is_unknown, is_mark, is_got_hi20, is_absolute, is_relative, is_high, is_low}
 use Rattle.psabi_relocs.specs.Reloc.{reloc}
-use Rattle.psabi_relocs.specs.Pair.{is_high_at, high_of, slot_of}
-use Rattle.psabi_relocs.specs.Field.{Ends, own_ends, slot_ends, high_ends, pair_ends, ends_of}
-use Rattle.psabi_relocs.specs.Fault.{is_bad, is_undefined, is_weak, is_fixed, is_place_outside, is_lone_low, is_unpaired, is_mismatch, first_fault, reloc_fault}
+use Rattle.psabi_relocs.specs.Pair.{is_high_at, high_of}
+use Rattle.psabi_relocs.specs.Slot.{slot_of}
+use Rattle.psabi_relocs.specs.Field.{Ends, own_ends, slot_ends, high_ends, pair_ends, ends_of, is_mismatch}
+use Rattle.psabi_relocs.specs.Fault.{is_bad, is_undefined, is_weak, is_fixed, is_place_outside, is_lone_low, is_unpaired, first_fault, reloc_fault}
 use Rattle.elf2flt_tool.proofs.Raised.{IsSteady}
 
 -- no row of the fault table holds
@@ -114,15 +115,15 @@ mapped f None y some = absurd (cc)
 mapped f (Some a) y some = record { from = a; is = refl; to = cc }
 
 -- G and P move together, and so do a moving S and P
-pub high_moves : (e : List ℕ) (i : ℕ) (r : Reloc) (o : Ends) → (is_got r.row ≡ false → is_moving r.class ≡ true) → high_ends e i r ≡ Some o → o.moves ≡ true
+pub high_moves : (e : List ℕ) (i : ℕ) (r : Reloc) (o : Ends) → (is_got_hi20 r.row ≡ false → is_moving r.class ≡ true) → high_ends e i r ≡ Some o → o.moves ≡ true
 unfolding high_ends
-high_moves e i r o moves some = elim (cases_Bool (is_got r.row)) [
+high_moves e i r o moves some = elim (cases_Bool (is_got_hi20 r.row)) [
   | inl is ↦ let m = mapped (slot_ends r.place) (slot_of e i r.place) o (rw is at some) in ap (λ o. o.moves) (sym m.to)
   | inr other ↦ let own : own_ends r ≡ o = (let s = rw other at some in cc) in ap (λ o. o.moves) (sym own) ∙ moves other
 ]
 
-high_or_got : (row : Row) → is_high row ≡ true → is_got row ≡ false → is_relative row ≡ true
-high_or_got Got high plain = absurd (cc)
+high_or_got : (row : Row) → is_high row ≡ true → is_got_hi20 row ≡ false → is_relative row ≡ true
+high_or_got GotHi20 high plain = absurd (cc)
 high_or_got (Relative shape) high plain = refl
 high_or_got Unknown high plain = absurd (cc)
 high_or_got Mark high plain = absurd (cc)
@@ -134,7 +135,7 @@ high_or_got (Group width step) high plain = absurd (cc)
 
 high_no_mark : (row : Row) → is_high row ≡ true → is_mark row ≡ false
 high_no_mark Mark high = absurd (cc)
-high_no_mark Got high = refl
+high_no_mark GotHi20 high = refl
 high_no_mark (Relative shape) high = refl
 high_no_mark Unknown high = refl
 high_no_mark Pointer high = refl
@@ -164,12 +165,12 @@ pair_moves e i q o all (Some j) is some =
 
 -- which rows compute a distance
 abbrev pub has_distance : Row → Bool
-has_distance row = is_relative row || is_got row || is_low row
+has_distance row = is_relative row || is_got_hi20 row || is_low row
 
-distance_row : (row : Row) → has_distance row ≡ true → is_low row ≡ false → is_got row ≡ false → is_relative row ≡ true
+distance_row : (row : Row) → has_distance row ≡ true → is_low row ≡ false → is_got_hi20 row ≡ false → is_relative row ≡ true
 distance_row (Relative shape) d low got = refl
 distance_row Call d low got = refl
-distance_row Got d low got = absurd (cc)
+distance_row GotHi20 d low got = absurd (cc)
 distance_row (Low shape) d low got = absurd (cc)
 distance_row Unknown d low got = absurd (cc)
 distance_row Mark d low got = absurd (cc)
@@ -192,6 +193,6 @@ steady Pointer r o still moves = tt
 steady (Absolute shape) r o still moves = still
 steady (Relative shape) r o still moves = moves refl
 steady Call r o still moves = moves refl
-steady Got r o still moves = moves refl
+steady GotHi20 r o still moves = moves refl
 steady (Low shape) r o still moves = moves refl
 steady (Group width step) r o still moves = tt

@@ -6,7 +6,7 @@ ghost use Rattle.elf32_reader.specs.Header.{count_of};
 ghost use Rattle.elf32_reader.specs.Relas.{is_kept, rela_count};
 ghost use Rattle.flat_layout.specs.Fault.{layout_fault};
 ghost use Rattle.flat_layout.specs.Layout.{layout as layout_of};
-ghost use Rattle.psabi_relocs.specs.Index.{IsPairs};
+ghost use Rattle.psabi_relocs.specs.Index.{AreStored, IsPairs};
 ghost use Rattle.elf2flt_tool.specs.Fault.{entry_fault, section_fault, relocs_fault};
 ghost use Rattle.elf2flt_tool.specs.Walk.{IsFound};
 
@@ -14,7 +14,7 @@ use crate::found::Found;
 use crate::refusal::Refusal;
 use elf32_reader::Elf;
 use flat_layout::Layout;
-use psabi_relocs::{Pairs, check, spans_of};
+use psabi_relocs::{Pairs, StoredSections, check};
 use std::alloc::Global;
 
 /// Takes in entry `entry` of the kept section `section`.
@@ -22,6 +22,7 @@ fn add_entry(
     found: &mut Found,
     elf: &Elf<'_>,
     layout: &Layout,
+    stored: &StoredSections,
     pairs: &Pairs,
     section: u32,
     entry: u32,
@@ -31,16 +32,16 @@ fn add_entry(
     requires layout { layout.now ≡ layout_of elf.now }
     requires kept { is_kept elf.now section ≡ true }
     requires entry { entry < rela_count elf.now section }
+    requires stored { AreStored elf.now stored.now }
     requires pairs { IsPairs elf.now section pairs.now }
     requires found { IsFound elf.now section entry found.old }
     ensures { MatchResult result
         (λ _. (entry_fault elf.now section entry ≡ None) × IsFound elf.now section (entry + 1) found.new)
         (λ refusal. (refusal ≡ Refusal.Memory) ⊎ (entry_fault elf.now section entry ≡ Some refusal)) }
 {
-    match check(elf, layout, pairs, section, entry) {
-        Ok(_) => {
-            let spans = spans_of(elf, pairs, section, entry);
-            found.note(layout, &spans)?;
+    match check(elf, stored, pairs, section, entry) {
+        Ok(checked) => {
+            found.note(layout, &checked.spans)?;
             Ok(())
         }
         Err(fault) => Err(Refusal::Reloc {
@@ -57,11 +58,13 @@ fn add_section(
     found: &mut Found,
     elf: &Elf<'_>,
     layout: &Layout,
+    stored: &StoredSections,
     section: u32,
 ) -> Result<(), Refusal>
     requires accepted { IsAccepted elf.now }
     requires no_fault { layout_fault elf.now ≡ None }
     requires layout { layout.now ≡ layout_of elf.now }
+    requires stored { AreStored elf.now stored.now }
     requires kept { is_kept elf.now section ≡ true }
     requires found { IsFound elf.now section 0 found.old }
     ensures { MatchResult result
@@ -70,7 +73,7 @@ fn add_section(
 {
     let pairs = Pairs::of(alloc, elf, section)?;
     for entry in 0..elf.relas(section) {
-        add_entry(found, elf, layout, &pairs, section, entry)?;
+        add_entry(found, elf, layout, stored, &pairs, section, entry)?;
     }
     Ok(())
 }
@@ -85,9 +88,10 @@ pub fn find_all(alloc: Global, elf: &Elf<'_>, layout: &Layout) -> Result<Found, 
         (λ refusal. (refusal ≡ Refusal.Memory) ⊎ (relocs_fault elf.now ≡ Some refusal)) }
 {
     let mut found = Found::new(alloc, (layout.text + layout.data_len) as usize)?;
+    let stored = StoredSections::of(alloc, elf)?;
     for section in 0..elf.sections() {
         if elf.kept(section) {
-            add_section(alloc, &mut found, elf, layout, section)?;
+            add_section(alloc, &mut found, elf, layout, &stored, section)?;
         }
     }
     Ok(found)

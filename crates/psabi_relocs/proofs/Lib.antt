@@ -3,10 +3,12 @@
 -- IndexEntries   what an index says of the first entries
 -- GroupCounts    bounds of a group's counts
 -- StoredSlots    the section of a slot, by the first addresses of the sections
--- Checks         an entry or a section that a search has found, and the bytes of a field that isn't outside
+-- Partners       an entry that a search has found
+-- Fields         the bytes of a field that isn't outside
 pub mod StoredWord
 pub mod IndexSearches
 pub mod IndexEntries
 pub mod GroupCounts
 pub mod StoredSlots
-pub mod Checks
+pub mod Partners
+pub mod Fields

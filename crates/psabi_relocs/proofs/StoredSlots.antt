@@ -8,16 +8,16 @@ use Rattle.std.proofs.lemmas.Grind.{common_steps}
 use Rattle.std.proofs.lemmas.Map.Keys.{ge_from_not_lt}
 use Rattle.elf32_reader.specs.declared.section.Section.{Section}
 use Rattle.elf32_reader.specs.Header.{count_of}
-use Rattle.elf32_reader.specs.Sections.{section}
+use Rattle.elf32_reader.specs.Sections.{section, is_allocated}
 use Rattle.flat_layout.specs.Numbering.{is_laid_out, has_bytes, end_of}
 use Rattle.flat_layout.specs.Fault.{layout_fault}
 use Rattle.flat_layout.proofs.Facts.{laid_out}
 use Rattle.flat_layout.proofs.Numbers.{sections_apart}
-use Rattle.psabi_relocs.specs.declared.pairs.Pairs.{Pairs}
+use Rattle.psabi_relocs.specs.declared.stored.StoredSections.{StoredSections}
 use Rattle.psabi_relocs.specs.Search.{first_below}
 use Rattle.psabi_relocs.specs.Bytes.{holds}
-use Rattle.psabi_relocs.specs.Pair.{holds_slot, slot_section}
-use Rattle.psabi_relocs.specs.Index.{IsPairs}
+use Rattle.psabi_relocs.specs.Slot.{holds_slot, slot_section}
+use Rattle.psabi_relocs.specs.Index.{AreStored}
 use Rattle.psabi_relocs.proofs.StoredWord.{holds_parts}
 use Rattle.psabi_relocs.proofs.IndexSearches.{first_below_passes, first_below_some, first_below_none, first_below_only}
 
@@ -108,18 +108,32 @@ slot_section-none e a nothing = first_below_none (λ k. holds_slot a (section e 
     ]
 
 -- i stands at the last address up to a
-abbrev pub IsLast : Pairs → ℕ → ℕ → Type 0
-IsLast p a i =
-    (first : ℕ) × (first ≤ a) × (tree.get nat_cmp p.stored first ≡ Some i) × ((q : ℕ) → q ≤ a → first < q → tree.get nat_cmp p.stored q ≡ None)
+abbrev pub IsLast : StoredSections → ℕ → ℕ → Type 0
+IsLast s a i =
+    (first : ℕ) × (first ≤ a) × (tree.get nat_cmp s.firsts first ≡ Some i) × ((q : ℕ) → q ≤ a → first < q → tree.get nat_cmp s.firsts q ≡ None)
 
--- what the index of a kept section s says of the section of a slot
-pub last-below : (e : List ℕ) (s a i : ℕ) (p : Pairs) → IsPairs e s p → IsLast p a i → i < count_of e
-last-below e s a i p pairs last = (first_below_passes (begins e last.0) (count_of e) i (sym (pairs.stored last.0) ∙ last.2)).0
+-- what the index says of the section of a slot
+pub last-below : (e : List ℕ) (a i : ℕ) (s : StoredSections) → AreStored e s → IsLast s a i → i < count_of e
+last-below e a i s stored last = (first_below_passes (begins e last.0) (count_of e) i (sym (stored.firsts last.0) ∙ last.2)).0
 
-pub slot_from_last : (e : List ℕ) (s a i : ℕ) (p : Pairs) → layout_fault e ≡ None → IsPairs e s p → IsLast p a i
+pub slot_from_last : (e : List ℕ) (a i : ℕ) (s : StoredSections) → layout_fault e ≡ None → AreStored e s → IsLast s a i
     → slot_section e a ≡ (if holds_slot a (section e i) then Some i else None)
-slot_from_last e s a i p none pairs last =
-    slot_section-last e a last.0 i none (sym (pairs.stored last.0) ∙ last.2) last.1 (λ q low behind. sym (pairs.stored q) ∙ last.3 q low behind)
+slot_from_last e a i s none stored last =
+    slot_section-last e a last.0 i none (sym (stored.firsts last.0) ∙ last.2) last.1 (λ q low behind. sym (stored.firsts q) ∙ last.3 q low behind)
 
-pub slot_from_none : (e : List ℕ) (s a : ℕ) (p : Pairs) → IsPairs e s p → ((q : ℕ) → q ≤ a → tree.get nat_cmp p.stored q ≡ None) → slot_section e a ≡ None
-slot_from_none e s a p pairs nothing = slot_section-none e a (λ q low. sym (pairs.stored q) ∙ nothing q low)
+pub slot_from_none : (e : List ℕ) (a : ℕ) (s : StoredSections) → AreStored e s → ((q : ℕ) → q ≤ a → tree.get nat_cmp s.firsts q ≡ None) → slot_section e a ≡ None
+slot_from_none e a s stored nothing = slot_section-none e a (λ q low. sym (stored.firsts q) ∙ nothing q low)
+
+-- the section of a slot
+pub slot_section_below : (e : List ℕ) (a k : ℕ) → slot_section e a ≡ Some k → k < count_of e
+unfolding slot_section
+slot_section_below e a k found = (first_below_passes _ _ k found).0
+
+pub slot_section_allocated : (e : List ℕ) (a k : ℕ) → slot_section e a ≡ Some k → is_allocated (section e k) ≡ true
+unfolding slot_section holds_slot
+slot_section_allocated e a k found =
+    (and_parts _ _ (and_parts _ _ (and_parts _ _ (first_below_passes _ _ k found).1).0).0).0
+
+pub slot_section_holds : (e : List ℕ) (a k : ℕ) → slot_section e a ≡ Some k → holds (section e k) a 4 ≡ true
+unfolding slot_section holds_slot
+slot_section_holds e a k found = (and_parts _ _ (first_below_passes _ _ k found).1).1

@@ -8,7 +8,7 @@ use Rattle.elf32_reader.specs.declared.section.Section.{Section}
 use Rattle.elf32_reader.specs.Numbers.{u32_at}
 use Rattle.elf32_reader.specs.Sections.{content, is_stored}
 use Rattle.psabi_relocs.specs.Bytes.{holds}
-use Rattle.byte_words.specs.Numbers.{number_at}
+use Rattle.byte_words.specs.Numbers.{low_first, number_at}
 
 -- what the test says
 pub record Holds (s : Section) (a n : ℕ) : Type 0 where
@@ -19,8 +19,8 @@ pub record Holds (s : Section) (a n : ℕ) : Type 0 where
 pub holds_parts : (s : Section) (a n : ℕ) → holds s a n ≡ true → Holds s a n
 holds_parts s a n h =
     let last = and_parts _ _ h in
-    let front = and_parts _ _ last.0 in
-    record { stored = front.0; from = leb-true _ _ front.1; to = leb-true _ _ last.1 }
+    let start = and_parts _ _ last.0 in
+    record { stored = start.0; from = leb-true _ _ start.1; to = leb-true _ _ last.1 }
 
 -- a number reads only its own bytes
 number-take : (n m : ℕ) (xs : List ℕ) → n ≤ m → m ≤ length xs → little_number n (take m xs) ≡ little_number n xs
@@ -30,7 +30,7 @@ number-take n m xs few fits =
 
 -- the word at a place of the content is the file's
 pub number-content : (e : List ℕ) (s : Section) (k : ℕ) → s.offset + s.size ≤ length e → k + 4 ≤ s.size
-    → little_number 4 (drop k (content e s)) ≡ u32_at e (s.offset + k)
+    → number_at low_first 4 (content e s) k ≡ u32_at e (s.offset + k)
 unfolding content number_at
 number-content e s k fits inside =
     let m = s.size - k in

@@ -1,16 +1,18 @@
 -- What an accepted relocation asks of a loader, and which linked bytes are its own. What a flat file records of it is this
 -- project's own rule (flat.h's relocation records; RISC-V ELF psABI, "Relocations").
 use Rattle.std.specs.Prelude.{ℕ, Bool, true, false, ◌&&◌, List, [], ◌∷◌, Option, Some, None, if◌then◌else◌}
+use Rattle.std.specs.Option.{option_to_list}
 use Rattle.psabi_relocs.specs.declared.reloc.Reloc.{Reloc}
 use Rattle.psabi_relocs.specs.declared.row.Row.{Row}
-use Rattle.psabi_relocs.specs.declared.row.Row.TheVariants.{Pointer, Got}
+use Rattle.psabi_relocs.specs.declared.row.Row.TheVariants.{Pointer, GotHi20}
 use Rattle.psabi_relocs.specs.declared.effect.Effect.{Effect}
 use Rattle.psabi_relocs.specs.declared.effect.Effect.TheVariants.{Still, Word, Slot}
 use Rattle.psabi_relocs.specs.declared.spans.Span.{Span}
+use Rattle.psabi_relocs.specs.declared.spans.Spans.{Spans}
 use Rattle.psabi_relocs.specs.Class.{is_moving}
-use Rattle.psabi_relocs.specs.Row.{field_len, is_got}
+use Rattle.psabi_relocs.specs.Row.{field_len, is_got_hi20}
 use Rattle.psabi_relocs.specs.Reloc.{reloc}
-use Rattle.psabi_relocs.specs.Pair.{slot_of}
+use Rattle.psabi_relocs.specs.Slot.{slot_of}
 use Rattle.psabi_relocs.specs.Field.{absolute}
 
 abbrev pub slot_effect : Reloc → Option ℕ → Effect
@@ -20,12 +22,16 @@ slot_effect r (Some g) = Slot g r.value
 -- of an entry whose symbol moves
 abbrev pub moving_effect : Row → List ℕ → ℕ → Reloc → Effect
 moving_effect Pointer e i r = Word r.place (absolute 0 r)
-moving_effect Got e i r = slot_effect r (slot_of e i r.place)
+moving_effect GotHi20 e i r = slot_effect r (slot_of e i r.place)
 moving_effect _ e i r = Still
 
+-- of any entry of the kept section i
+abbrev pub effect_of : List ℕ → ℕ → Reloc → Effect
+effect_of e i r = if is_moving r.class then moving_effect r.row e i r else Still
+
+-- of entry j of the kept section i
 unfoldable pub effect : List ℕ → ℕ → ℕ → Effect
-effect e i j =
-    if is_moving (reloc e i j).class then moving_effect (reloc e i j).row e i (reloc e i j) else Still
+effect e i j = effect_of e i (reloc e i j)
 
 abbrev pub is_pointer : Row → Bool
 is_pointer Pointer = true
@@ -38,7 +44,13 @@ abbrev pub slot_spans : Reloc → Option ℕ → List Span
 slot_spans r None = []
 slot_spans r (Some g) = record { place = g; len = 4; recorded = is_moving r.class } ∷ []
 
--- the bytes of entry j of the kept section i: those of its field at P, and those of its slot
+-- the bytes of an entry of the kept section i: those of its field at P, and those of its slot
+abbrev pub spans_of : List ℕ → ℕ → Reloc → List Span
+spans_of e i r = own_span r ∷ (if is_got_hi20 r.row then slot_spans r (slot_of e i r.place) else [])
+
+-- of entry j
 unfoldable pub spans : List ℕ → ℕ → ℕ → List Span
-spans e i j =
-    own_span (reloc e i j) ∷ (if is_got (reloc e i j).row then slot_spans (reloc e i j) (slot_of e i (reloc e i j).place) else [])
+spans e i j = spans_of e i (reloc e i j)
+
+abbrev pub listed : Spans → List Span
+listed s = s.own ∷ option_to_list s.slot

@@ -1,12 +1,9 @@
 -- The first reason why a kept relocation isn't accepted, in the order of ten rows. Each field already holds its value at
 -- the linked addresses. RISC-V ELF psABI, "Relocations"; which symbols a row takes is this project's own rule: what a
 -- flat file can't record must not change when the image moves.
-use Rattle.std.specs.Prelude.{ℕ, Bool, true, false, not, ◌&&◌, ◌||◌, ◌==◌, List, [], ◌∷◌, Option, Some, None, if◌then◌else◌}
-use Rattle.std.specs.List.{list_all}
+use Rattle.std.specs.Prelude.{ℕ, Bool, true, false, not, ◌&&◌, ◌||◌, ◌==◌, List, [], ◌∷◌, Option, None, if◌then◌else◌}
 use Rattle.std.specs.Option.{is_none}
-use Rattle.elf32_reader.specs.declared.section.Section.{Section}
 use Rattle.byte_words.specs.Search.{first}
-use Rattle.elf32_reader.specs.Sections.{section}
 use Rattle.elf32_reader.specs.Relas.{rela_count}
 use Rattle.psabi_relocs.specs.declared.class.Class.TheVariants as classes
 use Rattle.psabi_relocs.specs.declared.class.Class.{Class}
@@ -16,13 +13,13 @@ use Rattle.psabi_relocs.specs.declared.reloc.Reloc.{Reloc}
 use Rattle.psabi_relocs.specs.declared.row.Row.{Row}
 use Rattle.psabi_relocs.specs.declared.row.Row.TheVariants.{Group}
 use Rattle.psabi_relocs.specs.Class.{is_moving, is_still}
-use Rattle.psabi_relocs.specs.Row.{field_len, is_mark, is_unknown, is_got, is_absolute, is_relative, is_low}
+use Rattle.psabi_relocs.specs.Row.{field_len, is_mark, is_unknown, is_got_hi20, is_absolute, is_relative, is_low}
 use Rattle.psabi_relocs.specs.Reloc.{reloc, target_section}
-use Rattle.psabi_relocs.specs.Bytes.{holds, word_in}
-use Rattle.psabi_relocs.specs.Pair.{high_of, low_of, slot_of, slot_section}
+use Rattle.psabi_relocs.specs.Bytes.{holds}
+use Rattle.psabi_relocs.specs.Pair.{high_of, low_of}
+use Rattle.psabi_relocs.specs.Slot.{slot_of, is_slot_outside}
 use Rattle.psabi_relocs.specs.Group.{sum_below, is_balanced}
-use Rattle.psabi_relocs.specs.Shape.{has_value}
-use Rattle.psabi_relocs.specs.Field.{Field, Ends, ends_of, own_fields}
+use Rattle.psabi_relocs.specs.Field.{is_mismatch}
 
 abbrev pub is_bad : Class → Bool
 is_bad classes.Bad = true
@@ -40,14 +37,10 @@ abbrev pub is_fixed : Class → Bool
 is_fixed classes.Fixed = true
 is_fixed _ = false
 
--- no stored section of the image holds the slot's four bytes
-abbrev pub is_slot_outside : List ℕ → Option ℕ → Bool
-is_slot_outside e None = false
-is_slot_outside e (Some g) = is_none (slot_section e g)
-
+-- the field isn't in the section that the entries apply to, or the slot of a GOT_HI20 is in none
 unfoldable pub is_place_outside : List ℕ → ℕ → Reloc → Bool
 is_place_outside e i r =
-    not (holds (target_section e i) r.place (field_len r.row)) || (is_got r.row && is_slot_outside e (slot_of e i r.place))
+    not (holds (target_section e i) r.place (field_len r.row)) || (is_got_hi20 r.row && is_slot_outside e (slot_of e i r.place))
 
 -- a low part whose symbol stands still, that has an addend, or whose symbol isn't the place of a high part
 unfoldable pub is_lone_low : List ℕ → ℕ → Reloc → Bool
@@ -58,33 +51,10 @@ abbrev pub is_unbalanced : Row → List ℕ → ℕ → ℕ → Bool
 is_unbalanced (Group width step) e i q = not (is_balanced (sum_below e i q width (rela_count e i)))
 is_unbalanced _ e i q = false
 
--- a GOT entry that no low part names, or an entry of an unbalanced group
+-- a GOT_HI20 that no low part names, or an entry of an unbalanced group
 unfoldable pub is_unpaired : List ℕ → ℕ → Reloc → Bool
 is_unpaired e i r =
-    (is_got r.row && is_none (low_of e i r.place)) || is_unbalanced r.row e i r.place
-
--- a field in the section s holds its value
-unfoldable pub holds_value : List ℕ → Section → Field → Bool
-holds_value e s f = has_value f.shape (word_in e s f.place) f.value
-
-abbrev pub word_of_slot : List ℕ → ℕ → Option ℕ → ℕ
-word_of_slot e g None = 0
-word_of_slot e g (Some k) = word_in e (section e k) g
-
--- the linked word of the slot at g
-unfoldable pub slot_word : List ℕ → ℕ → ℕ
-slot_word e g = word_of_slot e g (slot_section e g)
-
--- a GOT entry has an addend, or its slot at g doesn't hold S
-unfoldable pub is_slot_wrong : List ℕ → Reloc → ℕ → Bool
-is_slot_wrong e r g = is_got r.row && (not (r.addend == 0) || not (slot_word e g == r.value))
-
-abbrev pub mismatches : List ℕ → Section → Reloc → Option Ends → Bool
-mismatches e s r None = false
-mismatches e s r (Some ends) = not (list_all (holds_value e s) (own_fields r.row 0 r ends)) || is_slot_wrong e r ends.value
-
-unfoldable pub is_mismatch : List ℕ → ℕ → Reloc → Bool
-is_mismatch e i r = mismatches e (target_section e i) r (ends_of e i r)
+    (is_got_hi20 r.row && is_none (low_of e i r.place)) || is_unbalanced r.row e i r.place
 
 -- the first fault of an entry of the kept section i
 unfoldable pub first_fault : List ℕ → ℕ → Reloc → Option RelocFault

@@ -1,16 +1,21 @@
--- The fields that a relocation fills, and their values. RISC-V ELF psABI, "Relocations": a row gives a formula of S, A
--- and P, and the bits that take it.
-use Rattle.std.specs.Prelude.{ℕ, ◌+◌, ◌-◌, ◌%◌, ◌^◌, Bool, true, false, List, [], ◌∷◌, ◌++◌, Option, Some, None, if◌then◌else◌}
+-- The fields that a relocation fills, their values, and whether they hold them. RISC-V ELF psABI, "Relocations": a row
+-- gives a formula of S, A and P, and the bits that take it.
+use Rattle.std.specs.Prelude.{ℕ, ◌+◌, ◌-◌, ◌%◌, ◌^◌, Bool, true, false, not, ◌||◌, List, [], ◌∷◌, ◌++◌, Option, Some, None, if◌then◌else◌}
+use Rattle.std.specs.List.{list_all}
 use Rattle.std.specs.Option.{option_map}
+use Rattle.elf32_reader.specs.declared.section.Section.{Section}
 use Rattle.psabi_relocs.specs.declared.reloc.Reloc.{Reloc}
 use Rattle.psabi_relocs.specs.declared.row.Row.{Row}
-use Rattle.psabi_relocs.specs.declared.row.Row.TheVariants.{Pointer, Absolute, Relative, Call, Got, Low}
+use Rattle.psabi_relocs.specs.declared.row.Row.TheVariants.{Pointer, Absolute, Relative, Call, GotHi20, Low}
 use Rattle.psabi_relocs.specs.declared.row.Shape.{Shape}
 use Rattle.psabi_relocs.specs.declared.row.Shape.TheVariants.{Word, High, LowI}
 use Rattle.psabi_relocs.specs.Class.{is_moving}
-use Rattle.psabi_relocs.specs.Row.{is_got, is_low}
-use Rattle.psabi_relocs.specs.Reloc.{reloc}
-use Rattle.psabi_relocs.specs.Pair.{high_of, slot_of}
+use Rattle.psabi_relocs.specs.Row.{is_got_hi20, is_low}
+use Rattle.psabi_relocs.specs.Reloc.{reloc, target_section}
+use Rattle.psabi_relocs.specs.Bytes.{word_in}
+use Rattle.psabi_relocs.specs.Pair.{high_of}
+use Rattle.psabi_relocs.specs.Slot.{slot_of, is_slot_wrong}
+use Rattle.psabi_relocs.specs.Shape.{has_value}
 
 -- four bytes at a linked address, and the value that they take; `recorded` where a loader has to add the base
 pub record Field : Type 0 where
@@ -36,7 +41,7 @@ slot_ends p g = record { value = g; addend = 0; place = p; moves = true }
 
 -- those of an entry which is no low part
 unfoldable pub high_ends : List ℕ → ℕ → Reloc → Option Ends
-high_ends e i r = if is_got r.row then option_map (slot_ends r.place) (slot_of e i r.place) else Some (own_ends r)
+high_ends e i r = if is_got_hi20 r.row then option_map (slot_ends r.place) (slot_of e i r.place) else Some (own_ends r)
 
 abbrev pub pair_ends : List ℕ → ℕ → Option ℕ → Option Ends
 pair_ends e i None = None
@@ -69,12 +74,12 @@ own_fields (Absolute shape) d r ends = still r.place shape (absolute d r) ∷ []
 own_fields (Relative shape) d r ends = still r.place shape (relative d ends) ∷ []
 own_fields (Low shape) d r ends = still r.place shape (relative d ends) ∷ []
 own_fields Call d r ends = still r.place High (relative d ends) ∷ still (r.place + 4) LowI (relative d ends) ∷ []
-own_fields Got d r ends = still r.place High (relative d ends) ∷ []
+own_fields GotHi20 d r ends = still r.place High (relative d ends) ∷ []
 own_fields _ d r ends = []
 
 -- the slot, which holds S
 abbrev pub slot_fields : Row → ℕ → Reloc → Ends → List Field
-slot_fields Got d r ends = record { place = ends.value; shape = Word; value = moved d r % 2 ^ 32; recorded = is_moving r.class } ∷ []
+slot_fields GotHi20 d r ends = record { place = ends.value; shape = Word; value = moved d r % 2 ^ 32; recorded = is_moving r.class } ∷ []
 slot_fields _ d r ends = []
 
 abbrev pub fields_from : ℕ → Reloc → Option Ends → List Field
@@ -85,3 +90,15 @@ fields_from d r (Some ends) = own_fields r.row d r ends ++ slot_fields r.row d r
 -- bytes stay as they were linked
 unfoldable pub fields : List ℕ → ℕ → ℕ → ℕ → List Field
 fields e d i j = fields_from d (reloc e i j) (ends_of e i (reloc e i j))
+
+-- a field in the section s holds its value
+unfoldable pub holds_value : List ℕ → Section → Field → Bool
+holds_value e s f = has_value f.shape (word_in e s f.place) f.value
+
+abbrev pub mismatches : List ℕ → Section → Reloc → Option Ends → Bool
+mismatches e s r None = false
+mismatches e s r (Some ends) = not (list_all (holds_value e s) (own_fields r.row 0 r ends)) || is_slot_wrong e r ends.value
+
+-- a field at P or the slot doesn't hold its value
+unfoldable pub is_mismatch : List ℕ → ℕ → Reloc → Bool
+is_mismatch e i r = mismatches e (target_section e i) r (ends_of e i r)

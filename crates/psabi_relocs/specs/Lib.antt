@@ -3,20 +3,23 @@
 -- Row: the rows of the table of relocation types.
 -- Reloc: the entries of a kept section with their symbols.
 -- Bytes: the linked bytes by address.
--- Pair: high parts, low parts and GOT slots.
+-- Pair: high parts and low parts.
+-- Slot: the slots of the global offset table.
 -- Group: groups, their sums, and which are balanced.
 -- Shape: how a word has a value.
--- Field: the fields of an entry and their values.
+-- Field: the fields of an entry, their values, and whether they hold them.
 -- Fault: the first fault of an entry.
--- Effect: what an accepted entry asks of a loader.
+-- Effect: what an accepted entry asks of a loader, and its bytes.
 -- Sums: the sums of all widths at one place, for the index alone.
--- Index: what is known of a section's index.
+-- Index: what is known of the indexes.
+-- Judged: what the judgement of an entry stands on.
 pub mod Search
 pub mod Class
 pub mod Row
 pub mod Reloc
 pub mod Bytes
 pub mod Pair
+pub mod Slot
 pub mod Group
 pub mod Shape
 pub mod Field
@@ -24,3 +27,4 @@ pub mod Fault
 pub mod Effect
 pub mod Sums
 pub mod Index
+pub mod Judged

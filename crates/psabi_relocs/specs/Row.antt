@@ -1,41 +1,45 @@
 -- The relocation types. RISC-V ELF psABI, "Relocations": a type's number gives its row of the table.
-use Rattle.std.specs.Prelude.{ℕ, Bool, true, false, ◌||◌, ◌==◌, if◌then◌else◌}
+use Rattle.std.specs.Prelude.{ℕ, Bool, true, false, ◌==◌, if◌then◌else◌}
 use Rattle.psabi_relocs.specs.declared.row.Row.{Row}
-use Rattle.psabi_relocs.specs.declared.row.Row.TheVariants.{Unknown, Mark, Pointer, Absolute, Relative, Call, Got, Low, Group}
+use Rattle.psabi_relocs.specs.declared.row.Row.TheVariants.{Unknown, Mark, Pointer, Absolute, Relative, Call, GotHi20, Low, Group}
 use Rattle.psabi_relocs.specs.declared.row.Shape.TheVariants.{Word, High, LowI, LowS, Branch, Jump}
 use Rattle.psabi_relocs.specs.declared.row.Width.{Width}
 use Rattle.psabi_relocs.specs.declared.row.Width.TheVariants.{Bits8, Bits16, Bits32, Bits6, Uleb128}
 use Rattle.psabi_relocs.specs.declared.row.Step.TheVariants.{Add, Sub, Set}
 
--- the row of a type's number
+-- the row of a type's number, with the type's name behind R_RISCV_
 unfoldable pub row_of : ℕ → Row
 row_of k =
-    if k == 0 || k == 43 || k == 51 then Mark
-    else if k == 1 then Pointer
-    else if k == 16 then Relative Branch
-    else if k == 17 then Relative Jump
-    else if k == 18 || k == 19 then Call
-    else if k == 20 then Got
-    else if k == 23 then Relative High
-    else if k == 24 then Low LowI
-    else if k == 25 then Low LowS
-    else if k == 26 then Absolute High
-    else if k == 27 then Absolute LowI
-    else if k == 28 then Absolute LowS
-    else if k == 57 || k == 59 then Relative Word
-    else if k == 33 then Group Bits8 Add
-    else if k == 37 then Group Bits8 Sub
-    else if k == 54 then Group Bits8 Set
-    else if k == 34 then Group Bits16 Add
-    else if k == 38 then Group Bits16 Sub
-    else if k == 55 then Group Bits16 Set
-    else if k == 35 then Group Bits32 Add
-    else if k == 39 then Group Bits32 Sub
-    else if k == 56 then Group Bits32 Set
-    else if k == 53 then Group Bits6 Set
-    else if k == 52 then Group Bits6 Sub
-    else if k == 60 then Group Uleb128 Set
-    else if k == 61 then Group Uleb128 Sub
+    if k == 0 then Mark  -- NONE
+    else if k == 1 then Pointer  -- 32
+    else if k == 16 then Relative Branch  -- BRANCH
+    else if k == 17 then Relative Jump  -- JAL
+    else if k == 18 then Call  -- CALL
+    else if k == 19 then Call  -- CALL_PLT
+    else if k == 20 then GotHi20  -- GOT_HI20
+    else if k == 23 then Relative High  -- PCREL_HI20
+    else if k == 24 then Low LowI  -- PCREL_LO12_I
+    else if k == 25 then Low LowS  -- PCREL_LO12_S
+    else if k == 26 then Absolute High  -- HI20
+    else if k == 27 then Absolute LowI  -- LO12_I
+    else if k == 28 then Absolute LowS  -- LO12_S
+    else if k == 33 then Group Bits8 Add  -- ADD8
+    else if k == 34 then Group Bits16 Add  -- ADD16
+    else if k == 35 then Group Bits32 Add  -- ADD32
+    else if k == 37 then Group Bits8 Sub  -- SUB8
+    else if k == 38 then Group Bits16 Sub  -- SUB16
+    else if k == 39 then Group Bits32 Sub  -- SUB32
+    else if k == 43 then Mark  -- ALIGN
+    else if k == 51 then Mark  -- RELAX
+    else if k == 52 then Group Bits6 Sub  -- SUB6
+    else if k == 53 then Group Bits6 Set  -- SET6
+    else if k == 54 then Group Bits8 Set  -- SET8
+    else if k == 55 then Group Bits16 Set  -- SET16
+    else if k == 56 then Group Bits32 Set  -- SET32
+    else if k == 57 then Relative Word  -- 32_PCREL
+    else if k == 59 then Relative Word  -- PLT32
+    else if k == 60 then Group Uleb128 Set  -- SET_ULEB128
+    else if k == 61 then Group Uleb128 Sub  -- SUB_ULEB128
     else Unknown
 
 -- how many bytes of a number are a group's field: of a ULEB128 number the first
@@ -71,9 +75,9 @@ abbrev pub is_unknown : Row → Bool
 is_unknown Unknown = true
 is_unknown _ = false
 
-abbrev pub is_got : Row → Bool
-is_got Got = true
-is_got _ = false
+abbrev pub is_got_hi20 : Row → Bool
+is_got_hi20 GotHi20 = true
+is_got_hi20 _ = false
 
 -- an instruction has S + A itself
 abbrev pub is_absolute : Row → Bool
@@ -88,7 +92,7 @@ is_relative _ = false
 
 -- the high part that a low part names: GOT_HI20 or PCREL_HI20
 abbrev pub is_high : Row → Bool
-is_high Got = true
+is_high GotHi20 = true
 is_high (Relative High) = true
 is_high _ = false
 

@@ -6,8 +6,11 @@ ghost use Rattle.elf32_reader.specs.Header.{count_of};
 ghost use Rattle.elf32_reader.specs.Sections.{section, is_allocated};
 ghost use Rattle.psabi_relocs.specs.Bytes.{holds, word_in};
 
-use byteorder::{ByteOrder, LittleEndian};
+use byte_words::word;
 use elf32_reader::{Elf, Section};
+
+/// The bytes of a word, of an instruction and of a slot.
+pub const WORD_LEN: u32 = 4;
 
 /// Whether `len` bytes from an address on stand in the section's content.
 pub fn holds(section: &Section, address: u32, len: u32) -> bool
@@ -27,8 +30,6 @@ pub fn linked_word(elf: &Elf<'_>, index: u32, address: u32) -> u32
     requires holds { holds (section elf.now index) address 4 ≡ true }
     ensures { result ≡ word_in elf.now (section elf.now index) address }
 {
-    let (_, rest) = elf
-        .content(index)
-        .split_at((address - elf.section(index).addr) as usize);
-    LittleEndian::read_u32(rest)
+    let start = elf.section(index).addr;
+    word(elf.content(index), (address - start) as usize)
 }

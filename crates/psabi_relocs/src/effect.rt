@@ -1,5 +1,11 @@
 //! What an accepted relocation asks of a loader.
 
+ghost use Rattle.std.specs.Prelude.{◌≡◌};
+ghost use Rattle.psabi_relocs.specs.Effect.{effect_of};
+
+use crate::judged::JudgedEntry;
+use crate::row::Row;
+
 /// What a loader has to do for a relocation when the image moves. Addresses are the linked ones.
 #[derive(Clone, Copy, Debug, PartialEq, Eq)]
 pub enum Effect {
@@ -9,4 +15,27 @@ pub enum Effect {
     Word { place: u32, target: u32 },
     /// The GOT slot at `place` points to `target`.
     Slot { place: u32, target: u32 },
+}
+
+impl JudgedEntry<'_, '_> {
+    /// What a loader has to do for it, if it is accepted.
+    pub fn effect(&self) -> Effect
+        ensures { result ≡ effect_of self.now.file self.now.section self.now.reloc }
+    {
+        let reloc = &self.reloc;
+        if !reloc.class.is_moving() {
+            return Effect::Still;
+        }
+        match (reloc.row, self.slot) {
+            (Row::Pointer, _) => Effect::Word {
+                place: reloc.place,
+                target: reloc.absolute(),
+            },
+            (Row::GotHi20, Some(slot)) => Effect::Slot {
+                place: slot.address,
+                target: reloc.value,
+            },
+            _ => Effect::Still,
+        }
+    }
 }

@@ -4,12 +4,8 @@ ghost use Rattle.std.specs.Prelude.{◌≡◌, ℕ, ◌&&◌, ◌==◌, true, if
 ghost use Rattle.std.specs.Ordering.{nat_cmp};
 ghost use Rattle.std.specs.Option.{option_or};
 ghost use Rattle.std.specs.BTreeMap as tree;
-ghost use Rattle.elf32_reader.specs.Header.{count_of};
-ghost use Rattle.elf32_reader.specs.Sections.{section};
 ghost use Rattle.elf32_reader.specs.Relas.{is_kept};
-ghost use Rattle.flat_layout.specs.Numbering.{has_bytes};
 ghost use Rattle.psabi_relocs.specs.declared.row.Width.{Width};
-ghost use Rattle.psabi_relocs.specs.Search.{first_below};
 ghost use Rattle.psabi_relocs.specs.Class.{is_moving};
 ghost use Rattle.psabi_relocs.specs.Row.{is_high, is_low};
 ghost use Rattle.psabi_relocs.specs.Bytes.{holds};
@@ -23,11 +19,10 @@ use crate::group::Sums;
 use crate::reloc::{Reloc, reloc_at};
 use crate::row::{Row, Shape};
 use elf32_reader::{Elf, Section};
-use flat_layout::has_bytes;
 use std::alloc::{AllocError, Global};
 use std::collections::BTreeMap;
 
-/// A kept section's entries by address, and the stored sections of the image.
+/// A kept section's entries by address.
 #[derive(Drop)]
 pub struct Pairs {
     /// By place, the first entry with a high part.
@@ -36,12 +31,14 @@ pub struct Pairs {
     pub(crate) low: BTreeMap<u32, u32>,
     /// By place, the sums of the groups.
     pub(crate) sums: BTreeMap<u32, Sums>,
-    /// By first address, the stored sections of the image.
-    pub(crate) stored: BTreeMap<u32, u32>,
 }
 
 /// Gives `address` the index, unless it has one.
-fn note_first(firsts: &mut BTreeMap<u32, u32>, address: u32, index: u32) -> Result<(), AllocError>
+pub fn note_first(
+    firsts: &mut BTreeMap<u32, u32>,
+    address: u32,
+    index: u32,
+) -> Result<(), AllocError>
     ensures { OnOk result ((q : ℕ) →
         tree.get nat_cmp firsts.new q ≡ option_or (tree.get nat_cmp firsts.old q) (if address == q then Some index else None)) }
 {
@@ -55,7 +52,7 @@ fn note_first(firsts: &mut BTreeMap<u32, u32>, address: u32, index: u32) -> Resu
 fn has_high(reloc: &Reloc) -> bool
     ensures { result ≡ is_high reloc.now.row }
 {
-    matches!(reloc.row, Row::Got | Row::Relative(Shape::High))
+    matches!(reloc.row, Row::GotHi20 | Row::Relative(Shape::High))
 }
 
 /// Whether an entry is a low part that names an address.
@@ -97,21 +94,6 @@ fn note_low(
     Ok(())
 }
 
-/// Takes in a section of the image with bytes in the file.
-fn note_section(
-    stored: &mut BTreeMap<u32, u32>,
-    section: &Section,
-    index: u32,
-) -> Result<(), AllocError>
-    ensures { OnOk result ((q : ℕ) →
-        tree.get nat_cmp stored.new q ≡ option_or (tree.get nat_cmp stored.old q) (if has_bytes section.now && section.now.addr == q then Some index else None)) }
-{
-    if has_bytes(section) {
-        note_first(stored, section.addr, index)?;
-    }
-    Ok(())
-}
-
 /// The sums at a place.
 pub fn sums_at(sums: &BTreeMap<u32, Sums>, place: u32) -> Sums
     ensures { result ≡ sums_or_none (tree.get nat_cmp sums.now place) }
@@ -138,18 +120,6 @@ fn note_step(sums: &mut BTreeMap<u32, Sums>, reloc: &Reloc) -> Result<(), AllocE
     Ok(())
 }
 
-/// The sections of the image with bytes in the file, by first address.
-fn stored_sections(alloc: Global, elf: &Elf<'_>) -> Result<BTreeMap<u32, u32>, AllocError>
-    ensures { IfOk result (λ stored. (q : ℕ) →
-        tree.get nat_cmp stored q ≡ first_below (λ k. has_bytes (section elf.now k) && (section elf.now k).addr == q) (count_of elf.now)) }
-{
-    let mut stored = BTreeMap::new(alloc);
-    for index in 0..elf.sections() {
-        note_section(&mut stored, &elf.section(index), index)?;
-    }
-    Ok(stored)
-}
-
 impl Pairs {
     /// Takes in an entry. `target` is the section that it applies to.
     fn note(&mut self, target: &Section, reloc: &Reloc, entry: u32) -> Result<(), AllocError>
@@ -160,17 +130,15 @@ impl Pairs {
             tree.get nat_cmp self.new.low q ≡ option_or (tree.get nat_cmp self.old.low q) (if names target.now q reloc.now then Some entry else None)) }
         ensures sums { OnOk result ((q : ℕ) (width : Width) →
             sum_of width (sums_or_none (tree.get nat_cmp self.new.sums q)) ≡ entry_step q width reloc.now (sum_of width (sums_or_none (tree.get nat_cmp self.old.sums q)))) }
-        ensures stored { self.new.stored ≡ self.old.stored }
     {
         note_high(&mut self.high, reloc, entry)?;
         note_low(&mut self.low, target, reloc, entry)?;
         note_step(&mut self.sums, reloc)
     }
 
-    /// The index of the kept section `section`. It takes memory for the entries that pair or group and
-    /// for the stored sections of the image alone: one node for all that stand at one place or name one
-    /// address. The time is n log n in the entries of the section and the sections of the file. Only want
-    /// of memory is an `Err`.
+    /// The index of the kept section `section`. It takes memory for the entries that pair or group alone: one
+    /// node for all that stand at one place or name one address. The time is n log n in the entries. Only out of
+    /// memory is an `Err`.
     pub fn of(alloc: Global, elf: &Elf<'_>, section: u32) -> Result<Pairs, AllocError>
         requires kept { is_kept elf.now section ≡ true }
         ensures { IfOk result (λ pairs. IsPairs elf.now section pairs) }
@@ -180,7 +148,6 @@ impl Pairs {
             high: BTreeMap::new(alloc),
             low: BTreeMap::new(alloc),
             sums: BTreeMap::new(alloc),
-            stored: stored_sections(alloc, elf)?,
         };
         for entry in 0..elf.relas(section) {
             pairs.note(&target, &reloc_at(elf, section, entry), entry)?;

@@ -3,6 +3,8 @@
 ghost use Rattle.std.specs.Prelude.{◌≡◌};
 ghost use Rattle.psabi_relocs.specs.Row.{row_of, width_len, field_len};
 
+use crate::types::*;
+
 /// How an instruction or a word has a value.
 #[derive(Clone, Copy, Debug, PartialEq, Eq)]
 pub enum Shape {
@@ -56,7 +58,7 @@ pub enum Row {
     /// S + A - P in the pair AUIPC and JALR: CALL, CALL_PLT.
     Call,
     /// G - P, the distance to the symbol's slot: GOT_HI20.
-    Got,
+    GotHi20,
     /// The low part of the value of another entry: PCREL_LO12_I, PCREL_LO12_S.
     Low(Shape),
     /// A step of a difference of symbols: ADD, SUB and SET of some width.
@@ -70,32 +72,36 @@ impl Row {
         ensures { result ≡ row_of kind }
     {
         match kind {
-            0 | 43 | 51 => Row::Mark,
-            1 => Row::Pointer,
-            16 => Row::Relative(Shape::Branch),
-            17 => Row::Relative(Shape::Jump),
-            18 | 19 => Row::Call,
-            20 => Row::Got,
-            23 => Row::Relative(Shape::High),
-            24 => Row::Low(Shape::LowI),
-            25 => Row::Low(Shape::LowS),
-            26 => Row::Absolute(Shape::High),
-            27 => Row::Absolute(Shape::LowI),
-            28 => Row::Absolute(Shape::LowS),
-            33 => Row::Group(Width::Bits8, Step::Add),
-            34 => Row::Group(Width::Bits16, Step::Add),
-            35 => Row::Group(Width::Bits32, Step::Add),
-            37 => Row::Group(Width::Bits8, Step::Sub),
-            38 => Row::Group(Width::Bits16, Step::Sub),
-            39 => Row::Group(Width::Bits32, Step::Sub),
-            52 => Row::Group(Width::Bits6, Step::Sub),
-            53 => Row::Group(Width::Bits6, Step::Set),
-            54 => Row::Group(Width::Bits8, Step::Set),
-            55 => Row::Group(Width::Bits16, Step::Set),
-            56 => Row::Group(Width::Bits32, Step::Set),
-            57 | 59 => Row::Relative(Shape::Word),
-            60 => Row::Group(Width::Uleb128, Step::Set),
-            61 => Row::Group(Width::Uleb128, Step::Sub),
+            R_RISCV_NONE => Row::Mark,
+            R_RISCV_32 => Row::Pointer,
+            R_RISCV_BRANCH => Row::Relative(Shape::Branch),
+            R_RISCV_JAL => Row::Relative(Shape::Jump),
+            R_RISCV_CALL => Row::Call,
+            R_RISCV_CALL_PLT => Row::Call,
+            R_RISCV_GOT_HI20 => Row::GotHi20,
+            R_RISCV_PCREL_HI20 => Row::Relative(Shape::High),
+            R_RISCV_PCREL_LO12_I => Row::Low(Shape::LowI),
+            R_RISCV_PCREL_LO12_S => Row::Low(Shape::LowS),
+            R_RISCV_HI20 => Row::Absolute(Shape::High),
+            R_RISCV_LO12_I => Row::Absolute(Shape::LowI),
+            R_RISCV_LO12_S => Row::Absolute(Shape::LowS),
+            R_RISCV_ADD8 => Row::Group(Width::Bits8, Step::Add),
+            R_RISCV_ADD16 => Row::Group(Width::Bits16, Step::Add),
+            R_RISCV_ADD32 => Row::Group(Width::Bits32, Step::Add),
+            R_RISCV_SUB8 => Row::Group(Width::Bits8, Step::Sub),
+            R_RISCV_SUB16 => Row::Group(Width::Bits16, Step::Sub),
+            R_RISCV_SUB32 => Row::Group(Width::Bits32, Step::Sub),
+            R_RISCV_ALIGN => Row::Mark,
+            R_RISCV_RELAX => Row::Mark,
+            R_RISCV_SUB6 => Row::Group(Width::Bits6, Step::Sub),
+            R_RISCV_SET6 => Row::Group(Width::Bits6, Step::Set),
+            R_RISCV_SET8 => Row::Group(Width::Bits8, Step::Set),
+            R_RISCV_SET16 => Row::Group(Width::Bits16, Step::Set),
+            R_RISCV_SET32 => Row::Group(Width::Bits32, Step::Set),
+            R_RISCV_32_PCREL => Row::Relative(Shape::Word),
+            R_RISCV_PLT32 => Row::Relative(Shape::Word),
+            R_RISCV_SET_ULEB128 => Row::Group(Width::Uleb128, Step::Set),
+            R_RISCV_SUB_ULEB128 => Row::Group(Width::Uleb128, Step::Sub),
             _ => Row::Unknown,
         }
     }

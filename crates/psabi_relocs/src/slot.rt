@@ -1,53 +1,73 @@
-//! The sections of GOT slots.
+//! The slots of the global offset table.
 
-ghost use Rattle.std.specs.Prelude.{◌≡◌, ℕ, ◌<◌, ◌≤◌, None, Some, MatchOption};
-ghost use Rattle.std.specs.Ordering.{nat_cmp};
-ghost use Rattle.std.specs.BTreeMap as tree;
-ghost use Rattle.flat_layout.specs.Fault.{layout_fault};
-ghost use Rattle.psabi_relocs.specs.Pair.{holds_slot, slot_section};
-ghost use Rattle.psabi_relocs.specs.Index.{IsPairs};
+ghost use Rattle.std.specs.Prelude.{◌≡◌};
+ghost use Rattle.elf32_reader.specs.Accepted.{IsAccepted};
+ghost use Rattle.psabi_relocs.specs.Slot.{low_immediate, slot_of, slot_section, slot_word};
 
-use crate::bytes::holds;
-use crate::pairs::Pairs;
-use elf32_reader::{Elf, Section};
-use flat_layout::has_bytes;
-use std::collections::BTreeMap;
+use crate::bytes::{WORD_LEN, linked_word};
+use crate::kept::KeptSection;
+use crate::row::{Row, Shape};
+use elf32_reader::Elf;
+use rv32im_table::{imm_i, imm_s, imm_u};
 
-/// The bytes of a slot.
-const SLOT_LEN: u32 = 4;
-
-/// Whether the section is one of the image with the four bytes at an address.
-#[tactic(auto, unfolding(crate::specs::Pair::holds_slot))]
-fn holds_slot(address: u32, section: &Section) -> bool
-    ensures { result ≡ holds_slot address section.now }
-{
-    has_bytes(section) && holds(section, address, SLOT_LEN)
+/// The slot of a GOT_HI20.
+#[derive(Clone, Copy, Debug, PartialEq, Eq)]
+pub struct Slot {
+    /// G: its address.
+    pub address: u32,
+    /// The stored section of the image that holds its four bytes.
+    pub section: Option<u32>,
 }
 
-/// What the greatest address up to `address` has.
-fn at_or_below(firsts: &BTreeMap<u32, u32>, address: u32) -> Option<u32>
-    ensures { MatchOption result
-        ((q : ℕ) → q ≤ address → tree.get nat_cmp firsts.now q ≡ None)
-        (λ index. (first : ℕ) × (first ≤ address) × (tree.get nat_cmp firsts.now first ≡ Some index)
-        × ((q : ℕ) → q ≤ address → first < q → tree.get nat_cmp firsts.now q ≡ None)) }
+/// The immediate of a low part in its word.
+fn low_immediate(row: Row, word: u32) -> u32
+    ensures { result ≡ low_immediate row word }
 {
-    match firsts.range(..=address).next_back() {
-        Some((_, index)) => Some(*index),
-        None => None,
+    match row {
+        Row::Low(Shape::LowS) => imm_s(word),
+        _ => imm_i(word),
     }
 }
 
-/// The stored section of the image that holds the four bytes at an address, found by the sections'
-/// first addresses. `section` is the kept section that the index is of.
-pub fn slot_section(elf: &Elf<'_>, pairs: &Pairs, section: u32, address: u32) -> Option<u32>
-    requires no_fault { layout_fault elf.now ≡ None }
-    requires pairs { IsPairs elf.now section pairs.now }
-    ensures { result ≡ slot_section elf.now address }
-{
-    let index = at_or_below(&pairs.stored, address)?;
-    if holds_slot(address, &elf.section(index)) {
-        Some(index)
-    } else {
-        None
+impl KeptSection<'_, '_> {
+    /// G: the address of the slot of a GOT_HI20 at `place`. None if its instruction isn't in its section, or
+    /// no low part names it.
+    #[tactic(auto, using(crate::proofs::Partners::low_of_below, crate::proofs::Partners::low_of_holds), unfolding(crate::specs::Slot::slot_of, crate::specs::Slot::slot_by))]
+    pub fn slot_address(&self, place: u32) -> Option<u32>
+        ensures { result ≡ slot_of self.now.file self.now.section place }
+    {
+        if !self.holds(place, WORD_LEN) {
+            return None;
+        }
+        let low = self.reloc(*self.pairs.low.get(&place)?);
+        let high = imm_u(self.word(place));
+        let low = low_immediate(low.row, self.word(low.place));
+        Some(place.wrapping_add(high).wrapping_add(low))
+    }
+
+    /// The slot at an address.
+    pub fn slot_at(&self, address: u32) -> Slot
+        ensures address { result.address ≡ address }
+        ensures section { result.section ≡ slot_section self.now.file address }
+    {
+        Slot {
+            address,
+            section: self.stored.slot_section(self.elf, address),
+        }
+    }
+}
+
+impl Slot {
+    /// Its linked word, or 0 where no section holds it.
+    #[tactic(auto, using(crate::proofs::StoredSlots::slot_section_below, crate::proofs::StoredSlots::slot_section_allocated, crate::proofs::StoredSlots::slot_section_holds), unfolding(crate::specs::Slot::slot_word))]
+    pub fn word(&self, elf: &Elf<'_>) -> u32
+        requires accepted { IsAccepted elf.now }
+        requires section { self.now.section ≡ slot_section elf.now self.now.address }
+        ensures { result ≡ slot_word elf.now self.now.address }
+    {
+        match self.section {
+            Some(index) => linked_word(elf, index, self.address),
+            None => 0,
+        }
     }
 }

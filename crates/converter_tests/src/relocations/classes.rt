@@ -13,7 +13,7 @@ const ROWS: [(u8, Row); 30] = [
     (17, Row::Relative(Shape::Jump)),
     (18, Row::Call),
     (19, Row::Call),
-    (20, Row::Got),
+    (20, Row::GotHi20),
     (23, Row::Relative(Shape::High)),
     (24, Row::Low(Shape::LowI)),
     (25, Row::Low(Shape::LowS)),

@@ -1,31 +1,24 @@
-//! What an entry says, its bytes, and the slot of a place.
+//! What an entry says, and its bytes.
 
 use super::*;
 
-/// The entries of a kept section, and the bytes that each has.
+/// The entries of a kept section, and the bytes that each has. All are accepted.
 fn read_in(alloc: Global, bytes: &[u8], section: u32) -> Result<Vec<(Reloc, Spans)>, Fail> {
     let elf = Elf::read(bytes)?;
+    let _layout = Layout::of(&elf)?;
     if !is_kept(&elf, section) {
         return Err("it isn't kept")?;
     }
+    let stored = StoredSections::of(alloc, &elf)?;
     let pairs = Pairs::of(alloc, &elf, section)?;
     let mut found = Vec::new(alloc);
     for index in 0..elf.relas(section) {
-        found.push((
-            reloc_at(&elf, section, index),
-            spans_of(&elf, &pairs, section, index),
-        ))?;
+        let checked = check(&elf, &stored, &pairs, section, index).map_err(
+            |_| "it isn't accepted",
+        )?;
+        found.push((reloc_at(&elf, section, index), checked.spans))?;
     }
     Ok(found)
-}
-
-fn slot_in(alloc: Global, bytes: &[u8], section: u32, place: u32) -> Result<Option<u32>, Fail> {
-    let elf = Elf::read(bytes)?;
-    if !is_kept(&elf, section) {
-        return Err("it isn't kept")?;
-    }
-    let pairs = Pairs::of(alloc, &elf, section)?;
-    Ok(slot_of(&elf, &pairs, section, place))
 }
 
 /// What is said of an entry: its row, its symbol's class and value, the addend, the length of its field and whether that is
@@ -57,7 +50,7 @@ fn told(place: u32, row: Told) -> (Reloc, Spans) {
     )
 }
 
-/// Entries as they are read, their bytes, and the slots at places. The value of a weak symbol is 0.
+/// Entries as they are read, and their bytes. The value of a weak symbol is 0.
 #[test]
 fn entries_and_bytes(rt: HostRuntime) -> Result<(), Fail> {
     let alloc = rt.alloc();
@@ -66,7 +59,9 @@ fn entries_and_bytes(rt: HostRuntime) -> Result<(), Fail> {
     let weak = (Class::Weak, 0);
     let load = Row::Low(Shape::LowI);
     let add = Row::Group(Width::Bits8, Step::Add);
+    // a word that points to TEXT - 4
     let moving = Sample {
+        text: [0x1517, 0x0005_2503, 0xfffc, 0],
         symbols: [value, place, NO_SYMBOL, (Class::Weak, 9)],
         entries: [
             (20, TEXT, 1, 0),
@@ -76,7 +71,10 @@ fn entries_and_bytes(rt: HostRuntime) -> Result<(), Fail> {
         ],
         ..GOT_SLOT
     };
+    // auipc ra, 0 and jalr ra, 24(ra)
     let standing = Sample {
+        text: [0x1517, 0x0005_2503, 0x97, 0x0180_80e7],
+        got: [0; 4],
         entries: [
             (20, TEXT, 4, 0),
             (24, TEXT + 4, 2, 0),
@@ -89,7 +87,7 @@ fn entries_and_bytes(rt: HostRuntime) -> Result<(), Fail> {
         (
             moving,
             [
-                told(TEXT, (Row::Got, value, 0, 4, false, Some(true))),
+                told(TEXT, (Row::GotHi20, value, 0, 4, false, Some(true))),
                 told(TEXT + 4, (load, place, 0, 4, false, None)),
                 told(TEXT + 8, (Row::Pointer, place, 0xffff_fffc, 4, true, None)),
                 told(TEXT + 12, (add, weak, 1, 1, false, None)),
@@ -98,7 +96,7 @@ fn entries_and_bytes(rt: HostRuntime) -> Result<(), Fail> {
         (
             standing,
             [
-                told(TEXT, (Row::Got, weak, 0, 4, false, Some(false))),
+                told(TEXT, (Row::GotHi20, weak, 0, 4, false, Some(false))),
                 told(TEXT + 4, (load, place, 0, 4, false, None)),
                 told(TEXT + 8, (Row::Call, value, 0, 8, false, None)),
                 told(TEXT + 12, (Row::Mark, NO_SYMBOL, 4, 0, false, None)),
@@ -108,11 +106,6 @@ fn entries_and_bytes(rt: HostRuntime) -> Result<(), Fail> {
     for (sample, want) in cases {
         let found = read_in(alloc, &file(alloc, &sample)?, TEXT_RELAS)?;
         assert_eq!(rt; found.as_slice(), want.as_slice());
-    }
-    let bytes = file(alloc, &moving)?;
-    for (place, want) in [(TEXT, Some(GOT)), (TEXT + 4, None), (GOT, None)] {
-        let found = slot_in(alloc, &bytes, TEXT_RELAS, place)?;
-        assert_eq!(rt; found, want, "{place:#x}");
     }
     Ok(())
 }

@@ -1,4 +1,4 @@
-//! GOT entries and their slots.
+//! GOT_HI20 and its slots.
 
 use super::*;
 
@@ -151,7 +151,7 @@ fn low_parts() -> [Case; 9] {
     ]
 }
 
-/// GOT entries, with their slots and low parts.
+/// GOT_HI20, with its slots and low parts.
 #[test]
 fn got_entries(rt: HostRuntime) -> Result<(), Fail> {
     let alloc = rt.alloc();

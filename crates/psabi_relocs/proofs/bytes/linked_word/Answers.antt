@@ -9,27 +9,17 @@ pub content-requires-clause-content : goal.content-requires-clause-content
 content-requires-clause-content c =
     allocated_has_content _ c.requires.allocated (holds_parts _ _ _ c.requires.holds).stored
 
-pub split_at-requires : goal.split_at-requires
-split_at-requires c =
+pub word-requires : goal.word-requires
+word-requires c =
     let s = section c.args.elf.now c.args.index in
     let holds = holds_parts s c.args.address 4 c.requires.holds in
     let fits = stored_fits c.args.elf.now c.args.index c.requires.accepted.no_fault c.requires.index c.requires.allocated holds.stored in
     let same = length_content c.args.elf.now s fits in
-    rw (c.section.ensures, c.content.ensures, same) (omega arith)
-
-pub read_u32-requires : goal.read_u32-requires
-read_u32-requires c =
-    let s = section c.args.elf.now c.args.index in
-    let holds = holds_parts s c.args.address 4 c.requires.holds in
-    let fits = stored_fits c.args.elf.now c.args.index c.requires.accepted.no_fault c.requires.index c.requires.allocated holds.stored in
-    let same = length_content c.args.elf.now s fits in
-    let back = rw (c.section.ensures, c.content.ensures, same) at c.split_at.ensures.back_len in
-    omega arith
+    rw (c.section-start.ensures, c.content.ensures, same) (omega arith)
 
 pub returns : goal.returns
 returns c =
     let s = section c.args.elf.now c.args.index in
     let holds = holds_parts s c.args.address 4 c.requires.holds in
     let fits = stored_fits c.args.elf.now c.args.index c.requires.accepted.no_fault c.requires.index c.requires.allocated holds.stored in
-    let word = number-content c.args.elf.now s (c.args.address - s.addr) fits (omega arith) in
-    rw (c.read_u32.ensures, c.split_at.ensures.back, c.section.ensures, c.content.ensures) word
+    rw (c.word.ensures, c.content.ensures, c.section-start.ensures) (number-content c.args.elf.now s (c.args.address - s.addr) fits (omega arith))

@@ -17,7 +17,6 @@ loop-entry-init c = record {
   high = λ q. rw (c.new.ensures.empty, first_below_zero) refl;
   low = λ q. rw (c.new-2.ensures.empty, first_below_zero) refl;
   sums = λ q width. rw c.new-3.ensures.empty (sum_below_zero _ _ q width);
-  stored = c.in_ok-stored_sections.ensures;
 }
 
 pub note-requires : goal.note-requires
@@ -31,7 +30,7 @@ pub loop-entry-preserved : goal.loop-entry-preserved
 loop-entry-preserved c =
     let step = rw (c.section-target.ensures, c.section.ensures, c.reloc_at.ensures.value) at c.in_ok-note.ensures in
     one_more c.args.elf.now c.args.section c.loop-entry.entry c.loop-entry.pairs c.note.new.self c.loop-entry.invariant (
-    record { high = step.high; low = step.low; sums = step.sums; stored = step.stored })
+    record { high = step.high; low = step.low; sums = step.sums })
 
 pub returns : goal.returns
 returns c =

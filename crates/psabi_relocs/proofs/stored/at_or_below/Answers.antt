@@ -1,6 +1,6 @@
 use Rattle.std.proofs.lemmas.Map.Keys.{le_from_not_gt}
 use Rattle.psabi_relocs.proofs.StoredSlots.{not_above, none_behind}
-use Rattle.psabi_relocs.proofs.slot.at_or_below.Goals as goal
+use Rattle.psabi_relocs.proofs.stored.at_or_below.Goals as goal
 
 pub returns-in-Some : goal.returns-in-Some
 returns-in-Some c =

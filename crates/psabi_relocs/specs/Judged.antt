@@ -1,0 +1,38 @@
+-- What the judgement of an entry stands on.
+use Rattle.std.specs.Prelude.{◌≡◌, ℕ, true, List, Option, None, IfSome}
+use Rattle.std.specs.Option.{option_map}
+use Rattle.elf32_reader.specs.Accepted.{IsAccepted}
+use Rattle.elf32_reader.specs.Relas.{is_kept}
+use Rattle.flat_layout.specs.Fault.{layout_fault}
+use Rattle.psabi_relocs.specs.declared.pairs.Pairs.{Pairs}
+use Rattle.psabi_relocs.specs.declared.stored.StoredSections.{StoredSections}
+use Rattle.psabi_relocs.specs.declared.reloc.Reloc.{Reloc}
+use Rattle.psabi_relocs.specs.declared.slot.Slot.{Slot}
+use Rattle.psabi_relocs.specs.Pair.{own_high}
+use Rattle.psabi_relocs.specs.Slot.{own_slot, slot_section}
+use Rattle.psabi_relocs.specs.Index.{AreStored, IsPairs}
+
+-- section `section` of the file e
+pub record Kept : Type 0 where
+  pub file : List ℕ
+  pub section : ℕ
+
+-- the section is kept, in a file that was read and has a layout, and the indexes are those of the file and of the section
+pub record IsIndexed (e : List ℕ) (i : ℕ) (s : StoredSections) (p : Pairs) : Type 0 where
+  pub accepted : IsAccepted e
+  pub kept : is_kept e i ≡ true
+  pub no_fault : layout_fault e ≡ None
+  pub stored : AreStored e s
+  pub pairs : IsPairs e i p
+
+-- an entry of section `section` of the file e
+pub record Judged : Type 0 where
+  pub file : List ℕ
+  pub section : ℕ
+  pub reloc : Reloc
+
+-- h is the pair of the entry r, and g its slot with the section that holds it
+pub record IsLinked (e : List ℕ) (i : ℕ) (r : Reloc) (h : Option ℕ) (g : Option Slot) : Type 0 where
+  pub high : h ≡ own_high e i r
+  pub slot : option_map (λ slot. slot.address) g ≡ own_slot e i r
+  pub section : IfSome g (λ slot. slot.section ≡ slot_section e slot.address)
