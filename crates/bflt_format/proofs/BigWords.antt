@@ -30,14 +30,14 @@ big_at_same y a z b same =
 pub big_at_bytes : (n : ℕ) (rest : List ℕ) → big_at (big_bytes 4 n ++ rest) 0 ≡ n % 2 ^ 32
 big_at_bytes n rest = omega (arith, big_at_is (big_bytes 4 n ++ rest) 0)
 
--- what stands behind a front
-pub big_at_behind : (front y : List ℕ) (at : ℕ) → big_at (front ++ y) (length front + at) ≡ big_at y at
-big_at_behind front y at = big_at_same (front ++ y) (length front + at) y at
-    (λ i lt. ap (λ k. get_or (front ++ y) k 0) (let e : (length front + at) + i ≡ length front + (at + i) = omega arith in e) ∙ get_or-append-add front y (at + i) 0)
+-- what stands behind a prefix
+pub big_at_behind : (prefix y : List ℕ) (at : ℕ) → big_at (prefix ++ y) (length prefix + at) ≡ big_at y at
+big_at_behind prefix y at = big_at_same (prefix ++ y) (length prefix + at) y at
+    (λ i lt. ap (λ k. get_or (prefix ++ y) k 0) (let e : (length prefix + at) + i ≡ length prefix + (at + i) = omega arith in e) ∙ get_or-append-add prefix y (at + i) 0)
 
--- what stands in front
-pub big_at_front : (y rest : List ℕ) (at : ℕ) → at + 4 ≤ length y → big_at (y ++ rest) at ≡ big_at y at
-big_at_front y rest at fits = big_at_same (y ++ rest) at y at (λ i lt. get_or_append_left y rest 0 (at + i) (omega arith))
+-- what stands in a prefix
+pub big_at_prefix : (y rest : List ℕ) (at : ℕ) → at + 4 ≤ length y → big_at (y ++ rest) at ≡ big_at y at
+big_at_prefix y rest at fits = big_at_same (y ++ rest) at y at (λ i lt. get_or_append_left y rest 0 (at + i) (omega arith))
 
 -- a word of a part of the bytes
 pub big_number_part : (y : List ℕ) (start n at : ℕ) → at + 4 ≤ n → big_number 4 (drop at (take n (drop start y))) ≡ big_at y (start + at)

@@ -35,18 +35,18 @@ is_header y none =
     let bounds = or_parts (not (is_in_order y) || ltb (length y) (data_end y)) (ltb 16777216 (bss_end y - 64)) rows.1.1.1.1.0 in
     let within = or_parts (not (is_in_order y)) (ltb (length y) (data_end y)) bounds.0 in
     let order = and_parts (leb 64 (data_start y) && leb (data_start y) (data_end y)) (leb (data_end y) (bss_end y)) (not-false _ within.0) in
-    let front = and_parts (leb 64 (data_start y)) (leb (data_start y) (data_end y)) order.0 in
+    let ordered = and_parts (leb 64 (data_start y)) (leb (data_start y) (data_end y)) order.0 in
     let place = and_parts (entry y % 4 == 0 && leb 64 (entry y)) (leb (entry y + 4) (data_end y)) (not-false _ rows.1.1.1.1.1.1.0) in
     let aligned = and_parts (entry y % 4 == 0) (leb 64 (entry y)) place.0 in
     let size : bss_end y - 64 ≤ 16777216 = ltb-false _ _ bounds.1 in
     record {
       long = ltb-false _ _ rows.0;
       known = not-false _ rows.1.1.1.0;
-      text = leb-true _ _ front.0;
-      in_order = leb-true _ _ front.1;
+      text = leb-true _ _ ordered.0;
+      in_order = leb-true _ _ ordered.1;
       bss = leb-true _ _ order.1;
       fits = ltb-false _ _ within.1;
-      size = omega (arith, leb-true _ _ front.0);
+      size = omega (arith, leb-true _ _ ordered.0);
       aligned = eqb-true _ _ (not-false _ rows.1.1.1.1.1.0);
       entry_aligned = eqb-true _ _ aligned.0;
       entry_from = leb-true _ _ aligned.1;

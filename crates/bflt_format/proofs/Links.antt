@@ -10,11 +10,10 @@ use Rattle.byte_words.specs.Patches.{Patch, spans, painted, bytes_below, from_ba
 use Rattle.bflt_format.specs.Values.{Values, stored, image_size}
 use Rattle.bflt_format.specs.Fault.{is_near}
 use Rattle.bflt_format.specs.Image.{link, flat_image}
-use Rattle.bflt_format.specs.Rising.{rising}
 use Rattle.bflt_format.proofs.BigWords.{big_at_same, big_at_bytes}
 use Rattle.bflt_format.proofs.Overlap.{covers}
-use Rattle.byte_words.proofs.Painting.{AllShow, is_spanned, painted_at, painted_none, byte_below, byte_past}
-use Rattle.bflt_format.proofs.Rising.{has, has_at, rising_has, rising_rises, rises_at, length-rising_below}
+use Rattle.byte_words.proofs.Painting.{AllShow, is_spanned, painted_at, painted_none, byte_below, byte_past, bytes_below_same}
+use Rattle.bflt_format.proofs.Rising.{has, has_at, Rises, rises_at, length-rises_below}
 
 -- ---- one patch for each place of a list
 
@@ -133,6 +132,21 @@ body_number target ps bare size words x member =
     (λ j lt. body_byte target ps bare size words x j member lt ∙ ap (λ k. get_or text k 0) (let e : j ≡ 0 + j = omega arith in e) ∙ ap (λ y. get_or y (0 + j) 0) (sym (append-nil text))) in
     omega (arith, word, big_at_bytes (target x) [], words.fits x member)
 
+-- the body goes by the members of the list alone
+pub same_body : (target : ℕ → ℕ) (ps qs : List ℕ) (bare : ℕ → ℕ) (size : ℕ) → AreWords target ps size → ((x : ℕ) → has qs x ≡ has ps x) → body_of target qs bare size ≡ body_of target ps bare size
+same_body target ps qs bare size words members =
+    bytes_below_same size (painted (map (numbered target) qs) bare) (painted (map (numbered target) ps) bare) (λ i below. elim (find_cover ps i) [
+      | inl found ↦
+          let x = found.place in
+          word_at (numbered target) qs bare i x (members x ∙ found.member) (numbered_covers target x i ∙ found.covered)
+          (λ p there on. words.apart p x (sym (members p) ∙ there) found.member (near_by_byte p x i (sym (numbered_covers target p i) ∙ on) found.covered))
+          ∙ sym (word_at (numbered target) ps bare i x found.member (numbered_covers target x i ∙ found.covered)
+          (λ p there on. words.apart p x there found.member (near_by_byte p x i (sym (numbered_covers target p i) ∙ on) found.covered)))
+      | inr none ↦
+          word_none (numbered target) qs bare i (λ p there. numbered_covers target p i ∙ none p (sym (members p) ∙ there))
+          ∙ sym (word_none (numbered target) ps bare i (λ p there. numbered_covers target p i ∙ none p there))
+    ])
+
 -- ---- the loaded image
 
 link_word : (body : List ℕ) (b r n : ℕ) → big_at body r ≡ n → 0 < n → link body b r ≡ little_word r ((b + n) % 2 ^ 32)
@@ -182,7 +196,7 @@ same_image target ps bare b f words members zero_past body =
 
 -- ---- a file made of words
 
--- what its records need, where they are the places in ascending order
+-- what its records need, where they are ascending and are the places
 pub record HasRecords (f : Values) : Type 0 where
   pub count : length f.records < 2 ^ 32
   pub inside : (k : ℕ) → k < length f.records → get_or f.records k 0 + 4 ≤ stored f
@@ -190,17 +204,14 @@ pub record HasRecords (f : Values) : Type 0 where
   pub targets : (k : ℕ) → k < length f.records → big_at f.body (get_or f.records k 0) ≤ image_size f
 
 pub has_records : (target : ℕ → ℕ) (ps : List ℕ) (bare : ℕ → ℕ) (f : Values) → AreWords target ps (stored f) → ((p : ℕ) → has ps p ≡ true → target p ≤ image_size f) → stored f < 2 ^ 32
-    → f.body ≡ body_of target ps bare (stored f) → f.records ≡ rising ps → HasRecords f
-has_records target ps bare f words bound small body records = record {
-  count = omega (arith, ap length records, length-rising_below (stored f) ps (λ x there. omega (arith, words.inside x there)));
+    → f.body ≡ body_of target ps bare (stored f) → Rises f.records → ((x : ℕ) → has f.records x ≡ has ps x) → HasRecords f
+has_records target ps bare f words bound small body rises members = record {
+  count = omega (arith, length-rises_below (stored f) f.records rises (λ x there. omega (arith, words.inside x (sym (members x) ∙ there))));
   inside = λ k lt. words.inside (get_or f.records k 0) (member k lt);
   apart = λ j k before lt. false_from_ne_true (is_near (get_or f.records j 0) (get_or f.records k 0))
-      (λ near. let same = words.apart (get_or f.records j 0) (get_or f.records k 0) (member j (omega arith)) (member k lt) near in absurd (omega (arith, same, below j k before lt)));
+      (λ near. let same = words.apart (get_or f.records j 0) (get_or f.records k 0) (member j (omega arith)) (member k lt) near in absurd (omega (arith, same, rises_at f.records j k rises before lt)));
   targets = λ k lt. rw body (omega (arith, body_number target ps bare (stored f) words (get_or f.records k 0) (member k lt), bound (get_or f.records k 0) (member k lt)));
 }
   where
     member : (k : ℕ) → k < length f.records → has ps (get_or f.records k 0) ≡ true
-    member k lt = sym (rising_has ps (get_or f.records k 0)) ∙ ap (λ rs. has rs (get_or f.records k 0)) (sym records) ∙ has_at f.records k lt
-
-    below : (j k : ℕ) → j < k → k < length f.records → get_or f.records j 0 < get_or f.records k 0
-    below j k before lt = rw records (rises_at (rising ps) j k (rising_rises ps) before (omega (arith, ap length records)))
+    member k lt = sym (members (get_or f.records k 0)) ∙ has_at f.records k lt

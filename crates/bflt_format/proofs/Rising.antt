@@ -1,12 +1,7 @@
 -- Ascending lists of distinct numbers.
-use Rattle.std.proofs.Common.{◌≡◌, ℕ, zero, suc, ◌+◌, ◌<◌, ◌≤◌, Bool, true, false, ◌||◌, eqb, List, [], ◌∷◌, length, get_or, refl, sym, ap, subst, ◌∙◌, arith, inl, inr}
-use Rattle.std.specs.List.{AllByRecursion}
-use Rattle.std.specs.Ordering.{nat_cmp}
-use Rattle.std.specs.BTreeSet.{insert_key}
-use Rattle.std.proofs.lemmas.Bool.{cases_order, lt-ltb, le-ltb, eq-eqb, ne_eqb, eqb-true, or_left, or_right, or_cases, cases_eq, false≢true, false_from_ne_true}
-use Rattle.std.specs.List.Sorted.{IsStrictlyIncreasing}
-use Rattle.std.proofs.lemmas.Map.Keys.{sorted_from_strictly_increasing, below_from_sorted}
-use Rattle.bflt_format.specs.Rising.{rising_on, rising}
+use Rattle.std.proofs.Common.{◌≡◌, ℕ, zero, suc, ◌+◌, ◌<◌, ◌≤◌, Bool, true, false, ◌||◌, eqb, List, [], ◌∷◌, length, get_or, filter, refl, sym, ap, ◌∙◌, arith, inl, inr}
+use Rattle.std.specs.List.{AllByRecursion, range_with_len}
+use Rattle.std.proofs.lemmas.Bool.{cases_Bool, eq-eqb, eqb-true, or_left, or_right, or_cases, cases_eq, false≢true, false_from_ne_true}
 
 -- the number is in the list
 abbrev pub has : List ℕ → ℕ → Bool
@@ -17,104 +12,6 @@ has (n ∷ ns) x = eqb n x || has ns x
 abbrev pub Rises : List ℕ → Type 0
 Rises [] = Unit {0}
 Rises (n ∷ ns) = AllByRecursion (λ m. n < m) ns × Rises ns
-
--- what the comparison of a new number with the first one gives
-insert_less : (k n : ℕ) (ns : List ℕ) → k < n → insert_key nat_cmp (n ∷ ns) k ≡ k ∷ n ∷ ns
-insert_less k n ns lt = rw (lt-ltb k n lt) refl
-
-insert_same : (k n : ℕ) (ns : List ℕ) → k ≡ n → insert_key nat_cmp (n ∷ ns) k ≡ n ∷ ns
-insert_same k n ns same = rw (le-ltb k n (omega arith), eq-eqb k n same) refl
-
-insert_more : (k n : ℕ) (ns : List ℕ) → n < k → insert_key nat_cmp (n ∷ ns) k ≡ n ∷ insert_key nat_cmp ns k
-insert_more k n ns lt = rw (le-ltb k n (omega arith), ne_eqb k n (λ same. absurd (omega arith))) refl
-
-all_insert : (P : ℕ → Type 0) (ns : List ℕ) (k : ℕ) → P k → AllByRecursion P ns → AllByRecursion P (insert_key nat_cmp ns k)
-all_insert P [] k here all = (here, tt)
-all_insert P (n ∷ ns) k here all = elim (cases_order k n) [
-  | inl same ↦ rw (insert_same k n ns same) all
-  | inr other ↦ elim other [
-    | inl lt ↦ rw (insert_less k n ns lt) (here, all)
-    | inr gt ↦ rw (insert_more k n ns gt) (all.0, all_insert P ns k here all.1)
-  ]
-]
-
-all_above : (k n : ℕ) (ns : List ℕ) → k < n → AllByRecursion (λ m. n < m) ns → AllByRecursion (λ m. k < m) ns
-all_above k n [] lt all = tt
-all_above k n (m ∷ ns) lt all = (omega (arith, all.0), all_above k n ns lt all.1)
-
-rises_insert : (ns : List ℕ) (k : ℕ) → Rises ns → Rises (insert_key nat_cmp ns k)
-rises_insert [] k rises = (tt, tt)
-rises_insert (n ∷ ns) k rises = elim (cases_order k n) [
-  | inl same ↦ rw (insert_same k n ns same) rises
-  | inr other ↦ elim other [
-    | inl lt ↦ rw (insert_less k n ns lt) ((lt, all_above k n ns lt rises.0), rises)
-    | inr gt ↦ rw (insert_more k n ns gt) (all_insert (λ m. n < m) ns k gt rises.0, rises_insert ns k rises.1)
-  ]
-]
-
-length_insert : (ns : List ℕ) (k : ℕ) → length (insert_key nat_cmp ns k) ≤ length ns + 1
-length_insert [] k = omega arith
-length_insert (n ∷ ns) k = elim (cases_order k n) [
-  | inl same ↦ rw (insert_same k n ns same) (omega arith)
-  | inr other ↦ elim other [
-    | inl lt ↦ rw (insert_less k n ns lt) (omega arith)
-    | inr gt ↦ rw (insert_more k n ns gt) (omega (arith, length_insert ns k))
-  ]
-]
-
-turn_or : (a b c : Bool) → (a || (b || c)) ≡ (b || (a || c))
-turn_or true true c = refl
-turn_or true false c = refl
-turn_or false b c = refl
-
-once : (a c : Bool) → (a || c) ≡ (a || (a || c))
-once true c = refl
-once false c = refl
-
-has_insert : (ns : List ℕ) (k x : ℕ) → has (insert_key nat_cmp ns k) x ≡ (eqb k x || has ns x)
-has_insert [] k x = refl
-has_insert (n ∷ ns) k x = elim (cases_order k n) [
-  | inl same ↦ rw (insert_same k n ns same, same) (once (eqb n x) (has ns x))
-  | inr other ↦ elim other [
-    | inl lt ↦ rw (insert_less k n ns lt) refl
-    | inr gt ↦ rw (insert_more k n ns gt, has_insert ns k x) (turn_or (eqb n x) (eqb k x) (has ns x))
-  ]
-]
-
-rises_on : (ks ns : List ℕ) → Rises ks → Rises (rising_on ks ns)
-rises_on ks [] rises = rises
-rises_on ks (n ∷ ns) rises = rises_on (insert_key nat_cmp ks n) ns (rises_insert ks n rises)
-
-length_on : (ks ns : List ℕ) → length (rising_on ks ns) ≤ length ks + length ns
-length_on ks [] = omega arith
-length_on ks (n ∷ ns) = omega (arith, length_on (insert_key nat_cmp ks n) ns, length_insert ks n)
-
-or_nothing : (b : Bool) → (b || false) ≡ b
-or_nothing true = refl
-or_nothing false = refl
-
-move_or : (a b c : Bool) → ((a || b) || c) ≡ (b || (a || c))
-move_or true true c = refl
-move_or true false c = refl
-move_or false b c = refl
-
-has_on : (ks ns : List ℕ) (x : ℕ) → has (rising_on ks ns) x ≡ (has ks x || has ns x)
-has_on ks [] x = sym (or_nothing (has ks x))
-has_on ks (n ∷ ns) x = has_on (insert_key nat_cmp ks n) ns x ∙ rw (has_insert ks n x) (move_or (eqb n x) (has ks x) (has ns x))
-
--- ---- what callers use
-
-pub rising_rises : (ns : List ℕ) → Rises (rising ns)
-unfolding rising
-rising_rises ns = rises_on [] ns tt
-
-pub rising_has : (ns : List ℕ) (x : ℕ) → has (rising ns) x ≡ has ns x
-unfolding rising
-rising_has ns x = has_on [] ns x
-
-pub length-rising : (ns : List ℕ) → length (rising ns) ≤ length ns
-unfolding rising
-length-rising ns = omega (arith, length_on [] ns)
 
 pub has_at : (ns : List ℕ) (k : ℕ) → k < length ns → has ns (get_or ns k 0) ≡ true
 has_at [] k lt = absurd (omega arith)
@@ -161,54 +58,57 @@ rises_room a n [] room rises from to = omega arith
 rises_room a n (m ∷ ns) room rises from to =
     omega (arith, from.0, rises_room (m + 1) n ns (omega (arith, to.0)) rises.1 (next_up m ns rises.0) to.1)
 
-pub length-rising_below : (n : ℕ) (ns : List ℕ) → ((x : ℕ) → has ns x ≡ true → x < n) → length (rising ns) ≤ n
-length-rising_below n ns below =
-    omega (arith, rises_room 0 n (rising ns) (omega arith) (rising_rises ns) (all_has (λ m. 0 ≤ m) (rising ns) (λ x e. omega arith)) (all_has (λ m. m < n) (rising ns) (λ x e. below x (sym (rising_has ns x) ∙ e))))
+-- so ascending numbers below n are at most n
+pub length-rises_below : (n : ℕ) (ns : List ℕ) → Rises ns → ((x : ℕ) → has ns x ≡ true → x < n) → length ns ≤ n
+length-rises_below n ns rises below =
+    omega (arith, rises_room 0 n ns (omega arith) rises (all_has (λ m. 0 ≤ m) ns (λ x e. omega arith)) (all_has (λ m. m < n) ns below))
 
--- an ascending list is told by its members
-head_least : (n m : ℕ) (ns : List ℕ) → AllByRecursion (λ k. n < k) ns → has (n ∷ ns) m ≡ true → n ≤ m
-head_least n m ns above e = elim (or_cases (eqb n m) (has ns m) e) [
-  | inl here ↦ omega (arith, eqb-true n m here)
-  | inr later ↦ let place = stands_in ns m later in omega (arith, all_at (λ k. n < k) ns place.at above place.below, place.is)
+-- ---- the numbers of a range that pass a test
+
+all_filtered : (P : ℕ → Type 0) (test : ℕ → Bool) (ns : List ℕ) → AllByRecursion P ns → AllByRecursion P (filter test ns)
+all_filtered P test [] all = tt
+all_filtered P test (n ∷ ns) all = elim (cases_Bool (test n)) [
+  | inl on ↦ rw on (all.0, all_filtered P test ns all.1)
+  | inr out ↦ rw out (all_filtered P test ns all.1)
 ]
 
-not_in : (n : ℕ) (ns : List ℕ) → AllByRecursion (λ k. n < k) ns → has ns n ≡ false
-not_in n ns above = false_from_ne_true (has ns n) (λ e. let place = stands_in ns n e in absurd (omega (arith, all_at (λ k. n < k) ns place.at above place.below, place.is)))
+range_from : (m a n : ℕ) → m < a → AllByRecursion (λ k. m < k) (range_with_len a n)
+range_from m a zero below = tt
+range_from m a (suc n) below = (below, range_from m (a + 1) n (omega arith))
 
-tails_same : (n z : ℕ) (xs ys : List ℕ) → AllByRecursion (λ k. n < k) xs → AllByRecursion (λ k. n < k) ys → (eqb n z || has xs z) ≡ (eqb n z || has ys z) → has xs z ≡ has ys z
-tails_same n z xs ys above_x above_y same = elim (cases_eq n z) [
-  | inl here ↦ ap (has xs) (sym here) ∙ not_in n xs above_x ∙ sym (not_in n ys above_y) ∙ ap (has ys) here
-  | inr other ↦ let off : eqb n z ≡ false = ne_eqb n z other in rw off at same
+pub rises_filtered : (test : ℕ → Bool) (a n : ℕ) → Rises (filter test (range_with_len a n))
+rises_filtered test a zero = tt
+rises_filtered test a (suc n) = elim (cases_Bool (test a)) [
+  | inl on ↦ rw on (all_filtered (λ k. a < k) test (range_with_len (a + 1) n) (range_from a (a + 1) n (omega arith)), rises_filtered test (a + 1) n)
+  | inr out ↦ rw out (rises_filtered test (a + 1) n)
 ]
 
-pub rises_same : (xs ys : List ℕ) → Rises xs → Rises ys → ((x : ℕ) → has xs x ≡ has ys x) → xs ≡ ys
-rises_same [] [] rises_x rises_y same = refl
-rises_same [] (y ∷ ys) rises_x rises_y same = absurd (false≢true (same y ∙ or_left (eqb y y) (has ys y) (eq-eqb y y refl)))
-rises_same (x ∷ xs) [] rises_x rises_y same = absurd (false≢true (sym (same x) ∙ or_left (eqb x x) (has xs x) (eq-eqb x x refl)))
-rises_same (x ∷ xs) (y ∷ ys) rises_x rises_y same =
-    let x_in_y : has (y ∷ ys) x ≡ true = sym (same x) ∙ or_left (eqb x x) (has xs x) (eq-eqb x x refl) in
-    let y_in_x : has (x ∷ xs) y ≡ true = same y ∙ or_left (eqb y y) (has ys y) (eq-eqb y y refl) in
-    let up = head_least x y xs rises_x.0 y_in_x in
-    let down = head_least y x ys rises_y.0 x_in_y in
-    let heads : x ≡ y = omega arith in
-    let above : AllByRecursion (λ k. x < k) ys = subst (λ n. AllByRecursion (λ k. n < k) ys) (sym heads) rises_y.0 in
-    let tails = rises_same xs ys rises_x.1 rises_y.1 (λ z. tails_same x z xs ys rises_x.0 above (same z ∙ ap (λ n. eqb n z || has ys z) (sym heads))) in
-    ap (λ n. n ∷ xs) heads ∙ ap (λ ns. y ∷ ns) tails
+-- such a number is one of the range, and passes
+pub filtered_passes : (test : ℕ → Bool) (ns : List ℕ) (x : ℕ) → has (filter test ns) x ≡ true → test x ≡ true
+filtered_passes test [] x e = absurd (false≢true e)
+filtered_passes test (n ∷ ns) x e = elim (cases_Bool (test n)) [
+  | inl on ↦ elim (or_cases (eqb n x) (has (filter test ns) x) (rw on at e)) [
+    | inl here ↦ ap test (sym (eqb-true n x here)) ∙ on
+    | inr later ↦ filtered_passes test ns x later
+  ]
+  | inr out ↦ filtered_passes test ns x (rw out at e)
+]
 
--- so an ascending list with the members of ns is `rising ns`, however it was made
-pub rising_is : (ns xs : List ℕ) → Rises xs → ((x : ℕ) → has xs x ≡ has ns x) → xs ≡ rising ns
-rising_is ns xs rises same = rises_same xs (rising ns) rises (rising_rises ns) (λ x. same x ∙ sym (rising_has ns x))
+pub passes_filtered : (test : ℕ → Bool) (a n x : ℕ) → a ≤ x → x < a + n → test x ≡ true → has (filter test (range_with_len a n)) x ≡ true
+passes_filtered test a zero x from to on = absurd (omega arith)
+passes_filtered test a (suc n) x from to on = elim (cases_eq a x) [
+  | inl here ↦ (let first : test a ≡ true = ap test here ∙ on in rw first (or_left (eqb a x) (has (filter test (range_with_len (a + 1) n)) x) (eq-eqb a x here)))
+  | inr other ↦
+      let later = passes_filtered test (a + 1) n x (omega arith) (omega arith) on in
+      elim (cases_Bool (test a)) [
+        | inl first ↦ rw first (or_right (eqb a x) (has (filter test (range_with_len (a + 1) n)) x) later)
+        | inr out ↦ rw out later
+      ]
+]
 
-all_places : (P : ℕ → Type 0) (ns : List ℕ) → ((k : ℕ) → k < length ns → P (get_or ns k 0)) → AllByRecursion P ns
-all_places P [] each = tt
-all_places P (n ∷ ns) each = (each 0 (omega arith), all_places P ns (λ k lt. each (suc k) (omega arith)))
-
--- ascending by places
-pub rises_by_places : (ns : List ℕ) → ((j k : ℕ) → j < k → k < length ns → get_or ns j 0 < get_or ns k 0) → Rises ns
-rises_by_places [] below = tt
-rises_by_places (n ∷ ns) below =
-    (all_places (λ m. n < m) ns (λ k lt. below 0 (suc k) (omega arith) (omega arith)), rises_by_places ns (λ j k before lt. below (suc j) (suc k) (omega arith) (omega arith)))
-
--- ascending by neighbours, as a sort and a removal of repetitions leave a list
-pub rises_by_neighbours : (ns : List ℕ) → IsStrictlyIncreasing ns → Rises ns
-rises_by_neighbours ns increasing = rises_by_places ns (λ j k before lt. below_from_sorted ns j k 0 (sorted_from_strictly_increasing ns increasing) before lt)
+-- where all numbers of a list are below n, those below n that it has are ascending and are just its numbers
+pub has_filtered : (ns : List ℕ) (n x : ℕ) → ((m : ℕ) → has ns m ≡ true → m < n) → has (filter (has ns) (range_with_len 0 n)) x ≡ has ns x
+has_filtered ns n x below = elim (cases_Bool (has ns x)) [
+  | inl is ↦ passes_filtered (has ns) 0 n x (omega arith) (omega (arith, below x is)) is ∙ sym is
+  | inr is ↦ false_from_ne_true _ (λ e. absurd (false≢true (sym is ∙ filtered_passes (has ns) (range_with_len 0 n) x e))) ∙ sym is
+]

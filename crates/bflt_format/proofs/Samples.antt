@@ -2,7 +2,6 @@
 -- points at the text's first byte, one record.
 use Rattle.std.proofs.Common.{◌≡◌, ℕ, List, [], ◌∷◌, ◌++◌, take, refl, Some, None, slice_set}
 use Rattle.bflt_format.specs.declared.fault.FlatFault.TheVariants.{Short, Flags, RecordRange, RecordOverlap, TargetRange}
-use Rattle.bflt_format.specs.Numbers.{big_at}
 use Rattle.byte_words.specs.Search.{any_below}
 use Rattle.byte_words.specs.Patches.{spans, patched, from_base, little_word}
 use Rattle.bflt_format.specs.Values.{Values}

@@ -33,8 +33,8 @@ length_spell f =
 body_back : (f : Values) → length f.body ≡ stored f → take (64 + stored f - 64) (drop 64 (spell f)) ≡ f.body
 unfolding spell
 body_back f len =
-    let front : length (words_text (header_words f)) ≡ 64 = length-words_text (header_words f) in
-    rw (drop_at (words_text (header_words f)) (f.body ++ words_text f.records) 64 front) (take_at f.body (words_text f.records) (64 + stored f - 64) (omega (arith, len)))
+    let prefix : length (words_text (header_words f)) ≡ 64 = length-words_text (header_words f) in
+    rw (drop_at (words_text (header_words f)) (f.body ++ words_text f.records) 64 prefix) (take_at f.body (words_text f.records) (64 + stored f - 64) (omega (arith, len)))
 
 fits_below : (f : Values) → Spells f → (k : ℕ) → k < length f.records → get_or f.records k 0 < 2 ^ 32
 fits_below f s k lt = omega (arith, s.inside k lt, s.size)
@@ -42,11 +42,11 @@ fits_below f s k lt = omega (arith, s.inside k lt, s.size)
 record_back : (f : Values) → Spells f → (k : ℕ) → k < length f.records → big_at (spell f) (64 + stored f + 4 * k) ≡ get_or f.records k 0
 unfolding spell
 record_back f s k lt =
-    let front = words_text (header_words f) ++ f.body in
-    let len : length front ≡ 64 + stored f = omega (arith, length-append (words_text (header_words f)) f.body, length-words_text (header_words f), s.body) in
+    let prefix = words_text (header_words f) ++ f.body in
+    let len : length prefix ≡ 64 + stored f = omega (arith, length-append (words_text (header_words f)) f.body, length-words_text (header_words f), s.body) in
     ap (λ y. big_at y (64 + stored f + 4 * k)) (sym (append_assoc (words_text (header_words f)) f.body (words_text f.records)))
-    ∙ ap (λ n. big_at (front ++ words_text f.records) (n + 4 * k)) (sym len)
-    ∙ big_at_behind front (words_text f.records) (4 * k)
+    ∙ ap (λ n. big_at (prefix ++ words_text f.records) (n + 4 * k)) (sym len)
+    ∙ big_at_behind prefix (words_text f.records) (4 * k)
     ∙ ap (λ y. big_at y (4 * k)) (sym (append-nil (words_text f.records)))
     ∙ (let word = word_of_text f.records [] k lt in let is : big_at (words_text f.records ++ []) (4 * k) ≡ get_or f.records k 0 = omega (arith, word, fits_below f s k lt) in is)
 

@@ -45,9 +45,9 @@ fn fill(out: &mut [u8], header: &[u32], body: &[u8], records: &[u32])
     requires { length out.old ≡ 4 * length header.now + length body.now + 4 * length records.now }
     ensures { out.new ≡ words_text header.now ++ (body.now ++ words_text records.now) }
 {
-    let (front, back) = out.split_at_mut(4 * header.len());
-    let (middle, back) = back.split_at_mut(body.len());
-    BigEndian::write_u32_into(header, front);
+    let (head, rest) = out.split_at_mut(4 * header.len());
+    let (middle, tail) = rest.split_at_mut(body.len());
+    BigEndian::write_u32_into(header, head);
     middle.copy_from_slice(body);
-    BigEndian::write_u32_into(records, back);
+    BigEndian::write_u32_into(records, tail);
 }

@@ -5,4 +5,6 @@
 #![tactic(auto)]
 
 #[cfg(test)]
+mod conversion;
+#[cfg(test)]
 mod relocations;

@@ -1,72 +1,61 @@
 -- The parts that the conversion makes are those of the definition.
-use Rattle.std.proofs.Common.{◌≡◌, ℕ, ◌+◌, ◌*◌, ◌/◌, ◌<◌, ◌≤◌, List, All, length, map, filter, get_or, slice_index, None, refl, sym, ap, ◌∙◌}
-use Rattle.std.proofs.lemmas.List.{length-map, get_or-map}
+use Rattle.std.proofs.Common.{◌≡◌, ℕ, ◌+◌, ◌*◌, ◌/◌, ◌≤◌, List, All, length, map, flat_map, filter, slice_index, None, refl, sym, ap, ◌∙◌}
+use Rattle.std.proofs.lemmas.List.Elements.{All-from_recursion}
 use Rattle.byte_words.specs.Numbers.{IsBytes}
 use Rattle.byte_words.specs.Patches.{painted, bytes_below}
+use Rattle.byte_words.proofs.Painting.{length-bytes_below}
 use Rattle.bflt_format.specs.Values.{ram_values}
-use Rattle.bflt_format.specs.Rising.{rising}
-use Rattle.byte_words.proofs.Painting.{bytes_below_same, byte_below, painted_same}
-use Rattle.bflt_format.proofs.Rising.{has, has_at}
 use Rattle.flat_layout.specs.declared.layout.Layout.{Layout}
-use Rattle.flat_layout.specs.Layout.{layout, size_of}
+use Rattle.flat_layout.specs.Layout.{layout}
 use Rattle.flat_layout.specs.Fault.{layout_fault}
-use Rattle.elf2flt_tool.specs.declared.word.Word.{Word}
 use Rattle.elf2flt_tool.specs.declared.found.Found.{Found}
+use Rattle.elf2flt_tool.specs.declared.word.Word.{Word}
 use Rattle.elf2flt_tool.specs.Relocs.{spans_of}
 use Rattle.elf2flt_tool.specs.Image.{bare}
-use Rattle.elf2flt_tool.specs.Word.{words, places, lowest, points_outside, target_outside, word_overlap}
-use Rattle.elf2flt_tool.specs.Marks.{is_met}
-use Rattle.elf2flt_tool.specs.Fault.{relocs_fault}
-use Rattle.elf2flt_tool.specs.Converted.{number_patch, body_of, converted}
+use Rattle.elf2flt_tool.specs.Word.{records, word_at, lowest, word_overlap}
+use Rattle.elf2flt_tool.specs.Cover.{is_met, recorded_of}
+use Rattle.elf2flt_tool.specs.Walk.{IsFoundIn}
+use Rattle.elf2flt_tool.specs.Fault.{relocs_fault, fault}
+use Rattle.elf2flt_tool.specs.Converted.{number_patch, converted}
 use Rattle.elf2flt_tool.proofs.Laid.{is_laid}
-use Rattle.elf2flt_tool.proofs.Recorded.{IsClear}
-use Rattle.elf2flt_tool.proofs.Listed.{places_of, places_are, are_words}
-use Rattle.elf2flt_tool.proofs.Marked.{met_words_marked}
-use Rattle.elf2flt_tool.proofs.Shapes.{all_plain, all_entries, records_inside}
-use Rattle.elf2flt_tool.proofs.Walked.{IsWhole}
+use Rattle.elf2flt_tool.proofs.Recorded.{is_clear, is_linked}
+use Rattle.elf2flt_tool.proofs.Ascending.{body-painted, words_inside}
+use Rattle.elf2flt_tool.proofs.Lowest.{has-mapped, lowest_same}
+use Rattle.elf2flt_tool.proofs.Meeting.{met_words_covered}
+use Rattle.elf2flt_tool.proofs.Kept.{kept_met, kept_each}
+use Rattle.elf2flt_tool.proofs.Shapes.{all_plain, all_entries, all_recorded}
 
--- the two tests of the words, as the code makes them
-pub outside-tested : (e : List ℕ) (l : Layout) (ws : List Word) → l ≡ layout e → ws ≡ words e → lowest (places (filter (points_outside (size_of l)) ws)) ≡ target_outside e
-unfolding target_outside
-outside-tested e l ws laid is = rw (laid, is) refl
-
-pub overlap-tested : (e : List ℕ) (f : Found) → layout_fault e ≡ None → relocs_fault e ≡ None → IsWhole e f
-    → lowest (map (λ r. r.place) (filter (is_met f.marks) f.records.items)) ≡ word_overlap e
+-- the test of the kept words is that of all
+pub overlap-tested : (e : List ℕ) (f : Found) → layout_fault e ≡ None → relocs_fault e ≡ None → IsFoundIn e (spans_of e) f
+    → lowest (map (λ r. r.place) (filter (is_met f.cover) f.words.items)) ≡ word_overlap e
 unfolding word_overlap
-overlap-tested e f laid none whole =
+overlap-tested e f laid none is =
     let plain = all_plain e (is_laid e laid) none in
-    ap (λ rs. lowest (map (λ r. r.place) (filter (is_met f.marks) rs))) whole.records
-    ∙ ap lowest (sym (met_words_marked (layout e) ((layout e).text + (layout e).data_len) (spans_of e) f.marks (all_entries (layout e) _ (spans_of e) plain) whole.marks))
+    let rs = flat_map (recorded_of (layout e)) (spans_of e) in
+    lowest_same (map (λ r. r.place) (filter (is_met f.cover) f.words.items)) (map (λ r. r.place) (filter (is_met f.cover) rs))
+    (λ q. has-mapped (λ r. r.place) (is_met f.cover) f.words.items q ∙ kept_met f.cover _ _ rs f.words.items is.cover.still is.words q ∙ sym (has-mapped (λ r. r.place) (is_met f.cover) rs q))
+    ∙ ap lowest (sym (met_words_covered (layout e) ((layout e).text + (layout e).data_len) (spans_of e) f.cover (all_entries (layout e) _ (spans_of e) plain) is.cover))
 
-pub records-inside : (e : List ℕ) (f : Found) (n : ℕ) → layout_fault e ≡ None → relocs_fault e ≡ None → IsWhole e f → n ≡ (layout e).text + (layout e).data_len
-    → All (λ r. r.place + 4 ≤ n) f.records.items
-records-inside e f n laid none whole size =
-    let is = is_laid e laid in
-    rw (whole.records, size, is.stored) (records_inside (layout e) _ (spans_of e) (all_plain e is none))
+pub words-inside : (e : List ℕ) (f : Found) (n : ℕ) → layout_fault e ≡ None → relocs_fault e ≡ None → IsFoundIn e (spans_of e) f → n ≡ (layout e).text + (layout e).data_len
+    → All (λ r. r.place + 4 ≤ n) f.words.items
+words-inside e f n laid none is size =
+    let all = is_laid e laid in
+    rw (size, all.stored) (All-from_recursion (λ r. r.place + 4 ≤ _) f.words.items
+    (kept_each _ (flat_map (recorded_of (layout e)) (spans_of e)) f.words.items is.words.some (all_recorded (layout e) _ (spans_of e) (all_plain e all none))))
 
--- the numbers painted over the linked bytes
-pub body-painted : (e : List ℕ) (l : Layout) (ws : List Word) (image : List ℕ) → l ≡ layout e → ws ≡ words e → image ≡ bytes_below (l.text + l.data_len) (bare e)
-    → bytes_below (l.text + l.data_len) (painted (map number_patch ws) (slice_index image)) ≡ body_of e
-unfolding body_of
-body-painted e l ws image laid is linked =
-    let n = (layout e).text + (layout e).data_len in
-    rw (linked, laid, is) (bytes_below_same n (painted (map number_patch (words e)) (slice_index (bytes_below n (bare e)))) (painted (map number_patch (words e)) (bare e))
-    (λ i below. painted_same (map number_patch (words e)) (slice_index (bytes_below n (bare e))) (bare e) i (byte_below n (bare e) i below)))
+-- the words of an accepted file stand in text and data
+pub words-below : (e : List ℕ) (l : Layout) (image : List ℕ) (ws : List Word) → IsBytes e → fault e ≡ None → l ≡ layout e → image ≡ bytes_below (l.text + l.data_len) (bare e) → ws ≡ map (word_at l image) (records e)
+    → All (λ w. w.place + 4 ≤ length image) ws
+words-below e l image ws bytes none laid linked are =
+    let len : length image ≡ (layout e).text + (layout e).data_len = ap length linked ∙ length-bytes_below (l.text + l.data_len) (bare e) ∙ ap (λ l. l.text + l.data_len) laid in
+    rw (are, len) (words_inside e l image bytes (is_linked e (is_clear e none)))
 
--- each word of an accepted file stands in text or data
-pub words-inside : (e : List ℕ) (l : Layout) (ws : List Word) → IsBytes e → IsClear e → l ≡ layout e → ws ≡ words e → All (λ w. w.place + 4 ≤ l.text + l.data_len) ws
-words-inside e l ws bytes clear laid is k d below =
-    let stored = (is_laid e clear.laid).stored in
-    let same : places ws ≡ places_of e = ap places is ∙ places_are e in
-    let place = get_or (places ws) k 0 in
-    let number : place ≡ (get_or ws k d).place = get_or-map (λ w. w.place) ws k d 0 below in
-    let long : k < length (places ws) = rw length-map below in
-    let member = has_at (places ws) k long in
-    let inside = (are_words e bytes clear).inside place (ap (λ ps. has ps place) (sym same) ∙ member) in
-    rw (laid, stored, ← number) inside
-
-pub assembled : (e : List ℕ) (l : Layout) (stack rounded : ℕ) (body records : List ℕ) → l ≡ layout e → rounded ≡ (stack + 15) / 16 * 16
-    → body ≡ body_of e → records ≡ rising (places (words e))
-    → ram_values (64 + l.entry) l.text l.data_len l.bss rounded body records ≡ converted e stack
+pub assembled : (e : List ℕ) (l : Layout) (stack rounded : ℕ) (image : List ℕ) (ws : List Word) (body places : List ℕ) → IsBytes e → fault e ≡ None → l ≡ layout e → rounded ≡ (stack + 15) / 16 * 16
+    → image ≡ bytes_below (l.text + l.data_len) (bare e) → ws ≡ map (word_at l image) (records e)
+    → body ≡ bytes_below (length image) (painted (map number_patch ws) (slice_index image)) → places ≡ records e
+    → ram_values (64 + l.entry) l.text l.data_len l.bss rounded body places ≡ converted e stack
 unfolding converted
-assembled e l stack rounded body records laid round bytes numbers = rw (laid, round, bytes, numbers) refl
+assembled e l stack rounded image ws body places bytes none laid round linked words is numbers =
+    let len : length image ≡ l.text + l.data_len = ap length linked ∙ length-bytes_below (l.text + l.data_len) (bare e) in
+    let written = is ∙ ap (λ n. bytes_below n (painted (map number_patch ws) (slice_index image))) len ∙ body-painted e l ws image bytes (is_clear e none) laid linked words in
+    rw (round, written, numbers, laid) refl

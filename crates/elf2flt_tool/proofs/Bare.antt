@@ -146,7 +146,7 @@ unfolding bare
 bare_fits e bytes n = painted_fits e (range_with_len 0 (count_of e)) (λ n. 0) bytes (λ n. omega arith) n
 
 -- the number of four bytes that a list and a picture have in common
-number_of_word : (m : ℕ → ℕ) (y : List ℕ) (p q : ℕ) → ((j : ℕ) → j < 4 → m (p + j) ≡ slice_index y (q + j)) → word_of m p ≡ u32_at y q
+pub number_of_word : (m : ℕ → ℕ) (y : List ℕ) (p q : ℕ) → ((j : ℕ) → j < 4 → m (p + j) ≡ slice_index y (q + j)) → word_of m p ≡ u32_at y q
 unfolding number_at word_of
 number_of_word m y p q same =
     let first : m p ≡ slice_index y (q + 0) = let place : p + 0 ≡ p = omega arith in rw place at (same 0 (omega arith)) in

@@ -1,24 +1,22 @@
 -- What a step of the walk over the kept relocations asks and leaves.
-use Rattle.std.proofs.Common.{◌≡◌, ℕ, ◌+◌, true, false, List, ◌++◌, Some, None, refl, sym, ap, ◌∙◌}
+use Rattle.std.proofs.Common.{◌≡◌, ℕ, ◌+◌, true, false, List, ◌++◌, filter, Some, None, refl, ap, ◌∙◌}
 use Rattle.std.specs.List.{AllByRecursion as Each}
 use Rattle.elf32_reader.specs.Header.{count_of}
 use Rattle.elf32_reader.specs.Relas.{is_kept, rela_count}
 use Rattle.flat_layout.specs.declared.layout.Layout.{Layout}
 use Rattle.flat_layout.specs.Layout.{layout}
 use Rattle.flat_layout.specs.Fault.{layout_fault}
-use Rattle.psabi_relocs.specs.declared.effect.Effect.{Effect}
 use Rattle.psabi_relocs.specs.declared.fault.RelocFault.{RelocFault}
 use Rattle.psabi_relocs.specs.declared.spans.Span.{Span}
-use Rattle.psabi_relocs.specs.Effect.{effect, spans}
+use Rattle.psabi_relocs.specs.Effect.{spans}
 use Rattle.psabi_relocs.specs.Fault.{reloc_fault}
 use Rattle.elf2flt_tool.specs.declared.found.Found.{Found}
 use Rattle.elf2flt_tool.specs.declared.refusal.Refusal.TheVariants as refusals
-use Rattle.elf2flt_tool.specs.Marks.{IsWord, IsInside, IsMarked, recorded_of}
-use Rattle.elf2flt_tool.specs.Walk.{effect_words}
+use Rattle.elf2flt_tool.specs.Cover.{IsWord, IsInside, IsCover, recorded_of, is_needed}
 use Rattle.elf2flt_tool.specs.Fault.{first_some, entry_fault, section_fault, relocs_fault}
 use Rattle.elf2flt_tool.proofs.Laid.{is_laid}
-use Rattle.elf2flt_tool.proofs.Marked.{entry_words}
-use Rattle.elf2flt_tool.proofs.Shapes.{spans_entry, spans_inside, effect_is}
+use Rattle.elf2flt_tool.proofs.Meeting.{entry_words}
+use Rattle.elf2flt_tool.proofs.Shapes.{spans_entry, spans_inside}
 use Rattle.elf2flt_tool.proofs.Walked.{IsAdded}
 
 -- ---- faults
@@ -54,15 +52,11 @@ entry_inside e i j l n ss laid size are none kept accepted =
 pub entry_lens : (e : List ℕ) (i j : ℕ) (ss : List Span) → spans e i j ≡ ss → Each IsWord ss
 entry_lens e i j ss are = rw (← are) (entry_words (spans e i j) (spans_entry e i j))
 
-pub entry_added : (e : List ℕ) (i j : ℕ) (l : Layout) (f : Effect) (ss : List Span) (before after : Found) → l ≡ layout e → layout_fault e ≡ None → f ≡ effect e i j → spans e i j ≡ ss
-    → after.words.items ≡ before.words.items ++ effect_words l f
-    → after.records.items ≡ before.records.items ++ recorded_of l ss
-    → ((n : ℕ) (all : List Span) → IsMarked l n all before.marks → IsMarked l n (all ++ ss) after.marks)
-    → IsAdded e i j before after
-entry_added e i j l f ss before after laid none is are words records marks = record {
-  words =
-      words ∙ ap (λ k. before.words.items ++ effect_words k f) laid ∙ ap (λ f. before.words.items ++ effect_words (layout e) f) is
-      ∙ ap (λ ws. before.words.items ++ ws) (effect_is e (layout e) i j (is_laid e none).start);
-  records = records ∙ ap (λ k. before.records.items ++ recorded_of k ss) laid ∙ ap (λ ss. before.records.items ++ recorded_of (layout e) ss) (sym are);
-  marks = rw (← laid, are) marks;
+pub entry_added : (e : List ℕ) (l : Layout) (ss : List Span) (before after : Found) → l ≡ layout e
+    → after.words.items ≡ before.words.items ++ filter (is_needed before.cover.words.items) (recorded_of l ss)
+    → ((n : ℕ) (all : List Span) → IsCover l n all before.cover → IsCover l n (all ++ ss) after.cover)
+    → IsAdded e ss before after
+entry_added e l ss before after laid words cover = record {
+  words = words ∙ ap (λ k. before.words.items ++ filter (is_needed before.cover.words.items) (recorded_of k ss)) laid;
+  cover = rw (← laid) cover;
 }

@@ -1,8 +1,8 @@
--- Members, Laid, Bare, Putting, Raised, Sound, Held, Stills, Recorded, Apart, Listed, Spelled, ImageLaw: the laws over definitions.
+-- Members, Laid, Bare, Putting, Raised, Sound, Held, Stills, Recorded, Apart, Listed, Ascending, Spelled, ImageLaw: the laws over definitions.
 -- Samples: the worked examples, computed.
--- Lowest, Marked: the least word that meets another relocation, by the marks.
+-- Lowest, Meeting, Kept: the least word that meets another relocation, by what the test for overlaps keeps.
 -- Shapes, Walked, Entries: what the walk over the relocations finds.
--- Painted, Ascending, Assembled: the parts of the flat file.
+-- Painted, Assembled: the parts of the flat file.
 -- Faults: when each fault comes.
 pub mod Members
 pub mod Laid
@@ -15,15 +15,16 @@ pub mod Stills
 pub mod Recorded
 pub mod Apart
 pub mod Listed
+pub mod Ascending
 pub mod Spelled
 pub mod ImageLaw
 pub mod Samples
 pub mod Lowest
-pub mod Marked
+pub mod Meeting
+pub mod Kept
 pub mod Shapes
 pub mod Walked
 pub mod Entries
 pub mod Painted
-pub mod Ascending
 pub mod Assembled
 pub mod Faults

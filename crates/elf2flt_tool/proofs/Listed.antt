@@ -21,7 +21,7 @@ use Rattle.elf2flt_tool.proofs.Laid.{is_laid}
 use Rattle.elf2flt_tool.proofs.Raised.{raised}
 use Rattle.elf2flt_tool.proofs.Held.{IsHeld}
 use Rattle.elf2flt_tool.proofs.Stills.{each-filter, each_filtered, filter_keep, filter_drop}
-use Rattle.elf2flt_tool.proofs.Recorded.{IsClear, all_held}
+use Rattle.elf2flt_tool.proofs.Recorded.{IsLinked, IsClear, is_linked, all_held}
 use Rattle.elf2flt_tool.proofs.Apart.{pointer_places, none_lowest, places_apart}
 
 -- the number that a recorded word points to, by what stands at its place
@@ -47,15 +47,15 @@ both : (e : List ℕ) (fs : List Field) → Each (λ f. f.recorded ≡ true) fs 
 both e [] on held = tt
 both e (f ∷ fs) on held = (is_recorded e f on.0 held.0, both e fs on.1 held.1)
 
-all_recorded : (e : List ℕ) → IsBytes e → IsClear e → Each (IsRecorded e) (pointers (fields_of e 0))
+all_recorded : (e : List ℕ) → IsBytes e → IsLinked e → Each (IsRecorded e) (pointers (fields_of e 0))
 all_recorded e bytes clear =
     both e (pointers (fields_of e 0)) (each_filtered (λ f. f.recorded) (fields_of e 0)) (each-filter (IsHeld e) (λ f. f.recorded) (fields_of e 0) (all_held e bytes clear))
 
-abbrev pointed : (ℕ → ℕ) → ℕ → Word
+abbrev pub pointed : (ℕ → ℕ) → ℕ → Word
 pointed target p = record { place = p; target = target p }
 
 -- the words, by their places
-words_are : (e : List ℕ) → IsBytes e → IsClear e → words e ≡ map (pointed (target_at e)) (places_of e)
+pub words_are : (e : List ℕ) → IsBytes e → IsLinked e → words e ≡ map (pointed (target_at e)) (places_of e)
 unfolding words numbered
 words_are e bytes clear =
     map_same (numbered (layout e)) (λ f. pointed (target_at e) (off (layout e) f.place)) (pointers (fields_of e 0))
@@ -67,7 +67,7 @@ pub places_are : (e : List ℕ) → places (words e) ≡ places_of e
 unfolding words numbered
 places_are e = map_map (λ w. w.place) (numbered (layout e)) (pointers (fields_of e 0))
 
-pub numbers_are : (e : List ℕ) → IsBytes e → IsClear e → map number_patch (words e) ≡ map (λ p. big_word p (target_at e p)) (places_of e)
+pub numbers_are : (e : List ℕ) → IsBytes e → IsLinked e → map number_patch (words e) ≡ map (λ p. big_word p (target_at e p)) (places_of e)
 unfolding number_patch
 numbers_are e bytes clear = ap (map number_patch) (words_are e bytes clear) ∙ map_map number_patch (pointed (target_at e)) (places_of e)
 
@@ -76,7 +76,7 @@ raised_word : (l : Layout) (b : ℕ) (f : Field) → l.v0 < 2 ^ 32 → f.recorde
 raised_word l b f fits on = rw on (off-shift l f.value b fits)
 
 -- the recorded fields at the base b, by their places
-pub addressed_are : (e : List ℕ) (b : ℕ) → IsBytes e → IsClear e
+pub addressed_are : (e : List ℕ) (b : ℕ) → IsBytes e → IsLinked e
     → map (word_patch (layout e)) (map (raised (off (layout e) b)) (pointers (fields_of e 0))) ≡ map (addressed (target_at e) b) (places_of e)
 unfolding word_patch
 addressed_are e b bytes clear =
@@ -110,7 +110,7 @@ unfolding target_outside
 targets_in e bytes clear =
     let inside = none_filtered (points_outside (size_of (layout e))) (words e) (unplaced _ (none_lowest _ clear.targets)) in
     let P : Word → Type 0 = λ w. points_outside (size_of (layout e)) w ≡ false in
-    each_mapped P (pointed (target_at e)) (places_of e) (let Q : List Word → Type 0 = Each P in subst Q (words_are e bytes clear) inside)
+    each_mapped P (pointed (target_at e)) (places_of e) (let Q : List Word → Type 0 = Each P in subst Q (words_are e bytes (is_linked e clear)) inside)
 
 -- a word points to a byte of the image, or to its end
 record PointsInside (e : List ℕ) (p : ℕ) : Type 0 where
@@ -128,7 +128,7 @@ pub target_within : (e : List ℕ) → IsBytes e → IsClear e → (p : ℕ) →
 target_within e bytes clear p is = (points_inside e bytes clear p is).within
 
 -- a word's place is inside the stored bytes
-place_inside : (e : List ℕ) → IsBytes e → IsClear e → (p : ℕ) → has (places_of e) p ≡ true → p + 4 ≤ stored_end e
+pub place_inside : (e : List ℕ) → IsBytes e → IsLinked e → (p : ℕ) → has (places_of e) p ≡ true → p + 4 ≤ stored_end e
 place_inside e bytes clear = member_has (λ p. p + 4 ≤ stored_end e) (places_of e) (each-map (λ p. p + 4 ≤ stored_end e) (λ f. off (layout e) f.place) (pointers (fields_of e 0))
     (each-weaker (IsRecorded e) (λ f. off (layout e) f.place + 4 ≤ stored_end e) (λ f is. is.inside) (pointers (fields_of e 0)) (all_recorded e bytes clear)))
 
@@ -136,7 +136,7 @@ place_inside e bytes clear = member_has (λ p. p + 4 ≤ stored_end e) (places_o
 pub are_words : (e : List ℕ) → IsBytes e → IsClear e → AreWords (target_at e) (places_of e) (stored_end e)
 are_words e bytes clear = record {
   apart = λ p q p_in q_in near. places_apart e p q clear.apart p_in q_in near;
-  inside = place_inside e bytes clear;
+  inside = place_inside e bytes (is_linked e clear);
   above = λ p is. (points_inside e bytes clear p is).above;
   fits = λ p is. off_fits (layout e) (word_of (bare e) p);
 }

@@ -53,8 +53,8 @@ pub record IsStored (s : Section) : Type 0 where
 pub is_stored_of : (s : Section) → has_bytes s ≡ true → IsStored s
 is_stored_of s is =
     let last = and_parts _ _ is in
-    let front = and_parts _ _ last.0 in
-    record { allocated = front.0; stored = last.1; content = allocated_has_content s front.0 last.1 }
+    let first = and_parts _ _ last.0 in
+    record { allocated = first.0; stored = last.1; content = allocated_has_content s first.0 last.1 }
 
 pub painted-push : (ps : List Patch) (p : Patch) (m : ℕ → ℕ) → painted (ps ++ p ∷ []) m ≡ patched p (painted ps m)
 painted-push [] p m = refl

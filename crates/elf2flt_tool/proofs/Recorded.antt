@@ -27,6 +27,12 @@ use Rattle.elf2flt_tool.proofs.Held.{IsHeld, IsTarget, fields_held, fields_raise
 use Rattle.elf2flt_tool.proofs.Sound.{AllSound}
 use Rattle.elf2flt_tool.proofs.Raised.{raised}
 
+-- no part of the fault, but perhaps of where the words point and what they meet
+pub record IsLinked (e : List ℕ) : Type 0 where
+  pub elf : elf_fault e ≡ None
+  pub laid : layout_fault e ≡ None
+  pub relocs : relocs_fault e ≡ None
+
 -- no part of the fault
 pub record IsClear (e : List ℕ) : Type 0 where
   pub elf : elf_fault e ≡ None
@@ -34,6 +40,9 @@ pub record IsClear (e : List ℕ) : Type 0 where
   pub relocs : relocs_fault e ≡ None
   pub targets : target_outside e ≡ None
   pub apart : word_overlap e ≡ None
+
+pub is_linked : (e : List ℕ) → IsClear e → IsLinked e
+is_linked e clear = record { elf = clear.elf; laid = clear.laid; relocs = clear.relocs }
 
 elf_part : (e : List ℕ) (f : Option ElfFault) → fault_from_elf e f ≡ None → (f ≡ None) × (fault_from_layout e (layout_fault e) ≡ None)
 elf_part e None none = (refl, none)
@@ -89,7 +98,7 @@ all_sound e i none below kept = section_sound e i (none_below (section_fault e) 
 
 -- ---- the fields of a section, and of the file
 
-section_held : (e : List ℕ) (i : ℕ) → IsBytes e → IsClear e → i < count_of e → Each (IsHeld e) (fields_in e 0 i)
+section_held : (e : List ℕ) (i : ℕ) → IsBytes e → IsLinked e → i < count_of e → Each (IsHeld e) (fields_in e 0 i)
 unfolding fields_in
 section_held e i bytes clear below = elim (cases_Bool (is_kept e i)) [
   | inl kept ↦
@@ -100,7 +109,7 @@ section_held e i bytes clear below = elim (cases_Bool (is_kept e i)) [
   | inr dropped ↦ rw dropped tt
 ]
 
-pub all_held : (e : List ℕ) → IsBytes e → IsClear e → Each (IsHeld e) (fields_of e 0)
+pub all_held : (e : List ℕ) → IsBytes e → IsLinked e → Each (IsHeld e) (fields_of e 0)
 unfolding fields_of
 all_held e bytes clear =
     each-flat_map (IsHeld e) (fields_in e 0) (range_with_len 0 (count_of e))
@@ -111,7 +120,7 @@ flat_map_mapped g f h [] a = refl
 flat_map_mapped g f h (x ∷ xs) a =
     ap (λ ys. ys ++ flat_map f xs) a.0 ∙ ap (λ ys. map g (h x) ++ ys) (flat_map_mapped g f h xs a.1) ∙ sym (map-append g (h x) (flat_map h xs))
 
-section_raised : (e : List ℕ) (d i : ℕ) → IsClear e → i < count_of e → fields_in e d i ≡ map (raised d) (fields_in e 0 i)
+section_raised : (e : List ℕ) (d i : ℕ) → IsLinked e → i < count_of e → fields_in e d i ≡ map (raised d) (fields_in e 0 i)
 unfolding fields_in
 section_raised e d i clear below = elim (cases_Bool (is_kept e i)) [
   | inl kept ↦
@@ -121,7 +130,7 @@ section_raised e d i clear below = elim (cases_Bool (is_kept e i)) [
   | inr dropped ↦ rw dropped refl
 ]
 
-pub all_raised : (e : List ℕ) (d : ℕ) → IsClear e → fields_of e d ≡ map (raised d) (fields_of e 0)
+pub all_raised : (e : List ℕ) (d : ℕ) → IsLinked e → fields_of e d ≡ map (raised d) (fields_of e 0)
 unfolding fields_of
 all_raised e d clear =
     flat_map_mapped (raised d) (fields_in e d) (fields_in e 0) (range_with_len 0 (count_of e))

@@ -11,7 +11,6 @@ use Rattle.flat_layout.specs.Fault.{has_sections, some_ends_too_high, is_too_lar
 use Rattle.flat_layout.specs.Layout.{off, stored_end, written_from, text_of, layout}
 use Rattle.flat_layout.specs.Numbering.{lowest, highest, raised_start, distance, start_of}
 use Rattle.byte_words.specs.Patches.{spans, patched, bytes_below, from_base, big_word, little_word}
-use Rattle.bflt_format.specs.Rising.{rising}
 use Rattle.bflt_format.specs.Spelling.{spell}
 use Rattle.psabi_relocs.specs.Class.{class, value_of}
 use Rattle.psabi_relocs.specs.Row.{row_of}
@@ -28,7 +27,7 @@ use Rattle.elf2flt_tool.specs.Fault as faults
 use Rattle.elf2flt_tool.specs.Fault.{first_some, entry_fault, relocs_fault, target_fault, overlap_fault, fault}
 use Rattle.elf2flt_tool.specs.Relocs.{fields_in, fields_of, spans_in, spans_of}
 use Rattle.elf2flt_tool.specs.Image.{section_patch, bare, word_patch}
-use Rattle.elf2flt_tool.specs.Word.{numbered, words, target_outside, word_overlap}
+use Rattle.elf2flt_tool.specs.Word.{numbered, words, records, target_outside, word_overlap}
 use Rattle.byte_words.specs.Numbers.{byte_at, number_at}
 
 -- .text at 0x10000 (two instructions), .data at 0x10008 (the word 0x00010000) with an R_RISCV_32 of the symbol at 0x10000
@@ -62,9 +61,9 @@ one_word_flat =
     64 ∷ 0 ∷ 0 ∷ 0 ∷ 72 ∷ []
 
 pub flat-one_word : flat one_word 4096 ≡ one_word_flat
-unfolding has_magic is_current has_table header_fault passes_end is_nameless has_symbol_shape is_bad_symtab is_symbolless has_rela_shape is_bad_rela section_fault elf_fault entry_of table_of count_of byte_at number_at is_static_relocation is_kept rela_count entry_offset addend_word rela any_below section is_allocated is_stored has_content content is_of_kind is_symtab symbol_count symbol_offset symbol name_of least_below greatest_below has_sections some_ends_too_high is_too_large meets_below has_overlap has_dynamic has_tls is_entry_outside layout_fault off stored_end written_from text_of layout lowest highest raised_start distance start_of spans patched bytes_below from_base big_word little_word rising spell class value_of number_patch body_of converted flat fault fields fields_of section_patch bare word_patch reloc row_of first_below is_high_at high_of names low_of slot_by slot_of holds_slot slot_section sum_below high_ends ends_of absolute relative is_place_outside is_lone_low is_unpaired holds_value slot_word is_slot_wrong is_mismatch first_fault reloc_fault effects.spans first_some entry_fault faults.section_fault relocs_fault target_fault overlap_fault fields_in spans_in spans_of numbered words target_outside word_overlap
+unfolding has_magic is_current has_table header_fault passes_end is_nameless has_symbol_shape is_bad_symtab is_symbolless has_rela_shape is_bad_rela section_fault elf_fault entry_of table_of count_of byte_at number_at is_static_relocation is_kept rela_count entry_offset addend_word rela any_below section is_allocated is_stored has_content content is_of_kind is_symtab symbol_count symbol_offset symbol name_of least_below greatest_below has_sections some_ends_too_high is_too_large meets_below has_overlap has_dynamic has_tls is_entry_outside layout_fault off stored_end written_from text_of layout lowest highest raised_start distance start_of spans patched bytes_below from_base big_word little_word records spell class value_of number_patch body_of converted flat fault fields fields_of section_patch bare word_patch reloc row_of first_below is_high_at high_of names low_of slot_by slot_of holds_slot slot_section sum_below high_ends ends_of absolute relative is_place_outside is_lone_low is_unpaired holds_value slot_word is_slot_wrong is_mismatch first_fault reloc_fault effects.spans first_some entry_fault faults.section_fault relocs_fault target_fault overlap_fault fields_in spans_in spans_of numbered words target_outside word_overlap
 flat-one_word = refl
 
 pub fault-one_word : fault one_word ≡ None
-unfolding has_magic is_current has_table header_fault passes_end is_nameless has_symbol_shape is_bad_symtab is_symbolless has_rela_shape is_bad_rela section_fault elf_fault entry_of table_of count_of byte_at number_at is_static_relocation is_kept rela_count entry_offset addend_word rela any_below section is_allocated is_stored has_content content is_of_kind is_symtab symbol_count symbol_offset symbol name_of least_below greatest_below has_sections some_ends_too_high is_too_large meets_below has_overlap has_dynamic has_tls is_entry_outside layout_fault off stored_end written_from text_of layout lowest highest raised_start distance start_of spans patched bytes_below from_base big_word little_word rising spell class value_of number_patch body_of converted flat fault fields fields_of section_patch bare word_patch reloc row_of first_below is_high_at high_of names low_of slot_by slot_of holds_slot slot_section sum_below high_ends ends_of absolute relative is_place_outside is_lone_low is_unpaired holds_value slot_word is_slot_wrong is_mismatch first_fault reloc_fault effects.spans first_some entry_fault faults.section_fault relocs_fault target_fault overlap_fault fields_in spans_in spans_of numbered words target_outside word_overlap
+unfolding has_magic is_current has_table header_fault passes_end is_nameless has_symbol_shape is_bad_symtab is_symbolless has_rela_shape is_bad_rela section_fault elf_fault entry_of table_of count_of byte_at number_at is_static_relocation is_kept rela_count entry_offset addend_word rela any_below section is_allocated is_stored has_content content is_of_kind is_symtab symbol_count symbol_offset symbol name_of least_below greatest_below has_sections some_ends_too_high is_too_large meets_below has_overlap has_dynamic has_tls is_entry_outside layout_fault off stored_end written_from text_of layout lowest highest raised_start distance start_of spans patched bytes_below from_base big_word little_word records spell class value_of number_patch body_of converted flat fault fields fields_of section_patch bare word_patch reloc row_of first_below is_high_at high_of names low_of slot_by slot_of holds_slot slot_section sum_below high_ends ends_of absolute relative is_place_outside is_lone_low is_unpaired holds_value slot_word is_slot_wrong is_mismatch first_fault reloc_fault effects.spans first_some entry_fault faults.section_fault relocs_fault target_fault overlap_fault fields_in spans_in spans_of numbered words target_outside word_overlap
 fault-one_word = refl

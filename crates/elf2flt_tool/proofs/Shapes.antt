@@ -29,8 +29,7 @@ use Rattle.psabi_relocs.specs.Fault.{is_place_outside, reloc_fault}
 use Rattle.elf2flt_tool.specs.Relocs.{spans_in, spans_of}
 use Rattle.elf2flt_tool.specs.Image.{pointers}
 use Rattle.elf2flt_tool.specs.Word.{numbered}
-use Rattle.elf2flt_tool.specs.Marks.{IsInside, recorded_of}
-use Rattle.elf2flt_tool.specs.Walk.{effect_words}
+use Rattle.elf2flt_tool.specs.Cover.{IsInside, recorded_of}
 use Rattle.elf2flt_tool.specs.Fault.{relocs_fault}
 use Rattle.elf2flt_tool.proofs.Members.{each-append, each-flat_map, each-map, each-range}
 use Rattle.elf2flt_tool.proofs.Laid.{IsLaid}
@@ -38,7 +37,7 @@ use Rattle.elf2flt_tool.proofs.Sound.{found, sound_entry}
 use Rattle.elf2flt_tool.proofs.Held.{held_bytes}
 use Rattle.elf2flt_tool.proofs.Recorded.{all_sound}
 use Rattle.elf2flt_tool.proofs.Apart.{own_pointer, got_ends}
-use Rattle.elf2flt_tool.proofs.Marked.{IsEntry}
+use Rattle.elf2flt_tool.proofs.Meeting.{IsEntry}
 
 -- ---- the form of an entry's spans
 
@@ -52,72 +51,6 @@ entry_shape _ r g = λ is. absurd (cc)
 pub spans_entry : (e : List ℕ) (i j : ℕ) → IsEntry (spans e i j)
 unfolding spans
 spans_entry e i j = entry_shape (reloc e i j).row (reloc e i j) (slot_of e i (reloc e i j).place)
-
--- ---- the recorded word of an entry
-
-abbrev moving_by : Row → Reloc → Option ℕ → Effect
-moving_by Pointer r g = Word r.place (absolute 0 r)
-moving_by GotHi20 r g = slot_effect r g
-moving_by _ r g = Still
-
-moving_is_by : (row : Row) (e : List ℕ) (i : ℕ) (r : Reloc) → moving_effect row e i r ≡ moving_by row r (slot_of e i r.place)
-moving_is_by Pointer e i r = refl
-moving_is_by GotHi20 e i r = refl
-moving_is_by _ e i r = refl
-
-abbrev fields_by : Row → Reloc → Option Ends → List Field
-fields_by row r None = []
-fields_by row r (Some o) = own_fields row 0 r o ++ slot_fields row 0 r o
-
-fields_are_by : (r : Reloc) (o : Option Ends) → fields_from 0 r o ≡ fields_by r.row r o
-fields_are_by r None = refl
-fields_are_by r (Some o) = refl
-
-off_moved : (l : Layout) (v : ℕ) (moves : Bool) → l.v0 < 2 ^ 32 → off l ((v + (if moves then 0 else 0)) % 2 ^ 32) ≡ off l v
-unfolding off
-off_moved l v true start = omega arith
-off_moved l v false start = omega arith
-
-still_words : (l : Layout) (b : Bool) → [] ≡ effect_words l (if b then Still else Still)
-still_words l true = refl
-still_words l false = refl
-
-pointer_words : (l : Layout) (r : Reloc) (o : Ends) → map (numbered l) (pointers (fields_by Pointer r (Some o))) ≡ effect_words l (if is_moving r.class then Word r.place (absolute 0 r) else Still)
-unfolding numbered
-pointer_words l r o = elim (cases_Bool (is_moving r.class)) [
-  | inl moves ↦ rw moves refl
-  | inr stays ↦ rw stays refl
-]
-
-slot_words : (l : Layout) (r : Reloc) (o : Ends) (g : ℕ) → l.v0 < 2 ^ 32 → o.value ≡ g
-    → map (numbered l) (pointers (fields_by GotHi20 r (Some o))) ≡ effect_words l (if is_moving r.class then slot_effect r (Some g) else Still)
-unfolding numbered
-slot_words l r o g start same = elim (cases_Bool (is_moving r.class)) [
-  | inl moves ↦ rw (moves, same) (ap (λ n. record { place = off l g; target = n } ∷ []) (off_moved l r.value true start))
-  | inr stays ↦ rw stays refl
-]
-
-words_by : (l : Layout) (row : Row) (r : Reloc) (o : Option Ends) (g : Option ℕ) → l.v0 < 2 ^ 32 → (is_pointer row ≡ true → o ≡ Some (own_ends r))
-    → (is_got_hi20 row ≡ true → o ≡ option_map (slot_ends r.place) g)
-    → map (numbered l) (pointers (fields_by row r o)) ≡ effect_words l (if is_moving r.class then moving_by row r g else Still)
-words_by l Pointer r None g start own slot = absurd (let some = own refl in cc)
-words_by l Pointer r (Some o) g start own slot = pointer_words l r o
-words_by l GotHi20 r None None start own slot = still_words l (is_moving r.class)
-words_by l GotHi20 r None (Some g) start own slot = absurd (let some = slot refl in cc)
-words_by l GotHi20 r (Some o) None start own slot = absurd (let some = slot refl in cc)
-words_by l GotHi20 r (Some o) (Some g) start own slot =
-    slot_words l r o g start (let some : o ≡ slot_ends r.place g = (let s = slot refl in cc) in ap (λ o. o.value) some)
-words_by l _ r None g start own slot = still_words l (is_moving r.class)
-words_by l _ r (Some o) g start own slot = still_words l (is_moving r.class)
-
--- an effect's word is that of the entry's fields
-pub effect_is : (e : List ℕ) (l : Layout) (i j : ℕ) → l.v0 < 2 ^ 32 → effect_words l (effect e i j) ≡ map (numbered l) (pointers (fields e 0 i j))
-unfolding fields effect
-effect_is e l i j start =
-    let r = reloc e i j in
-    sym (ap (λ fs. map (numbered l) (pointers fs)) (fields_are_by r (ends_of e i r))
-    ∙ words_by l r.row r (ends_of e i r) (slot_of e i r.place) start (λ is. own_pointer e i r is) (λ is. got_ends e i r is)
-    ∙ ap (λ x. effect_words l (if is_moving r.class then x else Still)) (sym (moving_is_by r.row e i r)))
 
 -- ---- where the spans stand
 
@@ -234,12 +167,9 @@ recorded_inside l n (own ∷ slot ∷ []) plain = elim (cases_Bool slot.recorded
 ]
 recorded_inside l n (own ∷ slot ∷ more ∷ rest) plain = absurd plain.0
 
-all_recorded : (l : Layout) (n : ℕ) (es : List (List Span)) → Each (IsPlain l n) es → Each (λ r. r.place + 4 ≤ n) (flat_map (recorded_of l) es)
+pub all_recorded : (l : Layout) (n : ℕ) (es : List (List Span)) → Each (IsPlain l n) es → Each (λ r. r.place + 4 ≤ n) (flat_map (recorded_of l) es)
 all_recorded l n [] plain = tt
 all_recorded l n (ss ∷ es) plain = each-append (λ r. r.place + 4 ≤ n) (recorded_of l ss) (flat_map (recorded_of l) es) (recorded_inside l n ss plain.0) (all_recorded l n es plain.1)
-
-pub records_inside : (l : Layout) (n : ℕ) (es : List (List Span)) → Each (IsPlain l n) es → All (λ r. r.place + 4 ≤ n) (flat_map (recorded_of l) es)
-records_inside l n es plain = All-from_recursion (λ r. r.place + 4 ≤ n) (flat_map (recorded_of l) es) (all_recorded l n es plain)
 
 pub all_entries : (l : Layout) (n : ℕ) (es : List (List Span)) → Each (IsPlain l n) es → Each IsEntry es
 all_entries l n [] plain = tt

@@ -1,20 +1,22 @@
 -- What an accepted file is converted to can be said in a flat file.
-use Rattle.std.proofs.Common.{◌≡◌, ℕ, ◌+◌, ◌≤◌, List, length, None, refl, ap, arith}
+use Rattle.std.proofs.Common.{◌≡◌, ℕ, ◌+◌, ◌≤◌, List, length, None, refl, ap, ◌∙◌, arith}
 use Rattle.byte_words.specs.Numbers.{IsBytes}
 use Rattle.byte_words.specs.Patches.{painted, bytes_below}
-use Rattle.bflt_format.specs.Rising.{rising}
 use Rattle.bflt_format.specs.Values.{stored, image_size}
 use Rattle.bflt_format.specs.Spelling.{Spells}
 use Rattle.byte_words.proofs.Painting.{length-bytes_below}
 use Rattle.bflt_format.proofs.Links.{AreWords, HasRecords, has_records}
 use Rattle.bflt_format.proofs.Links as links
+use Rattle.bflt_format.proofs.Rising.{has}
 use Rattle.flat_layout.specs.Layout.{layout, size_of, stored_end}
 use Rattle.elf2flt_tool.specs.Image.{bare}
+use Rattle.elf2flt_tool.specs.Word.{records}
 use Rattle.elf2flt_tool.specs.Fault.{fault}
 use Rattle.elf2flt_tool.specs.Converted.{body_of, converted}
 use Rattle.elf2flt_tool.proofs.Laid.{is_laid}
-use Rattle.elf2flt_tool.proofs.Recorded.{IsClear, is_clear}
-use Rattle.elf2flt_tool.proofs.Listed.{target_at, places_of, places_are, numbers_are, are_words, target_within}
+use Rattle.elf2flt_tool.proofs.Recorded.{IsClear, is_clear, is_linked}
+use Rattle.elf2flt_tool.proofs.Listed.{target_at, places_of, numbers_are, are_words, target_within}
+use Rattle.elf2flt_tool.proofs.Ascending.{records_rise, records_has}
 
 -- the sizes, the body and the records, by the places of the words
 pub stored_is : (e : List ℕ) (stack : ℕ) → IsBytes e → IsClear e → stored (converted e stack) ≡ stored_end e
@@ -28,11 +30,14 @@ size_is e stack = refl
 pub body_is : (e : List ℕ) (stack : ℕ) → IsBytes e → IsClear e
     → (converted e stack).body ≡ links.body_of (target_at e) (places_of e) (bare e) (stored (converted e stack))
 unfolding converted body_of
-body_is e stack bytes clear = ap (λ ps. bytes_below ((layout e).text + (layout e).data_len) (painted ps (bare e))) (numbers_are e bytes clear)
+body_is e stack bytes clear = ap (λ ps. bytes_below ((layout e).text + (layout e).data_len) (painted ps (bare e))) (numbers_are e bytes (is_linked e clear))
 
-pub records_are : (e : List ℕ) (stack : ℕ) → IsBytes e → IsClear e → (converted e stack).records ≡ rising (places_of e)
+pub records_are : (e : List ℕ) (stack : ℕ) → (converted e stack).records ≡ records e
 unfolding converted
-records_are e stack bytes clear = ap rising (places_are e)
+records_are e stack = refl
+
+pub records_of_are : (e : List ℕ) (stack : ℕ) → IsBytes e → IsClear e → (x : ℕ) → has (converted e stack).records x ≡ has (places_of e) x
+records_of_are e stack bytes clear x = ap (λ rs. has rs x) (records_are e stack) ∙ records_has e bytes (is_linked e clear) x
 
 pub words_of_flat : (e : List ℕ) (stack : ℕ) → IsBytes e → IsClear e → AreWords (target_at e) (places_of e) (stored (converted e stack))
 words_of_flat e stack bytes clear = rw (stored_is e stack bytes clear) (are_words e bytes clear)
@@ -42,7 +47,7 @@ records_of_flat e stack bytes clear =
     let laid = is_laid e clear.laid in
     let end = stored_is e stack bytes clear in
     has_records (target_at e) (places_of e) (bare e) (converted e stack) (words_of_flat e stack bytes clear)
-    (rw (size_is e stack) (target_within e bytes clear)) (omega (arith, end, laid.fits, laid.small)) (body_is e stack bytes clear) (records_are e stack bytes clear)
+    (rw (size_is e stack) (target_within e bytes clear)) (omega (arith, end, laid.fits, laid.small)) (body_is e stack bytes clear) (rw (records_are e stack) (records_rise e)) (records_of_are e stack bytes clear)
 
 body_length : (e : List ℕ) → length (body_of e) ≡ (layout e).text + (layout e).data_len
 unfolding body_of

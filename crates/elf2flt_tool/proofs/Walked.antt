@@ -1,25 +1,21 @@
 -- What a walk over the kept relocations has found at each step.
-use Rattle.std.proofs.Common.{◌≡◌, ℕ, zero, suc, ◌+◌, ◌-◌, ◌<◌, true, false, List, [], ◌∷◌, ◌++◌, map, flat_map, Option, Some, None, refl, sym, ap, subst, ◌∙◌, arith, zero-add, add-zero, add-one, add-suc, append_assoc, append-nil, map-id}
+use Rattle.std.proofs.Common.{◌≡◌, ℕ, zero, suc, ◌+◌, ◌-◌, ◌<◌, true, false, List, [], ◌∷◌, ◌++◌, map, flat_map, filter, count_by, Option, Some, None, refl, sym, ap, subst, ◌∙◌, arith, zero-add, add-zero, add-one, add-suc, append_assoc, append-nil, map-id}
 use Rattle.std.specs.List.{range_with_len}
-use Rattle.std.proofs.lemmas.List.{map-append}
 use Rattle.std.proofs.lemmas.List.Concat.{flat_map-append}
-use Rattle.std.proofs.lemmas.List.Elements.{filter-append}
 use Rattle.std.proofs.lemmas.List.FromFn.{map-range_with_len_more}
 use Rattle.elf32_reader.specs.Header.{count_of}
 use Rattle.elf32_reader.specs.Relas.{is_kept, rela_count}
-use Rattle.flat_layout.specs.declared.layout.Layout.{Layout}
 use Rattle.flat_layout.specs.Layout.{layout}
 use Rattle.psabi_relocs.specs.declared.spans.Span.{Span}
-use Rattle.psabi_relocs.specs.Field.{Field, fields}
 use Rattle.psabi_relocs.specs.Effect.{spans}
 use Rattle.elf2flt_tool.specs.declared.found.Found.{Found}
 use Rattle.elf2flt_tool.specs.declared.refusal.Refusal.{Refusal}
-use Rattle.elf2flt_tool.specs.Relocs.{fields_in, fields_of, spans_in, spans_of}
-use Rattle.elf2flt_tool.specs.Image.{pointers}
-use Rattle.elf2flt_tool.specs.Word.{numbered, words}
-use Rattle.elf2flt_tool.specs.Marks.{IsMarked, recorded_of}
-use Rattle.elf2flt_tool.specs.Walk.{fields_before, spans_before, IsFound}
+use Rattle.elf2flt_tool.specs.Relocs.{spans_in, spans_of}
+use Rattle.elf2flt_tool.specs.Cover.{IsCover, covers, begins, recorded_of, is_needed, IsKept}
+use Rattle.elf2flt_tool.specs.Walk.{spans_before, all_of, IsFoundIn, IsFound}
 use Rattle.elf2flt_tool.specs.Fault.{first_some}
+use Rattle.elf2flt_tool.proofs.Meeting.{IsEntry, count-append}
+use Rattle.elf2flt_tool.proofs.Kept.{kept_entry, kept_as}
 
 -- ---- the first that has an answer
 
@@ -55,56 +51,44 @@ flat_map-more f n =
     ap (flat_map f) (range-more n) ∙ flat_map-append f (range_with_len 0 n) (n ∷ [])
     ∙ ap (λ xs. flat_map f (range_with_len 0 n) ++ xs) (append-nil (f n))
 
--- the fields before an entry, with its own
-fields-more : (e : List ℕ) (i j : ℕ) → fields_before e i (j + 1) ≡ fields_before e i j ++ fields e 0 i j
-fields-more e i j =
-    ap (λ fs. flat_map (fields_in e 0) (range_with_len 0 i) ++ fs) (flat_map-more (fields e 0 i) j)
-    ∙ sym (append_assoc (flat_map (fields_in e 0) (range_with_len 0 i)) (flat_map (fields e 0 i) (range_with_len 0 j)) (fields e 0 i j))
-
+-- the entries before one, with its own
 spans-more : (e : List ℕ) (i j : ℕ) → spans_before e i (j + 1) ≡ spans_before e i j ++ spans e i j ∷ []
 spans-more e i j =
     ap (λ ss. flat_map (spans_in e) (range_with_len 0 i) ++ ss) (map-range_with_len_more (spans e i) 0 j j (zero-add j))
     ∙ sym (append_assoc (flat_map (spans_in e) (range_with_len 0 i)) (map (spans e i) (range_with_len 0 j)) (spans e i j ∷ []))
 
-numbered-append : (l : Layout) (fs gs : List Field) → map (numbered l) (pointers (fs ++ gs)) ≡ map (numbered l) (pointers fs) ++ map (numbered l) (pointers gs)
-numbered-append l fs gs =
-    ap (map (numbered l)) (filter-append (λ f. f.recorded) fs gs) ∙ map-append (numbered l) (pointers fs) (pointers gs)
-
 flat_map-push : {X Y : Type 0} (f : X → List Y) (xs : List X) (x : X) → flat_map f (xs ++ x ∷ []) ≡ flat_map f xs ++ f x
 flat_map-push f xs x = flat_map-append f xs (x ∷ []) ∙ ap (λ ys. flat_map f xs ++ ys) (append-nil (f x))
 
 -- what one entry adds
-pub record IsAdded (e : List ℕ) (i j : ℕ) (before after : Found) : Type 0 where
-  pub words : after.words.items ≡ before.words.items ++ map (numbered (layout e)) (pointers (fields e 0 i j))
-  pub records : after.records.items ≡ before.records.items ++ recorded_of (layout e) (spans e i j)
-  pub marks : (n : ℕ) (ss : List Span) → IsMarked (layout e) n ss before.marks → IsMarked (layout e) n (ss ++ spans e i j) after.marks
+pub record IsAdded (e : List ℕ) (ss : List Span) (before after : Found) : Type 0 where
+  pub words : after.words.items ≡ before.words.items ++ filter (is_needed before.cover.words.items) (recorded_of (layout e) ss)
+  pub cover : (n : ℕ) (all : List Span) → IsCover (layout e) n all before.cover → IsCover (layout e) n (all ++ ss) after.cover
 
-pub entry_found : (e : List ℕ) (i j : ℕ) (before after : Found) → IsFound e i j before → IsAdded e i j before after → IsFound e i (j + 1) after
-entry_found e i j before after is added =
+one_found : (e : List ℕ) (es : List (List Span)) (ss : List Span) (before after : Found) → IsEntry ss → IsFoundIn e es before → IsAdded e ss before after → IsFoundIn e (es ++ ss ∷ []) after
+one_found e es ss before after entry is added =
     let l = layout e in
     let size = l.text + l.data_len in
-    let P : List Span → Type 0 = λ ss. IsMarked l size ss after.marks in
+    let all = flat_map-push (λ ss. ss) es ss in
+    let still : ℕ → ℕ = λ b. count_by (covers l b) (all_of (es ++ ss ∷ [])) in
+    let words : ℕ → ℕ = λ q. count_by (begins l q) (all_of (es ++ ss ∷ [])) in
+    let rs = flat_map (recorded_of l) es in
+    let kept = kept_as _ _ still words (rs ++ recorded_of l ss) (before.words.items ++ filter (is_needed before.cover.words.items) (recorded_of l ss))
+    (kept_entry l ss _ _ rs before.words.items before.cover.words.items entry is.words is.cover.words)
+    (λ b. sym (ap (count_by (covers l b)) all ∙ count-append (covers l b) (all_of es) ss))
+    (λ q. sym (ap (count_by (begins l q)) all ∙ count-append (begins l q) (all_of es) ss)) in
     record {
+      cover = subst (λ all. IsCover l size all after.cover) (sym all) (added.cover size (all_of es) is.cover);
       words =
-          added.words ∙ ap (λ ws. ws ++ map (numbered l) (pointers (fields e 0 i j))) is.words
-          ∙ sym (ap (λ fs. map (numbered l) (pointers fs)) (fields-more e i j) ∙ numbered-append l (fields_before e i j) (fields e 0 i j));
-      records =
-          added.records ∙ ap (λ rs. rs ++ recorded_of l (spans e i j)) is.records
-          ∙ sym (ap (flat_map (recorded_of l)) (spans-more e i j) ∙ flat_map-push (recorded_of l) (spans_before e i j) (spans e i j));
-      marks =
-          subst P (sym (ap (flat_map (λ ss. ss)) (spans-more e i j) ∙ flat_map-push (λ ss. ss) (spans_before e i j) (spans e i j)))
-          (added.marks size (flat_map (λ ss. ss) (spans_before e i j)) is.marks);
+          subst (λ rs. IsKept still words rs after.words.items) (sym (flat_map-push (recorded_of l) es ss))
+          (subst (λ ks. IsKept still words (rs ++ recorded_of l ss) ks) (sym added.words) kept);
     }
 
+pub entry_found : (e : List ℕ) (i j : ℕ) (before after : Found) → IsEntry (spans e i j) → IsFound e i j before → IsAdded e (spans e i j) before after → IsFound e i (j + 1) after
+entry_found e i j before after entry is added =
+    subst (λ es. IsFoundIn e es after) (sym (spans-more e i j)) (one_found e (spans_before e i j) (spans e i j) before after entry is added)
+
 -- the walk goes on at the next section
-
-fields-kept : (e : List ℕ) (i : ℕ) → is_kept e i ≡ true → fields_in e 0 i ≡ flat_map (fields e 0 i) (range_with_len 0 (rela_count e i))
-unfolding fields_in
-fields-kept e i kept = rw kept refl
-
-fields-other : (e : List ℕ) (i : ℕ) → is_kept e i ≡ false → fields_in e 0 i ≡ []
-unfolding fields_in
-fields-other e i other = rw other refl
 
 spans-kept : (e : List ℕ) (i : ℕ) → is_kept e i ≡ true → spans_in e i ≡ map (spans e i) (range_with_len 0 (rela_count e i))
 unfolding spans_in
@@ -114,47 +98,26 @@ spans-other : (e : List ℕ) (i : ℕ) → is_kept e i ≡ false → spans_in e 
 unfolding spans_in
 spans-other e i other = rw other refl
 
-moved_on : (e : List ℕ) (i j k : ℕ) (f : Found) → fields_before e i j ≡ fields_before e k 0 → spans_before e i j ≡ spans_before e k 0 → IsFound e i j f → IsFound e k 0 f
-moved_on e i j k f same_fields same_spans is =
-    let l = layout e in
-    let P : List Span → Type 0 = λ ss. IsMarked l (l.text + l.data_len) ss f.marks in
-    record {
-      words = is.words ∙ ap (λ fs. map (numbered l) (pointers fs)) same_fields;
-      records = is.records ∙ ap (flat_map (recorded_of l)) same_spans;
-      marks = subst P (ap (flat_map (λ ss. ss)) same_spans) is.marks;
-    }
-
 pub section_found : (e : List ℕ) (i : ℕ) (f : Found) → is_kept e i ≡ true → IsFound e i (rela_count e i) f → IsFound e (i + 1) 0 f
 section_found e i f kept is =
-    moved_on e i (rela_count e i) (i + 1) f
-    (ap (λ fs. flat_map (fields_in e 0) (range_with_len 0 i) ++ fs) (sym (fields-kept e i kept)) ∙ sym (flat_map-more (fields_in e 0) i) ∙ sym (append-nil _))
+    subst (λ es. IsFoundIn e es f)
     (ap (λ ss. flat_map (spans_in e) (range_with_len 0 i) ++ ss) (sym (spans-kept e i kept)) ∙ sym (flat_map-more (spans_in e) i) ∙ sym (append-nil _)) is
 
 pub section_passed : (e : List ℕ) (i : ℕ) (f : Found) → is_kept e i ≡ false → IsFound e i 0 f → IsFound e (i + 1) 0 f
 section_passed e i f other is =
-    moved_on e i 0 (i + 1) f
-    (ap (λ fs. flat_map (fields_in e 0) (range_with_len 0 i) ++ fs) (sym (fields-other e i other)) ∙ sym (flat_map-more (fields_in e 0) i) ∙ sym (append-nil _))
+    subst (λ es. IsFoundIn e es f)
     (ap (λ ss. flat_map (spans_in e) (range_with_len 0 i) ++ ss) (sym (spans-other e i other)) ∙ sym (flat_map-more (spans_in e) i) ∙ sym (append-nil _)) is
 
 -- the walk begins
 
-pub none_found : (e : List ℕ) (f : Found) → f.words.items ≡ [] → f.records.items ≡ [] → IsMarked (layout e) ((layout e).text + (layout e).data_len) [] f.marks → IsFound e 0 0 f
-none_found e f no_words no_records marks = record { words = no_words; records = no_records; marks = marks }
+pub none_found : (e : List ℕ) (f : Found) → f.words.items ≡ [] → IsCover (layout e) ((layout e).text + (layout e).data_len) [] f.cover → IsFound e 0 0 f
+none_found e f none cover = record {
+  cover = cover;
+  words = subst (λ ks. IsKept (λ b. 0) (λ q. 0) [] ks) (sym none) (record { some = tt; rest = tt; counts = λ q. refl; own = λ b. omega arith });
+}
 
 -- the walk has ended
 
-pub record IsWhole (e : List ℕ) (f : Found) : Type 0 where
-  pub words : f.words.items ≡ words e
-  pub records : f.records.items ≡ flat_map (recorded_of (layout e)) (spans_of e)
-  pub marks : IsMarked (layout e) ((layout e).text + (layout e).data_len) (flat_map (λ ss. ss) (spans_of e)) f.marks
-
-pub all_found : (e : List ℕ) (f : Found) → IsFound e (count_of e) 0 f → IsWhole e f
-unfolding words fields_of spans_of
-all_found e f is =
-    let l = layout e in
-    let P : List Span → Type 0 = λ ss. IsMarked l (l.text + l.data_len) ss f.marks in
-    record {
-      words = is.words ∙ ap (λ fs. map (numbered l) (pointers fs)) (append-nil (flat_map (fields_in e 0) (range_with_len 0 (count_of e))));
-      records = is.records ∙ ap (flat_map (recorded_of l)) (append-nil (flat_map (spans_in e) (range_with_len 0 (count_of e))));
-      marks = subst P (ap (flat_map (λ ss. ss)) (append-nil (flat_map (spans_in e) (range_with_len 0 (count_of e))))) is.marks;
-    }
+pub all_found : (e : List ℕ) (f : Found) → IsFound e (count_of e) 0 f → IsFoundIn e (spans_of e) f
+unfolding spans_of
+all_found e f is = subst (λ es. IsFoundIn e es f) (append-nil (flat_map (spans_in e) (range_with_len 0 (count_of e)))) is

@@ -3,10 +3,9 @@ use Rattle.std.specs.Prelude.{ℕ, ◌+◌, ◌*◌, ◌/◌, List, map}
 use Rattle.byte_words.specs.Patches.{Patch, painted, bytes_below, big_word}
 use Rattle.bflt_format.specs.Values.{Values}
 use Rattle.bflt_format.specs.Spelling.{spell}
-use Rattle.bflt_format.specs.Rising.{rising}
 use Rattle.flat_layout.specs.Layout.{layout}
 use Rattle.elf2flt_tool.specs.declared.word.Word.{Word}
-use Rattle.elf2flt_tool.specs.Word.{words, places}
+use Rattle.elf2flt_tool.specs.Word.{words, records}
 use Rattle.elf2flt_tool.specs.Image.{bare}
 
 -- a recorded word holds the number of its target, big-endian
@@ -26,7 +25,7 @@ converted e stack = record {
   stack = (stack + 15) / 16 * 16;
   flags = 1;
   body = body_of e;
-  records = rising (places (words e));
+  records = records e;
 }
 
 unfoldable pub flat : List ℕ → ℕ → List ℕ

@@ -4,11 +4,11 @@
 -- Fault: the first reason why a file isn't converted.
 -- Converted: the flat file that a file is converted to.
 -- Laws: what is written has no fault, and loads to the bytes of the ELF file, relocated.
--- Marks, Walk: for private functions only: what the test for overlaps keeps, and how far a walk over the relocations has come.
+-- Cover, Walk: for private functions only: what the test for overlaps keeps, and how far a walk over the relocations has come.
 pub mod Relocs
 pub mod Image
 pub mod Word
-pub mod Marks
+pub mod Cover
 pub mod Walk
 pub mod Fault
 pub mod Converted

@@ -2,6 +2,7 @@
 -- point, and what they may not meet, is this project's own rule.
 use Rattle.std.specs.Prelude.{ℕ, ◌+◌, Bool, not, ◌&&◌, ◌||◌, nat_lt, ◌==◌, min, max, List, [], ◌∷◌, ◌++◌, map, flat_map, filter, take, drop, length, Option, Some, None}
 use Rattle.std.specs.List.{list_any, range_with_len, slice_index_or}
+use Rattle.byte_words.specs.Numbers.{low_first, number_at}
 use Rattle.flat_layout.specs.declared.layout.Layout.{Layout}
 use Rattle.flat_layout.specs.Layout.{layout, off, size_of}
 use Rattle.psabi_relocs.specs.Field.{Field}
@@ -14,11 +15,24 @@ use Rattle.elf2flt_tool.specs.Image.{pointers}
 unfoldable pub numbered : Layout → Field → Word
 numbered l f = record { place = off l f.place; target = off l f.value }
 
+-- of each entry that records one, in the order of the entries
 unfoldable pub words : List ℕ → List Word
 words e = map (numbered (layout e)) (pointers (fields_of e 0))
 
 abbrev pub places : List Word → List ℕ
 places ws = map (λ w. w.place) ws
+
+-- one of the words begins at number n
+abbrev pub begins_at : List Word → ℕ → Bool
+begins_at ws n = list_any (λ w. w.place == n) ws
+
+-- the numbers of text and data at which a recorded word begins, ascending
+unfoldable pub records : List ℕ → List ℕ
+records e = filter (begins_at (words e)) (range_with_len 0 ((layout e).text + (layout e).data_len))
+
+-- the word at number p of the image's linked bytes, which already holds the address that it points to
+abbrev pub word_at : Layout → List ℕ → ℕ → Word
+word_at l image p = record { place = p; target = off l (number_at low_first 4 image p) }
 
 abbrev pub lower : ℕ → Option ℕ → ℕ
 lower n None = n

@@ -41,7 +41,7 @@ fn add_entry(
 {
     match check(elf, stored, pairs, section, entry) {
         Ok(checked) => {
-            found.note(layout, &checked.effect, &checked.spans)?;
+            found.note(layout, &checked.spans)?;
             Ok(())
         }
         Err(fault) => Err(Refusal::Reloc {

@@ -1,41 +1,24 @@
 //! What a walk over the kept relocations finds.
 
-ghost use Rattle.std.specs.Prelude.{◌≡◌, ℕ, List, [], ◌++◌, length, IfOk, OnOk};
+ghost use Rattle.std.specs.Prelude.{◌≡◌, ℕ, ◌<◌, nat_lt, List, [], ◌++◌, length, filter, slice_index, IfOk, OnOk};
 ghost use Rattle.std.specs.List.{AllByRecursion};
 ghost use Rattle.std.specs.Option.{option_to_list};
-ghost use Rattle.elf2flt_tool.specs.Marks.{listed, IsInside, IsWord, IsMarked, recorded_of};
-ghost use Rattle.elf2flt_tool.specs.Walk.{effect_words};
+ghost use Rattle.elf2flt_tool.specs.Cover.{listed, IsInside, IsWord, IsCover, recorded_of, is_needed};
 
-use crate::marks::Marks;
-use crate::overlap::Recorded;
-use crate::word::Word;
+use crate::cover::Cover;
+use crate::overlap::{Recorded, count_at};
 use flat_layout::Layout;
-use psabi_relocs::{Effect, Span, Spans};
+use psabi_relocs::{Span, Spans};
 use std::alloc::{AllocError, Global};
 
-/// The recorded words, and what the test for overlaps has to know of all relocations.
+/// What the test for overlaps has to know of all relocations.
 #[derive(Drop)]
 pub struct Found {
-    /// The recorded words, in the order of the relocations.
-    pub words: Vec<Word>,
-    /// Their places, each with what belongs to the same relocation.
-    pub records: Vec<Recorded>,
-    /// The marks of all relocations.
-    pub marks: Marks,
-}
-
-/// Takes in the word that a relocation records.
-fn note_word(words: &mut Vec<Word>, layout: &Layout, effect: &Effect) -> Result<(), AllocError>
-    ensures { OnOk result (words.new.items ≡ words.old.items ++ effect_words layout.now effect.now) }
-{
-    match effect {
-        Effect::Still => {}
-        Effect::Word { place, target } | Effect::Slot { place, target } => words.push(Word {
-            place: layout.off(*place),
-            target: layout.off(*target),
-        })?,
-    }
-    Ok(())
+    /// The recorded words, at most two at one place: a third meets what one of these two meets. So they take a small
+    /// multiple of the file's memory, however many of its sections claim the same relocations.
+    pub words: Vec<Recorded>,
+    /// The bytes of all relocations.
+    pub cover: Cover,
 }
 
 /// The recorded word among the bytes of a relocation.
@@ -56,29 +39,33 @@ fn recorded_of(layout: &Layout, spans: &Spans) -> Option<Recorded>
     }
 }
 
-fn note_record(
-    records: &mut Vec<Recorded>,
+/// Keeps the recorded word of a relocation, unless two are kept at its place.
+fn note_word(
+    words: &mut Vec<Recorded>,
+    counts: &[u8],
     layout: &Layout,
     spans: &Spans,
 ) -> Result<(), AllocError>
-    ensures { OnOk result (records.new.items ≡ records.old.items ++ recorded_of layout.now (listed spans.now)) }
+    ensures { OnOk result (words.new.items ≡ words.old.items ++ filter (is_needed counts.now) (recorded_of layout.now (listed spans.now))) }
 {
-    if let Some(found) = recorded_of(layout, spans) {
-        records.push(found)?;
+    if let Some(word) = recorded_of(layout, spans)
+        && count_at(counts, word.place as usize) < 2
+    {
+        words.push(word)?;
     }
     Ok(())
 }
 
-/// Marks the bytes of a relocation.
-fn note_spans(marks: &mut Marks, layout: &Layout, spans: &Spans)
-    requires inside { AllByRecursion (IsInside layout.now (length marks.old.still.items)) (listed spans.now) }
+/// Takes in the bytes of a relocation.
+fn note_spans(cover: &mut Cover, layout: &Layout, spans: &Spans)
+    requires inside { AllByRecursion (IsInside layout.now (length cover.old.still.items)) (listed spans.now) }
     requires words { AllByRecursion IsWord (listed spans.now) }
-    requires len { length marks.old.starts.items ≡ length marks.old.still.items }
-    ensures { (n : ℕ) (ss : List Span) → IsMarked layout.now n ss marks.old → IsMarked layout.now n (ss ++ listed spans.now) marks.new }
+    requires len { length cover.old.words.items ≡ length cover.old.still.items }
+    ensures { (n : ℕ) (ss : List Span) → IsCover layout.now n ss cover.old → IsCover layout.now n (ss ++ listed spans.now) cover.new }
 {
-    marks.mark(layout, &spans.own);
+    cover.add(layout, &spans.own);
     if let Some(slot) = spans.slot {
-        marks.mark(layout, &slot);
+        cover.add(layout, &slot);
     }
 }
 
@@ -86,34 +73,26 @@ impl Found {
     /// Nothing, in an image with `len` bytes of text and data.
     pub fn new(alloc: Global, len: usize) -> Result<Found, AllocError>
         ensures words { IfOk result (λ found. found.words.items ≡ []) }
-        ensures records { IfOk result (λ found. found.records.items ≡ []) }
-        ensures marks { IfOk result (λ found. (l : Layout) → IsMarked l len [] found.marks) }
+        ensures cover { IfOk result (λ found. (l : Layout) → IsCover l len [] found.cover) }
     {
         Ok(Found {
             words: Vec::new(alloc),
-            records: Vec::new(alloc),
-            marks: Marks::new(alloc, len)?,
+            cover: Cover::new(alloc, len)?,
         })
     }
 
-    /// Takes in a relocation, by its effect and its bytes.
-    pub fn note(
-        &mut self,
-        layout: &Layout,
-        effect: &Effect,
-        spans: &Spans,
-    ) -> Result<(), AllocError>
-        requires inside { AllByRecursion (IsInside layout.now (length self.old.marks.still.items)) (listed spans.now) }
+    /// Takes in a relocation, by its bytes.
+    pub fn note(&mut self, layout: &Layout, spans: &Spans) -> Result<(), AllocError>
+        requires inside { AllByRecursion (IsInside layout.now (length self.old.cover.still.items)) (listed spans.now) }
         requires words { AllByRecursion IsWord (listed spans.now) }
-        requires len { length self.old.marks.starts.items ≡ length self.old.marks.still.items }
-        ensures words { OnOk result (self.new.words.items ≡ self.old.words.items ++ effect_words layout.now effect.now) }
-        ensures records { OnOk result (self.new.records.items ≡ self.old.records.items ++ recorded_of layout.now (listed spans.now)) }
-        ensures marks { OnOk result ((n : ℕ) (ss : List Span) →
-            IsMarked layout.now n ss self.old.marks → IsMarked layout.now n (ss ++ listed spans.now) self.new.marks) }
+        requires len { length self.old.cover.words.items ≡ length self.old.cover.still.items }
+        ensures words { OnOk result (self.new.words.items
+            ≡ self.old.words.items ++ filter (is_needed self.old.cover.words.items) (recorded_of layout.now (listed spans.now))) }
+        ensures cover { OnOk result ((n : ℕ) (ss : List Span) →
+            IsCover layout.now n ss self.old.cover → IsCover layout.now n (ss ++ listed spans.now) self.new.cover) }
     {
-        note_word(&mut self.words, layout, effect)?;
-        note_record(&mut self.records, layout, spans)?;
-        note_spans(&mut self.marks, layout, spans);
+        note_word(&mut self.words, &self.cover.words, layout, spans)?;
+        note_spans(&mut self.cover, layout, spans);
         Ok(())
     }
 }

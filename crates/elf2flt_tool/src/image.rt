@@ -53,11 +53,20 @@ pub fn linked_bytes(alloc: Global, elf: &Elf<'_>, layout: &Layout) -> Result<Vec
 }
 
 /// Writes each word's number over the bytes at its place, big-endian.
-pub fn write_numbers(words: &[Word], image: &mut [u8])
+fn write_numbers(words: &[Word], image: &mut [u8])
     requires { All (λ word. word.place + 4 ≤ length image.old) words.now }
     ensures { image.new ≡ bytes_below (length image.old) (painted (map number_patch words.now) (slice_index image.old)) }
 {
     for word in words {
         lay(image, word.place as usize, &word.target.to_be_bytes());
     }
+}
+
+/// The linked bytes with each word's number at its place, big-endian.
+pub fn with_numbers(mut image: Vec<u8>, words: &[Word]) -> Vec<u8>
+    requires { All (λ word. word.place + 4 ≤ length image.items) words.now }
+    ensures { result.items ≡ bytes_below (length image.items) (painted (map number_patch words.now) (slice_index image.items)) }
+{
+    write_numbers(words, &mut image);
+    image
 }

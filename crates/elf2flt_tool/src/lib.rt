@@ -5,15 +5,13 @@
 
 mod collect;
 mod conversion;
+mod cover;
 mod found;
 mod image;
 mod laws;
-mod marks;
 mod overlap;
-mod records;
+mod places;
 mod refusal;
-#[cfg(test)]
-mod sample;
 mod target;
 #[cfg(test)]
 mod tests;

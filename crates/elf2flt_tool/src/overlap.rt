@@ -1,11 +1,11 @@
 //! The test whether recorded words meet the bytes of other relocations.
 
-ghost use Rattle.std.specs.Prelude.{◌≡◌, ◌+◌, ◌<◌, ◌≤◌, ◌^◌, false, All, length, map, filter};
-ghost use Rattle.std.specs.List.{list_any, range_with_len, slice_index_or};
+ghost use Rattle.std.specs.Prelude.{◌≡◌, ◌+◌, ◌<◌, ◌≤◌, ◌^◌, All, length, map, filter, slice_index};
+ghost use Rattle.std.specs.List.{list_any, range_with_len};
 ghost use Rattle.elf2flt_tool.specs.Word.{lower, lowest};
-ghost use Rattle.elf2flt_tool.specs.Marks.{own_cover, is_shared, begins_near, is_met};
+ghost use Rattle.elf2flt_tool.specs.Cover.{own_cover, is_shared, begins_near, is_met};
 
-use crate::marks::Marks;
+use crate::cover::Cover;
 
 /// A recorded word, by numbers of the image.
 #[derive(Clone, Copy, Debug, PartialEq, Eq)]
@@ -26,11 +26,11 @@ pub fn lower(number: u32, least: Option<u32>) -> u32
     }
 }
 
-/// Whether a recorded word begins at a number.
-fn begins(starts: &[bool], number: usize) -> bool
-    ensures { result ≡ slice_index_or starts.now number false }
+/// How many recorded words were counted at a number; none past the end.
+pub fn count_at(words: &[u8], number: usize) -> u8
+    ensures { result ≡ slice_index words.now number }
 {
-    number < starts.len() && starts[number]
+    if number < words.len() { words[number] } else { 0 }
 }
 
 /// How often a word's own instruction covers a byte.
@@ -60,37 +60,38 @@ fn meets_still(still: &[u8], word: &Recorded) -> bool
 }
 
 /// Whether a recorded word begins so many bytes behind a number, or before it.
-fn begins_near(starts: &[bool], number: usize, distance: usize) -> bool
+fn begins_near(words: &[u8], number: usize, distance: usize) -> bool
     requires { number + distance < 2 ^ 64 }
-    ensures { result ≡ begins_near starts.now number distance }
+    ensures { result ≡ begins_near words.now number distance }
 {
-    begins(starts, number + distance) || distance <= number && begins(starts, number - distance)
+    count_at(words, number + distance) > 0
+        || distance <= number && count_at(words, number - distance) > 0
 }
 
 /// Whether another recorded word has a byte of the word at a number.
-fn meets_word(starts: &[bool], number: u32) -> bool
-    ensures { result ≡ list_any (begins_near starts.now number) (range_with_len 1 3) }
+fn meets_word(words: &[u8], number: u32) -> bool
+    ensures { result ≡ list_any (begins_near words.now number) (range_with_len 1 3) }
 {
-    (1..4).any(|distance| begins_near(starts, number as usize, distance))
+    (1..4).any(|distance| begins_near(words, number as usize, distance))
 }
 
 /// Whether a recorded word has a byte in common with the bytes of another entry.
-#[tactic(auto, unfolding(crate::specs::Marks::is_met))]
-fn is_met(marks: &Marks, word: &Recorded) -> bool
-    requires { word.now.place + 4 ≤ length marks.now.still.items }
-    ensures { result ≡ is_met marks.now word.now }
+#[tactic(auto, unfolding(crate::specs::Cover::is_met))]
+fn is_met(cover: &Cover, word: &Recorded) -> bool
+    requires { word.now.place + 4 ≤ length cover.now.still.items }
+    ensures { result ≡ is_met cover.now word.now }
 {
-    meets_still(&marks.still, word) || meets_word(&marks.starts, word.place)
+    meets_still(&cover.still, word) || meets_word(&cover.words, word.place)
 }
 
 /// The least number of a recorded word that meets the bytes of another entry.
-pub fn lowest_met(marks: &Marks, records: &[Recorded]) -> Option<u32>
-    requires { All (λ r. r.place + 4 ≤ length marks.now.still.items) records.now }
-    ensures { result ≡ lowest (map (λ r. r.place) (filter (is_met marks.now) records.now)) }
+pub fn lowest_met(cover: &Cover, words: &[Recorded]) -> Option<u32>
+    requires { All (λ r. r.place + 4 ≤ length cover.now.still.items) words.now }
+    ensures { result ≡ lowest (map (λ r. r.place) (filter (is_met cover.now) words.now)) }
 {
     let mut least = None;
-    for word in records {
-        if is_met(marks, word) {
+    for word in words {
+        if is_met(cover, word) {
             least = Some(lower(word.place, least));
         }
     }

@@ -32,7 +32,7 @@ pub enum Refusal {
     WordOverlap {
         place: u32,
     },
-    /// Want of host memory.
+    /// Out of memory, which says nothing of the file.
     #[error("out of memory")]
     Memory,
 }

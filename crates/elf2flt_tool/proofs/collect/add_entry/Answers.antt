@@ -1,13 +1,14 @@
 use Rattle.std.proofs.Common.{◌∷◌, inr, sym}
 use Rattle.std.specs.Option.{option_to_list}
 use Rattle.elf2flt_tool.proofs.Entries.{entry_accepted, entry_refused, entry_inside, entry_lens, entry_added}
+use Rattle.elf2flt_tool.proofs.Shapes.{spans_entry}
 use Rattle.elf2flt_tool.proofs.Walked.{entry_found}
 use Rattle.elf2flt_tool.proofs.collect.add_entry.Goals as goal
 
 pub note-requires-clause-inside : goal.note-requires-clause-inside
 note-requires-clause-inside c =
     let spans = c.in-Ok.checked.spans in
-    entry_inside c.args.elf.now c.args.section c.args.entry c.args.layout.now _ (spans.own ∷ option_to_list spans.slot) c.requires.layout c.requires.found.marks.still_len (sym c.in-Ok.ensures.2)
+    entry_inside c.args.elf.now c.args.section c.args.entry c.args.layout.now _ (spans.own ∷ option_to_list spans.slot) c.requires.layout c.requires.found.cover.still_len (sym c.in-Ok.ensures.2)
     c.requires.no_fault c.requires.kept c.in-Ok.ensures.0
 
 pub note-requires-clause-words : goal.note-requires-clause-words
@@ -18,12 +19,13 @@ note-requires-clause-words c =
 pub returns-in_ok-note-in-Ok : goal.returns-in_ok-note-in-Ok
 returns-in_ok-note-in-Ok c =
     let e = c.args.elf.now in
+    let i = c.args.section in
+    let j = c.args.entry in
     let spans = c.in-Ok.checked.spans in
     let added = c.in_ok-note-in-Ok.ensures in (
-      entry_accepted e c.args.section c.args.entry c.in-Ok.ensures.0,
-      entry_found e c.args.section c.args.entry c.args.found.now c.note.new.self c.requires.found
-          (entry_added e c.args.section c.args.entry c.args.layout.now c.in-Ok.checked.effect (spans.own ∷ option_to_list spans.slot) c.args.found.now c.note.new.self c.requires.layout
-          c.requires.no_fault c.in-Ok.ensures.1 (sym c.in-Ok.ensures.2) added.words added.records added.marks),
+      entry_accepted e i j c.in-Ok.ensures.0,
+      entry_found e i j c.args.found.now c.note.new.self (spans_entry e i j) c.requires.found
+          (rw (sym c.in-Ok.ensures.2) (entry_added e c.args.layout.now (spans.own ∷ option_to_list spans.slot) c.args.found.now c.note.new.self c.requires.layout added.words added.cover)),
     )
 
 pub returns-in-Err : goal.returns-in-Err

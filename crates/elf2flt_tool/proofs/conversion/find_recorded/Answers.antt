@@ -1,24 +1,54 @@
-use Rattle.std.proofs.Common.{map, filter, ◌≡◌, ◌∙◌, Some, None, sym, ap, inl, inr, arith}
+use Rattle.std.proofs.Common.{ℕ, ◌<◌, ◌≤◌, ◌+◌, nat_lt, List, All, length, map, filter, slice_index, ◌≡◌, ◌∙◌, Some, None, sym, ap, subst, inl, inr, arith}
+use Rattle.std.specs.List.{range_with_len}
 use Rattle.std.proofs.lemmas.Result.{err_from_is_err_and}
+use Rattle.byte_words.specs.Patches.{bytes_below}
+use Rattle.byte_words.proofs.Painting.{length-bytes_below}
+use Rattle.flat_layout.specs.declared.layout.Layout.{Layout}
+use Rattle.flat_layout.specs.Layout.{layout, size_of}
 use Rattle.flat_layout.proofs.Facts.{size_le}
-use Rattle.bflt_format.specs.Rising.{rising}
 use Rattle.elf2flt_tool.specs.declared.refusal.Refusal.TheVariants as refusals
+use Rattle.elf2flt_tool.specs.Image.{bare}
 use Rattle.elf2flt_tool.specs.Fault.{address_of}
-use Rattle.elf2flt_tool.specs.Word.{places, lowest, target_outside}
-use Rattle.elf2flt_tool.specs.Marks.{is_met}
-use Rattle.elf2flt_tool.proofs.Recorded.{IsClear}
+use Rattle.elf2flt_tool.specs.Relocs.{spans_of}
+use Rattle.elf2flt_tool.specs.Word.{places, lowest, records, word_at, points_outside, target_outside, word_overlap}
+use Rattle.elf2flt_tool.specs.Cover.{is_met}
+use Rattle.elf2flt_tool.specs.Walk.{IsFoundIn}
+use Rattle.elf2flt_tool.proofs.Laid.{is_laid}
+use Rattle.elf2flt_tool.proofs.Recorded.{IsLinked, IsClear}
 use Rattle.elf2flt_tool.proofs.Faults.{fault-clear, fault-relocs, fault-target, fault-overlap}
 use Rattle.elf2flt_tool.proofs.Walked.{all_found}
-use Rattle.elf2flt_tool.proofs.Assembled.{outside-tested, overlap-tested, records-inside}
+use Rattle.elf2flt_tool.proofs.Ascending.{counted_records, places_inside, outside-tested}
+use Rattle.elf2flt_tool.proofs.Assembled.{overlap-tested, words-inside}
 use Rattle.elf2flt_tool.proofs.conversion.find_recorded.Goals as goal
 
-pub returns-in_err-words : goal.returns-in_err-words
-returns-in_err-words c =
+image_length : (l : Layout) (image : List ℕ) (m : ℕ → ℕ) → image ≡ bytes_below (l.text + l.data_len) m → length image ≡ l.text + l.data_len
+image_length l image m is = ap length is ∙ length-bytes_below (l.text + l.data_len) m
+
+pub returns-in_err-found : goal.returns-in_err-found
+returns-in_err-found c =
     let p = err_from_is_err_and c.from_residual.result c.from_residual.ensures.1 in
-    rw (p.1, p.2) (elim c.in_err-words.ensures [
+    rw (p.1, p.2) (elim c.in_err-found.ensures [
       | inl memory ↦ inl memory
       | inr is ↦ inr (fault-relocs c.args.elf.now _ c.requires.accepted.no_fault c.requires.no_fault is)
     ])
+
+pub places_of-requires : goal.places_of-requires
+places_of-requires c =
+    let e = c.args.elf.now in
+    let whole = all_found e c.in_ok-found.found c.in_ok-found.ensures.1 in
+    let small = size_le e c.requires.no_fault in
+    let len : length c.deref.result.now ≡ (layout e).text + (layout e).data_len = ap length c.deref.ensures.value ∙ whole.cover.words_len in
+    omega arith
+
+pub words_at-requires : goal.words_at-requires
+words_at-requires c =
+    let e = c.args.elf.now in
+    let l = c.args.layout.now in
+    let linked : IsLinked e = record { elf = c.requires.accepted.no_fault; laid = c.requires.no_fault; relocs = c.in_ok-found.ensures.0 } in
+    let whole = all_found e c.in_ok-found.found c.in_ok-found.ensures.1 in
+    let are = c.deref-2.ensures.value ∙ counted_records e c.in_ok-found.found _ _ whole c.deref.ensures.value c.in_ok-places.ensures in
+    let len : length c.args.image.now ≡ (layout e).text + (layout e).data_len = image_length l c.args.image.now (bare e) c.requires.image ∙ ap (λ l. l.text + l.data_len) c.requires.layout in
+    subst (λ ps. All (λ p. p + 4 ≤ length c.args.image.now) ps) (sym are) (subst (λ n. All (λ p. p + 4 ≤ n) (records e)) (sym len) (places_inside e c.requires.accepted.bytes linked))
 
 pub lowest_outside-requires : goal.lowest_outside-requires
 lowest_outside-requires c = let small = size_le c.args.elf.now c.requires.no_fault in rw c.requires.layout (omega arith)
@@ -26,40 +56,56 @@ lowest_outside-requires c = let small = size_le c.args.elf.now c.requires.no_fau
 pub returns-in-Some : goal.returns-in-Some
 returns-in-Some c =
     let e = c.args.elf.now in
-    let whole = all_found e c.in_ok-words.field-0 c.in_ok-words.ensures.1 in
-    let tested = outside-tested e _ _ c.requires.layout (c.deref.ensures.value ∙ whole.words) in
-    inr (fault-target e c.in-Some.number c.requires.accepted.no_fault c.requires.no_fault c.in_ok-words.ensures.0 (sym tested ∙ sym c.lowest_outside.ensures ∙ c.in-Some.is)
+    let l = c.args.layout.now in
+    let image = c.args.image.now in
+    let linked : IsLinked e = record { elf = c.requires.accepted.no_fault; laid = c.requires.no_fault; relocs = c.in_ok-found.ensures.0 } in
+    let whole = all_found e c.in_ok-found.found c.in_ok-found.ensures.1 in
+    let are = counted_records e c.in_ok-found.found _ _ whole c.deref.ensures.value c.in_ok-places.ensures in
+    let words = c.deref-3.ensures.value ∙ c.in_ok-words.ensures ∙ ap (map (word_at l image)) (c.deref-2.ensures.value ∙ are) in
+    let tested = ap (λ ws. lowest (places (filter (points_outside (size_of l)) ws))) words ∙ outside-tested e l image c.requires.accepted.bytes linked c.requires.layout c.requires.image in
+    inr (fault-target e c.in-Some.number linked.elf linked.laid linked.relocs (sym tested ∙ sym c.lowest_outside.ensures ∙ c.in-Some.is)
     ∙ ap (λ l. Some (refusals.TargetOutside (address_of l c.in-Some.number))) (sym c.requires.layout) ∙ ap (λ n. Some (refusals.TargetOutside n)) (sym c.address_of.ensures))
 
 pub lowest_met-requires : goal.lowest_met-requires
 lowest_met-requires c =
     let e = c.args.elf.now in
-    let whole = all_found e c.in_ok-words.field-0 c.in_ok-words.ensures.1 in
-    rw c.deref-2.ensures.value (records-inside e c.in_ok-words.field-0 _ c.requires.no_fault c.in_ok-words.ensures.0 whole whole.marks.still_len)
+    let whole = all_found e c.in_ok-found.found c.in_ok-found.ensures.1 in
+    rw c.deref-4.ensures.value (words-inside e c.in_ok-found.found _ c.requires.no_fault c.in_ok-found.ensures.0 whole whole.cover.still_len)
 
 pub returns-in-Some-lowest_met : goal.returns-in-Some-lowest_met
 returns-in-Some-lowest_met c =
     let e = c.args.elf.now in
-    let whole = all_found e c.in_ok-words.field-0 c.in_ok-words.ensures.1 in
-    let inside : target_outside e ≡ None =
-    sym (outside-tested e _ _ c.requires.layout (c.deref.ensures.value ∙ whole.words)) ∙ sym c.lowest_outside.ensures ∙ c.in_default.is in
-    let met = overlap-tested e c.in_ok-words.field-0 c.requires.no_fault c.in_ok-words.ensures.0 whole in
-    let same = c.lowest_met.ensures ∙ ap (λ rs. lowest (map (λ r. r.place) (filter (is_met c.in_ok-words.field-0.marks) rs))) c.deref-2.ensures.value ∙ met in
-    inr (fault-overlap e c.in-Some-lowest_met.number c.requires.accepted.no_fault c.requires.no_fault c.in_ok-words.ensures.0 inside (sym same ∙ c.in-Some-lowest_met.is)
+    let l = c.args.layout.now in
+    let image = c.args.image.now in
+    let linked : IsLinked e = record { elf = c.requires.accepted.no_fault; laid = c.requires.no_fault; relocs = c.in_ok-found.ensures.0 } in
+    let whole = all_found e c.in_ok-found.found c.in_ok-found.ensures.1 in
+    let are = counted_records e c.in_ok-found.found _ _ whole c.deref.ensures.value c.in_ok-places.ensures in
+    let words = c.deref-3.ensures.value ∙ c.in_ok-words.ensures ∙ ap (map (word_at l image)) (c.deref-2.ensures.value ∙ are) in
+    let tested = ap (λ ws. lowest (places (filter (points_outside (size_of l)) ws))) words ∙ outside-tested e l image c.requires.accepted.bytes linked c.requires.layout c.requires.image in
+    let inside : target_outside e ≡ None = sym tested ∙ sym c.lowest_outside.ensures ∙ c.in_default.is in
+    let met = c.lowest_met.ensures ∙ ap (λ rs. lowest (map (λ r. r.place) (filter (is_met c.in_ok-found.found.cover) rs))) c.deref-4.ensures.value
+    ∙ overlap-tested e c.in_ok-found.found linked.laid linked.relocs whole in
+    inr (fault-overlap e c.in-Some-lowest_met.number linked.elf linked.laid linked.relocs inside (sym met ∙ c.in-Some-lowest_met.is)
     ∙ ap (λ l. Some (refusals.WordOverlap (address_of l c.in-Some-lowest_met.number))) (sym c.requires.layout)
     ∙ ap (λ n. Some (refusals.WordOverlap n)) (sym c.address_of-in-Some-lowest_met.ensures))
 
 pub returns : goal.returns
 returns c =
     let e = c.args.elf.now in
-    let whole = all_found e c.in_ok-words.field-0 c.in_ok-words.ensures.1 in
-    let met = overlap-tested e c.in_ok-words.field-0 c.requires.no_fault c.in_ok-words.ensures.0 whole in
-    let same = c.lowest_met.ensures ∙ ap (λ rs. lowest (map (λ r. r.place) (filter (is_met c.in_ok-words.field-0.marks) rs))) c.deref-2.ensures.value ∙ met in
+    let l = c.args.layout.now in
+    let image = c.args.image.now in
+    let linked : IsLinked e = record { elf = c.requires.accepted.no_fault; laid = c.requires.no_fault; relocs = c.in_ok-found.ensures.0 } in
+    let whole = all_found e c.in_ok-found.found c.in_ok-found.ensures.1 in
+    let are = counted_records e c.in_ok-found.found _ _ whole c.deref.ensures.value c.in_ok-places.ensures in
+    let words = c.in_ok-words.ensures ∙ ap (map (word_at l image)) (c.deref-2.ensures.value ∙ are) in
+    let tested = ap (λ ws. lowest (places (filter (points_outside (size_of l)) ws))) (c.deref-3.ensures.value ∙ words) ∙ outside-tested e l image c.requires.accepted.bytes linked c.requires.layout c.requires.image in
+    let met = c.lowest_met.ensures ∙ ap (λ rs. lowest (map (λ r. r.place) (filter (is_met c.in_ok-found.found.cover) rs))) c.deref-4.ensures.value
+    ∙ overlap-tested e c.in_ok-found.found linked.laid linked.relocs whole in
     let clear : IsClear e = record {
-      elf = c.requires.accepted.no_fault;
-      laid = c.requires.no_fault;
-      relocs = c.in_ok-words.ensures.0;
-      targets = sym (outside-tested e _ _ c.requires.layout (c.deref.ensures.value ∙ whole.words)) ∙ sym c.lowest_outside.ensures ∙ c.in_default.is;
-      apart = sym same ∙ c.in_default-lowest_met.is;
+      elf = linked.elf;
+      laid = linked.laid;
+      relocs = linked.relocs;
+      targets = sym tested ∙ sym c.lowest_outside.ensures ∙ c.in_default.is;
+      apart = sym met ∙ c.in_default-lowest_met.is;
     } in
-    (fault-clear e clear, whole.words, c.in_ok-records.ensures ∙ ap (λ ws. rising (places ws)) (c.deref-3.ensures.value ∙ whole.words))
+    (fault-clear e clear, words, are)

@@ -1,9 +1,8 @@
 //! Worked examples.
 
 use super::*;
-use crate::sample::ONE_WORD;
 
-/// The flat file of `ONE_WORD`, behind the header's 44 bytes 20 bytes of fillers and 64 zeros.
+/// The flat file of `one_word`, behind the header's 44 bytes 20 bytes of fillers and 64 zeros.
 const HEADER: [u8; 44] = [
     0x62, 0x46, 0x4c, 0x54, 0x00, 0x00, 0x00, 0x04, 0x00, 0x00, 0x00, 0x80, 0x00, 0x00, 0x00, 0x80,
     0x00, 0x00, 0x00, 0x8c, 0x00, 0x00, 0x00, 0x8c, 0x00, 0x00, 0x10, 0x00, 0x00, 0x00, 0x00, 0x8c,
@@ -271,7 +270,7 @@ fn convert_one_word(rt: HostRuntime) -> Result<(), Fail> {
     want.extend_from_slice(&BODY)?;
     assert_eq!(rt; want.len(), 144);
     let files = [
-        Vec::from_slice(alloc, &ONE_WORD)?,
+        one_word(alloc)?,
         file(alloc, &SHORT)?,
         file(alloc, &LOW)?,
     ];

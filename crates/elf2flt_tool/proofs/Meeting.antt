@@ -1,5 +1,5 @@
--- That the marks tell which recorded words meet the bytes of another entry.
-use Rattle.std.proofs.Common.{◌≡◌, ℕ, zero, suc, ◌+◌, ◌-◌, ◌<◌, ◌≤◌, Bool, true, false, not, ◌&&◌, ◌||◌, nat_lt, nat_le, nat_eq, min, max, cond, inl, inr, List, [], ◌∷◌, ◌++◌, length, get_or, take, drop, map, flat_map, filter, count_by, Option, Some, None, refl, sym, ap, ap₂, subst, ◌∙◌, arith, zero-add, add-zero, add-one}
+-- That what is covered tells which recorded words meet the bytes of another entry.
+use Rattle.std.proofs.Common.{◌≡◌, ℕ, zero, suc, ◌+◌, ◌-◌, ◌<◌, ◌≤◌, Bool, true, false, not, ◌&&◌, ◌||◌, nat_lt, nat_le, nat_eq, min, max, cond, inl, inr, List, [], ◌∷◌, ◌++◌, length, get_or, take, drop, map, flat_map, filter, count_by, slice_index, Option, Some, None, refl, sym, ap, ap₂, subst, ◌∙◌, arith, zero-add, add-zero, add-one}
 use Rattle.std.specs.List.{list_any, range_with_len, slice_index_or, AllByRecursion as Each}
 use Rattle.std.proofs.lemmas.Bool.{cases_Bool, lt-ltb, ne_eqb, leb-true}
 use Rattle.std.proofs.lemmas.Bool.Decides.{nat_tests}
@@ -13,9 +13,10 @@ use Rattle.flat_layout.specs.declared.layout.Layout.{Layout}
 use Rattle.flat_layout.specs.Layout.{off}
 use Rattle.psabi_relocs.specs.declared.spans.Span.{Span}
 use Rattle.elf2flt_tool.specs.Word.{meets, others, recorded_places, met_words}
-use Rattle.elf2flt_tool.specs.declared.marks.Marks.{Marks}
+use Rattle.elf2flt_tool.specs.declared.cover.Cover.{Cover}
 use Rattle.elf2flt_tool.specs.declared.overlap.Recorded.{Recorded}
-use Rattle.elf2flt_tool.specs.Marks.{IsWord, covers, begins, IsMarked, own_cover, is_shared, begins_near, is_met, recorded_of}
+use Rattle.elf2flt_tool.specs.Cover.{IsWord, covers, begins, IsCover, own_cover, is_shared, begins_near, is_met, recorded_of}
+use Rattle.elf2flt_tool.specs.Walk.{all_of}
 use Rattle.elf2flt_tool.proofs.Members.{each-append}
 
 -- tests of lists
@@ -62,7 +63,7 @@ any_weight : (b : Bool) (n : ℕ) → (b || nat_lt 0 n) ≡ nat_lt 0 (cond b 1 0
 any_weight true n = sym (lt-ltb 0 (1 + n) (omega arith))
 any_weight false n = ap (λ k. nat_lt 0 k) (sym (zero-add n))
 
-any_count : {X : Type 0} (f : X → Bool) (xs : List X) → list_any f xs ≡ nat_lt 0 (count_by f xs)
+pub any_count : {X : Type 0} (f : X → Bool) (xs : List X) → list_any f xs ≡ nat_lt 0 (count_by f xs)
 any_count f [] = refl
 any_count f (x ∷ xs) = ap (λ b. f x || b) (any_count f xs) ∙ any_weight (f x) (count_by f xs) ∙ ap (λ n. nat_lt 0 n) (sym (count-cons f x xs))
 
@@ -119,9 +120,6 @@ any_meets l p ss words =
     ∙ ap₂ (λ a b. a || b) (any_swap (λ b s. covers l (p + b) s) (range_with_len 0 4) ss) (any_swap (λ d s. near_word l p d s) (range_with_len 1 3) ss)
 
 -- an entry among all, by its index k
-
-abbrev pub all_of : List (List Span) → List Span
-all_of es = flat_map (λ ss. ss) es
 
 -- the entry with index k
 abbrev pub entry_of : List (List Span) → ℕ → List Span
@@ -188,7 +186,7 @@ all_words [] each = tt
 all_words (x ∷ es) each = each-append IsWord x (all_of es) (entry_words x each.0) (all_words es each.1)
 
 -- what a recorded word says of its own entry
-record IsOwn (l : Layout) (own : List Span) (r : Recorded) : Type 0 where
+pub record IsOwn (l : Layout) (own : List Span) (r : Recorded) : Type 0 where
   pub covered : (b : ℕ) → count_by (covers l b) own ≡ own_cover r.instruction b
   pub begun : (q : ℕ) → (q ≡ r.place → ⊥) → list_any (begins l q) own ≡ false
 
@@ -203,48 +201,52 @@ and_same : (a b c : Bool) → (a ≡ true → b ≡ c) → (a && b) ≡ (a && c)
 and_same true b c same = same refl
 and_same false b c same = refl
 
-shared_at : (l : Layout) (n : ℕ) (all rest own : List Span) (m : Marks) (r : Recorded) (b : ℕ) → IsSplit all rest own → IsMarked l n all m → IsOwn l own r
-    → list_any (covers l b) rest ≡ is_shared m.still.items r b
-shared_at l n all rest own m r b split marked is =
+shared_at : (l : Layout) (n : ℕ) (all rest own : List Span) (cover : Cover) (r : Recorded) (b : ℕ) → IsSplit all rest own → IsCover l n all cover → IsOwn l own r
+    → list_any (covers l b) rest ≡ is_shared cover.still.items r b
+shared_at l n all rest own cover r b split covered_by is =
     any_count (covers l b) rest ∙ shared_same (own_cover r.instruction b) (count_by (covers l b) rest) (own_cover_le r.instruction b)
     ∙ ap (λ k. nat_lt (own_cover r.instruction b) (min 2 k)) (sym (count_split (covers l b) all rest own split ∙ ap (λ k. count_by (covers l b) rest + k) (is.covered b)))
-    ∙ ap (λ k. nat_lt (own_cover r.instruction b) k) (sym (marked.still b))
+    ∙ ap (λ k. nat_lt (own_cover r.instruction b) k) (sym (covered_by.still b))
 
-begun_at : (l : Layout) (n : ℕ) (all rest own : List Span) (m : Marks) (r : Recorded) (q : ℕ) → IsSplit all rest own → IsMarked l n all m → IsOwn l own r
-    → (q ≡ r.place → ⊥) → list_any (begins l q) rest ≡ slice_index_or m.starts.items q false
-begun_at l n all rest own m r q split marked is other =
-    sym (any_split (begins l q) all rest own split (is.begun q other)) ∙ sym (marked.starts q)
+pub some_two : (c : ℕ) → nat_lt 0 (min 2 c) ≡ nat_lt 0 c
+some_two c = grind (arith, nat_tests)
 
-near_at : (l : Layout) (n : ℕ) (all rest own : List Span) (m : Marks) (r : Recorded) (d : ℕ) → IsSplit all rest own → IsMarked l n all m → IsOwn l own r
-    → 0 < d → list_any (near_word l r.place d) rest ≡ begins_near m.starts.items r.place d
-near_at l n all rest own m r d split marked is far =
+begun_at : (l : Layout) (n : ℕ) (all rest own : List Span) (cover : Cover) (r : Recorded) (q : ℕ) → IsSplit all rest own → IsCover l n all cover → IsOwn l own r
+    → (q ≡ r.place → ⊥) → list_any (begins l q) rest ≡ nat_lt 0 (slice_index cover.words.items q)
+begun_at l n all rest own cover r q split covered_by is other =
+    sym (any_split (begins l q) all rest own split (is.begun q other)) ∙ any_count (begins l q) all
+    ∙ sym (some_two (count_by (begins l q) all)) ∙ ap (λ n. nat_lt 0 n) (sym (covered_by.words q))
+
+near_at : (l : Layout) (n : ℕ) (all rest own : List Span) (cover : Cover) (r : Recorded) (d : ℕ) → IsSplit all rest own → IsCover l n all cover → IsOwn l own r
+    → 0 < d → list_any (near_word l r.place d) rest ≡ begins_near cover.words.items r.place d
+near_at l n all rest own cover r d split covered_by is far =
     near_any l r.place d rest
-    ∙ ap₂ (λ a b. a || b) (begun_at l n all rest own m r (r.place + d) split marked is (λ same. absurd (omega arith)))
-    (and_same (nat_le d r.place) (list_any (begins l (r.place - d)) rest) (slice_index_or m.starts.items (r.place - d) false)
-    (λ le. let low = leb-true d r.place le in begun_at l n all rest own m r (r.place - d) split marked is (λ same. absurd (omega arith))))
+    ∙ ap₂ (λ a b. a || b) (begun_at l n all rest own cover r (r.place + d) split covered_by is (λ same. absurd (omega arith)))
+    (and_same (nat_le d r.place) (list_any (begins l (r.place - d)) rest) (nat_lt 0 (slice_index cover.words.items (r.place - d)))
+    (λ le. let low = leb-true d r.place le in begun_at l n all rest own cover r (r.place - d) split covered_by is (λ same. absurd (omega arith))))
 
--- the marks tell whether the word meets another entry
-met_same : (l : Layout) (n : ℕ) (all rest own : List Span) (m : Marks) (r : Recorded) → IsSplit all rest own → IsMarked l n all m → IsOwn l own r → Each IsWord rest
-    → list_any (meets l r.place) rest ≡ is_met m r
+-- what is covered tells whether the word meets another entry
+met_same : (l : Layout) (n : ℕ) (all rest own : List Span) (cover : Cover) (r : Recorded) → IsSplit all rest own → IsCover l n all cover → IsOwn l own r → Each IsWord rest
+    → list_any (meets l r.place) rest ≡ is_met cover r
 unfolding is_met
-met_same l n all rest own m r split marked is words =
-    let shared = λ (b : ℕ). shared_at l n all rest own m r (r.place + b) split marked is in
-    let begun = λ (d : ℕ) (far : 0 < d). near_at l n all rest own m r d split marked is far in
+met_same l n all rest own cover r split covered_by is words =
+    let shared = λ (b : ℕ). shared_at l n all rest own cover r (r.place + b) split covered_by is in
+    let begun = λ (d : ℕ) (far : 0 < d). near_at l n all rest own cover r d split covered_by is far in
     any_meets l r.place rest words
     ∙ ap₂ (λ a b. a || b)
-    (any_each (λ b. list_any (covers l (r.place + b)) rest) (λ b. is_shared m.still.items r (r.place + b)) (range_with_len 0 4) (shared 0, (shared 1, (shared 2, (shared 3, tt)))))
-    (any_each (λ d. list_any (near_word l r.place d) rest) (begins_near m.starts.items r.place) (range_with_len 1 3)
+    (any_each (λ b. list_any (covers l (r.place + b)) rest) (λ b. is_shared cover.still.items r (r.place + b)) (range_with_len 0 4) (shared 0, (shared 1, (shared 2, (shared 3, tt)))))
+    (any_each (λ d. list_any (near_word l r.place d) rest) (begins_near cover.words.items r.place) (range_with_len 1 3)
     (begun 1 (omega arith), (begun 2 (omega arith), (begun 3 (omega arith), tt))))
 
 -- the words of one entry
 
-one_kept : (f : ℕ → Bool) (m : Marks) (r : Recorded) → f r.place ≡ is_met m r → filter f (r.place ∷ []) ≡ map (λ w. w.place) (filter (is_met m) (r ∷ []))
-one_kept f m r same = elim (cases_Bool (is_met m r)) [
+one_kept : (f : ℕ → Bool) (cover : Cover) (r : Recorded) → f r.place ≡ is_met cover r → filter f (r.place ∷ []) ≡ map (λ w. w.place) (filter (is_met cover) (r ∷ []))
+one_kept f cover r same = elim (cases_Bool (is_met cover r)) [
   | inl met ↦ rw (same, met) refl
   | inr not_met ↦ rw (same, not_met) refl
 ]
 
-word_own : (l : Layout) (own : Span) → own.recorded ≡ true → IsOwn l (own ∷ []) (record { place = off l own.place; instruction = None })
+pub word_own : (l : Layout) (own : Span) → own.recorded ≡ true → IsOwn l (own ∷ []) (record { place = off l own.place; instruction = None })
 word_own l own recorded = record {
   covered = λ b. rw recorded refl;
   begun = λ q other. rw (recorded, ne_eqb (off l own.place) q (λ same. other (sym same))) refl;
@@ -257,28 +259,28 @@ slot_covered l own slot b still len recorded = elim (cases_Bool (nat_le (off l o
   | inr away ↦ rw (still, len, recorded, away) refl
 ]
 
-slot_own : (l : Layout) (own slot : Span) → own.recorded ≡ false → own.len ≡ 4 → slot.recorded ≡ true
+pub slot_own : (l : Layout) (own slot : Span) → own.recorded ≡ false → own.len ≡ 4 → slot.recorded ≡ true
     → IsOwn l (own ∷ slot ∷ []) (record { place = off l slot.place; instruction = Some (off l own.place) })
 slot_own l own slot still len recorded = record {
   covered = λ b. slot_covered l own slot b still len recorded;
   begun = λ q other. rw (still, recorded, ne_eqb (off l slot.place) q (λ same. other (sym same))) refl;
 }
 
-entry_met : (l : Layout) (f : ℕ → Bool) (m : Marks) (ss : List Span) → IsEntry ss → ((r : Recorded) → IsOwn l ss r → f r.place ≡ is_met m r)
-    → filter f (recorded_places l ss) ≡ map (λ w. w.place) (filter (is_met m) (recorded_of l ss))
-entry_met l f m [] is same = absurd is
-entry_met l f m (own ∷ []) is same = elim (cases_Bool own.recorded) [
+entry_met : (l : Layout) (f : ℕ → Bool) (cover : Cover) (ss : List Span) → IsEntry ss → ((r : Recorded) → IsOwn l ss r → f r.place ≡ is_met cover r)
+    → filter f (recorded_places l ss) ≡ map (λ w. w.place) (filter (is_met cover) (recorded_of l ss))
+entry_met l f cover [] is same = absurd is
+entry_met l f cover (own ∷ []) is same = elim (cases_Bool own.recorded) [
   | inl recorded ↦
-      rw recorded (one_kept f m (record { place = off l own.place; instruction = None }) (same (record { place = off l own.place; instruction = None }) (word_own l own recorded)))
+      rw recorded (one_kept f cover (record { place = off l own.place; instruction = None }) (same (record { place = off l own.place; instruction = None }) (word_own l own recorded)))
   | inr still ↦ rw still refl
 ]
-entry_met l f m (own ∷ slot ∷ []) is same = elim (cases_Bool slot.recorded) [
+entry_met l f cover (own ∷ slot ∷ []) is same = elim (cases_Bool slot.recorded) [
   | inl recorded ↦
-      rw (is.0, recorded) (one_kept f m (record { place = off l slot.place; instruction = Some (off l own.place) })
+      rw (is.0, recorded) (one_kept f cover (record { place = off l slot.place; instruction = Some (off l own.place) })
       (same (record { place = off l slot.place; instruction = Some (off l own.place) }) (slot_own l own slot is.0 is.1 recorded)))
   | inr still ↦ rw (is.0, still) refl
 ]
-entry_met l f m (own ∷ slot ∷ more ∷ rest) is same = absurd is
+entry_met l f cover (own ∷ slot ∷ more ∷ rest) is same = absurd is
 
 each_get : {X : Type 0} (P : X → Type 0) (xs : List X) (k : ℕ) (d : X) → Each P xs → k < length xs → P (get_or xs k d)
 each_get P [] k d each below = absurd (omega arith)
@@ -287,13 +289,13 @@ each_get P (x ∷ xs) (suc k) d each below = each_get P xs k d each.1 (omega ari
 
 -- all entries
 
-met_words_at : (l : Layout) (n : ℕ) (es : List (List Span)) (m : Marks) (k : ℕ) → k < length es → Each IsEntry es → IsMarked l n (all_of es) m
-    → met_words l es k ≡ map (λ w. w.place) (filter (is_met m) (recorded_of l (entry_of es k)))
-met_words_at l n es m k below each marked =
+met_words_at : (l : Layout) (n : ℕ) (es : List (List Span)) (cover : Cover) (k : ℕ) → k < length es → Each IsEntry es → IsCover l n (all_of es) cover
+    → met_words l es k ≡ map (λ w. w.place) (filter (is_met cover) (recorded_of l (entry_of es k)))
+met_words_at l n es cover k below each covered_by =
     let split = split_at es k below in
     let words = each_split IsWord (all_of es) (others k es) (entry_of es k) split (all_words es each) in
-    entry_met l (λ p. list_any (meets l p) (others k es)) m (entry_of es k) (each_get IsEntry es k [] each below)
-    (λ r is. met_same l n (all_of es) (others k es) (entry_of es k) m r split marked is words)
+    entry_met l (λ p. list_any (meets l p) (others k es)) cover (entry_of es k) (each_get IsEntry es k [] each below)
+    (λ r is. met_same l n (all_of es) (others k es) (entry_of es k) cover r split covered_by is words)
 
 flat_map_indexed : {X Y : Type 0} (f : ℕ → List Y) (g : X → List Y) (xs : List X) (d : X) (a : ℕ) → ((k : ℕ) → k < length xs → f (a + k) ≡ g (get_or xs k d))
     → flat_map f (range_with_len a (length xs)) ≡ flat_map g xs
@@ -302,17 +304,17 @@ flat_map_indexed f g (x ∷ xs) d a same =
     ap₂ (λ ys zs. ys ++ zs) (ap f (sym (add-zero a)) ∙ same 0 (omega arith))
     (flat_map_indexed f g xs d (a + 1) (λ k below. ap f (omega arith) ∙ same (suc k) (omega arith)))
 
-kept_flat : {X : Type 0} (m : Marks) (h : X → List Recorded) (xs : List X)
-    → flat_map (λ x. map (λ w. w.place) (filter (is_met m) (h x))) xs ≡ map (λ w. w.place) (filter (is_met m) (flat_map h xs))
-kept_flat m h [] = refl
-kept_flat m h (x ∷ xs) =
-    ap (λ ns. map (λ w. w.place) (filter (is_met m) (h x)) ++ ns) (kept_flat m h xs)
-    ∙ sym (ap (map (λ w. w.place)) (filter-append (is_met m) (h x) (flat_map h xs)) ∙ map-append (λ w. w.place) (filter (is_met m) (h x)) (filter (is_met m) (flat_map h xs)))
+kept_flat : {X : Type 0} (cover : Cover) (h : X → List Recorded) (xs : List X)
+    → flat_map (λ x. map (λ w. w.place) (filter (is_met cover) (h x))) xs ≡ map (λ w. w.place) (filter (is_met cover) (flat_map h xs))
+kept_flat cover h [] = refl
+kept_flat cover h (x ∷ xs) =
+    ap (λ ns. map (λ w. w.place) (filter (is_met cover) (h x)) ++ ns) (kept_flat cover h xs)
+    ∙ sym (ap (map (λ w. w.place)) (filter-append (is_met cover) (h x) (flat_map h xs)) ∙ map-append (λ w. w.place) (filter (is_met cover) (h x)) (filter (is_met cover) (flat_map h xs)))
 
--- the words that meet another entry, as the marks tell them
-pub met_words_marked : (l : Layout) (n : ℕ) (es : List (List Span)) (m : Marks) → Each IsEntry es → IsMarked l n (all_of es) m
-    → flat_map (met_words l es) (range_with_len 0 (length es)) ≡ map (λ w. w.place) (filter (is_met m) (flat_map (recorded_of l) es))
-met_words_marked l n es m each marked =
-    flat_map_indexed (met_words l es) (λ ss. map (λ w. w.place) (filter (is_met m) (recorded_of l ss))) es [] 0
-    (λ k below. ap (met_words l es) (zero-add k) ∙ met_words_at l n es m k below each marked)
-    ∙ kept_flat m (recorded_of l) es
+-- the words that meet another entry, as what is covered tells them
+pub met_words_covered : (l : Layout) (n : ℕ) (es : List (List Span)) (cover : Cover) → Each IsEntry es → IsCover l n (all_of es) cover
+    → flat_map (met_words l es) (range_with_len 0 (length es)) ≡ map (λ w. w.place) (filter (is_met cover) (flat_map (recorded_of l) es))
+met_words_covered l n es cover each covered_by =
+    flat_map_indexed (met_words l es) (λ ss. map (λ w. w.place) (filter (is_met cover) (recorded_of l ss))) es [] 0
+    (λ k below. ap (met_words l es) (zero-add k) ∙ met_words_at l n es cover k below each covered_by)
+    ∙ kept_flat cover (recorded_of l) es

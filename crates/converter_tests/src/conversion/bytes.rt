@@ -3,7 +3,6 @@
 ghost use Rattle.std.specs.Prelude.{◌≤◌};
 
 use super::*;
-use crate::sample::ONE_WORD;
 
 /// Places in the file.
 const ENTRY: usize = 26;
@@ -12,9 +11,9 @@ const DATA_WORD: usize = 60;
 
 const SYMBOL_SECTION: usize = 94;
 
-const RELOC_KIND: usize = 108;
+const RELOC_KIND: usize = 107;
 
-const ADDEND: usize = 112;
+const ADDEND: usize = 111;
 
 const ACCEPTED: Answer = Ok(&[(0x48, 0x40)]);
 
@@ -64,13 +63,13 @@ const HEADER_WORDS: [(Answer, Answer); 13] = [
 ];
 
 /// Section header 0: its type, flags, address and size.
-const BSS_KIND: usize = 120;
+const BSS_KIND: usize = 119;
 
-const BSS_FLAGS: usize = 124;
+const BSS_FLAGS: usize = 123;
 
-const BSS_ADDRESS: usize = 128;
+const BSS_ADDRESS: usize = 127;
 
-const BSS_SIZE: usize = 136;
+const BSS_SIZE: usize = 135;
 
 /// A name, bytes in place of others, where the image ends in the flat file, and what becomes of the file.
 const EDITS: &[(&str, &[(usize, u8)], u32, Answer)] = &[
@@ -125,7 +124,7 @@ const EDITS: &[(&str, &[(usize, u8)], u32, Answer)] = &[
 
 /// The file with some bytes replaced, each given by its place.
 fn edited(alloc: Global, edits: &[(usize, u8)]) -> Result<Vec<u8>, AllocError> {
-    let mut file = Vec::from_slice(alloc, &ONE_WORD)?;
+    let mut file = one_word(alloc)?;
     for (place, byte) in edits {
         if *place < file.len() {
             file[*place] = *byte;
@@ -138,7 +137,7 @@ fn stored_stack(alloc: Global, stack: u32) -> Result<Vec<u8>, Refusal>
     requires some_stack { 16 ≤ stack }
     requires stack_limit { stack ≤ 1048576 }
 {
-    let mut word = convert(alloc, &ONE_WORD, stack)?;
+    let mut word = convert(alloc, &one_word(alloc)?, stack)?;
     word.truncate(28);
     Ok(word.split_off(24.min(word.len()))?)
 }
@@ -161,7 +160,8 @@ fn stack_is_rounded_up(rt: HostRuntime) -> Result<(), Fail> {
 #[test]
 fn changed_bytes(rt: HostRuntime) -> Result<(), Fail> {
     let alloc = rt.alloc();
-    for len in 0..ONE_WORD.len() {
+    let whole = one_word(alloc)?;
+    for len in 0..whole.len() {
         let fault = if len < 52 {
             ElfFault::Short
         } else {
@@ -172,7 +172,7 @@ fn changed_bytes(rt: HostRuntime) -> Result<(), Fail> {
             &rt,
             alloc,
             &name,
-            &ONE_WORD[..len],
+            &whole[..len],
             &SHORT,
             &Err(Refused::Elf(fault)),
         )?;
@@ -180,7 +180,7 @@ fn changed_bytes(rt: HostRuntime) -> Result<(), Fail> {
     let mut at = 0_u32;
     for (zero, ones) in &HEADER_WORDS {
         for (byte, want) in [(0, zero), (0xff, ones)] {
-            let mut file = Vec::from_slice(alloc, &ONE_WORD)?;
+            let mut file = one_word(alloc)?;
             put(&mut file, at, [byte; 4]);
             let name = format!(in alloc; "{byte} at {at}")?;
             expect(&rt, alloc, &name, &file, &SHORT, want)?;
