@@ -3,7 +3,7 @@ ghost use Rattle.std.specs.Prelude.{map, option_map, Some, string_bytes};
 ghost use Rattle.std.specs.Result.{result_ok};
 ghost use Rattle.flatc.specs.Pages.{page_of};
 ghost use Rattle.flatc.specs.Program.{Ends};
-ghost use Rattle.suite_top.specs.Seen.{seen};
+ghost use Rattle.suite_top.specs.Observed.{observed};
 
 use crate::pages::{HELP, VERSION, page_of};
 use host_io::{Host, Sink};
@@ -27,9 +27,9 @@ pub fn run<H: Host, O: Sink, R: Sink>(
     report: &mut R,
 ) -> Status
     ensures { Ends (page_of HELP.now VERSION.now) (Some (map string_bytes words.now))
-        (seen H.told H.faults host.old) (seen H.told H.faults host.new)
-        (seen O.told O.faults out.old) (seen O.told O.faults out.new)
-        (seen R.told R.faults report.old) (seen R.told R.faults report.new) result }
+        (observed H.told H.faults host.old) (observed H.told H.faults host.new)
+        (observed O.told O.faults out.old) (observed O.told O.faults out.new)
+        (observed R.told R.faults report.old) (observed R.told R.faults report.new) result }
 {
     match page_of(words) {
         Some(page) => deliver(alloc, Status::Done, page, "", out, report),
@@ -46,9 +46,9 @@ pub fn end<H: Host, O: Sink, R: Sink>(
     report: &mut R,
 ) -> Status
     ensures { Ends (page_of HELP.now VERSION.now) (option_map (λ read. map string_bytes read.items) (result_ok words))
-        (seen H.told H.faults host.old) (seen H.told H.faults host.new)
-        (seen O.told O.faults out.old) (seen O.told O.faults out.new)
-        (seen R.told R.faults report.old) (seen R.told R.faults report.new) result }
+        (observed H.told H.faults host.old) (observed H.told H.faults host.new)
+        (observed O.told O.faults out.old) (observed O.told O.faults out.new)
+        (observed R.told R.faults report.old) (observed R.told R.faults report.new) result }
 {
     match words {
         Ok(words) => run(alloc, &words, host, out, report),
