@@ -10,15 +10,14 @@ use Rattle.suite_top.specs.declared.status.Status.TheVariants.{Done, Refused}
 use Rattle.suite_top.specs.Sizes.{sizes}
 use Rattle.suite_top.specs.Texts.{refusal_tail, convert_line}
 use Rattle.suite_top.specs.Ending.{Ending, refused_ending}
-use Rattle.suite_top.specs.Outcome.{Request, load, Outcome, Inputs, after}
-use Rattle.suite_top.specs.Arguments.{Invocation, convert}
+use Rattle.suite_top.specs.Outcome.{Request, load, Outcome, after}
+use Rattle.suite_top.specs.Arguments.{convert}
 use Rattle.suite_top.specs.OneFile.{with_found}
 use Rattle.suite_top.specs.Convert.{stored_outcome, judged_outcome, converted_outcome}
-use Rattle.suite_top.specs.Result.{command_outcome}
 use Rattle.suite_top.specs.HostCourse.{HostCourse, complete, failed, out_of_memory, IsCourseOf, after_answer, after_answers, told_after, EndsAfter}
-use Rattle.suite_top.specs.Call.{Call, outcome_of, MeetsOutcome, OverFiles}
+use Rattle.suite_top.specs.Call.{Call, outcome_of}
 use Rattle.suite_top.specs.OneFile.Laws.{elf_tail}
-use Rattle.suite_top.specs.Convert.Laws.{IsConvert, ConvertChangesOneFile, IsConverted, ConvertIsDone, ConvertIsRefused, ConvertCompletes}
+use Rattle.suite_top.specs.Convert.Laws.{IsConvert, ConvertChangesOneFile, ConvertIsDone, ConvertIsRefused, ConvertCompletes}
 use Rattle.suite_top.proofs.Outcomes.{Behind, requests_behind}
 use Rattle.suite_top.proofs.HostLaws.{told_is, loads_keep}
 use Rattle.suite_top.proofs.OneFileLaws.{outcome_is, Shows, is_refused, is_done, is_completed}

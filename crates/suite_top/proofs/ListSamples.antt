@@ -1,7 +1,6 @@
 -- `list`, computed on the flat file of the worked example convert-one-word.
 use Rattle.std.proofs.Common.{◌≡◌, [], ◌∷◌, Some, None, take, codes, refl}
 use Rattle.std.specs.Fmt.{digits}
-use Rattle.bflt_format.specs.Numbers.{big_at}
 use Rattle.byte_words.specs.Search.{any_below}
 use Rattle.bflt_format.specs.Header.{flat_values}
 use Rattle.bflt_format.specs.Fault.{header_fault, record_fault, is_out_of_bounds, is_entry, is_table_bad, passes_data, meets_earlier, targets_past, is_near, flat_fault}

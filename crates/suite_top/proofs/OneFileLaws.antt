@@ -1,21 +1,20 @@
 -- What a call of a command that loads one file does, by what the load found.
-use Rattle.std.proofs.Common.{◌≡◌, ℕ, ◌≤◌, ◌<◌, Bool, true, false, cond, List, [], ◌∷◌, length, nat_lt, Option, Some, None, refl, sym, ap, subst, ◌∙◌, arith, inl, inr}
-use Rattle.std.specs.Prelude.{◌⊎◌, option_map}
+use Rattle.std.proofs.Common.{◌≡◌, ℕ, ◌≤◌, ◌<◌, Bool, true, false, cond, List, [], length, nat_lt, Option, Some, None, refl, sym, ap, subst, ◌∙◌, arith, inl, inr}
+use Rattle.std.specs.Prelude.{◌⊎◌}
 use Rattle.std.proofs.lemmas.Bool.Decides.{nat_tests}
 use Rattle.std.specs.FinMap.{get}
 use Rattle.host_io.specs.Host.{Told}
-use Rattle.suite_top.specs.declared.status.Status.{Status}
-use Rattle.suite_top.specs.declared.status.Status.TheVariants.{Done, Usage, HostRead, Refused, SinkWrite, Memory, HostWrite}
-use Rattle.suite_top.specs.Texts.{refused_line, too_long_tail}
+use Rattle.suite_top.specs.declared.status.Status.TheVariants.{Done, HostRead, Refused, Memory}
+use Rattle.suite_top.specs.Texts.{too_long_tail}
 use Rattle.suite_top.specs.Ending.{refused_ending}
 use Rattle.suite_top.specs.Outcome.{load, failure_ending, Outcome, Inputs, after}
 use Rattle.suite_top.specs.Arguments.{Invocation, command_of}
-use Rattle.suite_top.specs.OneFile.{file_limit, with_found, with_file}
+use Rattle.suite_top.specs.OneFile.{file_limit, with_found}
 use Rattle.suite_top.specs.Result.{command_outcome}
 use Rattle.suite_top.specs.HostCourse.{after_answers, inputs_in}
 use Rattle.suite_top.specs.Delivery.{TookAll}
 use Rattle.suite_top.specs.Call.{Call, outcome_of, OverFiles}
-use Rattle.suite_top.specs.StatusLaws.{IsAnswer, IsWhole, IsCalm}
+use Rattle.suite_top.specs.StatusLaws.{IsAnswer, IsCalm}
 use Rattle.suite_top.specs.OneFile.Laws.{IsFile, HasTail, IsRefused}
 use Rattle.suite_top.proofs.HostLaws.{told_is}
 use Rattle.suite_top.proofs.StatusLaws.{answers_are_whole, completes}

@@ -16,7 +16,7 @@ use Rattle.suite_top.specs.Ending.{Ending, done_ending, usage_ending, refused_en
 use Rattle.suite_top.specs.Outcome.{Request, load, store, failure_ending, Outcome, Inputs, after}
 use Rattle.suite_top.specs.Arguments.{Invocation, convert, list, check, default_stack, command_of}
 use Rattle.suite_top.specs.OneFile.{file_limit, with_found, with_file}
-use Rattle.suite_top.specs.Convert.{judged_outcome, converted_outcome, convert_outcome}
+use Rattle.suite_top.specs.Convert.{judged_outcome, converted_outcome}
 use Rattle.suite_top.specs.Check.{verdict, checked_outcome, check_outcome}
 use Rattle.suite_top.specs.List.{judged_ending, listed_outcome, list_outcome}
 use Rattle.suite_top.specs.Result.{command_outcome, result_of}

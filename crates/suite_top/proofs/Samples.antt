@@ -2,7 +2,6 @@
 use Rattle.std.proofs.Common.{◌≡◌, ℕ, List, [], ◌∷◌, Some, None, refl}
 use Rattle.std.specs.Prelude.{codes}
 use Rattle.std.specs.Fmt.{digits}
-use Rattle.bflt_format.specs.Numbers.{big_at}
 use Rattle.suite_top.specs.Sizes.{Sizes, header_sizes}
 use Rattle.suite_top.specs.Texts.{refusal_tail, convert_line, check_line}
 use Rattle.suite_top.specs.Arguments.{convert, check, command_of}

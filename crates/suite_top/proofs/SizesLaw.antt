@@ -1,17 +1,14 @@
 -- The header of a flat file that was converted has the numbers of the ELF file.
-use Rattle.std.proofs.Common.{◌≡◌, ℕ, ◌≤◌, List, length, map, None, refl, sym, ap, ◌∙◌}
+use Rattle.std.proofs.Common.{◌≡◌, ℕ, List, length, map, refl, sym, ap, ◌∙◌}
 use Rattle.std.specs.List.{range_with_len}
 use Rattle.std.proofs.lemmas.List.{length-map}
 use Rattle.std.proofs.lemmas.List.FromFn.{length-range_with_len}
-use Rattle.byte_words.specs.Numbers.{IsBytes}
-use Rattle.bflt_format.specs.Values.{Values}
 use Rattle.bflt_format.specs.Header.{reloc_count, record_at, flat_values}
 use Rattle.bflt_format.specs.Spelling.{spell}
 use Rattle.bflt_format.proofs.Returns.{spells_come_back}
-use Rattle.elf2flt_tool.specs.Fault.{fault}
 use Rattle.elf2flt_tool.specs.Converted.{converted, flat}
 use Rattle.elf2flt_tool.proofs.Spelled.{spells_converted}
-use Rattle.suite_top.specs.Sizes.{Sizes, sizes, sizes_of, header_sizes, HeaderHasSizes}
+use Rattle.suite_top.specs.Sizes.{sizes, sizes_of, header_sizes, HeaderHasSizes}
 
 -- as many records as the header says
 header_is : (y : List ℕ) → header_sizes y ≡ sizes_of (flat_values y)

@@ -33,9 +33,9 @@ fn one_word_is_converted(rt: HostRuntime) -> Result<(), Fail> {
     let to_end = with_word(with_word(ELF, ADDEND, 12), WORD, 0x0001_000c);
     let mut end = FLT;
     end[139] = 0x4c;
-    for (elf, flat) in [(ELF, FLT), (at_zero, FLT), (to_end, end)] {
-        assert!(rt; converts(rt.alloc(), &elf, &CONVERT, &flat, LINE)?);
-    }
+    assert!(rt; converts(rt.alloc(), &ELF, &CONVERT, &FLT, LINE)?);
+    assert!(rt; converts(rt.alloc(), &at_zero, &CONVERT, &FLT, LINE)?);
+    assert!(rt; converts(rt.alloc(), &to_end, &CONVERT, &end, LINE)?);
     Ok(())
 }
 
