@@ -1,11 +1,13 @@
 //! A flat file's values.
 
-ghost use Rattle.std.specs.Prelude.{◌≡◌, Some, None};
+ghost use Rattle.std.specs.Prelude.{◌≡◌, ◌+◌, ◌≤◌, length, Some, None};
+ghost use Rattle.bflt_format.specs.Numbers.{big_at};
 ghost use Rattle.bflt_format.specs.Values.{ram_values};
 ghost use Rattle.bflt_format.specs.Spelling.{spell, Spells};
 ghost use Rattle.bflt_format.specs.Header.{flat_values};
 ghost use Rattle.bflt_format.specs.Fault.{flat_fault};
 
+use byte_words::big_word;
 use std::marker::Model;
 
 /// What a flat file of version 4 says, with none of its faults.
@@ -126,5 +128,14 @@ impl Flat {
         ensures spells { Spells self.now }
     {
         &self.records
+    }
+
+    /// The big-endian word of text and data at a place, counted from the start of the body: at a
+    /// record's place the number of its target.
+    pub fn word_at(&self, place: u32) -> u32
+        requires { place + 4 ≤ length self.now.body }
+        ensures { result ≡ big_at self.now.body place }
+    {
+        big_word(&self.body, place as usize)
     }
 }

@@ -62,6 +62,7 @@ fn example_is_read_and_written(rt: HostRuntime) -> Result<(), Fail> {
     assert_eq!(rt; flat.flags(), 1);
     assert_eq!(rt; flat.body(), &ONE_WORD[64..140]);
     assert_eq!(rt; flat.records(), [0x48].as_slice());
+    assert_eq!(rt; flat.word_at(0x48), 0x40);
     let made = made_anew(rt.alloc(), &flat)?.ok_or("flags 1")?;
     let written = made.write()?;
     assert_eq!(rt; written.as_slice(), ONE_WORD.as_slice());

@@ -1,4 +1,4 @@
 -- Pages: the pages that the program writes by itself.
--- Program: what the program does with its words.
+-- Program: what the program does with its arguments.
 pub mod Pages
 pub mod Program

@@ -14,12 +14,12 @@ use std::process::ExitCode;
 
 fn main(rt: HostRuntime) -> ExitCode {
     let alloc = rt.alloc();
-    let words = read_arguments(&rt);
+    let arguments = read_arguments(&rt);
     let mut out: OutSink = StreamSink::new(rt.stdout());
     let mut report: ErrSink = StreamSink::new(rt.stderr());
     let number = process::id(rt.process());
     let mut host = FolderHost::new(rt, "flatc", number);
-    end(alloc, words, &mut host, &mut out, &mut report)
+    end(alloc, arguments, &mut host, &mut out, &mut report)
 }
 
 #[cfg(test)]

@@ -30,11 +30,11 @@ Read on in README.md.
 
 pub const VERSION: &str = "flatc 0.1.0\n";
 
-/// The page that these words ask for, if they do.
-pub fn page_of(words: &[String]) -> Option<&'static str>
-    ensures { option_map (λ page. page.now) result ≡ page_of HELP.now VERSION.now (map string_bytes words.now) }
+/// The page that these arguments ask for, if they do.
+pub fn page_of(arguments: &[String]) -> Option<&'static str>
+    ensures { option_map (λ page. page.now) result ≡ page_of HELP.now VERSION.now (map string_bytes arguments.now) }
 {
-    match words {
+    match arguments {
         [word] if word.as_str() == "--help" => Some(HELP),
         [word] if word.as_str() == "--version" => Some(VERSION),
         _ => None,

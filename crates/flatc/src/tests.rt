@@ -17,16 +17,16 @@ struct Ran {
     report: MemSink,
 }
 
-/// Runs with words that are separated by blanks.
+/// Runs with arguments that are separated by blanks.
 fn run_line(alloc: Global, line: &str) -> Result<Ran, AllocError> {
-    let mut words = Vec::new(alloc);
+    let mut arguments = Vec::new(alloc);
     for word in line.split_whitespace() {
-        words.push(String::from_str(alloc, word)?)?;
+        arguments.push(String::from_str(alloc, word)?)?;
     }
     let mut host = MemHost::new(alloc)?;
     let mut out = MemSink::new(alloc)?;
     let mut report = MemSink::new(alloc)?;
-    let status = run(alloc, &words, &mut host, &mut out, &mut report);
+    let status = run(alloc, &arguments, &mut host, &mut out, &mut report);
     Ok(Ran {
         status,
         out,

@@ -1,16 +1,26 @@
-pub mod FlatLength
-pub mod Lines
-pub mod Courses
+-- HostCourses, HostSteps, Stops: a course of the host, step by step.
+-- Lines, Usage, Stacks, Addresses: the ends and texts of private functions.
+-- Conversions, Listed: what the commands do behind their load.
+-- Outcomes: what an outcome can be.
+-- StatusLaws, HostLaws: the laws over every call.
+-- OneFileLaws, ConvertLaws, CheckLaws, ListLaws, SizesLaw: the laws of the commands.
+-- Samples, ListSamples: the definitions on the worked example.
+pub mod HostCourses
 pub mod HostSteps
 pub mod Stops
-pub mod Judged
-pub mod NoCommand
-pub mod Inputs
-pub mod StatusRows
-pub mod HostRows
-pub mod Samples
-pub mod Listed
-pub mod ListRows
-pub mod ListSamples
+pub mod Lines
+pub mod Usage
 pub mod Stacks
 pub mod Addresses
+pub mod Conversions
+pub mod Listed
+pub mod Outcomes
+pub mod StatusLaws
+pub mod HostLaws
+pub mod OneFileLaws
+pub mod ConvertLaws
+pub mod CheckLaws
+pub mod ListLaws
+pub mod SizesLaw
+pub mod Samples
+pub mod ListSamples

@@ -2,24 +2,22 @@
 use Rattle.std.proofs.Common.{◌≡◌, ℕ, List, [], ◌∷◌, Some, None, refl}
 use Rattle.std.specs.Prelude.{codes}
 use Rattle.std.specs.Fmt.{digits}
-use Rattle.bflt_format.specs.Numbers.{big_at}
-use Rattle.suite_top.specs.declared.header.Numbers.{Numbers}
-use Rattle.suite_top.specs.Header.{numbers_of}
+use Rattle.suite_top.specs.Sizes.{Sizes, header_sizes}
+use Rattle.suite_top.specs.Texts.{refusal_tail, convert_line, check_line}
+use Rattle.suite_top.specs.Arguments.{convert, check, command_of}
 use Rattle.elf2flt_tool.specs.declared.refusal.Refusal.TheVariants as refusal
 use Rattle.psabi_relocs.specs.declared.fault.RelocFault.TheVariants.{AbsoluteCode}
-use Rattle.suite_top.specs.Texts.{refusal_tail, convert_line, check_line}
-use Rattle.suite_top.specs.Words.{convert, check, command_of}
 use Rattle.byte_words.specs.Numbers.{number_at}
 
--- the header of its flat file, and what that says
+-- the header of its flat file, and its numbers
 abbrev header : List ℕ
 header =
     98 ∷ 70 ∷ 76 ∷ 84 ∷ 0 ∷ 0 ∷ 0 ∷ 4 ∷ 0 ∷ 0 ∷ 0 ∷ 128 ∷ 0 ∷ 0 ∷ 0 ∷ 128 ∷ 0 ∷ 0 ∷ 0 ∷ 140 ∷ 0 ∷ 0 ∷ 0 ∷ 140 ∷ 0 ∷ 0 ∷ 16 ∷ 0 ∷ 0 ∷ 0 ∷ 0 ∷ 140 ∷ 0 ∷ 0 ∷ 0 ∷ 1 ∷ 0 ∷ 0 ∷ 0 ∷ 1 ∷ 0 ∷ 0 ∷ 0 ∷ 0 ∷ 0 ∷ 0 ∷ 0 ∷ 0 ∷ 0 ∷ 0 ∷ 0 ∷ 0 ∷ 0 ∷ 0 ∷ 0 ∷ 0 ∷ 0 ∷ 0 ∷ 0 ∷ 0 ∷ 0 ∷ 0 ∷ 0 ∷ 0 ∷ []
 
-abbrev numbers : Numbers
+abbrev numbers : Sizes
 numbers = record { text = 64; data_len = 12; bss = 0; stack = 4096; records = 1; entry = 128 }
 
-header_is_read : numbers_of header ≡ numbers
+header_is_read : header_sizes header ≡ numbers
 unfolding number_at
 header_is_read = refl
 
@@ -27,15 +25,15 @@ line_is_told : convert_line numbers ≡ codes "text 64 data 12 bss 0 stack 4096 
 unfolding digits
 line_is_told = refl
 
--- the words of the command, and words that are none
-words_are_read : command_of (codes "convert" ∷ codes "a.elf" ∷ codes "a.flt" ∷ []) ≡ Some (convert (codes "a.elf") (codes "a.flt") 4096)
-words_are_read = refl
+-- the arguments of the command, and some that are none
+arguments_are_read : command_of (codes "convert" ∷ codes "a.elf" ∷ codes "a.flt" ∷ []) ≡ Some (convert (codes "a.elf") (codes "a.flt") 4096)
+arguments_are_read = refl
 
-one_word_less : command_of (codes "convert" ∷ codes "a.elf" ∷ []) ≡ None
-one_word_less = refl
+one_argument_less : command_of (codes "convert" ∷ codes "a.elf" ∷ []) ≡ None
+one_argument_less = refl
 
-one_word_more : command_of (codes "convert" ∷ codes "a" ∷ codes "b" ∷ codes "--stack" ∷ []) ≡ None
-one_word_more = refl
+one_argument_more : command_of (codes "convert" ∷ codes "a" ∷ codes "b" ∷ codes "--stack" ∷ []) ≡ None
+one_argument_more = refl
 
 stack_is_read : command_of (codes "convert" ∷ codes "a" ∷ codes "b" ∷ codes "--stack" ∷ codes "17" ∷ []) ≡ Some (convert (codes "a") (codes "b") 17)
 unfolding digits
@@ -56,7 +54,7 @@ zero_in_front = refl
 check_is_read : command_of (codes "check" ∷ codes "a.elf" ∷ []) ≡ Some (check (codes "a.elf"))
 check_is_read = refl
 
--- the line of `check`, and the tails of refused relocations and words
+-- the line of `check`, and the tails of refused relocations and places
 check_is_told : check_line numbers ≡ codes "accepted text 64 data 12 bss 0 records 1\n"
 unfolding digits
 check_is_told = refl

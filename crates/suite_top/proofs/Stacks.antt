@@ -8,8 +8,8 @@ use Rattle.std.proofs.lemmas.Bool.Decides.{Decides-and, nat_tests}
 use Rattle.std.proofs.lemmas.Slice.Eq.{bytes_eq-Decides}
 use Rattle.std.proofs.lemmas.Fmt.{decimal_is_IsNumeral, first_decimal, decimal-digits_value}
 use Rattle.std.proofs.lemmas.Str.Parse.{IsNumeralModel, tells_digits, numerals_by_value, digit_at, parse_plain}
-use Rattle.suite_top.specs.Words.{StartsWell, least_stack, most_stack, is_stack, is_spelling, spelled_stack, stack_of}
-use Rattle.suite_top.specs.Rows.{StackIsSpelled}
+use Rattle.suite_top.specs.Arguments.{StartsWell, least_stack, most_stack, is_stack, is_spelling, spelled_stack, stack_of}
+use Rattle.suite_top.specs.StatusLaws.{StackIsSpelled}
 
 abbrev Spells : List ℕ → ℕ → Type 0
 Spells text n = (text ≡ decimal n) × (least_stack ≤ n) × (n ≤ most_stack)

@@ -1,47 +1,57 @@
--- What a call of the top call does.
-use Rattle.std.specs.Prelude.{ℕ, List, Option, Some, None}
+-- A call of `suite`: what is observed of it, and what it may do.
+use Rattle.std.specs.Prelude.{◌≡◌, ℕ, List, Option, Some, None}
 use Rattle.host_io.specs.Host.{Told}
 use Rattle.suite_top.specs.declared.status.Status.{Status}
-use Rattle.suite_top.specs.Outcome.{Said, Outcome, Finds}
+use Rattle.suite_top.specs.Ending.{Ending}
+use Rattle.suite_top.specs.Outcome.{Outcome, Inputs}
 use Rattle.suite_top.specs.Result.{result_of}
-use Rattle.suite_top.specs.Seen.{Seen}
-use Rattle.suite_top.specs.Course.{Goes, finds_in}
+use Rattle.suite_top.specs.Observed.{Observed}
+use Rattle.suite_top.specs.HostCourse.{Performs, inputs_in}
 use Rattle.suite_top.specs.Delivery.{Delivers}
 
--- its words and what its loads find, the host and the two sinks before and after it, and the status that it ended with
+-- its arguments and the files that its loads give, the host and the two sinks before and after it, and the status that it ended with
 pub record Call : Type 0 where
-  pub words : List (List ℕ)
-  pub finds : Finds
-  pub host : Seen Told
-  pub host_now : Seen Told
-  pub out : Seen (List ℕ)
-  pub out_now : Seen (List ℕ)
-  pub report : Seen (List ℕ)
-  pub report_now : Seen (List ℕ)
+  pub arguments : List (List ℕ)
+  pub inputs : Inputs
+  pub host : Observed Told
+  pub host_after : Observed Told
+  pub out : Observed (List ℕ)
+  pub out_after : Observed (List ℕ)
+  pub report : Observed (List ℕ)
+  pub report_after : Observed (List ℕ)
   pub status : Status
 
 abbrev pub outcome_of : Call → Outcome
-outcome_of c = result_of c.words c.finds
+outcome_of c = result_of c.arguments c.inputs
 
--- the host takes a course of the outcome, and the sinks take what is said then
-abbrev pub Stands : Call → Type 0
-Stands c = (said : Said) × Goes c.host c.host_now (outcome_of c) said × Delivers said c.out c.out_now c.report c.report_now c.status
+-- the host takes a course of the outcome, and the sinks take the texts of the ending that this course has
+abbrev pub MeetsOutcome : Call → Type 0
+MeetsOutcome c =
+    (ending : Ending) × Performs c.host c.host_after (outcome_of c) ending × Delivers ending c.out c.out_after c.report c.report_after c.status
 
--- the loads of a host that tells its files find these, and those of another host find some files
-abbrev pub StandsFor : Option Told → (Finds → Call) → Type 0
-StandsFor (Some t) call = Stands (call (finds_in t.files))
-StandsFor None call = (finds : Finds) × Stands (call finds)
+-- the loads of a host that tells its files give these files, and those of another host give some files
+abbrev pub MeetsOver : Option Told → (Inputs → Call) → Type 0
+MeetsOver (Some t) call = MeetsOutcome (call (inputs_in t.files))
+MeetsOver None call = (inputs : Inputs) × MeetsOutcome (call inputs)
 
-abbrev pub CarriesOut : List (List ℕ) → (host host_now : Seen Told) (out out_now report report_now : Seen (List ℕ)) → Status → Type 0
-CarriesOut words host host_now out out_now report report_now status =
-    StandsFor host.told (λ finds. record {
-      words = words;
-      finds = finds;
+-- the clause of `suite`: the call does what `result_of` says of its arguments
+abbrev pub MeetsResult : List (List ℕ) → (host host_after : Observed Told) (out out_after report report_after : Observed (List ℕ)) → Status → Type 0
+MeetsResult arguments host host_after out out_after report report_after status =
+    MeetsOver host.told (λ inputs. record {
+      arguments = arguments;
+      inputs = inputs;
       host = host;
-      host_now = host_now;
+      host_after = host_after;
       out = out;
-      out_now = out_now;
+      out_after = out_after;
       report = report;
-      report_now = report_now;
+      report_after = report_after;
       status = status;
     })
+
+-- a call over a host that tells its files: t before it, and t_after after it
+pub record OverFiles (c : Call) (t t_after : Told) : Type 0 where
+  pub meets : MeetsOutcome c
+  pub told : c.host.told ≡ Some t
+  pub told_after : c.host_after.told ≡ Some t_after
+  pub inputs : c.inputs ≡ inputs_in t.files

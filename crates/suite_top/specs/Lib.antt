@@ -1,36 +1,39 @@
--- Status: the number of each status.
--- Outcome: what a command asks of the host, and what it says.
--- Header: the numbers of a flat file.
--- Texts: every text that users see.
--- Early: what a call says that ends early.
--- Words: the table of commands.
--- Loading: a command that begins with the load of a file.
--- Convert: the command `convert`.
--- Listing: the command `list`.
--- Checking: the command `check`.
--- Result: what each command line gives.
--- Answers: what an answer of the code says.
--- Seen: what is known of the outside.
--- Course: how far a host answered, and what is said then.
--- Loads: what the load of a command's file leaves and answers.
--- Delivery: how far the sinks took what is said.
--- Call: what a call of the top call does.
--- Rows: when each status comes, and what stands after it.
+-- What a command line gives, and what a call of `suite` may do. A command's own definitions stand in a file of its name, and
+-- what its calls do in its Laws.
+--
+-- Status      the number of each status
+-- Texts       every text that users see
+-- Sizes       the numbers in the lines of `convert` and `check`, by the ELF file and by the header of its flat file
+-- Ending      what a call ends with: a status, and a text for each of the two sinks
+-- Outcome     what a command requests of the host, in order, and its ending; Inputs: the files that its loads give
+-- Arguments   the table of commands; Invocation: a command with its arguments
+-- OneFile     a command that begins with the load of a file
+-- Convert, Check, List   the commands
+-- Result      result_of: the outcome of each command line
+--
+-- Observed    what a host or a sink tells at one moment, and its count of faults
+-- HostCourse  how far a host came with the requests; Performs: what it then tells, and the ending that this gives
+-- Delivery    how far the two sinks took the texts of an ending, and the status that this gives
+-- Call        MeetsResult, the clause of `suite`: a course of the outcome, and a delivery of its ending
+-- StatusLaws, HostLaws   what holds of every call
+--
+-- Answer, FileLoad       for private functions only: the ending of a value of the code, and what a load gives
 pub mod Status
-pub mod Outcome
-pub mod Header
 pub mod Texts
-pub mod Early
-pub mod Words
-pub mod Loading
+pub mod Sizes
+pub mod Ending
+pub mod Outcome
+pub mod Arguments
+pub mod OneFile
 pub mod Convert
-pub mod Listing
-pub mod Checking
+pub mod Check
+pub mod List
 pub mod Result
-pub mod Answers
-pub mod Seen
-pub mod Course
-pub mod Loads
+pub mod Observed
+pub mod HostCourse
 pub mod Delivery
 pub mod Call
-pub mod Rows
+pub mod StatusLaws
+pub mod HostLaws
+pub mod Answer
+pub mod FileLoad

@@ -1,26 +1,31 @@
--- What a command asks of the host, in order, and what it says in the end.
+-- What a command requests of the host, in order, and what it then ends with.
 use Rattle.std.specs.Prelude.{ℕ, List, ◌∷◌, Option}
-use Rattle.suite_top.specs.declared.status.Status.{Status}
-
--- the status, and the texts for `out` and for `report`
-pub record Said : Type 0 where
-  pub status : Status
-  pub out : List ℕ
-  pub report : List ℕ
+use Rattle.suite_top.specs.declared.status.Status.TheVariants as status
+use Rattle.suite_top.specs.Texts.{cannot_read_line, cannot_write_line}
+use Rattle.suite_top.specs.Ending.{Ending, early_ending}
 
 -- to load the file of a name, or to make bytes the file of a name
-pub data Ask : Type 0 where
-  load : (name : List ℕ) → Ask
-  store : (name bytes : List ℕ) → Ask
+pub data Request : Type 0 where
+  load : (name : List ℕ) → Request
+  store : (name bytes : List ℕ) → Request
+
+abbrev pub name_of : Request → List ℕ
+name_of (load name) = name
+name_of (store name bytes) = name
+
+-- the host failed at this request
+abbrev pub failure_ending : Request → Ending
+failure_ending (load name) = early_ending status.HostRead (cannot_read_line name)
+failure_ending (store name bytes) = early_ending status.HostWrite (cannot_write_line name)
 
 pub record Outcome : Type 0 where
-  pub asks : List Ask
-  pub said : Said
+  pub requests : List Request
+  pub ending : Ending
 
--- the file that the load of number i finds under a name, or none
-abbrev pub Finds : Type 0
-Finds = ℕ → List ℕ → Option (List ℕ)
+-- the file that load number i gives for a name, or none
+abbrev pub Inputs : Type 0
+Inputs = ℕ → List ℕ → Option (List ℕ)
 
--- the outcome of a command that first asks `ask`
-abbrev pub after : Ask → Outcome → Outcome
-after ask rest = record { asks = ask ∷ rest.asks; said = rest.said }
+-- the outcome of a command that first makes this request
+abbrev pub after : Request → Outcome → Outcome
+after request rest = record { requests = request ∷ rest.requests; ending = rest.ending }

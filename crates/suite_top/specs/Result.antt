@@ -1,18 +1,18 @@
--- What each command line gives: what it asks of the host, and what it says.
+-- What each command line gives: what it requests of the host, and what it ends with. Each command's part stands in its own file.
 use Rattle.std.specs.Prelude.{ℕ, List, [], Option, Some, None}
-use Rattle.suite_top.specs.Outcome.{Outcome, Finds}
-use Rattle.suite_top.specs.Early.{usage_said}
-use Rattle.suite_top.specs.Words.{Spoken, convert, list, check, command_of}
+use Rattle.suite_top.specs.Outcome.{Outcome, Inputs}
+use Rattle.suite_top.specs.Ending.{usage_ending}
+use Rattle.suite_top.specs.Arguments.{Invocation, convert, list, check, command_of}
 use Rattle.suite_top.specs.Convert.{convert_outcome}
-use Rattle.suite_top.specs.Listing.{list_outcome}
-use Rattle.suite_top.specs.Checking.{check_outcome}
+use Rattle.suite_top.specs.List.{list_outcome}
+use Rattle.suite_top.specs.Check.{check_outcome}
 
-abbrev pub command_outcome : Option Spoken → Finds → Outcome
-command_outcome None finds = record { asks = []; said = usage_said }
-command_outcome (Some (convert elf flt stack)) finds = convert_outcome elf flt stack finds
-command_outcome (Some (list flt)) finds = list_outcome flt finds
-command_outcome (Some (check elf)) finds = check_outcome elf finds
+abbrev pub command_outcome : Option Invocation → Inputs → Outcome
+command_outcome None inputs = record { requests = []; ending = usage_ending }
+command_outcome (Some (convert elf flt stack)) inputs = convert_outcome elf flt stack inputs
+command_outcome (Some (list flt)) inputs = list_outcome flt inputs
+command_outcome (Some (check elf)) inputs = check_outcome elf inputs
 
--- the command of these words, over a host whose loads find these files
-abbrev pub result_of : List (List ℕ) → Finds → Outcome
-result_of words finds = command_outcome (command_of words) finds
+-- the command of these arguments, where its loads give these files
+abbrev pub result_of : List (List ℕ) → Inputs → Outcome
+result_of arguments inputs = command_outcome (command_of arguments) inputs

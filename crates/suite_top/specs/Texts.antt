@@ -1,4 +1,6 @@
--- The texts that users see, each with its newline; those of `list` stand in Listing. Numbers are decimal.
+-- The texts that users see, each line with its newline. Numbers are decimal.
+-- Listing: the listing of a flat file, and the faults of one.
+pub mod Listing
 use Rattle.std.specs.Prelude.{ℕ, ◌-◌, false, List, [], ◌∷◌, ◌++◌, length, replicate, codes, decimal}
 use Rattle.std.specs.Fmt.{digits}
 use Rattle.elf32_reader.specs.declared.fault.ElfFault.{ElfFault}
@@ -9,7 +11,7 @@ use Rattle.psabi_relocs.specs.declared.fault.RelocFault.{RelocFault}
 use Rattle.psabi_relocs.specs.declared.fault.RelocFault.TheVariants as reloc
 use Rattle.elf2flt_tool.specs.declared.refusal.Refusal.{Refusal}
 use Rattle.elf2flt_tool.specs.declared.refusal.Refusal.TheVariants as refusal
-use Rattle.suite_top.specs.declared.header.Numbers.{Numbers}
+use Rattle.suite_top.specs.Sizes.{Sizes}
 
 -- the pieces, one behind the other
 abbrev pub joined : List (List ℕ) → List ℕ
@@ -68,7 +70,7 @@ reloc_fault_words reloc.LoneLow = codes "8 LoneLow"
 reloc_fault_words reloc.Unpaired = codes "9 Unpaired"
 reloc_fault_words reloc.FieldMismatch = codes "10 FieldMismatch"
 
--- an address: lower case hexadecimal digits, with zeros in front up to eight of them
+-- a linked address: lower case hexadecimal digits, with zeros in front up to eight of them
 abbrev pub address_words : ℕ → List ℕ
 address_words n = codes "0x" ++ replicate (8 - length (digits 16 false n)) 48 ++ digits 16 false n
 
@@ -76,7 +78,7 @@ address_words n = codes "0x" ++ replicate (8 - length (digits 16 false n)) 48 ++
 abbrev pub reloc_tail : (section index : ℕ) → RelocFault → List ℕ
 reloc_tail section index fault = joined (codes "reloc section " ∷ decimal section ∷ codes " entry " ∷ decimal index ∷ codes " " ∷ reloc_fault_words fault ∷ [])
 
--- what stands behind `refused:`; want of memory is no fault of a file, and has no such line
+-- what stands behind `refused:`; out of memory is no fault of a file, and has no such line
 abbrev pub refusal_tail : Refusal → List ℕ
 refusal_tail (refusal.Elf fault) = codes "elf " ++ elf_fault_words fault
 refusal_tail (refusal.Layout fault) = codes "layout " ++ layout_fault_words fault
@@ -89,18 +91,18 @@ refusal_tail refusal.Memory = []
 abbrev pub too_long_tail : List ℕ
 too_long_tail = codes "too long"
 
--- the sizes of a flat file with these numbers
-abbrev pub sizes_words : Numbers → List ℕ
-sizes_words n = joined (codes "text " ∷ decimal n.text ∷ codes " data " ∷ decimal n.data_len ∷ codes " bss " ∷ decimal n.bss ∷ [])
+-- text, data and bss
+abbrev pub parts_text : Sizes → List ℕ
+parts_text s = joined (codes "text " ∷ decimal s.text ∷ codes " data " ∷ decimal s.data_len ∷ codes " bss " ∷ decimal s.bss ∷ [])
 
-abbrev pub convert_line : Numbers → List ℕ
-convert_line n = joined
-    (sizes_words n
-    ∷ codes " stack " ∷ decimal n.stack
-    ∷ codes " records " ∷ decimal n.records
-    ∷ codes " entry " ∷ decimal n.entry
+abbrev pub convert_line : Sizes → List ℕ
+convert_line s = joined
+    (parts_text s
+    ∷ codes " stack " ∷ decimal s.stack
+    ∷ codes " records " ∷ decimal s.records
+    ∷ codes " entry " ∷ decimal s.entry
     ∷ codes "\n"
     ∷ [])
 
-abbrev pub check_line : Numbers → List ℕ
-check_line n = joined (codes "accepted " ∷ sizes_words n ∷ codes " records " ∷ decimal n.records ∷ codes "\n" ∷ [])
+abbrev pub check_line : Sizes → List ℕ
+check_line s = joined (codes "accepted " ∷ parts_text s ∷ codes " records " ∷ decimal s.records ∷ codes "\n" ∷ [])

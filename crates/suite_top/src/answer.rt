@@ -1,5 +1,5 @@
-//! What a command says in the end.
-ghost use Rattle.std.specs.Prelude.{◌≡◌, [], string_bytes};
+//! What a command ends with.
+ghost use Rattle.std.specs.Prelude.{◌≡◌, string_bytes};
 
 use crate::status::Status;
 use std::alloc::{AllocError, Global};
@@ -13,12 +13,12 @@ pub struct Answer {
 }
 
 impl Answer {
-    ghost use Rattle.suite_top.specs.Outcome.{Said};
-    ghost use Rattle.suite_top.specs.Answers.{said_in, said_of, SaysLine};
+    ghost use Rattle.suite_top.specs.Ending.{done_ending};
+    ghost use Rattle.suite_top.specs.Answer.{ending_in, ending_of, EndsWithLine};
 
     /// The command was carried out, and `out` takes this text.
     pub fn done(alloc: Global, out: String) -> Answer
-        ensures { said_in result ≡ record { status = Status.Done; out = string_bytes out; report = [] } }
+        ensures { ending_in result ≡ done_ending (string_bytes out) }
     {
         let report = String::new(alloc);
         Answer {
@@ -34,7 +34,7 @@ impl Answer {
         status: Status,
         line: Result<String, AllocError>,
     ) -> Result<Answer, AllocError>
-        ensures { SaysLine status line (said_of result) }
+        ensures { EndsWithLine status line (ending_of result) }
     {
         match line {
             Ok(report) => {

@@ -1,8 +1,8 @@
 //! The texts of a command go to the sinks.
 ghost use Rattle.std.specs.Prelude.{◌≡◌};
-ghost use Rattle.suite_top.specs.Outcome.{Said};
-ghost use Rattle.suite_top.specs.Seen.{seen};
-ghost use Rattle.suite_top.specs.Delivery.{Delivers, Wrote};
+ghost use Rattle.suite_top.specs.Ending.{Ending};
+ghost use Rattle.suite_top.specs.Observed.{observed};
+ghost use Rattle.suite_top.specs.Delivery.{Delivers, WroteText};
 
 use crate::status::Status;
 use host_io::{Sink, SinkError, write_whole};
@@ -10,7 +10,7 @@ use std::alloc::Global;
 
 /// Writes a whole text. The error is the status that the call then ends with.
 fn write_text<S: Sink>(alloc: Global, sink: &mut S, text: &str) -> Result<(), Status>
-    ensures { Wrote (seen S.told S.faults sink.old) (seen S.told S.faults sink.new) text.now result }
+    ensures { WroteText (observed S.told S.faults sink.old) (observed S.told S.faults sink.new) text.now result }
 {
     match write_whole(alloc, sink, text.as_bytes()) {
         Ok(()) => Ok(()),
@@ -29,8 +29,8 @@ pub fn deliver<O: Sink, R: Sink>(
     report: &mut R,
 ) -> Status
     ensures { Delivers (record { status = status; out = out_text.now; report = report_text.now })
-        (seen O.told O.faults out.old) (seen O.told O.faults out.new)
-        (seen R.told R.faults report.old) (seen R.told R.faults report.new) result }
+        (observed O.told O.faults out.old) (observed O.told O.faults out.new)
+        (observed R.told R.faults report.old) (observed R.told R.faults report.new) result }
 {
     if let Err(stopped) = write_text(alloc, out, out_text) {
         return stopped;

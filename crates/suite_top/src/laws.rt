@@ -1,7 +1,9 @@
-//! Laws over every call of `suite`, by what its clause says. No code runs.
-ghost use Rattle.suite_top.specs.Rows.{AnswersAreWhole, Completes, ReadsFail, WritesFail, SinksFail, MemoryIsTold, NamesAreAFront, UsageIsExact, StackIsSpelled, NothingIsAsked, OneLoadIsAsked, OneFileChanges, OthersChangeNoFile};
+//! Laws over every call of `suite`, by what its clause says. No code runs. Those of one command stand
+//! with the command.
+ghost use Rattle.suite_top.specs.StatusLaws.{AnswersAreWhole, Completes, ReadsFail, WritesFail, SinksFail, MemoryIsTold, UsageIsExact, StackIsSpelled};
+ghost use Rattle.suite_top.specs.HostLaws.{NamesAreAPrefix, NothingIsAsked, OthersChangeNoFile};
 
-/// When each status comes.
+/// When each status comes, and what was written then.
 pub fn status_law()
     ensures answers { AnswersAreWhole }
     ensures complete { Completes }
@@ -13,11 +15,9 @@ pub fn status_law()
     ensures memory { MemoryIsTold }
 {}
 
-/// What the host was asked, and which file changed.
+/// What the host was asked, and which files changed.
 pub fn host_law()
-    ensures names { NamesAreAFront }
+    ensures names { NamesAreAPrefix }
     ensures untouched { NothingIsAsked }
-    ensures one_load { OneLoadIsAsked }
-    ensures files { OneFileChanges }
     ensures others { OthersChangeNoFile }
 {}

@@ -7,7 +7,7 @@ ghost use Rattle.suite_top.specs.Status.{code_of};
 pub enum Status {
     /// The command was carried out.
     Done,
-    /// The words are no command.
+    /// The arguments are no command.
     Usage,
     /// The host failed at a load.
     HostRead,
@@ -15,7 +15,7 @@ pub enum Status {
     Refused,
     /// A sink failed.
     SinkWrite,
-    /// Want of memory.
+    /// Out of memory.
     Memory,
     /// The host failed at a store.
     HostWrite,

@@ -1,18 +1,21 @@
-//! The texts that users see, but for those of `list`.
+//! The texts that users see; those of a listing stand in `listing`.
 ghost use Rattle.std.specs.Prelude.{◌≡◌, IfOk, IsErr, string_bytes};
-ghost use Rattle.suite_top.specs.Texts.{usage_line, cannot_read_line, cannot_write_line, refused_line, elf_fault_words, layout_fault_words, reloc_fault_words, address_words, reloc_tail, refusal_tail, sizes_words, convert_line, check_line};
+ghost use Rattle.suite_top.specs.Texts.{usage_line, cannot_read_line, cannot_write_line, refused_line, elf_fault_words, layout_fault_words, reloc_fault_words, address_words, reloc_tail, refusal_tail, parts_text, convert_line, check_line};
+ghost use Rattle.suite_top.specs.Sizes.{sizes_of};
 
-use crate::header::Numbers;
+use bflt_format::Flat;
 use elf2flt_tool::Refusal;
 use elf32_reader::ElfFault;
 use flat_layout::LayoutFault;
 use psabi_relocs::RelocFault;
 use std::alloc::{AllocError, Global};
 
-/// The line of a call for which memory is missing. It is at hand without memory.
+pub mod listing;
+
+/// The line of a call that is out of memory. It takes no memory itself.
 pub const MEMORY_LINE: &str = "memory\n";
 
-/// The line for words that are no command.
+/// The line for arguments that are no command.
 pub fn usage(alloc: Global) -> Result<String, AllocError>
     ensures { IfOk result (λ line. string_bytes line ≡ usage_line) }
 {
@@ -107,7 +110,7 @@ fn address_words(alloc: Global, address: u32) -> Result<String, AllocError>
     format!(in alloc; "0x{address:08x}")
 }
 
-/// The line for an ELF file that isn't converted. Want of memory has no such line.
+/// The line for an ELF file that isn't converted. Out of memory has no such line.
 pub fn refused_conversion(alloc: Global, refusal: &Refusal) -> Result<String, AllocError>
     ensures line { IfOk result (λ line. string_bytes line ≡ refused_line (refusal_tail refusal.now)) }
     ensures no_line { refusal.now ≡ Refusal.Memory → IsErr result }
@@ -141,38 +144,32 @@ pub fn refused_conversion(alloc: Global, refusal: &Refusal) -> Result<String, Al
     }
 }
 
-/// The sizes of a flat file.
-fn sizes_words(alloc: Global, numbers: &Numbers) -> Result<String, AllocError>
-    ensures { IfOk result (λ words. string_bytes words ≡ sizes_words numbers.now) }
+/// The sizes of text, data and bss.
+fn parts_text(alloc: Global, flat: &Flat) -> Result<String, AllocError>
+    ensures { IfOk result (λ text. string_bytes text ≡ parts_text (sizes_of flat.now)) }
 {
-    let Numbers {
-        text,
-        data_len,
-        bss,
-        ..
-    } = *numbers;
+    let text = flat.text();
+    let data_len = flat.data_len();
+    let bss = flat.bss();
     format!(in alloc; "text {text} data {data_len} bss {bss}")
 }
 
 /// The line of a converted file.
-pub fn convert_line(alloc: Global, numbers: &Numbers) -> Result<String, AllocError>
-    ensures { IfOk result (λ line. string_bytes line ≡ convert_line numbers.now) }
+pub fn convert_line(alloc: Global, flat: &Flat) -> Result<String, AllocError>
+    ensures { IfOk result (λ line. string_bytes line ≡ convert_line (sizes_of flat.now)) }
 {
-    let sizes = sizes_words(alloc, numbers)?;
-    let Numbers {
-        stack,
-        records,
-        entry,
-        ..
-    } = *numbers;
-    format!(in alloc; "{sizes} stack {stack} records {records} entry {entry}\n")
+    let parts = parts_text(alloc, flat)?;
+    let stack = flat.stack();
+    let records = flat.records().len();
+    let entry = flat.entry();
+    format!(in alloc; "{parts} stack {stack} records {records} entry {entry}\n")
 }
 
 /// The line of a file that could be converted.
-pub fn check_line(alloc: Global, numbers: &Numbers) -> Result<String, AllocError>
-    ensures { IfOk result (λ line. string_bytes line ≡ check_line numbers.now) }
+pub fn check_line(alloc: Global, flat: &Flat) -> Result<String, AllocError>
+    ensures { IfOk result (λ line. string_bytes line ≡ check_line (sizes_of flat.now)) }
 {
-    let sizes = sizes_words(alloc, numbers)?;
-    let records = numbers.records;
-    format!(in alloc; "accepted {sizes} records {records}\n")
+    let parts = parts_text(alloc, flat)?;
+    let records = flat.records().len();
+    format!(in alloc; "accepted {parts} records {records}\n")
 }

@@ -8,7 +8,7 @@ const HI: [u8; 44] = [
     0x73, 0x00, 0x00, 0x00, 0x68, 0x69, 0x0a, 0x00, 0x24, 0x00, 0x01, 0x00,
 ];
 
-/// Where words of the ELF file stand: the places and sizes of .text and .data in the file.
+/// Offsets of words of the ELF file: the offsets and sizes of .text and .data.
 const TEXT_AT: usize = 224;
 
 const TEXT_LEN: usize = 228;
@@ -48,7 +48,7 @@ fn checks(
     out: &str,
     report: &str,
 ) -> Result<bool, AllocError> {
-    let mut outside = with_elf(alloc, elf)?;
+    let mut outside = with_file(alloc, "a.elf", elf)?;
     let status = call(alloc, &CHECK, &mut outside)?;
     Ok(
         status == ends
@@ -59,29 +59,13 @@ fn checks(
 }
 
 #[test]
-fn hi_is_accepted(rt: HostRuntime) -> Result<(), Fail> {
+fn verdicts_are_written_and_nothing_is_stored(rt: HostRuntime) -> Result<(), Fail> {
     let alloc = rt.alloc();
-    let elf = hi_elf(alloc)?;
+    let hi = hi_elf(alloc)?;
     let out = "accepted text 96 data 12 bss 0 records 1\n";
-    assert!(rt; checks(alloc, &elf, Status::Done, out, "")?);
-    Ok(())
-}
-
-#[test]
-fn faults_are_said_and_nothing_is_stored(rt: HostRuntime) -> Result<(), Fail> {
-    let alloc = rt.alloc();
-    let ends = Status::Refused;
-    assert!(rt; checks(alloc, b"", ends, "", "refused: elf 1 Short\n")?);
+    assert!(rt; checks(alloc, &hi, Status::Done, out, "")?);
     let elf = with_word(ELF, ENTRY, 0x0001_0008);
-    assert!(rt; checks(alloc, &elf, ends, "", "refused: layout 6 EntryOutside\n")?);
-    Ok(())
-}
-
-#[test]
-fn missing_elf_file_is_named(rt: HostRuntime) -> Result<(), Fail> {
-    let mut outside = with_elf(rt.alloc(), &ELF)?;
-    let words = ["check", "b.elf"];
-    assert_eq!(rt; call(rt.alloc(), &words, &mut outside)?, Status::HostRead);
-    assert!(rt; wrote(&outside, "", "host: cannot read b.elf\n"));
+    let report = "refused: layout 6 EntryOutside\n";
+    assert!(rt; checks(alloc, &elf, Status::Refused, "", report)?);
     Ok(())
 }

@@ -1,7 +1,7 @@
 -- Each law by its proof over plain values.
-use Rattle.suite_top.proofs.Inputs.{usage_is_exact}
+use Rattle.suite_top.proofs.Outcomes.{usage_is_exact}
 use Rattle.suite_top.proofs.Stacks.{stack_is_spelled}
-use Rattle.suite_top.proofs.StatusRows.{answers_are_whole, completes, reads_fail, writes_fail, sinks_fail, memory_is_told}
+use Rattle.suite_top.proofs.StatusLaws.{answers_are_whole, completes, reads_fail, writes_fail, sinks_fail, memory_is_told}
 use Rattle.suite_top.proofs.laws.status_law.Goals as goal
 
 pub returns : goal.returns

@@ -1,4 +1,4 @@
--- The hole writes the digits with zeros in front.
+-- The hole writes the digits with zeros in prefix.
 use Rattle.std.proofs.Common.{false}
 use Rattle.std.specs.Fmt.{digits}
 use Rattle.suite_top.proofs.Addresses.{padded_address}

@@ -1,10 +1,10 @@
--- Words that are no command: the usage line.
+-- Arguments that are no command: the usage line.
 use Rattle.std.proofs.Common.{map, string_bytes}
 use Rattle.suite_top.specs.declared.status.Status.TheVariants as status
 use Rattle.suite_top.specs.Texts.{usage_line}
-use Rattle.suite_top.proofs.Lines.{says_line}
-use Rattle.suite_top.proofs.NoCommand.{says_usage}
+use Rattle.suite_top.proofs.Lines.{ends_with_line}
+use Rattle.suite_top.proofs.Usage.{ends_with_usage}
 use Rattle.suite_top.proofs.top.answer.Goals as goal
 
 pub returns-in-None : goal.returns-in-None
-returns-in-None g c = says_usage _ (map string_bytes c.args.words.now) _ c.in-None.ensures (says_line status.Usage c.usage.result usage_line _ c.usage.ensures c.early.ensures)
+returns-in-None g c = ends_with_usage _ (map string_bytes c.args.arguments.now) _ c.in-None.ensures (ends_with_line status.Usage c.usage.result usage_line _ c.usage.ensures c.early.ensures)

@@ -1,0 +1,103 @@
+-- What the outcome of a command can be.
+use Rattle.std.proofs.Common.{◌≡◌, ℕ, Bool, true, false, cond, List, [], ◌∷◌, length, nat_lt, Option, Some, None, refl, sym, ap, subst, inl, inr}
+use Rattle.std.specs.Prelude.{◌⊎◌}
+use Rattle.elf2flt_tool.specs.declared.refusal.Refusal.{Refusal}
+use Rattle.bflt_format.specs.declared.fault.FlatFault.{FlatFault}
+use Rattle.bflt_format.specs.Fault.{flat_fault}
+use Rattle.elf2flt_tool.specs.Fault.{fault}
+use Rattle.elf2flt_tool.specs.Converted.{flat}
+use Rattle.suite_top.specs.declared.status.Status.{Status}
+use Rattle.suite_top.specs.declared.status.Status.TheVariants.{Done, Usage, HostRead, Refused}
+use Rattle.suite_top.specs.Sizes.{sizes}
+use Rattle.suite_top.specs.Texts.{refusal_tail, convert_line, check_line, too_long_tail}
+use Rattle.suite_top.specs.Texts.Listing.{listing, flat_tail}
+use Rattle.bflt_format.specs.Header.{flat_values}
+use Rattle.suite_top.specs.Ending.{Ending, done_ending, usage_ending, refused_ending}
+use Rattle.suite_top.specs.Outcome.{Request, load, store, failure_ending, Outcome, Inputs, after}
+use Rattle.suite_top.specs.Arguments.{Invocation, convert, list, check, default_stack, command_of}
+use Rattle.suite_top.specs.OneFile.{file_limit, with_found, with_file}
+use Rattle.suite_top.specs.Convert.{judged_outcome, converted_outcome}
+use Rattle.suite_top.specs.Check.{verdict, checked_outcome, check_outcome}
+use Rattle.suite_top.specs.List.{judged_ending, listed_outcome, list_outcome}
+use Rattle.suite_top.specs.Result.{command_outcome, result_of}
+use Rattle.suite_top.specs.StatusLaws.{UsageIsExact}
+
+-- what holds of a refusal and of `rest` holds of what was found
+pub found_by : (P : Outcome → Type 0) (name : List ℕ) (rest : List ℕ → Outcome) (e : List ℕ) → P (record { requests = []; ending = refused_ending too_long_tail }) → P (rest e) → P (with_found name (Some e) rest)
+found_by P name rest e long fits =
+    elim (nat_lt file_limit (length e)) as (λ (b : Bool). P (cond b (record { requests = []; ending = refused_ending too_long_tail }) (rest e))) [ true ↦ long | false ↦ fits ]
+
+-- each command ends as one of these
+module _ (P : Ending → Type 0) (read : (name : List ℕ) → P (failure_ending (load name))) (refused : (tail : List ℕ) → P (refused_ending tail)) (done : (text : List ℕ) → P (done_ending text)) where
+  found_ending : (name : List ℕ) (rest : List ℕ → Outcome) → ((e : List ℕ) → P (rest e).ending) → (found : Option (List ℕ)) → P (with_found name found rest).ending
+  found_ending name rest each None = read name
+  found_ending name rest each (Some e) = found_by (λ o. P o.ending) name rest e (refused too_long_tail) (each e)
+
+  convert_judged : (flt : List ℕ) (stack : ℕ) (e : List ℕ) (o : Option Refusal) → P (judged_outcome flt stack e o).ending
+  convert_judged flt stack e None = done (convert_line (sizes e stack))
+  convert_judged flt stack e (Some first) = refused (refusal_tail first)
+
+  check_judged : (e : List ℕ) (o : Option Refusal) → P (verdict e o)
+  check_judged e None = done (check_line (sizes e default_stack))
+  check_judged e (Some first) = refused (refusal_tail first)
+
+  list_judged : (y : List ℕ) (o : Option FlatFault) → P (judged_ending y o)
+  list_judged y None = done (listing (flat_values y))
+  list_judged y (Some first) = refused (flat_tail first)
+
+  pub invoked : (k : Invocation) (inputs : Inputs) → P (command_outcome (Some k) inputs).ending
+  invoked (convert elf flt stack) inputs = found_ending elf (converted_outcome flt stack) (λ e. convert_judged flt stack e (fault e)) (inputs 0 elf)
+  invoked (check elf) inputs = found_ending elf checked_outcome (λ e. check_judged e (fault e)) (inputs 0 elf)
+  invoked (list flt) inputs = found_ending flt listed_outcome (λ y. list_judged y (flat_fault y)) (inputs 0 flt)
+
+pub result_by : (P : Ending → Type 0) → ((name : List ℕ) → P (failure_ending (load name))) → ((tail : List ℕ) → P (refused_ending tail)) → ((text : List ℕ) → P (done_ending text)) → P usage_ending
+    → (o : Option Invocation) (inputs : Inputs) → P (command_outcome o inputs).ending
+result_by P read refused done usage None inputs = usage
+result_by P read refused done usage (Some k) inputs = invoked P read refused done k inputs
+
+-- a status that no outcome has
+pub never : (s : Status) → (HostRead ≡ s → ⊥) → (Refused ≡ s → ⊥) → (Done ≡ s → ⊥) → (Usage ≡ s → ⊥) → (arguments : List (List ℕ)) (inputs : Inputs) → (result_of arguments inputs).ending.status ≡ s → ⊥
+never s read refused done usage arguments inputs =
+    result_by (λ t. t.status ≡ s → ⊥) (λ name. read) (λ tail. refused) (λ text. done) usage (command_of arguments) inputs
+
+-- an ending has a text for `out` only with Done, and then none for `report`
+abbrev pub IsEarlyOrDone : Ending → Type 0
+IsEarlyOrDone ending = (ending.out ≡ []) ⊎ ((ending.status ≡ Done) × (ending.report ≡ []))
+
+pub early_or_done : (arguments : List (List ℕ)) (inputs : Inputs) → IsEarlyOrDone (result_of arguments inputs).ending
+early_or_done arguments inputs =
+    result_by IsEarlyOrDone (λ name. inl refl) (λ tail. inl refl) (λ text. inr (refl, refl)) (inl refl) (command_of arguments) inputs
+
+no_command : (o : Option Invocation) (inputs : Inputs) → (command_outcome o inputs).ending.status ≡ Usage → o ≡ None
+no_command None inputs is = refl
+no_command (Some k) inputs is = absurd (invoked (λ t. t.status ≡ Usage → ⊥) (λ name e. cc) (λ tail e. cc) (λ text e. cc) k inputs is)
+
+pub usage_is_exact : UsageIsExact
+usage_is_exact arguments inputs = (
+  no_command (command_of arguments) inputs,
+  λ none. subst (λ (o : Option Invocation). ((command_outcome o inputs).ending.status ≡ Usage) × ((command_outcome o inputs).requests ≡ [])) (sym none) (refl, refl),
+)
+
+-- ---- what is requested behind the load
+
+abbrev pub Behind : (flt : List ℕ) (stack : ℕ) (found : Option (List ℕ)) → List Request → Type 0
+Behind flt stack found requests = (requests ≡ []) ⊎ ((e : List ℕ) × (found ≡ Some e) × (fault e ≡ None) × (requests ≡ store flt (flat e stack) ∷ []))
+
+judged_requests : (flt : List ℕ) (stack : ℕ) (e : List ℕ) (o : Option Refusal) → fault e ≡ o → Behind flt stack (Some e) (judged_outcome flt stack e o).requests
+judged_requests flt stack e None is = inr (e, refl, is, refl)
+judged_requests flt stack e (Some first) is = inl refl
+
+pub requests_behind : (elf flt : List ℕ) (stack : ℕ) (found : Option (List ℕ)) → Behind flt stack found (with_found elf found (converted_outcome flt stack)).requests
+requests_behind elf flt stack None = inl refl
+requests_behind elf flt stack (Some e) = found_by (λ o. Behind flt stack (Some e) o.requests) elf (converted_outcome flt stack) e (inl refl) (judged_requests flt stack e (fault e) refl)
+
+-- a command that requests nothing behind its load requests this one load
+one_load : (name : List ℕ) (rest : List ℕ → Outcome) → ((e : List ℕ) → (rest e).requests ≡ []) → (found : Option (List ℕ)) → (with_file name found rest).requests ≡ load name ∷ []
+one_load name rest none None = refl
+one_load name rest none (Some e) = found_by (λ o. (after (load name) o).requests ≡ load name ∷ []) name rest e refl (ap (λ (requests : List Request). load name ∷ requests) (none e))
+
+pub list_requests : (flt : List ℕ) (inputs : Inputs) → (list_outcome flt inputs).requests ≡ load flt ∷ []
+list_requests flt inputs = one_load flt listed_outcome (λ y. refl) (inputs 0 flt)
+
+pub check_requests : (elf : List ℕ) (inputs : Inputs) → (check_outcome elf inputs).requests ≡ load elf ∷ []
+check_requests elf inputs = one_load elf checked_outcome (λ e. refl) (inputs 0 elf)

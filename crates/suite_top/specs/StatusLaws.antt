@@ -1,0 +1,105 @@
+-- When each status comes, and what was written then: laws over every call.
+use Rattle.std.specs.Prelude.{◌≡◌, ◌⊎◌, ◌++◌, ◌↔◌, ℕ, ◌≤◌, List, [], ◌∷◌, decimal, Some, None, option_map}
+use Rattle.host_io.specs.Faults.{Rose}
+use Rattle.host_io.specs.Host.{Told}
+use Rattle.suite_top.specs.declared.status.Status.{Status}
+use Rattle.suite_top.specs.declared.status.Status.TheVariants.{Done, Usage, HostRead, Refused, SinkWrite, Memory, HostWrite}
+use Rattle.suite_top.specs.Texts.{memory_line}
+use Rattle.suite_top.specs.Ending.{Ending, memory_ending}
+use Rattle.suite_top.specs.Outcome.{Request, load, store, failure_ending, Inputs}
+use Rattle.suite_top.specs.Arguments.{least_stack, most_stack, stack_of, command_of}
+use Rattle.suite_top.specs.Result.{result_of}
+use Rattle.suite_top.specs.HostCourse.{after_failure, after_answers, Performs}
+use Rattle.suite_top.specs.Delivery.{SinkStop, sink_failed, sink_memory, TookAll, CutShort}
+use Rattle.suite_top.specs.Call.{Call, outcome_of, MeetsOutcome}
+
+-- the statuses that come of the input alone
+abbrev pub IsAnswer : Status → Type 0
+IsAnswer Done = Unit {0}
+IsAnswer Usage = Unit {0}
+IsAnswer Refused = Unit {0}
+IsAnswer HostRead = ⊥
+IsAnswer HostWrite = ⊥
+IsAnswer SinkWrite = ⊥
+IsAnswer Memory = ⊥
+
+-- the host answered every request, and no fault of it was counted
+pub record IsPerformed (c : Call) : Type 0 where
+  pub told : c.host_after.told ≡ option_map (λ t. after_answers t (outcome_of c).requests) c.host.told
+  pub faults : c.host_after.faults ≡ c.host.faults
+
+-- and both texts were taken whole
+pub record IsWhole (c : Call) : Type 0 where
+  pub status : c.status ≡ (outcome_of c).ending.status
+  pub performed : IsPerformed c
+  pub out : TookAll c.out c.out_after (outcome_of c).ending.out
+  pub report : TookAll c.report c.report_after (outcome_of c).ending.report
+
+-- Done, Usage and Refused come only where they are the outcome's status
+abbrev pub AnswersAreWhole : Type 0
+AnswersAreWhole = (c : Call) → MeetsOutcome c → IsAnswer c.status → IsWhole c
+
+-- no fault was counted
+pub record IsCalm (c : Call) : Type 0 where
+  pub host : Rose c.host.faults c.host_after.faults → ⊥
+  pub out : Rose c.out.faults c.out_after.faults → ⊥
+  pub report : Rose c.report.faults c.report_after.faults → ⊥
+
+-- then the call ends as its outcome says, or was out of memory
+abbrev pub Completes : Type 0
+Completes = (c : Call) → MeetsOutcome c → IsCalm c → (c.status ≡ Memory) ⊎ IsWhole c
+
+-- the host failed at this request, behind these; the line names it
+pub record FailsAt (c : Call) (request : Request) : Type 0 where
+  pub done : List Request
+  pub rest : List Request
+  pub requests : (outcome_of c).requests ≡ done ++ request ∷ rest
+  pub rose : Rose c.host.faults c.host_after.faults
+  pub told : c.host_after.told ≡ option_map (λ t. after_failure (after_answers t done) request) c.host.told
+  pub out : TookAll c.out c.out_after []
+  pub report : TookAll c.report c.report_after (failure_ending request).report
+
+abbrev pub ReadsFail : Type 0
+ReadsFail = (c : Call) → MeetsOutcome c → c.status ≡ HostRead → (name : List ℕ) × FailsAt c (load name)
+
+abbrev pub WritesFail : Type 0
+WritesFail = (c : Call) → MeetsOutcome c → c.status ≡ HostWrite → (name : List ℕ) × (bytes : List ℕ) × FailsAt c (store name bytes)
+
+-- the command was carried out; `out` stopped behind a prefix of its text, and `report` took nothing
+pub record CutAtOut (stop : SinkStop) (c : Call) : Type 0 where
+  pub done : (outcome_of c).ending.status ≡ Done
+  pub performed : IsPerformed c
+  pub out : CutShort stop c.out c.out_after (outcome_of c).ending.out
+  pub report : c.report_after ≡ c.report
+
+-- the call ended early; `out` took nothing, and `report` stopped behind a prefix of the line
+pub record CutAtReport (stop : SinkStop) (c : Call) : Type 0 where
+  pub ending : Ending
+  pub performs : Performs c.host c.host_after (outcome_of c) ending
+  pub out : TookAll c.out c.out_after []
+  pub report : CutShort stop c.report c.report_after ending.report
+
+-- a sink failed, and no other text was written behind its prefix
+abbrev pub SinksFail : Type 0
+SinksFail = (c : Call) → MeetsOutcome c → c.status ≡ SinkWrite → CutAtOut sink_failed c ⊎ CutAtReport sink_failed c
+
+-- the call was out of memory before any text: no file changed, and the one line is `memory`
+pub record IsMemoryTold (c : Call) : Type 0 where
+  pub performs : Performs c.host c.host_after (outcome_of c) memory_ending
+  pub files : (t t_after : Told) → c.host.told ≡ Some t → c.host_after.told ≡ Some t_after → t_after.files ≡ t.files
+  pub out : TookAll c.out c.out_after []
+  pub report : TookAll c.report c.report_after memory_line
+
+-- or a sink was out of memory, its count stands, and no other text was written behind its prefix
+abbrev pub MemoryIsTold : Type 0
+MemoryIsTold = (c : Call) → MeetsOutcome c → c.status ≡ Memory → IsMemoryTold c ⊎ (CutAtOut sink_memory c ⊎ CutAtReport sink_memory c)
+
+-- Usage is the outcome exactly of arguments that are no command, and then nothing is requested
+abbrev pub UsageIsExact : Type 0
+UsageIsExact = (arguments : List (List ℕ)) (inputs : Inputs)
+    → ((result_of arguments inputs).ending.status ≡ Usage → command_of arguments ≡ None)
+    × (command_of arguments ≡ None → ((result_of arguments inputs).ending.status ≡ Usage) × ((result_of arguments inputs).requests ≡ []))
+
+-- the argument of `--stack` says a number exactly where it spells it and it is in the range
+abbrev pub StackIsSpelled : Type 0
+StackIsSpelled = (text : List ℕ) (n : ℕ) → (stack_of text ≡ Some n) ↔ ((text ≡ decimal n) × (least_stack ≤ n) × (n ≤ most_stack))

@@ -1,0 +1,98 @@
+//! Files that aren't there, are too long, or can't be stored, and sinks that fail.
+ghost use Rattle.std.specs.Prelude.{None};
+
+use super::*;
+use host_io::{Host, HostError, Loaded};
+
+/// The most bytes of a file that is loaded.
+const LIMIT: u32 = 67_108_864;
+
+/// A host with one file of this many bytes. It tells nothing, and gives none of the bytes.
+#[derive(Drop)]
+struct SizeHost {
+    size: u32,
+}
+
+impl Host for SizeHost {
+    ghost told = { λ _. None };
+
+    ghost faults = { λ _. 0 };
+
+    fn load(
+        &mut self,
+        _alloc: Global,
+        _name: &str,
+        limit: u32,
+        into: &mut Vec<u8>,
+    ) -> Result<Loaded, HostError> {
+        into.clear();
+        if self.size > limit {
+            Ok(Loaded::TooLong)
+        } else {
+            Ok(Loaded::All)
+        }
+    }
+
+    fn store(&mut self, _alloc: Global, _name: &str, _bytes: &[u8]) -> Result<(), HostError> {
+        Ok(())
+    }
+}
+
+/// Of `convert` over a host with a file of this size: what `report` takes.
+fn report_at(alloc: Global, size: u32) -> Result<MemSink, AllocError> {
+    let mut host = SizeHost { size };
+    let mut out = MemSink::new(alloc)?;
+    let mut report = MemSink::new(alloc)?;
+    let arguments = owned(alloc, &CONVERT)?;
+    let _ = suite(alloc, &arguments, &mut host, &mut out, &mut report);
+    Ok(report)
+}
+
+#[test]
+fn limit_is_exact(rt: HostRuntime) -> Result<(), Fail> {
+    let report = report_at(rt.alloc(), LIMIT)?;
+    assert_eq!(rt; report.bytes(), b"refused: elf 1 Short\n".as_slice());
+    let report = report_at(rt.alloc(), LIMIT + 1)?;
+    assert_eq!(rt; report.bytes(), b"refused: too long\n".as_slice());
+    Ok(())
+}
+
+/// A file that isn't there, and a load and a store that fail.
+#[test]
+fn host_faults_are_told(rt: HostRuntime) -> Result<(), Fail> {
+    let faults = [
+        (9, "b.elf", Status::HostRead, "host: cannot read b.elf\n"),
+        (0, "a.elf", Status::HostRead, "host: cannot read a.elf\n"),
+        (1, "a.elf", Status::HostWrite, "host: cannot write a.flt\n"),
+    ];
+    for (at, elf, status, report) in faults {
+        let mut outside = with_file(rt.alloc(), "a.elf", &ELF)?;
+        outside.host.fail_at(at)?;
+        let arguments = ["convert", elf, "a.flt"];
+        assert_eq!(rt; call(rt.alloc(), &arguments, &mut outside)?, status);
+        assert!(rt; wrote(&outside, "", report));
+        assert!(rt; outside.host.get("a.flt").is_none());
+    }
+    Ok(())
+}
+
+/// The flat file is stored by then.
+#[test]
+fn faults_of_sinks_take_the_status(rt: HostRuntime) -> Result<(), Fail> {
+    let mut outside = with_file(rt.alloc(), "a.elf", &ELF)?;
+    outside.out.fail_at(0)?;
+    assert_eq!(rt;
+        call(rt.alloc(), &CONVERT, &mut outside)?,
+        Status::SinkWrite
+    );
+    assert!(rt; wrote(&outside, "", ""));
+    assert!(rt; stored(&outside, &FLT));
+    let mut outside = with_file(rt.alloc(), "a.elf", b"")?;
+    outside.report.fail_at(0)?;
+    assert_eq!(rt;
+        call(rt.alloc(), &CONVERT, &mut outside)?,
+        Status::SinkWrite
+    );
+    assert!(rt; wrote(&outside, "", ""));
+    Ok(())
+}
