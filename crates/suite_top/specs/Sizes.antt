@@ -2,10 +2,9 @@
 use Rattle.std.specs.Prelude.{◌≡◌, ℕ, ◌+◌, ◌-◌, ◌*◌, ◌/◌, ◌≤◌, List, length, None}
 use Rattle.byte_words.specs.Numbers.{IsBytes}
 use Rattle.flat_layout.specs.Layout.{layout}
-use Rattle.bflt_format.specs.Rising.{rising}
 use Rattle.bflt_format.specs.Values.{Values}
 use Rattle.bflt_format.specs.Header.{entry, data_start, data_end, bss_end, stack_size, reloc_count}
-use Rattle.elf2flt_tool.specs.Word.{words, places}
+use Rattle.elf2flt_tool.specs.Word.{records}
 use Rattle.elf2flt_tool.specs.Fault.{fault}
 use Rattle.elf2flt_tool.specs.Converted.{flat}
 
@@ -20,14 +19,14 @@ pub record Sizes : Type 0 where
   -- the offset of the first instruction in the flat file
   pub entry : ℕ
 
--- of the ELF file e: T, D and B of its layout, the stack rounded up to 16, the places of its recorded words, and its entry behind a header of 64 bytes
+-- of the ELF file e: T, D and B of its layout, the stack rounded up to 16, the numbers at which its recorded words begin, and its entry behind a header of 64 bytes
 abbrev pub sizes : (e : List ℕ) (stack : ℕ) → Sizes
 sizes e stack = record {
   text = (layout e).text;
   data_len = (layout e).data_len;
   bss = (layout e).bss;
   stack = (stack + 15) / 16 * 16;
-  records = length (rising (places (words e)));
+  records = length (records e);
   entry = 64 + (layout e).entry;
 }
 

@@ -2,7 +2,7 @@ use Rattle.std.proofs.Common.{◌≡◌, ◌∙◌, ap, length, drop, Result, Ok
 use Rattle.std.specs.Prelude.{vec_len}
 use Rattle.std.specs.Vec.Iter.{into_iter_items, into_iter_len}
 use Rattle.std.proofs.lemmas.Iterator.Adapters.{fact_from_collect, YieldsList-from_skip, YieldsList-from_vec}
-use Rattle.flatc.proofs.program.words_after_name.Goals as goal
+use Rattle.flatc.proofs.program.arguments_after_name.Goals as goal
 
 first : {T E : Type 0} (P Q : T → Type 0) (r : Result T E) → IfOk r (λ v. P v × Q v) → IfOk r P
 first P Q (Ok v) h = h.0
