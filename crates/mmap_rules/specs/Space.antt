@@ -3,7 +3,8 @@
 use Rattle.std.specs.Prelude.{ℕ, zero, suc, ◌+◌, ◌*◌, ◌^◌, Bool, true, ◌&&◌, nat_le, nat_lt, List, [], ◌∷◌}
 use Rattle.std.specs.List.{list_any}
 use Rattle.byte_words.specs.ByteMap.{Bytes}
-use Rattle.nommu_regions.specs.declared.Source.{Source}
+use Rattle.mmap_rules.specs.declared.mapping.Range.{Range}
+use Rattle.mmap_rules.specs.declared.mapping.Mapping.{Mapping}
 
 -- physical memory begins at this address, and has pages of so many bytes
 abbrev pub memory_base : ℕ
@@ -11,20 +12,6 @@ memory_base = 2 ^ 31
 
 abbrev pub page_size : ℕ
 page_size = 4096
-
--- addresses that a process may use; a range that is anonymous can be cut
-pub record Range : Type 0 where
-  pub from : ℕ
-  pub size : ℕ
-  pub writes : Bool
-  pub anonymous : Bool
-
--- the run of pages that a mapping holds, and the range of it that is its own
-pub record Mapping : Type 0 where
-  pub first : ℕ
-  pub pages : ℕ
-  pub range : Range
-  pub source : Source
 
 -- oldest first, the program's block at the head; the break and the area in which it moves, both ends included; and the
 -- bytes of all own ranges

@@ -1,0 +1,2 @@
+-- Ranges  own bytes of a range, page by page
+pub mod Ranges
