@@ -1,12 +1,12 @@
 -- What one array of bytes is as a map.
 use Rattle.std.proofs.Common.{◌≡◌, ℕ, zero, suc, ◌+◌, ◌-◌, ◌/◌, ◌≤◌, ◌<◌, ◌^◌, length, List, [], ◌∷◌, arith, refl, ap, ◌∙◌, sym, inl, inr, ◌≢◌, length-set}
-use Rattle.std.specs.Prelude.{nat_le, Option, Some, None, slice_get, slice_index, slice_set}
+use Rattle.std.specs.Prelude.{Option, Some, None, slice_get, slice_index, slice_set}
 use Rattle.std.proofs.lemmas.Bool.Decides.{nat_tests}
 use Rattle.std.proofs.lemmas.Grind.{common_steps}
 use Rattle.std.proofs.lemmas.Option.{slice_get_past, slice_get-get_or}
 use Rattle.std.proofs.lemmas.List.{get_or-set_same, get_or-set_other}
 use Rattle.std.proofs.lemmas.Bool.{cases_lt}
-use Rattle.byte_words.specs.ByteMap.{Bytes, with_low, number, little_bytes, with_byte, with_bytes, byte_of, place_of, little, overwritten}
+use Rattle.byte_words.specs.ByteMap.{with_low, number, little_bytes, with_byte, with_bytes, byte_of, place_of, little, overwritten}
 
 -- ---- one byte
 

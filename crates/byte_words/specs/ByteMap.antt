@@ -1,6 +1,6 @@
 -- Bytes by address, as a map, and one array of bytes that stands from a base address on. Numbers are
 -- little-endian.
-use Rattle.std.specs.Prelude.{ℕ, zero, suc, ◌+◌, ◌-◌, ◌*◌, ◌/◌, ◌%◌, ◌^◌, Bool, ◌&&◌, ◌==◌, nat_le, if◌then◌else◌, Option, Some, None, List, [], ◌∷◌, slice_get, slice_index, slice_set}
+use Rattle.std.specs.Prelude.{ℕ, zero, suc, ◌+◌, ◌-◌, ◌*◌, ◌/◌, ◌%◌, ◌^◌, ◌&&◌, ◌==◌, nat_le, if◌then◌else◌, Option, Some, None, List, [], ◌∷◌, slice_get, slice_index, slice_set}
 
 -- the byte at each address, where there is one
 abbrev pub Bytes : Type 0
