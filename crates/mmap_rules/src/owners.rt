@@ -1,8 +1,10 @@
 //! Which bytes of memory are a space's own, page by page.
-ghost use Rattle.std.specs.Prelude.{◌≡◌, ◌+◌, ◌*◌, ◌-◌, ◌/◌, ◌%◌, ◌^◌, ◌<◌, ◌≤◌, ◌⊎◌, length, slice_get, replicate, IfOk, Some};
+ghost use Rattle.std.specs.Prelude.{◌≡◌, ◌+◌, ◌*◌, ◌-◌, ◌^◌, ◌<◌, ◌≤◌, ◌⊎◌, ℕ, length, slice_get, replicate, option_map, IfOk, Some};
+ghost use Rattle.mmap_rules.specs.declared.owners.PageOwner.{PageOwner};
 ghost use Rattle.mmap_rules.specs.Space.{may_use};
-ghost use Rattle.mmap_rules.specs.Owners.{owns, owns_at, free_page, touched};
+ghost use Rattle.mmap_rules.specs.Owners.{owns, owns_at, free_page, touched, IsShaped, noted};
 
+use crate::mapping::Range;
 use crate::steps::Steps;
 use std::alloc::{AllocError, Global};
 use std::marker::{Brand, Model};
@@ -45,7 +47,76 @@ impl Model for Owners {
     ghost invariant = { λ o. length o.entries.items ≤ 16384 };
 }
 
+/// The entry of a page with one range more.
+#[tactic(auto, unfolding(crate::specs::Owners::noted))]
+fn noted(range: &Range, page: u32, owner: PageOwner) -> PageOwner
+    requires above { 2 ^ 31 ≤ range.now.from }
+    requires page { page < 16384 }
+    requires uses { owner.uses < 2 ^ 32 - 1 }
+    ensures { result ≡ noted range.now page owner }
+{
+    let from = u64::from(range.from - BASE);
+    let to = from + u64::from(range.size);
+    let (start, end) = (PAGE * u64::from(page), PAGE * (u64::from(page) + 1));
+    if from.max(start) >= to.min(end) {
+        return owner;
+    }
+    if owner.uses == 0 {
+        return PageOwner {
+            from: from.saturating_sub(start) as u32,
+            write: range.writes,
+            uses: 1,
+        };
+    }
+    PageOwner {
+        uses: owner.uses + 1,
+        ..owner
+    }
+}
+
+/// Adds a range to the entries of the pages that it touches.
+fn add_range(entries: &mut [PageOwner], range: &Range)
+    requires shaped { IsShaped (length entries.old) range.now }
+    requires few { length entries.old ≤ 16384 }
+    requires uses { (p : ℕ) → (o : PageOwner) → slice_get entries.old p ≡ Some o → o.uses < 2 ^ 32 - 1 }
+    ensures len { length entries.new ≡ length entries.old }
+    ensures each { (p : ℕ) → slice_get entries.new p ≡ option_map (noted range.now p) (slice_get entries.old p) }
+{
+    let from = u64::from(range.from - BASE);
+    let first = (from / PAGE) as u32;
+    let end = ((from + u64::from(range.size)) / PAGE) as u32;
+    for page in first..end {
+        let owner = entries[page as usize];
+        entries[page as usize] = noted(range, page, owner);
+    }
+}
+
 impl Owners {
+    /// A table in which nothing is own.
+    pub fn new(alloc: Global, pages: u32) -> Result<Owners, AllocError>
+        requires { pages ≤ 16384 }
+        ensures { IfOk result (λ o. o ≡ replicate pages free_page) }
+    {
+        let free = PageOwner {
+            from: 0,
+            write: false,
+            uses: 0,
+        };
+        Ok(Owners {
+            entries: vec![in alloc; free; pages as usize]?,
+        })
+    }
+
+    /// Notes a range whose pages are in memory, and which ends where a page ends.
+    pub fn add(&mut self, range: &Range)
+        requires shaped { IsShaped (length self.old) range.now }
+        requires uses { (p : ℕ) → (o : PageOwner) → slice_get self.old p ≡ Some o → o.uses < 2 ^ 32 - 1 }
+        ensures len { length self.new ≡ length self.old }
+        ensures each { (p : ℕ) → slice_get self.new p ≡ option_map (noted range.now p) (slice_get self.old p) }
+    {
+        add_range(&mut self.entries, range);
+    }
+
     /// One byte at a distance from the first of memory.
     #[inline]
     #[tactic(auto, unfolding(crate::specs::Owners::owns_at))]
