@@ -1,5 +1,5 @@
 -- What the log keeps of a run, as plain values.
-use Rattle.std.specs.Prelude.{ℕ, ◌+◌, ◌*◌, Bool, ◌&&◌, nat_le, List, [], ◌∷◌, map, sum, length}
+use Rattle.std.specs.Prelude.{ℕ, ◌+◌, Bool, ◌&&◌, nat_le, List, map, sum, length}
 use Rattle.call_log.specs.declared.how.How.{How}
 use Rattle.call_log.specs.declared.how.Seen.{Seen}
 

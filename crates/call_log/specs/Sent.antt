@@ -1,6 +1,6 @@
 -- The bytes that a system call reads from its caller's memory, in the order read: a function of its number, its
 -- arguments and that memory (Linux, read_write.c and include/uapi/linux/uio.h).
-use Rattle.std.specs.Prelude.{ℕ, zero, suc, ◌+◌, ◌-◌, ◌*◌, ◌%◌, ◌^◌, ◌==◌, Bool, nat_le, nat_lt, min, if◌then◌else◌, List, [], ◌∷◌, ◌++◌, map, drop, slice_index, Option, Some, None, Result, Ok, Err}
+use Rattle.std.specs.Prelude.{ℕ, zero, suc, ◌+◌, ◌-◌, ◌*◌, ◌%◌, ◌^◌, ◌==◌, nat_le, nat_lt, min, if◌then◌else◌, List, [], ◌∷◌, ◌++◌, map, slice_index, Option, Some, None, Result, Ok, Err}
 use Rattle.std.specs.List.{range_with_len}
 use Rattle.byte_words.specs.Numbers.{low_first, number_at}
 use Rattle.byte_words.specs.ByteMap.{Bytes}

@@ -3,8 +3,10 @@
 use Rattle.std.specs.Prelude.{ℕ, ◌+◌, ◌-◌, ◌*◌, ◌/◌, ◌^◌, Bool, true, false, ◌&&◌, nat_le, nat_lt, if◌then◌else◌, List, [], ◌∷◌, length, replicate, slice_get, slice_index, slice_set, Option, Some, None, unwrap_or}
 use Rattle.byte_words.specs.ByteMap.{Bytes}
 use Rattle.rv32im_step.specs.declared.regs.Regs.{Regs}
-use Rattle.nommu_regions.specs.declared.Source.TheVariants.{Own}
-use Rattle.mmap_rules.specs.Space.{memory_base, page_size, Range, Mapping, Space, in_range}
+use Rattle.nommu_regions.specs.declared.region.Source.TheVariants.{Own}
+use Rattle.mmap_rules.specs.declared.mapping.Range.{Range}
+use Rattle.mmap_rules.specs.declared.mapping.Mapping.{Mapping}
+use Rattle.mmap_rules.specs.Space.{memory_base, page_size, Space, in_range}
 use Rattle.flat_loader.specs.Original.{Original, header_len, stack_len, block_pages, block_len}
 use Rattle.flat_loader.specs.Frame.{frame_len, frame, frame_start}
 

@@ -25,12 +25,13 @@ use Rattle.flat_loader.specs.Original.{Original, block_pages}
 use Rattle.flat_loader.specs.Frame.{frame_len, frame, frame_start, frame_fits}
 use Rattle.flat_loader.specs.Begin.{begin_space, begin_regs}
 use Rattle.quantum_sched.specs.declared.Quantum.{Quantum}
-use Rattle.machine_world.specs.Keyed.{find, change, without}
+use Rattle.quantum_sched.specs.Picked.{picked}
+use Rattle.vfork_exec.specs.Keyed.{find, change, without}
 use Rattle.machine_world.specs.World.{Program, Rest, World}
 use Rattle.machine_world.specs.Free.{free}
 use Rattle.machine_world.specs.Rows.{write_row, row}
 use Rattle.machine_world.specs.Event.{ended, stepped, trapped, served, exited, answer, event}
-use Rattle.machine_world.specs.Turns.{End, all_ended, out_of_quanta, stray_at, Walk, turn, picked, turns}
+use Rattle.machine_world.specs.Turns.{End, all_ended, out_of_quanta, stray_at, Walk, turn, turns}
 use Rattle.machine_world.specs.Boot.{StartLine, BootFault, bad_start, no_run, started, all_started, boot}
 
 -- the program hi: nine words of code at number 64, three bytes and a zero, and a pointer to them; ho differs in one byte

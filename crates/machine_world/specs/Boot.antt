@@ -1,8 +1,8 @@
 -- The opening world: the start lines' programs, loaded in order.
 use Rattle.std.specs.Prelude.{ℕ, ◌+◌, ◌*◌, List, [], ◌∷◌, Option, Some, None, Result, Ok, Err, Bool, bytes_eq, slice_index, if◌then◌else◌}
 use Rattle.std.specs.List.{slice_index_or}
-use Rattle.page_runs.specs.declared.Run.{Run}
-use Rattle.page_runs.specs.Place.{chosen}
+use Rattle.page_runs.specs.declared.run.Run.{Run}
+use Rattle.page_runs.specs.Place.{place, first_of}
 use Rattle.call_log.specs.Notes.{load_note}
 use Rattle.mmap_rules.specs.Space.{memory_base, page_size}
 use Rattle.flat_loader.specs.Original.{Original, block_pages}
@@ -44,16 +44,21 @@ begun w index l = noted (load_note (record { pid = w.next_pid; program = index; 
   next_pid = w.next_pid + 1;
 })
 
-abbrev pub address_of : Run → ℕ
-address_of run = memory_base + page_size * run.first
+-- the address of a page
+abbrev pub address_of : ℕ → ℕ
+address_of page = memory_base + page_size * page
 
-abbrev pub placed : World → StartLine → Found → Option Run → Result World BootFault
+-- the first page of the run of which so many pages are taken
+abbrev pub taken : World → ℕ → List Run → Option ℕ
+taken w need runs = first_of runs (place w.rest.kind runs need)
+
+abbrev pub placed : World → StartLine → Found → Option ℕ → Result World BootFault
 placed w s f None = Err (no_run s.line)
-placed w s f (Some run) = Ok (begun w f.index (record { original = f.original; block = address_of run; args = s.args; env = [] }))
+placed w s f (Some page) = Ok (begun w f.index (record { original = f.original; block = address_of page; args = s.args; env = [] }))
 
 abbrev pub fitting : World → StartLine → Found → Bool → Result World BootFault
 fitting w s f fits =
-    if fits then placed w s f (chosen w.rest.kind (free w) (block_pages f.original)) else Err (args_too_big s.line)
+    if fits then placed w s f (taken w (block_pages f.original) (free w)) else Err (args_too_big s.line)
 
 abbrev pub located : World → StartLine → Option Found → Result World BootFault
 located w s None = Err (bad_start s.line)

@@ -11,8 +11,8 @@ use Rattle.call_log.specs.declared.how.How.{How}
 use Rattle.call_log.specs.declared.how.How.TheVariants.{Exit, Signal}
 use Rattle.call_log.specs.Notes.{Written, CallEntry, Note, call_note, end_note, weight_of, has_room}
 use Rattle.call_log.specs.Sent.{Span, sent}
+use Rattle.vfork_exec.specs.Keyed.{find, change, without}
 use Rattle.mmap_rules.specs.Space.{Space, writable_in, may_use}
-use Rattle.machine_world.specs.Keyed.{find, change, without}
 use Rattle.machine_world.specs.World.{Process, LiveSpace, Rest, World, pid_of, id_of}
 use Rattle.machine_world.specs.Rows.{Ask, Reply, Row, replies, waits, row}
 

@@ -1,7 +1,7 @@
 -- The free pages of a world: those in no run of a mapping of a live space.
 use Rattle.std.specs.Prelude.{ℕ, Bool, not, List}
 use Rattle.std.specs.List.{list_any}
-use Rattle.page_runs.specs.declared.Run.{Run}
+use Rattle.page_runs.specs.declared.run.Run.{Run}
 use Rattle.page_runs.specs.Free.{free_runs}
 use Rattle.mmap_rules.specs.Space.{has_page}
 use Rattle.machine_world.specs.World.{LiveSpace, World}

@@ -1,11 +1,9 @@
--- Keyed    lists whose items have numbers of their own
 -- World    all processes with their private spaces, and what is kept of a run
 -- Free     the free pages of a world
 -- Rows     the answer to each system call
 -- Event    one instruction or one system call of one process
 -- Turns    a list of quanta
 -- Boot     the opening world
-pub mod Keyed
 pub mod World
 pub mod Free
 pub mod Rows

@@ -1,5 +1,5 @@
 -- A run: turns by a list of quanta.
-use Rattle.std.specs.Prelude.{ℕ, zero, suc, ◌%◌, ◌==◌, Bool, true, false, if◌then◌else◌, List, [], ◌∷◌, ◌++◌, map, reverse, length, slice_get, Option, Some, None}
+use Rattle.std.specs.Prelude.{ℕ, zero, suc, ◌==◌, Bool, true, false, if◌then◌else◌, List, [], ◌∷◌, ◌++◌, map, length, Option, Some, None}
 use Rattle.rv32im_step.specs.declared.access.Access.{Access}
 use Rattle.rv32im_step.specs.declared.access.AccessKind.{AccessKind}
 use Rattle.rv32im_step.specs.declared.access.AccessKind.TheVariants as access
@@ -8,6 +8,7 @@ use Rattle.call_log.specs.declared.how.SeenKind.{SeenKind}
 use Rattle.call_log.specs.declared.how.SeenKind.TheVariants as seen
 use Rattle.call_log.specs.Notes.{stray_note}
 use Rattle.quantum_sched.specs.declared.Quantum.{Quantum}
+use Rattle.quantum_sched.specs.Picked.{picked}
 use Rattle.machine_world.specs.World.{World, pid_of}
 use Rattle.machine_world.specs.Event.{Trace, Outcome, went, strays, full, idle, noted, event}
 
@@ -51,10 +52,6 @@ unfoldable pub turn : ℕ → ℕ → World → Walk
 turn zero pid w = stays_at w None
 turn (suc n) pid w = turned (turn n pid) w pid (event w pid)
 
--- the processes that may run, ascending by pid, are all that live; of a count, number k modulo it
-unfoldable pub picked : ℕ → World → Option ℕ
-picked k w = slice_get (reverse (map pid_of w.procs)) (k % length w.procs)
-
 -- what has been walked, and what comes behind it where the run goes on
 abbrev pub walked : List Trace → Walk → Walk
 walked traces walk = record walk { traces = traces ++ walk.traces }
@@ -73,4 +70,4 @@ quantum_turn more w count (Some pid) = going_on more (turn count pid w)
 -- before each quantum and behind the last one the run stops where no process lives
 unfoldable pub turns : List Quantum → World → Walk
 turns [] w = stays_at w (Some (if length w.procs == 0 then all_ended else out_of_quanta))
-turns (q ∷ qs) w = quantum_turn (turns qs) w q.count (picked q.pick w)
+turns (q ∷ qs) w = quantum_turn (turns qs) w q.count (picked q.pick (map pid_of w.procs))

@@ -1,7 +1,7 @@
 -- The world that the machine stands for: every program has a private space of its own.
 use Rattle.std.specs.Prelude.{ℕ, List}
 use Rattle.rv32im_step.specs.declared.regs.Regs.{Regs}
-use Rattle.page_runs.specs.declared.Kind.{Kind}
+use Rattle.page_runs.specs.declared.place.Kind.{Kind}
 use Rattle.call_log.specs.Notes.{Note}
 use Rattle.mmap_rules.specs.Space.{Space}
 use Rattle.flat_loader.specs.Original.{Original}

@@ -1,5 +1,5 @@
 -- Lists whose items have numbers of their own.
-use Rattle.std.specs.Prelude.{ℕ, ◌==◌, not, if◌then◌else◌, List, [], ◌∷◌, filter, Option, Some, None}
+use Rattle.std.specs.Prelude.{ℕ, suc, ◌<◌, ◌==◌, not, if◌then◌else◌, List, [], ◌∷◌, filter, Option, Some, None}
 
 -- the first item with this number
 unfoldable pub find : {A : Type 0} → (A → ℕ) → ℕ → List A → Option A
@@ -14,3 +14,13 @@ change key k f (x ∷ xs) = if key x == k then f x ∷ xs else x ∷ change key 
 -- the items of other numbers
 unfoldable pub without : {A : Type 0} → (A → ℕ) → ℕ → List A → List A
 without key k xs = filter (λ x. not (key x == k)) xs
+
+-- the place of the first item with this number, or the end
+unfoldable pub place_of : {A : Type 0} → (A → ℕ) → ℕ → List A → ℕ
+place_of key k [] = 0
+place_of key k (x ∷ xs) = if key x == k then 0 else suc (place_of key k xs)
+
+-- the numbers fall along the list, from below one on
+abbrev pub Falls : {A : Type 0} → (A → ℕ) → ℕ → List A → Type 0
+Falls key below [] = Unit {0}
+Falls key below (x ∷ xs) = (key x < below) × Falls key (key x) xs
