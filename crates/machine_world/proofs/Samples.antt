@@ -12,9 +12,9 @@ use Rattle.rv32im_step.specs.Meaning.{effect, meaning}
 use Rattle.rv32im_step.specs.Registers.{register, with_register}
 use Rattle.rv32im_step.specs.declared.access.Access.{Access}
 use Rattle.rv32im_step.specs.declared.access.AccessKind.TheVariants.{Store}
-use Rattle.page_runs.specs.declared.Kind.TheVariants.{First}
+use Rattle.page_runs.specs.declared.place.Kind.TheVariants.{First}
 use Rattle.page_runs.specs.Free.{free_runs}
-use Rattle.page_runs.specs.Place.{chosen}
+use Rattle.page_runs.specs.Place.{place}
 use Rattle.call_log.specs.declared.how.How.TheVariants.{Exit}
 use Rattle.call_log.specs.declared.how.SeenKind.TheVariants as seen
 use Rattle.call_log.specs.Errno.{refusal}
@@ -103,7 +103,7 @@ run-hi :
       events = 9;
       end = Some all_ended;
     })
-unfolding number_at byte_at from_base decoded opcode funct3 funct7 rd rs1 rs2 imm_i imm_s imm_b imm_u imm_j loaded stored effect meaning register with_register free_runs chosen refusal has_room sent read_span writable_in may_use block_pages frame_len frame frame_start frame_fits begin_space begin_regs find change without free write_row row ended stepped trapped served exited answer event turn picked turns started all_started boot
+unfolding number_at byte_at from_base decoded opcode funct3 funct7 rd rs1 rs2 imm_i imm_s imm_b imm_u imm_j loaded stored effect meaning register with_register free_runs place refusal has_room sent read_span writable_in may_use block_pages frame_len frame frame_start frame_fits begin_space begin_regs find change without free write_row row ended stepped trapped served exited answer event turn picked turns started all_started boot
 run-hi = refl
 
 -- both programs in one memory, one after the other
@@ -120,7 +120,7 @@ run-one_by_one :
       events = 18;
       end = Some all_ended;
     })
-unfolding number_at byte_at from_base decoded opcode funct3 funct7 rd rs1 rs2 imm_i imm_s imm_b imm_u imm_j loaded stored effect meaning register with_register free_runs chosen refusal has_room sent read_span writable_in may_use block_pages frame_len frame frame_start frame_fits begin_space begin_regs find change without free write_row row ended stepped trapped served exited answer event turn picked turns started all_started boot
+unfolding number_at byte_at from_base decoded opcode funct3 funct7 rd rs1 rs2 imm_i imm_s imm_b imm_u imm_j loaded stored effect meaning register with_register free_runs place refusal has_room sent read_span writable_in may_use block_pages frame_len frame frame_start frame_fits begin_space begin_regs find change without free write_row row ended stepped trapped served exited answer event turn picked turns started all_started boot
 run-one_by_one = refl
 
 -- by turns: the second one writes first
@@ -133,7 +133,7 @@ run-by_turns :
       events = 12;
       end = Some out_of_quanta;
     })
-unfolding number_at byte_at from_base decoded opcode funct3 funct7 rd rs1 rs2 imm_i imm_s imm_b imm_u imm_j loaded stored effect meaning register with_register free_runs chosen refusal has_room sent read_span writable_in may_use block_pages frame_len frame frame_start frame_fits begin_space begin_regs find change without free write_row row ended stepped trapped served exited answer event turn picked turns started all_started boot
+unfolding number_at byte_at from_base decoded opcode funct3 funct7 rd rs1 rs2 imm_i imm_s imm_b imm_u imm_j loaded stored effect meaning register with_register free_runs place refusal has_room sent read_span writable_in may_use block_pages frame_len frame frame_start frame_fits begin_space begin_regs find change without free write_row row ended stepped trapped served exited answer event turn picked turns started all_started boot
 run-by_turns = refl
 
 -- the first stray access, a store to the next block's first own byte, stops the run before it has any effect
@@ -146,7 +146,7 @@ run-stray :
       events = 2;
       end = Some (stray_at 1 (record { pc = 0x8000_0088; addr = 0x8000_2040; len = 1; kind = Store }));
     })
-unfolding number_at byte_at from_base decoded opcode funct3 funct7 rd rs1 rs2 imm_i imm_s imm_b imm_u imm_j loaded stored effect meaning register with_register free_runs chosen refusal has_room sent read_span writable_in may_use block_pages frame_len frame frame_start frame_fits begin_space begin_regs find change without free write_row row ended stepped trapped served exited answer event turn picked turns started all_started boot
+unfolding number_at byte_at from_base decoded opcode funct3 funct7 rd rs1 rs2 imm_i imm_s imm_b imm_u imm_j loaded stored effect meaning register with_register free_runs place refusal has_room sent read_span writable_in may_use block_pages frame_len frame frame_start frame_fits begin_space begin_regs find change without free write_row row ended stepped trapped served exited answer event turn picked turns started all_started boot
 run-stray = refl
 
 -- a program that isn't there, and one that finds no free run
@@ -155,5 +155,5 @@ unfolding all_started started boot
 boot-no_program = refl
 
 boot-no_run : boot (rest_of 1 (hi ∷ [])) (start 3 (codes "/hi") ∷ []) ≡ Err (no_run 3)
-unfolding all_started started boot block_pages frame_fits frame_len frame_start free free_runs chosen
+unfolding all_started started boot block_pages frame_fits frame_len frame_start free free_runs place
 boot-no_run = refl
