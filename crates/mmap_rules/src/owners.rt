@@ -46,6 +46,14 @@ impl Model for Owners {
 }
 
 impl Owners {
+    /// The table with these entries, one for each page of memory from the first on.
+    pub fn new(entries: Vec<PageOwner>) -> Owners
+        requires { length entries.items ≤ 16384 }
+        ensures { result ≡ entries.items }
+    {
+        Owners { entries }
+    }
+
     /// One byte at a distance from the first of memory.
     #[inline]
     #[tactic(auto, unfolding(crate::specs::Owners::owns_at))]
