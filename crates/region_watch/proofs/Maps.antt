@@ -1,6 +1,6 @@
 -- Maps cut down by a test. No list and no table stands here.
 use Rattle.std.proofs.Common.{◌≡◌, ℕ, zero, suc, ◌+◌, ◌≤◌, ◌<◌, Bool, true, false, not, ◌&&◌, length, List, [], ◌∷◌, arith, refl, ap, ◌∙◌, inl, inr}
-use Rattle.std.specs.Prelude.{nat_le, is_some, if◌then◌else◌, ◌==◌, ◌^◌, Option, Some, None}
+use Rattle.std.specs.Prelude.{nat_le, is_some, if◌then◌else◌, ◌^◌, Option, None}
 use Rattle.std.proofs.lemmas.Bool.{cases_lt}
 use Rattle.std.proofs.lemmas.Bool.Decides.{nat_tests}
 use Rattle.byte_words.specs.ByteMap.{Bytes, with_low, number, with_byte, with_bytes}

@@ -1,6 +1,6 @@
 -- A step sees a stray access exactly where it ends with it.
-use Rattle.std.proofs.Common.{◌≡◌, ℕ, List, ◌+◌, ◌%◌, ◌^◌, Bool, true, false, ◌++◌, refl, ap, ◌∙◌}
-use Rattle.std.specs.Prelude.{not, ◌==◌, ◌&&◌, nat_le, nat_lt, int_lt, is_ok, if◌then◌else◌, Option, Some, None, Result, Ok, Err}
+use Rattle.std.proofs.Common.{◌≡◌, ℕ, List, ◌+◌, ◌%◌, ◌^◌, Bool, true, false, refl, ap, ◌∙◌}
+use Rattle.std.specs.Prelude.{not, ◌==◌, ◌&&◌, nat_le, nat_lt, int_lt, is_ok, if◌then◌else◌, Option, Some, None, Ok, Err}
 use Rattle.rv32im_table.specs.declared.instr.Instr.{Instr}
 use Rattle.rv32im_table.specs.declared.instr.Instr.TheVariants.{Lui, Auipc, Jal, Jalr, Beq, Bne, Blt, Bge, Bltu, Bgeu, Lb, Lh, Lw, Lbu, Lhu, Sb, Sh, Sw, Addi, Slti, Sltiu, Xori, Ori, Andi, Slli, Srli, Srai, Add, Sub, Sll, Slt, Sltu, Xor, Srl, Sra, Or, And, Mul, Mulh, Mulhsu, Mulhu, Div, Divu, Rem, Remu, Fence, FenceI, Ecall, Ebreak}
 use Rattle.rv32im_table.specs.Table.{decoded}
@@ -12,8 +12,8 @@ use Rattle.rv32im_step.specs.Asked.{reads, writes, data_asked, effect_asked, dec
 use Rattle.rv32im_step.specs.Integer.{add}
 use Rattle.rv32im_step.specs.Registers.{with_register, following}
 use Rattle.rv32im_step.specs.Word.{wrap, signed}
-use Rattle.rv32im_step.specs.Meaning.{Meaning, next, call, trap, refused, misaligned, goes, jumps, branches, sets, sets_loaded, loads, stores, same, even, changes, row, effect, decoded_effect, fetched_effect, meaning, Means}
-use Rattle.byte_words.specs.ByteMap.{Bytes, number, little_bytes, with_bytes}
+use Rattle.rv32im_step.specs.Meaning.{Meaning, next, call, trap, refused, misaligned, goes, jumps, branches, sets_loaded, loads, stores, same, even, changes, row, effect, decoded_effect, fetched_effect, meaning, Means}
+use Rattle.byte_words.specs.ByteMap.{Bytes, little_bytes, with_bytes}
 use Rattle.rv32im_step.specs.Memory.{fetch_of, load_of, store_of, or_refused, reading, loaded, all_writable, stored}
 use Rattle.region_watch.specs.Strays.{noted, noted_all, noted_stop}
 

@@ -1,5 +1,5 @@
--- What up to n instructions leave, one after the other: RISC-V unprivileged ISA, "RISC-V Hardware Platform Terminology":
--- a hart fetches and carries out instructions on its own.
+-- What up to n instructions leave, one after the other: RISC-V unprivileged ISA, "RISC-V Software Execution Environments
+-- and Harts".
 use Rattle.std.specs.Prelude.{ℕ, zero, suc, ◌+◌, Bool}
 use Rattle.byte_words.specs.ByteMap.{Bytes}
 use Rattle.rv32im_step.specs.declared.regs.Regs.{Regs}

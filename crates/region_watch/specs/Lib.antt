@@ -3,7 +3,9 @@
 -- Strays        the first stray access among those that were seen, and the test of a call's range
 -- Watched       the first stray access that a watch has seen
 -- Instructions  what up to n instructions leave
+-- Laws          what one program's writes leave of another's bytes
 pub mod Private
 pub mod Strays
 pub mod Watched
 pub mod Instructions
+pub mod Laws

@@ -1,6 +1,6 @@
 -- What one program has of physical memory: the bytes that its table names as own. Linux, "No-MMU memory mapping support":
--- all programs share one memory, and nothing but agreement keeps one from another's bytes.
-use Rattle.std.specs.Prelude.{ℕ, Bool, true, false, not, if◌then◌else◌, List, Option, Some, None}
+-- without an MMU all programs stand in the one physical memory, at its addresses.
+use Rattle.std.specs.Prelude.{ℕ, Bool, true, false, not, if◌then◌else◌, List, None}
 use Rattle.byte_words.specs.ByteMap.{Bytes, byte_of}
 use Rattle.mmap_rules.specs.declared.owners.PageOwner.{PageOwner}
 use Rattle.mmap_rules.specs.Space.{memory_base}

@@ -1,5 +1,5 @@
--- Stray accesses, which is this project's word: one of the bytes isn't the program's own, or is written and may not be.
--- RISC-V unprivileged ISA, "Memory", leaves it to the environment which accesses are allowed.
+-- Stray accesses: one of the bytes isn't the program's own, or is written and may not be, or the range passes 2^32. The
+-- word is this project's; RISC-V unprivileged ISA, "Memory", has the execution environment say what a program may access.
 use Rattle.std.specs.Prelude.{◌≡◌, ℕ, Bool, false, if◌then◌else◌, Option, Some, None, List, [], ◌∷◌, ◌++◌}
 use Rattle.std.proofs.Common.{refl, ap, sym, ◌∙◌}
 use Rattle.rv32im_step.specs.declared.access.Access.{Access}

@@ -7,9 +7,11 @@
 #![tactic(auto)]
 
 mod instructions;
+mod laws;
 mod watch;
 
 pub use instructions::{Progress, run_steps};
+pub use laws::others_law;
 pub use watch::{Watch, Window};
 
 #[cfg(test)]

@@ -65,7 +65,22 @@ impl<'a> Watch<'a> {
         }
     }
 
-    /// Whether an access is allowed. The first that isn't is noted.
+    /// Whether the table allows an access. The first that it doesn't is noted.
+    #[inline]
+    fn looks_up(&mut self, access: Access, write: bool) -> bool
+        ensures answer { result ≡ may_use (owns self.old.owners.now write) access.addr access.len }
+        ensures mem { self.new.mem ≡ self.old.mem }
+        ensures owners { self.new.owners ≡ self.old.owners }
+        ensures first { first_stray self.new ≡ noted (first_stray self.old) access result }
+    {
+        let allowed = own(self.owners, access.addr, access.len, write);
+        if !allowed && self.first.is_none() {
+            self.first = Some(access);
+        }
+        allowed
+    }
+
+    /// Whether an access of an instruction is allowed: the window comes before the table.
     #[inline]
     fn allows(&mut self, access: Access, write: bool) -> bool
         requires { access.len ≤ 4 }
@@ -77,31 +92,7 @@ impl<'a> Watch<'a> {
         if access.addr.wrapping_sub(self.from) < self.reach {
             return true;
         }
-        if own(self.owners, access.addr, access.len, write) {
-            return true;
-        }
-        if self.first.is_none() {
-            self.first = Some(access);
-        }
-        false
-    }
-
-    /// The test of a range, without its memory.
-    #[inline]
-    fn permits(&mut self, access: Access, write: bool) -> Result<(), Access>
-        ensures answer { is_ok result ≡ may_use (owns self.old.owners.now write) access.addr access.len }
-        ensures refused { IfErr result (λ stray. stray ≡ access) }
-        ensures mem { self.new.mem ≡ self.old.mem }
-        ensures owners { self.new.owners ≡ self.old.owners }
-        ensures first { first_stray self.new ≡ noted (first_stray self.old) access (is_ok result) }
-    {
-        if own(self.owners, access.addr, access.len, write) {
-            return Ok(());
-        }
-        if self.first.is_none() {
-            self.first = Some(access);
-        }
-        Err(access)
+        self.looks_up(access, write)
     }
 
     /// Whether the system call at `pc` may read a range.
@@ -112,7 +103,12 @@ impl<'a> Watch<'a> {
         ensures owners { self.new.owners ≡ self.old.owners }
         ensures first { first_stray self.new ≡ noted (first_stray self.old) (call_of pc addr len) (is_ok result) }
     {
-        self.permits(call_access(pc, addr, len), false)
+        let access = call_access(pc, addr, len);
+        if self.looks_up(access, false) {
+            Ok(())
+        } else {
+            Err(access)
+        }
     }
 
     /// Whether the system call at `pc` may write a range.
@@ -123,7 +119,12 @@ impl<'a> Watch<'a> {
         ensures owners { self.new.owners ≡ self.old.owners }
         ensures first { first_stray self.new ≡ noted (first_stray self.old) (call_of pc addr len) (is_ok result) }
     {
-        self.permits(call_access(pc, addr, len), true)
+        let access = call_access(pc, addr, len);
+        if self.looks_up(access, true) {
+            Ok(())
+        } else {
+            Err(access)
+        }
     }
 
     /// The first stray access that this watch saw.

@@ -1,6 +1,5 @@
 -- A step keeps what the loop keeps, and its stop tells the first stray access.
 use Rattle.std.proofs.Common.{rules, ◌≡◌, ap, ◌∙◌}
-use Rattle.rv32im_step.specs.declared.stop.Stop.{Stop}
 use Rattle.rv32im_step.specs.declared.stop.Stop.TheVariants.{Next}
 use Rattle.region_watch.specs.Strays.{noted_stop}
 use Rattle.region_watch.proofs.Runs.{whole_on, frozen_on}

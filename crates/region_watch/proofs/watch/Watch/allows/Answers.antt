@@ -1,5 +1,5 @@
 -- An access inside the window is allowed.
-use Rattle.std.proofs.Common.{◌≡◌, ◌+◌, ◌-◌, ◌<◌, ◌≤◌, ◌^◌, ◌%◌, sym, arith}
+use Rattle.std.proofs.Common.{◌<◌, sym, arith}
 use Rattle.region_watch.proofs.Accesses.{in_window}
 use Rattle.region_watch.proofs.watch.Watch.allows.Goals as goal
 
