@@ -36,17 +36,20 @@ stops k more (refused access) regs after m now stop is other = let sum : k + 0 �
 
 pub run_goes : (k n : ℕ) (w : ℕ → Bool) (regs after : Regs) (m now : Bytes) (stop : Stop) → k < n → Means (meaning regs m w) regs after m now stop → stop ≡ Next
     → after_first k (instructions (n - k) w regs m) ≡ after_first (k + 1) (instructions (n - (k + 1)) w after now)
+unfolding instructions
 run_goes k n w regs after m now stop less means is =
     let left : n - k ≡ suc (n - (k + 1)) = omega arith in
     rw left (goes k (λ r b. instructions (n - (k + 1)) w r b) (meaning regs m w) regs after m now (rw is at means))
 
 pub run_stops : (k n : ℕ) (w : ℕ → Bool) (regs after : Regs) (m now : Bytes) (stop : Stop) → k < n → Means (meaning regs m w) regs after m now stop → stop ≢ Next
     → after_first k (instructions (n - k) w regs m) ≡ ran after now k stop
+unfolding instructions
 run_stops k n w regs after m now stop less means other =
     let left : n - k ≡ suc (n - (k + 1)) = omega arith in
     rw left (stops k (λ r b. instructions (n - (k + 1)) w r b) (meaning regs m w) regs after m now stop means other)
 
 pub run_ends : (k n : ℕ) (w : ℕ → Bool) (regs : Regs) (m : Bytes) → k ≡ n → after_first k (instructions (n - k) w regs m) ≡ ran regs m n Next
+unfolding instructions
 run_ends k n w regs m all =
     let left : n - k ≡ 0 = omega arith in
     let sum : k + 0 ≡ n = omega arith in
@@ -65,3 +68,5 @@ whole_on k n table before now mem after regs left stop whole less one two means 
 pub frozen_on : (table before now : List PageOwner) (mem after first : List ℕ) → before ≡ table → now ≡ before
     → frozen now after ≡ frozen before mem → frozen table mem ≡ frozen table first → frozen table after ≡ frozen table first
 frozen_on table before now mem after first one two here same = (rw (two, one) at here) ∙ same
+
+pub ruleset runs = (none_done, run_stops, run_ends)

@@ -14,6 +14,7 @@ pub record Ran : Type 0 where
   pub done : ℕ
   pub stop : Stop
 
+-- what was left, by its parts
 abbrev pub ran : Regs → Bytes → ℕ → Stop → Ran
 ran regs m done stop = record { regs = regs; bytes = m; done = done; stop = stop }
 
@@ -29,6 +30,6 @@ goes_on regs m more (trap signal) = ran regs m 0 (Trap signal)
 goes_on regs m more (refused access) = ran regs m 0 (Refused access)
 
 -- up to n instructions over a map, of which the bytes that pass `w` may be written
-abbrev pub instructions : ℕ → (ℕ → Bool) → Regs → Bytes → Ran
+unfoldable pub instructions : ℕ → (ℕ → Bool) → Regs → Bytes → Ran
 instructions zero w regs m = ran regs m 0 Next
 instructions (suc n) w regs m = goes_on regs m (λ after now. instructions n w after now) (meaning regs m w)

@@ -1,6 +1,6 @@
 -- What a program may touch, and what comes of its instructions.
 -- Private       a map cut down by a test: a table's own bytes, and those that it can't change
--- Strays        the first stray access among those that were seen, and the test of a call's range
+-- Strays        the first stray access among those that were made
 -- Watched       the first stray access that a watch has seen
 -- Instructions  what up to n instructions leave
 -- Laws          what one program's writes leave of another's bytes

@@ -22,7 +22,7 @@ abbrev pub noted_all : Option Access → List Asked → Option Access
 noted_all first [] = first
 noted_all first (one ∷ more) = noted_all (noted first one.access one.done) more
 
--- two lists, one after the other
+-- two lists, one after the other: a law, for a bus that makes both
 noted_both : (first : Option Access) (xs ys : List Asked) → noted_all first (xs ++ ys) ≡ noted_all (noted_all first xs) ys
 noted_both first [] ys = refl
 noted_both first (x ∷ xs) ys = noted_both (noted first x.access x.done) xs ys

@@ -20,6 +20,7 @@ pub struct Progress {
 }
 
 /// Carries out up to `count` instructions, and stops at the first that isn't carried out.
+#[tactic(auto, using(crate::proofs::Runs::runs))]
 pub fn run_steps(regs: &mut Regs, watch: &mut Watch<'_>, count: u32) -> Progress
     ensures leaves { ran regs.new (own_bytes watch.old.owners.now watch.new.mem.now) result.done result.stop
         ≡ instructions count (owns watch.old.owners.now true) regs.old (own_bytes watch.old.owners.now watch.old.mem.now) }

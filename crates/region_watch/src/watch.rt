@@ -15,7 +15,9 @@ use rv32im_step::{Access, AccessKind, Bus};
 /// It may be smaller than the block, and empty.
 #[derive(Clone, Copy, Debug, PartialEq, Eq)]
 pub struct Window {
+    /// The first address.
     pub from: u32,
+    /// In bytes.
     pub size: u32,
 }
 
@@ -24,7 +26,9 @@ pub struct Window {
 /// is. A stray access is refused and changes nothing.
 #[derive(Drop)]
 pub struct Watch<'a> {
+    /// The memory of all programs.
     pub mem: &'a mut PhysMem,
+    /// The table of the one that is watched.
     pub owners: &'a Owners,
     /// Where the window begins.
     from: u32,
@@ -46,7 +50,8 @@ fn own(owners: &Owners, addr: u32, len: u32, write: bool) -> bool
 impl<'a> Watch<'a> {
     ghost use Rattle.region_watch.specs.Watched.{first_stray};
 
-    /// A watch that has seen no access.
+    /// A watch that has seen no access. The table has an entry for each page of memory, and names the bytes
+    /// of the window as own and writable.
     #[inline]
     pub fn new(mem: &'a mut PhysMem, owners: &'a Owners, window: Window) -> Watch<'a>
         requires paged { length mem.old ≡ 4096 * length owners.now }
