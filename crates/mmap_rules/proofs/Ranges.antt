@@ -49,7 +49,7 @@ all_pass-same test other a b zero same = refl
 all_pass-same test other a b (suc n) same =
     let here : test a ≡ other b = ap test (let e : a ≡ a + 0 = omega arith in e) ∙ same 0 (omega arith) ∙ ap other (let e : b + 0 ≡ b = omega arith in e) in
     let rest = all_pass-same test other (a + 1) (b + 1) n (λ i lt.
-        ap test (let e : a + 1 + i ≡ a + (i + 1) = omega arith in e) ∙ same (i + 1) (omega arith) ∙ ap other (let e : b + (i + 1) ≡ b + 1 + i = omega arith in e)) in
+    ap test (let e : a + 1 + i ≡ a + (i + 1) = omega arith in e) ∙ same (i + 1) (omega arith) ∙ ap other (let e : b + (i + 1) ≡ b + 1 + i = omega arith in e)) in
     rw (here, rest) refl
 
 -- ---- own bytes

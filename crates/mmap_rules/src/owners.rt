@@ -92,6 +92,14 @@ fn add_range(entries: &mut [PageOwner], range: &Range)
 }
 
 impl Owners {
+    /// The table with these entries, one for each page of memory from the first on.
+    pub fn of(entries: Vec<PageOwner>) -> Owners
+        requires { length entries.items ≤ 16384 }
+        ensures { result ≡ entries.items }
+    {
+        Owners { entries }
+    }
+
     /// A table in which nothing is own.
     pub fn new(alloc: Global, pages: u32) -> Result<Owners, AllocError>
         requires { pages ≤ 16384 }
