@@ -99,3 +99,8 @@ pub place_is :
     (addr ≡ base + at) × (at + len ≤ total) × (addr + len ≤ 2 ^ 32)
 unfolding place_of
 place_is base total addr len at is = grind (arith, nat_tests)
+
+-- the lowest bytes of a number written one by one
+pub laid_little :
+    (bytes : List ℕ) (at len n : ℕ) → at + len ≤ length bytes → overwritten bytes at (little_bytes len n) ≡ laid bytes at (little_bytes len n)
+laid_little bytes at len n fits = overwritten_is_laid bytes at (little_bytes len n) (omega (arith, length-little_bytes len n))

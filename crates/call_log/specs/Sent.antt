@@ -1,0 +1,84 @@
+-- The bytes that a system call reads from its caller's memory, in the order read: a function of its number, its
+-- arguments and that memory (Linux, read_write.c and include/uapi/linux/uio.h).
+use Rattle.std.specs.Prelude.{ℕ, zero, suc, ◌+◌, ◌-◌, ◌*◌, ◌%◌, ◌^◌, ◌==◌, nat_le, nat_lt, min, if◌then◌else◌, List, [], ◌∷◌, ◌++◌, map, slice_index, Option, Some, None, Result, Ok, Err}
+use Rattle.std.specs.List.{range_with_len}
+use Rattle.byte_words.specs.Numbers.{low_first, number_at}
+use Rattle.byte_words.specs.ByteMap.{Bytes}
+
+-- addresses that a call reads or writes
+pub record Span : Type 0 where
+  pub addr : ℕ
+  pub len : ℕ
+
+-- a byte in front of others, if all are there
+abbrev pub cons_byte : Option ℕ → Option (List ℕ) → Option (List ℕ)
+cons_byte (Some b) (Some bs) = Some (b ∷ bs)
+cons_byte (Some b) None = None
+cons_byte None bs = None
+
+-- the bytes from an address on, if all of them are there
+abbrev pub bytes_from : Bytes → ℕ → ℕ → Option (List ℕ)
+bytes_from m addr zero = Some []
+bytes_from m addr (suc len) = cons_byte (m addr) (bytes_from m (addr + 1) len)
+
+abbrev pub or_stray : Span → Option (List ℕ) → Result (List ℕ) Span
+or_stray span (Some bytes) = Ok bytes
+or_stray span None = Err span
+
+-- the bytes of a span, or the span itself where it strays. One that passes 2^32 does
+unfoldable pub read_span : Bytes → Span → Result (List ℕ) Span
+read_span m span = if nat_le (span.addr + span.len) (2 ^ 32) then or_stray span (bytes_from m span.addr span.len) else Err span
+
+-- what is read first, and what is read behind it
+abbrev pub followed : Result (List ℕ) Span → (List ℕ → Result (List ℕ) Span) → Result (List ℕ) Span
+followed (Err span) rest = Err span
+followed (Ok front) rest = behind front (rest front)
+  where
+    behind : List ℕ → Result (List ℕ) Span → Result (List ℕ) Span
+    behind front (Ok back) = Ok (front ++ back)
+    behind front (Err span) = Err span
+
+-- spans one behind the other
+abbrev pub read_spans : Bytes → List Span → Result (List ℕ) Span
+read_spans m [] = Ok []
+read_spans m (span ∷ spans) = followed (read_span m span) (λ front. read_spans m spans)
+
+-- the most bytes that one call moves
+abbrev pub most_moved : ℕ
+most_moved = 16777216
+
+-- the most pieces of one call, Linux's UIO_MAXIOV
+abbrev pub most_pieces : ℕ
+most_pieces = 1024
+
+-- struct iovec, of eight bytes: an address and a length
+abbrev pub piece_spans : ℕ → ℕ → List Span
+piece_spans at count = map (λ i. record { addr = (at + 8 * i) % 2 ^ 32; len = 8 }) (range_with_len 0 count)
+
+abbrev pub piece_at : List ℕ → ℕ → Span
+piece_at bytes i = record { addr = number_at low_first 4 bytes (8 * i); len = number_at low_first 4 bytes (8 * i + 4) }
+
+-- the pieces cut where their sum would pass a limit
+abbrev pub cut : ℕ → List Span → List Span
+cut limit [] = []
+cut limit (span ∷ spans) = record { addr = span.addr; len = min span.len limit } ∷ cut (limit - span.len) spans
+
+abbrev pub data_spans : ℕ → List ℕ → List Span
+data_spans count pieces = cut most_moved (map (piece_at pieces) (range_with_len 0 count))
+
+-- write: the data
+abbrev pub write_sent : Bytes → ℕ → ℕ → Result (List ℕ) Span
+write_sent m at len = read_span m (record { addr = at; len = min len most_moved })
+
+-- writev: the pieces, then the data; nothing where there are too many pieces
+abbrev pub writev_sent : Bytes → ℕ → ℕ → Result (List ℕ) Span
+writev_sent m at count =
+    if nat_lt most_pieces count then Ok []
+    else followed (read_spans m (piece_spans at count)) (λ pieces. read_spans m (data_spans count pieces))
+
+-- of a call with this number and these arguments; the other calls read nothing
+unfoldable pub sent : ℕ → List ℕ → Bytes → Result (List ℕ) Span
+sent number args m =
+    if number == 64 then write_sent m (slice_index args 1) (slice_index args 2)
+    else if number == 66 then writev_sent m (slice_index args 1) (slice_index args 2)
+    else Ok []

@@ -1,0 +1,21 @@
+//! What is kept of a run: the notes of calls, loads, ends and stray accesses, the errors that calls are refused with,
+//! and the line that each note is written as. Here stand these types, the limits of the log and the texts of its notes.
+//! No memory of a machine, no process list and no rule of any call.
+#![tactic(auto)]
+
+mod errno;
+mod how;
+mod laws;
+mod lines;
+mod log;
+mod note;
+
+pub use errno::Errno;
+pub use how::{How, Seen, SeenKind};
+pub use laws::refusals_are_words;
+pub use lines::line;
+pub use log::{Log, LogFault};
+pub use note::{Entry, Got, Note};
+
+#[cfg(test)]
+mod tests;

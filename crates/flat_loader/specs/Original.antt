@@ -1,0 +1,27 @@
+-- What a loader knows of a program, and the block of memory that it needs.
+use Rattle.std.specs.Prelude.{ℕ, ◌+◌, ◌*◌, ◌/◌}
+use Rattle.byte_words.specs.ByteMap.{Bytes}
+use Rattle.mmap_rules.specs.Space.{page_size}
+
+-- its image with image number 0 at a base, the image's bytes, where it starts, counted from the block's first byte, and
+-- the bytes of stack that its file asks for
+pub record Original : Type 0 where
+  pub image : ℕ → Bytes
+  pub size : ℕ
+  pub entry : ℕ
+  pub stack : ℕ
+
+-- image number 0 stands behind the 64 bytes of the flat file's header
+abbrev pub header_len : ℕ
+header_len = 64
+
+-- the stack's bytes: sp is a multiple of 16 (RISC-V calling convention)
+abbrev pub stack_len : Original → ℕ
+stack_len o = (o.stack + 15) / 16 * 16
+
+-- the block holds header, image and stack, in whole pages
+unfoldable pub block_pages : Original → ℕ
+block_pages o = (header_len + o.size + stack_len o + 4095) / page_size
+
+abbrev pub block_len : Original → ℕ
+block_len o = page_size * block_pages o

@@ -1,0 +1,2 @@
+//! Draft.
+#![tactic(auto)]

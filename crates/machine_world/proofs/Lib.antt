@@ -1,0 +1,2 @@
+-- Samples  the definitions, computed on whole runs
+mod Samples

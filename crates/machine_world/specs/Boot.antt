@@ -1,0 +1,83 @@
+-- The opening world: the start lines' programs, loaded in order.
+use Rattle.std.specs.Prelude.{ℕ, ◌+◌, ◌*◌, List, [], ◌∷◌, Option, Some, None, Result, Ok, Err, Bool, bytes_eq, slice_index, if◌then◌else◌}
+use Rattle.std.specs.List.{slice_index_or}
+use Rattle.page_runs.specs.declared.run.Run.{Run}
+use Rattle.page_runs.specs.Place.{place, first_of}
+use Rattle.call_log.specs.Notes.{load_note}
+use Rattle.mmap_rules.specs.Space.{memory_base, page_size}
+use Rattle.flat_loader.specs.Original.{Original, block_pages}
+use Rattle.flat_loader.specs.Frame.{frame_fits}
+use Rattle.flat_loader.specs.Begin.{Loading, begin_space, begin_regs}
+use Rattle.machine_world.specs.World.{Program, Rest, World}
+use Rattle.machine_world.specs.Free.{free}
+use Rattle.machine_world.specs.Event.{noted}
+
+-- a start line: its number, and the arguments, of which the first is the program's path
+pub record StartLine : Type 0 where
+  pub line : ℕ
+  pub args : List (List ℕ)
+
+-- why a start line fails: its path names no program, its frame doesn't fit into the stack, or no free run is long enough
+pub data BootFault : Type 0 where
+  bad_start : ℕ → BootFault
+  args_too_big : ℕ → BootFault
+  no_run : ℕ → BootFault
+
+pub record Found : Type 0 where
+  pub index : ℕ
+  pub original : Original
+
+-- the first program of a path, where the programs count from a number on
+abbrev pub found_from : ℕ → List ℕ → List Program → Option Found
+found_from i path [] = None
+found_from i path (p ∷ ps) = if bytes_eq p.path path then Some (record { index = i; original = p.original }) else found_from (i + 1) path ps
+
+abbrev pub path_of : StartLine → List ℕ
+path_of s = slice_index_or s.args 0 []
+
+-- a process of its own in a new space
+abbrev pub begun : World → ℕ → Loading → World
+begun w index l = noted (load_note (record { pid = w.next_pid; program = index; base = l.block; pages = block_pages l.original })) (record w {
+  procs = record { pid = w.next_pid; parent = 0; regs = begin_regs l; space = w.loads } ∷ w.procs;
+  spaces = record { id = w.loads; space = begin_space l } ∷ w.spaces;
+  loads = w.loads + 1;
+  next_pid = w.next_pid + 1;
+})
+
+-- the address of a page
+abbrev pub address_of : ℕ → ℕ
+address_of page = memory_base + page_size * page
+
+-- the first page of the run of which so many pages are taken
+abbrev pub taken : World → ℕ → List Run → Option ℕ
+taken w need runs = first_of runs (place w.rest.kind runs need)
+
+abbrev pub placed : World → StartLine → Found → Option ℕ → Result World BootFault
+placed w s f None = Err (no_run s.line)
+placed w s f (Some page) = Ok (begun w f.index (record { original = f.original; block = address_of page; args = s.args; env = [] }))
+
+abbrev pub fitting : World → StartLine → Found → Bool → Result World BootFault
+fitting w s f fits =
+    if fits then placed w s f (taken w (block_pages f.original) (free w)) else Err (args_too_big s.line)
+
+abbrev pub located : World → StartLine → Option Found → Result World BootFault
+located w s None = Err (bad_start s.line)
+located w s (Some f) = fitting w s f (frame_fits f.original s.args [])
+
+unfoldable pub started : World → StartLine → Result World BootFault
+started w s = located w s (found_from 0 (path_of s) w.rest.programs)
+
+abbrev pub then_started : Result World BootFault → (World → Result World BootFault) → Result World BootFault
+then_started (Ok w) more = more w
+then_started (Err fault) more = Err fault
+
+-- each in order, up to the first that fails
+unfoldable pub all_started : World → List StartLine → Result World BootFault
+all_started w [] = Ok w
+all_started w (s ∷ ss) = then_started (started w s) (λ now. all_started now ss)
+
+abbrev pub empty_world : Rest → World
+empty_world rest = record { procs = []; spaces = []; loads = 0; next_pid = 1; rest = rest; notes = []; events = 0 }
+
+unfoldable pub boot : Rest → List StartLine → Result World BootFault
+boot rest starts = all_started (empty_world rest) starts

@@ -1,0 +1,183 @@
+-- One event: one instruction or one system call of one process. An event changes the world and leaves a trace, or the
+-- process's next access strays, or the log has no room, or there is no such process.
+use Rattle.std.specs.Prelude.{ℕ, ◌+◌, ◌%◌, ◌^◌, ◌==◌, Bool, true, false, ◌||◌, nat_le, ◌&&◌, if◌then◌else◌, List, [], ◌∷◌, ◌++◌, map, length, Option, Some, None, Result, Ok, Err}
+use Rattle.byte_words.specs.ByteMap.{Bytes, with_bytes}
+use Rattle.rv32im_step.specs.declared.regs.Regs.{Regs}
+use Rattle.rv32im_step.specs.declared.access.Access.{Access}
+use Rattle.rv32im_step.specs.declared.access.AccessKind.TheVariants.{Call}
+use Rattle.rv32im_step.specs.Registers.{register, with_register, setting}
+use Rattle.rv32im_step.specs.Meaning.{Meaning, next, call, trap, refused, meaning}
+use Rattle.call_log.specs.declared.how.How.{How}
+use Rattle.call_log.specs.declared.how.How.TheVariants.{Exit, Signal}
+use Rattle.call_log.specs.Notes.{Written, CallEntry, Note, call_note, end_note, weight_of, has_room}
+use Rattle.call_log.specs.Sent.{Span, sent}
+use Rattle.vfork_exec.specs.Keyed.{find, change, without}
+use Rattle.mmap_rules.specs.Space.{Space, writable_in, may_use}
+use Rattle.machine_world.specs.World.{Process, LiveSpace, Rest, World, pid_of, id_of}
+use Rattle.machine_world.specs.Rows.{Ask, Reply, Row, replies, waits, row}
+
+-- what an event leaves for those who follow one space: the space, whether the event counts there, the calls made in it,
+-- and whether the turn is over
+pub record Trace : Type 0 where
+  pub space : ℕ
+  pub events : ℕ
+  pub entries : List CallEntry
+  pub over : Bool
+
+pub data Outcome : Type 0 where
+  went : World → Trace → Outcome
+  strays : Access → Outcome
+  full : Outcome
+  idle : Outcome
+
+-- ---- what changes
+
+-- one process in one space, with its registers, bytes and break as they are now
+abbrev pub with_state : World → Process → Regs → Bytes → ℕ → World
+with_state w p regs bytes brk = record w {
+  procs = change pid_of p.pid (λ q. record q { regs = regs }) w.procs;
+  spaces = change id_of p.space (λ s. record s { space = record s.space { bytes = bytes; brk = brk } }) w.spaces;
+}
+
+-- an event more
+abbrev pub counted : World → World
+counted w = record w { events = w.events + 1 }
+
+abbrev pub noted : Note → World → World
+noted note w = record w { notes = note ∷ w.notes }
+
+-- the process goes, and its space with all its mappings
+abbrev pub departed : World → Process → World
+departed w p = record w { procs = without pid_of p.pid w.procs; spaces = without id_of p.space w.spaces }
+
+unfoldable pub ended : World → Process → How → World
+ended w p how = noted (end_note p.pid how) (departed w p)
+
+-- ---- an instruction
+
+unfoldable pub stepped : World → Process → Space → Regs → Bytes → Outcome
+stepped w p s regs bytes =
+    went (counted (with_state w p regs bytes s.brk)) (record { space = p.space; events = 1; entries = []; over = false })
+
+unfoldable pub trapped : World → Process → ℕ → Outcome
+trapped w p signal =
+    went (counted (ended w p (Signal signal))) (record { space = p.space; events = 1; entries = []; over = true })
+
+-- ---- a system call: the number stands in a7, the arguments in a0 to a5, the reply in a0
+
+abbrev pub number_of : Regs → ℕ
+number_of regs = register regs.x 17
+
+abbrev pub args_of : Regs → List ℕ
+args_of regs = map (register regs.x) (10 ∷ 11 ∷ 12 ∷ 13 ∷ 14 ∷ 15 ∷ [])
+
+abbrev pub ask_of : World → Process → Space → List ℕ → Ask
+ask_of w p s bytes = record {
+  process = p;
+  space = s;
+  rest = w.rest;
+  number = number_of p.regs;
+  args = args_of p.regs;
+  sent = bytes;
+}
+
+abbrev pub entry_of : Ask → ℕ → List Written → CallEntry
+entry_of a value got = record {
+  pid = a.process.pid;
+  call = a.number;
+  args = a.args;
+  sent = a.sent;
+  reply = value;
+  got = got;
+}
+
+abbrev pub call_access : Process → Span → Access
+call_access p span = record { pc = p.regs.pc; addr = span.addr; len = span.len; kind = Call }
+
+-- each range of output must be writable, in order
+abbrev pub put_got : Bytes → (ℕ → Bool) → List Written → Result Bytes Span
+put_got m w [] = Ok m
+put_got m w (got ∷ gots) =
+    if may_use w got.addr (length got.bytes) then put_got (with_bytes m got.addr got.bytes) w gots
+    else Err (record { addr = got.addr; len = length got.bytes })
+
+-- the reply goes to a0, and the instruction after the call follows
+abbrev pub replied : Regs → ℕ → Regs
+replied regs value = setting regs 10 value
+
+-- the effect of a call whose output can be written
+unfoldable pub served : World → Ask → Reply → Bytes → Outcome
+served w a r bytes =
+    if has_room w.notes (weight_of a.sent r.got) then
+      went
+        (noted (call_note (entry_of a r.value r.got)) (counted (with_state (record w { rest = r.rest }) a.process (replied a.process.regs r.value) bytes r.brk)))
+        (record { space = a.process.space; events = 1; entries = entry_of a r.value r.got ∷ []; over = r.over })
+    else full
+
+abbrev pub put : World → Ask → Reply → Result Bytes Span → Outcome
+put w a r (Ok bytes) = served w a r bytes
+put w a r (Err span) = strays (call_access a.process span)
+
+-- a wait is an event without a note, and the call is made anew
+unfoldable pub waited : World → Ask → Outcome
+waited w a = went (counted w) (record { space = a.process.space; events = 0; entries = []; over = true })
+
+abbrev pub answered : World → Ask → Row → Outcome
+answered w a (replies r) = put w a r (put_got a.space.bytes (writable_in a.space.maps) r.got)
+answered w a waits = waited w a
+
+-- exit and exit_group: the lowest eight bits of the code
+abbrev pub exit_code : Ask → ℕ
+exit_code a = register a.process.regs.x 10 % 256
+
+unfoldable pub exited : World → Ask → Outcome
+exited w a =
+    if has_room w.notes (weight_of a.sent []) then
+      went
+        (ended (noted (call_note (entry_of a 0 [])) (counted w)) a.process (Exit (exit_code a)))
+        (record { space = a.process.space; events = 1; entries = entry_of a 0 [] ∷ []; over = true })
+    else full
+
+abbrev pub is_exit : ℕ → Bool
+is_exit number = number == 93 || number == 94
+
+-- by classes of calls
+abbrev pub classed : World → Ask → Outcome
+classed w a = if is_exit a.number then exited w a else answered w a (row a)
+
+abbrev pub asked : World → Process → Space → Result (List ℕ) Span → Outcome
+asked w p s (Ok bytes) = classed w (ask_of w p s bytes)
+asked w p s (Err span) = strays (call_access p span)
+
+-- the call of a process in its space
+unfoldable pub answer : World → Process → Space → Outcome
+answer w p s = asked w p s (sent (number_of p.regs) (args_of p.regs) s.bytes)
+
+-- ---- an event
+
+abbrev pub effect : World → Process → Space → Meaning → Outcome
+effect w p s (next regs bytes) = stepped w p s regs bytes
+effect w p s call = answer w p s
+effect w p s (trap signal) = trapped w p signal
+effect w p s (refused access) = strays access
+
+abbrev pub event_in : World → Process → Option LiveSpace → Outcome
+event_in w p None = idle
+event_in w p (Some s) = effect w p s.space (meaning p.regs s.space.bytes (writable_in s.space.maps))
+
+abbrev pub event_of : World → Option Process → Outcome
+event_of w None = idle
+event_of w (Some p) = event_in w p (find id_of p.space w.spaces)
+
+unfoldable pub event : World → ℕ → Outcome
+event w pid = event_of w (find pid_of pid w.procs)
+
+-- the first stray access of the process's next event, if it has one
+abbrev pub stray_in : Outcome → Option Access
+stray_in (went w t) = None
+stray_in (strays access) = Some access
+stray_in full = None
+stray_in idle = None
+
+unfoldable pub stray : World → ℕ → Option Access
+stray w pid = stray_in (event w pid)

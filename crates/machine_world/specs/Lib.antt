@@ -1,0 +1,12 @@
+-- World    all processes with their private spaces, and what is kept of a run
+-- Free     the free pages of a world
+-- Rows     the answer to each system call
+-- Event    one instruction or one system call of one process
+-- Turns    a list of quanta
+-- Boot     the opening world
+pub mod World
+pub mod Free
+pub mod Rows
+pub mod Event
+pub mod Turns
+pub mod Boot

@@ -1,0 +1,73 @@
+-- A run: turns by a list of quanta.
+use Rattle.std.specs.Prelude.{ℕ, zero, suc, ◌==◌, Bool, true, false, if◌then◌else◌, List, [], ◌∷◌, ◌++◌, map, length, Option, Some, None}
+use Rattle.rv32im_step.specs.declared.access.Access.{Access}
+use Rattle.rv32im_step.specs.declared.access.AccessKind.{AccessKind}
+use Rattle.rv32im_step.specs.declared.access.AccessKind.TheVariants as access
+use Rattle.call_log.specs.declared.how.Seen.{Seen}
+use Rattle.call_log.specs.declared.how.SeenKind.{SeenKind}
+use Rattle.call_log.specs.declared.how.SeenKind.TheVariants as seen
+use Rattle.call_log.specs.Notes.{stray_note}
+use Rattle.quantum_sched.specs.declared.Quantum.{Quantum}
+use Rattle.quantum_sched.specs.Picked.{picked}
+use Rattle.machine_world.specs.World.{World, pid_of}
+use Rattle.machine_world.specs.Event.{Trace, Outcome, went, strays, full, idle, noted, event}
+
+-- why a run stops: no process lives, the quanta are used up, the next access strays, the next call finds no room in the log
+pub data End : Type 0 where
+  all_ended : End
+  out_of_quanta : End
+  stray_at : ℕ → Access → End
+  log_full : End
+
+-- the world behind some events, their traces, and why the run stops there, if it does
+pub record Walk : Type 0 where
+  pub world : World
+  pub traces : List Trace
+  pub end : Option End
+
+abbrev pub seen_kind : AccessKind → SeenKind
+seen_kind access.Fetch = seen.Fetch
+seen_kind access.Load = seen.Load
+seen_kind access.Store = seen.Store
+seen_kind access.Call = seen.Call
+
+abbrev pub seen_of : Access → Seen
+seen_of a = record { pc = a.pc; addr = a.addr; len = a.len; kind = seen_kind a.kind }
+
+abbrev pub stays_at : World → Option End → Walk
+stays_at w end = record { world = w; traces = []; end = end }
+
+abbrev pub traced : Trace → Walk → Walk
+traced t walk = record walk { traces = t ∷ walk.traces }
+
+-- after one event, unless the turn is over, those that are left
+abbrev pub turned : (World → Walk) → World → ℕ → Outcome → Walk
+turned more w pid (went now t) = traced t (if t.over then stays_at now None else more now)
+turned more w pid (strays a) = stays_at (noted (stray_note pid (seen_of a)) w) (Some (stray_at pid a))
+turned more w pid full = stays_at w (Some log_full)
+turned more w pid idle = stays_at w None
+
+-- up to n events of one process
+unfoldable pub turn : ℕ → ℕ → World → Walk
+turn zero pid w = stays_at w None
+turn (suc n) pid w = turned (turn n pid) w pid (event w pid)
+
+-- what has been walked, and what comes behind it where the run goes on
+abbrev pub walked : List Trace → Walk → Walk
+walked traces walk = record walk { traces = traces ++ walk.traces }
+
+abbrev pub going_on : (World → Walk) → Walk → Walk
+going_on more walk = gone (walk.end)
+  where
+    gone : Option End → Walk
+    gone (Some end) = walk
+    gone None = walked walk.traces (more walk.world)
+
+abbrev pub quantum_turn : (World → Walk) → World → ℕ → Option ℕ → Walk
+quantum_turn more w count None = stays_at w (Some all_ended)
+quantum_turn more w count (Some pid) = going_on more (turn count pid w)
+
+-- before each quantum and behind the last one the run stops where no process lives
+unfoldable pub turns : List Quantum → World → Walk
+turns [] w = stays_at w (Some (if length w.procs == 0 then all_ended else out_of_quanta))
+turns (q ∷ qs) w = quantum_turn (turns qs) w q.count (picked q.pick (map pid_of w.procs))

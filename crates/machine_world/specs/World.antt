@@ -1,0 +1,48 @@
+-- The world that the machine stands for: every program has a private space of its own.
+use Rattle.std.specs.Prelude.{ℕ, List}
+use Rattle.rv32im_step.specs.declared.regs.Regs.{Regs}
+use Rattle.page_runs.specs.declared.place.Kind.{Kind}
+use Rattle.call_log.specs.Notes.{Note}
+use Rattle.mmap_rules.specs.Space.{Space}
+use Rattle.flat_loader.specs.Original.{Original}
+
+-- a program that can be started, by its path
+pub record Program : Type 0 where
+  pub path : List ℕ
+  pub original : Original
+
+-- a process runs in one space
+pub record Process : Type 0 where
+  pub pid : ℕ
+  pub parent : ℕ
+  pub regs : Regs
+  pub space : ℕ
+
+-- the space of the load note with this number, from 0
+pub record LiveSpace : Type 0 where
+  pub id : ℕ
+  pub space : Space
+
+-- what no space holds: the pages of memory, how free runs are chosen, the programs, and what was written to the console
+pub record Rest : Type 0 where
+  pub pages : ℕ
+  pub kind : Kind
+  pub programs : List Program
+  pub console : List ℕ
+
+-- processes, spaces and notes stand newest first; `loads` is the number of load notes, and `next_pid` one more than the
+-- last pid that was given
+pub record World : Type 0 where
+  pub procs : List Process
+  pub spaces : List LiveSpace
+  pub loads : ℕ
+  pub next_pid : ℕ
+  pub rest : Rest
+  pub notes : List Note
+  pub events : ℕ
+
+abbrev pub pid_of : Process → ℕ
+pid_of p = p.pid
+
+abbrev pub id_of : LiveSpace → ℕ
+id_of s = s.id

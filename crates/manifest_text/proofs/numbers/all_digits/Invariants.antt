@@ -1,0 +1,8 @@
+-- So far each is a digit.
+use Rattle.std.proofs.Common.{◌≡◌, true, take}
+use Rattle.std.specs.List.{list_all}
+use Rattle.manifest_text.specs.Numbers.{is_digit}
+use Rattle.manifest_text.proofs.numbers.all_digits.Given as goal
+
+abbrev pub invariant-loop-byte : goal.invariant-loop-byte
+invariant-loop-byte l = list_all is_digit (take l.byte-index l.text) ≡ true

@@ -1,0 +1,124 @@
+//! The manifest so far.
+
+ghost use Rattle.std.specs.Prelude.{◌≡◌, [], ◌∷◌, IfOk};
+ghost use Rattle.byte_words.specs.Search.{first};
+ghost use Rattle.manifest_text.specs.Manifest.{draft_of, late_fault, whole};
+ghost use Rattle.manifest_text.specs.Reading.{said_value, draft_value, added, Reads};
+
+use crate::fault::{ManifestFault, ManifestRefusal};
+use crate::line::Spoken;
+use crate::manifest::{Dump, Item, Manifest, Start};
+use quantum_sched::Quantum;
+use std::alloc::{AllocError, Global};
+
+/// The most lines that bring in a file.
+const MOST_ITEMS: usize = 4096;
+
+/// The most start lines.
+const MOST_STARTS: usize = 64;
+
+/// The most dump lines.
+const MOST_DUMPS: usize = 64;
+
+/// The most quanta of all lines.
+const MOST_QUANTA: usize = 65_536;
+
+/// The pages of memory where no line says them.
+const DEFAULT_PAGES: u32 = 256;
+
+/// What the lines so far have said.
+#[derive(Debug, Drop)]
+pub(crate) struct Draft {
+    pub pages: Option<u32>,
+    pub items: Vec<Item>,
+    pub starts: Vec<Start>,
+    pub quanta: Vec<Quantum>,
+    pub count: Option<u32>,
+    pub dumps: Vec<Dump>,
+}
+
+impl Draft {
+    #[tactic(auto, unfolding(crate::specs::Manifest::draft_of))]
+    pub fn new(alloc: Global) -> Draft
+        ensures { draft_value result ≡ draft_of [] }
+    {
+        Draft {
+            pages: None,
+            items: Vec::new(alloc),
+            starts: Vec::new(alloc),
+            quanta: Vec::new(alloc),
+            count: None,
+            dumps: Vec::new(alloc),
+        }
+    }
+
+    /// The fault of a line behind those so far.
+    #[tactic(auto, unfolding(crate::specs::Manifest::late_fault))]
+    pub fn late_fault(&self, said: &Spoken) -> Option<ManifestFault>
+        ensures { result ≡ late_fault (draft_value self.now) (said_value said.now) }
+    {
+        match said {
+            Spoken::Nothing => None,
+            Spoken::Memory(_) => fault_if(self.pages.is_some(), ManifestFault::Repeated),
+            Spoken::Item(_) => fault_if(self.items.len() >= MOST_ITEMS, ManifestFault::TooMany),
+            Spoken::Start(_) => fault_if(self.starts.len() >= MOST_STARTS, ManifestFault::TooMany),
+            Spoken::Quanta(more) => {
+                let room = MOST_QUANTA.saturating_sub(self.quanta.len());
+                fault_if(
+                    self.quanta.len() > MOST_QUANTA || more.len() > room,
+                    ManifestFault::TooMany,
+                )
+            }
+            Spoken::Repeat(_) => fault_if(self.count.is_some(), ManifestFault::Repeated),
+            Spoken::Dump(_) => fault_if(self.dumps.len() >= MOST_DUMPS, ManifestFault::TooMany),
+        }
+    }
+
+    /// Adds what a line says.
+    pub fn add(&mut self, said: Spoken) -> Result<(), AllocError>
+        ensures { IfOk result (λ _. draft_value self.new ≡ added (draft_value self.old) (said_value said)) }
+    {
+        match said {
+            Spoken::Nothing => {}
+            Spoken::Memory(pages) => self.pages = Some(pages),
+            Spoken::Item(item) => self.items.push(item)?,
+            Spoken::Start(start) => self.starts.push(start)?,
+            Spoken::Quanta(quanta) => self.quanta.extend_from_slice(&quanta)?,
+            Spoken::Repeat(count) => self.count = Some(count),
+            Spoken::Dump(dump) => self.dumps.push(dump)?,
+        }
+        Ok(())
+    }
+
+    /// The manifest, if it is a whole one.
+    pub fn whole(self) -> Result<Manifest, ManifestRefusal>
+        ensures { Reads (whole (draft_value self)) result }
+    {
+        if !self.starts.is_empty() && self.quanta.is_empty() {
+            return Err(ManifestRefusal::At {
+                line: 0,
+                fault: ManifestFault::NoQuanta,
+            });
+        }
+        if self.starts.is_empty() {
+            return Err(ManifestRefusal::At {
+                line: 0,
+                fault: ManifestFault::NoStart,
+            });
+        }
+        Ok(Manifest {
+            pages: self.pages.unwrap_or(DEFAULT_PAGES),
+            items: self.items,
+            starts: self.starts,
+            quanta: self.quanta,
+            repeat: self.count.unwrap_or(1),
+            dumps: self.dumps,
+        })
+    }
+}
+
+fn fault_if(holds: bool, fault: ManifestFault) -> Option<ManifestFault>
+    ensures { result ≡ first ((holds, fault) ∷ []) }
+{
+    if holds { Some(fault) } else { None }
+}

@@ -1,0 +1,20 @@
+//! The manifest of a run: a text of lines, read whole or refused with its first fault. Here stand the manifest's values,
+//! the reading of its lines, and the faults. No file is loaded, and no path is looked up.
+#![tactic(auto)]
+
+mod draft;
+mod fault;
+mod keyword;
+mod line;
+mod manifest;
+mod numbers;
+mod paths;
+mod pieces;
+mod reading;
+
+pub use fault::{ManifestFault, ManifestRefusal};
+pub use manifest::{Dump, Item, ItemKind, Manifest, Start};
+pub use reading::read;
+
+#[cfg(test)]
+mod tests;

@@ -1,0 +1,57 @@
+//! What a manifest says.
+
+use quantum_sched::Quantum;
+
+/// What a line brings in.
+#[derive(Clone, Copy, Debug, PartialEq, Eq)]
+pub enum ItemKind {
+    /// A program made from an ELF file.
+    Elf,
+    /// A program that is a flat file.
+    Flat,
+}
+
+/// A line that brings in a file of the host.
+#[derive(Debug, Drop)]
+pub struct Item {
+    /// The line's number, from 1.
+    pub line: u32,
+    pub kind: ItemKind,
+    /// Where the program stands in the machine.
+    pub path: Vec<u8>,
+    /// The host's name of the file.
+    pub name: Vec<u8>,
+    /// The bytes of stack of an ELF file's program; 0 for a flat file, which has its own.
+    pub stack: u32,
+}
+
+/// A line that starts a process.
+#[derive(Debug, Drop)]
+pub struct Start {
+    /// The line's number, from 1.
+    pub line: u32,
+    /// The process's arguments; the first one is the program's path.
+    pub args: Vec<Vec<u8>>,
+}
+
+/// Bytes of a process that are shown after the run.
+#[derive(Clone, Copy, Debug, PartialEq, Eq)]
+pub struct Dump {
+    pub pid: u32,
+    pub addr: u32,
+    /// In bytes, 1 to 4096.
+    pub len: u32,
+}
+
+/// A whole manifest.
+#[derive(Debug, Drop)]
+pub struct Manifest {
+    /// The pages of memory.
+    pub pages: u32,
+    pub items: Vec<Item>,
+    pub starts: Vec<Start>,
+    pub quanta: Vec<Quantum>,
+    /// How often the quanta are gone through.
+    pub repeat: u32,
+    pub dumps: Vec<Dump>,
+}

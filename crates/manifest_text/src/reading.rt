@@ -1,0 +1,56 @@
+//! The reading of a manifest.
+
+ghost use Rattle.std.specs.Prelude.{◌≡◌, ◌-◌, ◌^◌, ◌<◌, length};
+ghost use Rattle.manifest_text.specs.Values.{texts};
+ghost use Rattle.manifest_text.specs.Manifest.{numbered, manifest_of};
+ghost use Rattle.manifest_text.specs.Reading.{draft_value, AddsLine, Drafts, Reads};
+
+use crate::draft::Draft;
+use crate::fault::ManifestRefusal;
+use crate::line::read_line;
+use crate::manifest::Manifest;
+use crate::pieces::pieces;
+use std::alloc::Global;
+
+/// The manifest that the bytes spell, or the first fault: of the first line that has one, the first
+/// in the order of `ManifestFault`; behind all lines those of line 0.
+#[tactic(auto, unfolding(crate::specs::Manifest::manifest_of, crate::specs::Manifest::lines_of))]
+pub fn read(alloc: Global, bytes: &[u8]) -> Result<Manifest, ManifestRefusal>
+    requires { length bytes.now < 2 ^ 32 - 1 }
+    ensures { Reads (manifest_of bytes.now) result }
+{
+    let lines = pieces(alloc, bytes, b'\n')?;
+    let draft = read_lines(alloc, &lines)?;
+    draft.whole()
+}
+
+fn read_lines(alloc: Global, lines: &[&[u8]]) -> Result<Draft, ManifestRefusal>
+    requires { length lines.now < 2 ^ 32 }
+    ensures { Drafts (numbered 1 (texts lines.now)) result }
+{
+    let mut draft = Draft::new(alloc);
+    for (place, line) in lines.iter().enumerate() {
+        add_line(alloc, &mut draft, place as u32 + 1, line)?;
+    }
+    Ok(draft)
+}
+
+/// Adds the line of this number to the manifest so far.
+fn add_line(
+    alloc: Global,
+    draft: &mut Draft,
+    number: u32,
+    text: &[u8],
+) -> Result<(), ManifestRefusal>
+    ensures { AddsLine (draft_value draft.old) (record { number = number; text = text.now }) (draft_value draft.new) result }
+{
+    let said = read_line(alloc, number, text)?;
+    if let Some(fault) = draft.late_fault(&said) {
+        return Err(ManifestRefusal::At {
+            line: number,
+            fault,
+        });
+    }
+    draft.add(said)?;
+    Ok(())
+}

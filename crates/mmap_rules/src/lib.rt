@@ -1,0 +1,14 @@
+//! One program's private space: its mappings, its break, and the table that says of each page of memory
+//! which bytes are its own.
+//!
+//! What may stand here: what a space may use, and how mappings come and go. What may not: bytes of
+//! memory, instructions, and the other processes.
+#![tactic(auto)]
+
+mod mapping;
+mod owners;
+mod steps;
+
+pub use mapping::{Mapping, Range};
+pub use owners::{Owners, PageOwner};
+pub use steps::Steps;

@@ -1,0 +1,2 @@
+-- Held  which pages are held after a change of one region
+pub mod Held

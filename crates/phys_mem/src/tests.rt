@@ -1,0 +1,42 @@
+use super::*;
+use std::alloc::Global;
+use std::test::*;
+
+/// Each call once. Bytes are copied over the end of a page, a word is written over some of them, and
+/// three are cleared.
+#[test]
+fn bytes_over_a_page(rt: HostRuntime) -> Result<(), Fail> {
+    let mut memory = PhysMem::new(rt.alloc(), 2)?;
+    assert_eq!(rt; memory.pages(), 2);
+    assert!(rt; memory.as_slice().len() == 8192);
+    if memory.holds(0x8000_0ffd, 8) {
+        memory.copy_in(0x8000_0ffd, &[1, 2, 3, 4, 5, 6, 7, 8]);
+        memory.set32(0x8000_0ffe, 0x0d0c_0b0a);
+        memory.set8(0x8000_1004, 0xff);
+        memory.clear(0x8000_1001, 1);
+        assert_eq!(rt; memory.get32(0x8000_0ffe), 0x000c_0b0a);
+        assert_eq!(rt; memory.get(0x8000_1003, 2), 0xff07);
+        let mut bytes = [0; 8];
+        memory.copy_out(0x8000_0ffd, &mut bytes);
+        assert_eq!(rt; bytes, [1, 10, 11, 12, 0, 6, 7, 0xff]);
+    }
+    Ok(())
+}
+
+/// The ends of memory, and the end of the address space.
+#[test]
+fn ranges(rt: HostRuntime) -> Result<(), Fail> {
+    let memory = PhysMem::new(rt.alloc(), 1)?;
+    for (at, len, want) in [
+        (0x7fff_ffff, 1, false),
+        (0x8000_0000, 4096, true),
+        (0x8000_0000, 4097, false),
+        (0x8000_1000, 0, true),
+        (0x8000_1001, 0, false),
+        (0xffff_ffff, 1, false),
+        (0x8000_0001, 0xffff_ffff, false),
+    ] {
+        assert_eq!(rt; memory.holds(at, len), want, "{at:#x} {len}");
+    }
+    Ok(())
+}

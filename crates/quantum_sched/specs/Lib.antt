@@ -1,0 +1,2 @@
+-- Picked  the process of a turn
+pub mod Picked

@@ -1,0 +1,9 @@
+-- An access inside the window is allowed.
+use Rattle.std.proofs.Common.{◌<◌, sym, arith}
+use Rattle.region_watch.proofs.Accesses.{in_window}
+use Rattle.region_watch.proofs.watch.Watch.allows.Goals as goal
+
+pub returns-then-access-self-clause-answer : goal.returns-then-access-self-clause-answer
+returns-then-access-self-clause-answer c =
+    let some : 0 < c.args.self.now.reach = omega (arith, c.if-access-self.true) in
+    sym (in_window _ _ c.args.self.now.from c.args.self.now.reach _ _ (c.args.self.now.window some) (omega arith) (omega arith) c.if-access-self.true c.requires)

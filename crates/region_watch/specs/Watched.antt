@@ -1,0 +1,8 @@
+-- What a watch has seen.
+use Rattle.std.specs.Prelude.{Option}
+use Rattle.rv32im_step.specs.declared.access.Access.{Access}
+use Rattle.region_watch.specs.declared.watch.Watch.{Watch}
+
+-- the first stray access
+abbrev pub first_stray : Watch → Option Access
+first_stray w = w.first

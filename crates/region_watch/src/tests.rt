@@ -1,0 +1,181 @@
+//! One program's accesses to two pages. It owns the first from byte 64 on, and may only read the second.
+
+ghost use Rattle.std.specs.Prelude.{◌≡◌, ◌*◌, true, IfOk, length};
+ghost use Rattle.mmap_rules.specs.Owners.{owns};
+ghost use Rattle.mmap_rules.specs.Space.{may_use};
+
+use super::*;
+use mmap_rules::{Owners, PageOwner};
+use phys_mem::{BASE, PhysMem};
+use rv32im_step::{Access, AccessKind, Bus, Regs, Stop};
+use std::alloc::{AllocError, Global};
+use std::process::Abort;
+use std::test::*;
+
+/// Two pages with four instructions at address 0x80000080: `li a0, 122`, `addi a1, sp, 96`,
+/// `sb a0, 0(a1)`, `j .`.
+fn memory(alloc: Global) -> Result<PhysMem, AllocError>
+    ensures { IfOk result (λ m. length m ≡ 4096 * 2) }
+{
+    let mut mem = PhysMem::new(alloc, 2)?;
+    if mem.holds(BASE + 0x80, 16) {
+        mem.copy_in(
+            BASE + 0x80,
+            &[
+                0x13, 5, 0xa0, 7, 0x93, 5, 1, 6, 0x23, 0x80, 0xa5, 0, 0x6f, 0, 0, 0,
+            ],
+        );
+    }
+    Ok(mem)
+}
+
+fn table(alloc: Global) -> Result<Owners, AllocError>
+    ensures { IfOk result (λ o. length o ≡ 2) }
+{
+    let block = PageOwner {
+        from: 64,
+        write: true,
+        uses: 1,
+    };
+    let copy = PageOwner {
+        from: 0,
+        write: false,
+        uses: 1,
+    };
+    Ok(Owners::of(Vec::from_array(alloc, [block, copy])?))
+}
+
+/// The block's own bytes from an address on, or no window where they aren't all own.
+#[tactic(auto, unfolding(mmap_rules::specs::Space::may_use))]
+fn window(owners: &Owners, from: u32, size: u32) -> Window
+    ensures { may_use (owns owners.now true) result.from result.size ≡ true }
+{
+    if owners.own(from, size, true) {
+        Window { from, size }
+    } else {
+        Window { from: 0, size: 0 }
+    }
+}
+
+/// Loads and stores, with a window of that size.
+fn expect_accesses(rt: &impl Abort, alloc: Global, size: u32) -> Result<(), Fail> {
+    let mut mem = memory(alloc)?;
+    let owners = table(alloc)?;
+    let mut watch = Watch::new(&mut mem, &owners, window(&owners, BASE + 64, size));
+    for (addr, len, load, store) in [
+        (BASE + 63, 1, false, false),
+        (BASE + 62, 4, false, false),
+        (BASE + 64, 4, true, true),
+        (BASE + 0xffd, 2, true, true),
+        (BASE + 0xffe, 4, true, false),
+        (BASE + 0x1000, 1, true, false),
+        (BASE + 0x1ffc, 4, true, false),
+        (BASE + 0x1ffd, 4, false, false),
+        (0x7fff_fffe, 4, false, false),
+        (0xffff_fffe, 4, false, false),
+    ] {
+        if len == 1 || len == 2 || len == 4 {
+            assert_eq!(rt;
+                watch.load(0, addr, len).is_ok(),
+                load,
+                "load {addr:#x} {len}"
+            );
+            assert_eq!(rt;
+                watch.store(0, addr, len, 0x5555_5555).is_ok(),
+                store,
+                "store {addr:#x} {len}"
+            );
+        }
+    }
+    Ok(())
+}
+
+/// The window changes no answer.
+#[test]
+fn accesses(rt: HostRuntime) -> Result<(), Fail> {
+    expect_accesses(&rt, rt.alloc(), 0)?;
+    expect_accesses(&rt, rt.alloc(), 4032)
+}
+
+/// Ranges of calls, and the first access that strays.
+#[test]
+fn ranges(rt: HostRuntime) -> Result<(), Fail> {
+    let mut mem = memory(rt.alloc())?;
+    let owners = table(rt.alloc())?;
+    let mut watch = Watch::new(&mut mem, &owners, window(&owners, BASE + 64, 4032));
+    for (addr, len, reads, writes) in [(0, 0, true, true), (BASE + 64, 4032, true, true)] {
+        assert_eq!(rt; watch.reads(0, addr, len).is_ok(), reads, "{addr:#x} {len}");
+        assert_eq!(rt;
+            watch.writes(0, addr, len).is_ok(),
+            writes,
+            "{addr:#x} {len}"
+        );
+    }
+    assert_eq!(rt; watch.first(), None);
+    let call = |pc: u32, addr: u32, len: u32| Access {
+        pc,
+        addr,
+        len,
+        kind: AccessKind::Call,
+    };
+    assert_eq!(rt; watch.reads(8, BASE + 64, 8128), Ok(()));
+    assert_eq!(rt;
+        watch.writes(8, BASE + 64, 4033),
+        Err(call(8, BASE + 64, 4033))
+    );
+    assert_eq!(rt;
+        watch.reads(12, BASE + 64, 8129),
+        Err(call(12, BASE + 64, 8129))
+    );
+    assert_eq!(rt; watch.first(), Some(call(8, BASE + 64, 4033)));
+    Ok(())
+}
+
+/// Up to so many instructions, with sp as it is given.
+fn expect_run(
+    rt: &impl Abort,
+    alloc: Global,
+    sp: u32,
+    count: u32,
+    want: Progress,
+    byte: u8,
+) -> Result<(), Fail> {
+    let mut mem = memory(alloc)?;
+    let owners = table(alloc)?;
+    let mut x = [0; 32];
+    x[2] = sp;
+    let mut regs = Regs { pc: BASE + 0x80, x };
+    {
+        let mut watch = Watch::new(&mut mem, &owners, window(&owners, BASE + 64, 4032));
+        assert_eq!(rt; run_steps(&mut regs, &mut watch, count), want);
+    }
+    assert_eq!(rt; regs.pc, BASE + 0x80 + 4 * want.done.min(3));
+    if mem.holds(sp, 97) {
+        assert_eq!(rt; mem.get8(sp + 96), byte);
+    }
+    Ok(())
+}
+
+/// A store into the block, and one behind it.
+#[test]
+fn runs(rt: HostRuntime) -> Result<(), Fail> {
+    let all = |done: u32| Progress {
+        done,
+        stop: Stop::Next,
+    };
+    expect_run(&rt, rt.alloc(), BASE + 0xf9f, 0, all(0), 0)?;
+    expect_run(&rt, rt.alloc(), BASE + 0xf9f, 3, all(3), 0x7a)?;
+    expect_run(&rt, rt.alloc(), BASE + 0xf9f, 5, all(5), 0x7a)?;
+    expect_run(&rt, rt.alloc(), BASE + 0xfa0, 2, all(2), 0)?;
+    let stray = Access {
+        pc: BASE + 0x88,
+        addr: BASE + 0x1000,
+        len: 1,
+        kind: AccessKind::Store,
+    };
+    let refused = Progress {
+        done: 2,
+        stop: Stop::Refused(stray),
+    };
+    expect_run(&rt, rt.alloc(), BASE + 0xfa0, 5, refused, 0)
+}

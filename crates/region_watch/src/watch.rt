@@ -1,0 +1,219 @@
+//! A bus that refuses stray accesses.
+
+ghost use Rattle.std.specs.Prelude.{◌≡◌, ◌+◌, ◌*◌, ◌<◌, ◌≤◌, true, false, length, None, is_ok, IfErr};
+ghost use Rattle.std.proofs.Common.{refl, ◌∙◌};
+ghost use Rattle.mmap_rules.specs.Owners.{owns};
+ghost use Rattle.mmap_rules.specs.Space.{may_use};
+ghost use Rattle.region_watch.specs.Private.{own_bytes, frozen};
+ghost use Rattle.region_watch.specs.Strays.{call_of, noted, noted_all, noted_on};
+
+use mmap_rules::Owners;
+use phys_mem::PhysMem;
+use rv32im_step::{Access, AccessKind, Bus};
+
+/// The own bytes of the program's block: those from `from` on, `size` of them. All of them may be written.
+/// It may be smaller than the block, and empty.
+#[derive(Clone, Copy, Debug, PartialEq, Eq)]
+pub struct Window {
+    /// The first address.
+    pub from: u32,
+    /// In bytes.
+    pub size: u32,
+}
+
+/// Physical memory as one program may use it, by its table of own bytes. An access is stray if one of its
+/// bytes isn't own, or is written and may not be, or if its range passes 2^32; a range of length 0 never
+/// is. A stray access is refused and changes nothing.
+#[derive(Drop)]
+pub struct Watch<'a> {
+    /// The memory of all programs.
+    pub mem: &'a mut PhysMem,
+    /// The table of the one that is watched.
+    pub owners: &'a Owners,
+    /// Where the window begins.
+    from: u32,
+    /// How many addresses from there on begin an access of 4 bytes within the window.
+    reach: u32,
+    first: Option<Access>,
+    ghost paged: { length mem.now ≡ 4096 * length owners.now },
+    ghost window: { 0 < reach → may_use (owns owners.now true) from (reach + 3) ≡ true },
+}
+
+/// The look into the table stands apart, and takes no watch, so that a watch's fields stay in registers.
+#[inline(never)]
+fn own(owners: &Owners, addr: u32, len: u32, write: bool) -> bool
+    ensures { result ≡ may_use (owns owners.now write) addr len }
+{
+    owners.own(addr, len, write)
+}
+
+impl<'a> Watch<'a> {
+    ghost use Rattle.region_watch.specs.Watched.{first_stray};
+
+    /// A watch that has seen no access. The table has an entry for each page of memory, and names the bytes
+    /// of the window as own and writable.
+    #[inline]
+    pub fn new(mem: &'a mut PhysMem, owners: &'a Owners, window: Window) -> Watch<'a>
+        requires paged { length mem.old ≡ 4096 * length owners.now }
+        requires window { may_use (owns owners.now true) window.from window.size ≡ true }
+        ensures same_reference { result.mem.ghost_name ≡ mem.entry.ghost_name }
+        ensures mem { result.mem.now ≡ mem.old }
+        ensures owners { result.owners.now ≡ owners.now }
+        ensures first { first_stray result ≡ None }
+    {
+        Watch {
+            mem,
+            owners,
+            from: window.from,
+            reach: window.size.saturating_sub(3),
+            first: None,
+        }
+    }
+
+    /// Whether the table allows an access. The first that it doesn't is noted.
+    #[inline]
+    fn looks_up(&mut self, access: Access, write: bool) -> bool
+        ensures answer { result ≡ may_use (owns self.old.owners.now write) access.addr access.len }
+        ensures mem { self.new.mem ≡ self.old.mem }
+        ensures owners { self.new.owners ≡ self.old.owners }
+        ensures first { first_stray self.new ≡ noted (first_stray self.old) access result }
+    {
+        let allowed = own(self.owners, access.addr, access.len, write);
+        if !allowed && self.first.is_none() {
+            self.first = Some(access);
+        }
+        allowed
+    }
+
+    /// Whether an access of an instruction is allowed: the window comes before the table.
+    #[inline]
+    fn allows(&mut self, access: Access, write: bool) -> bool
+        requires { access.len ≤ 4 }
+        ensures answer { result ≡ may_use (owns self.old.owners.now write) access.addr access.len }
+        ensures mem { self.new.mem ≡ self.old.mem }
+        ensures owners { self.new.owners ≡ self.old.owners }
+        ensures first { first_stray self.new ≡ noted (first_stray self.old) access result }
+    {
+        if access.addr.wrapping_sub(self.from) < self.reach {
+            return true;
+        }
+        self.looks_up(access, write)
+    }
+
+    /// Whether the system call at `pc` may read a range.
+    pub fn reads(&mut self, pc: u32, addr: u32, len: u32) -> Result<(), Access>
+        ensures answer { is_ok result ≡ may_use (owns self.old.owners.now false) addr len }
+        ensures refused { IfErr result (λ access. access ≡ call_of pc addr len) }
+        ensures mem { self.new.mem ≡ self.old.mem }
+        ensures owners { self.new.owners ≡ self.old.owners }
+        ensures first { first_stray self.new ≡ noted (first_stray self.old) (call_of pc addr len) (is_ok result) }
+    {
+        let access = call_access(pc, addr, len);
+        if self.looks_up(access, false) {
+            Ok(())
+        } else {
+            Err(access)
+        }
+    }
+
+    /// Whether the system call at `pc` may write a range.
+    pub fn writes(&mut self, pc: u32, addr: u32, len: u32) -> Result<(), Access>
+        ensures answer { is_ok result ≡ may_use (owns self.old.owners.now true) addr len }
+        ensures refused { IfErr result (λ access. access ≡ call_of pc addr len) }
+        ensures mem { self.new.mem ≡ self.old.mem }
+        ensures owners { self.new.owners ≡ self.old.owners }
+        ensures first { first_stray self.new ≡ noted (first_stray self.old) (call_of pc addr len) (is_ok result) }
+    {
+        let access = call_access(pc, addr, len);
+        if self.looks_up(access, true) {
+            Ok(())
+        } else {
+            Err(access)
+        }
+    }
+
+    /// The first stray access that this watch saw.
+    pub fn first(&self) -> Option<Access>
+        ensures { result ≡ first_stray self.now }
+    {
+        self.first
+    }
+}
+
+/// The access of a system call.
+fn call_access(pc: u32, addr: u32, len: u32) -> Access
+    ensures { result ≡ call_of pc addr len }
+{
+    Access {
+        pc,
+        addr,
+        len,
+        kind: AccessKind::Call,
+    }
+}
+
+/// What a watch refuses is outside its own bytes, or may not be written: exactly the stray accesses.
+impl Bus for Watch<'_> {
+    ghost use Rattle.region_watch.specs.Watched.{first_stray};
+
+    ghost byte = { λ s. own_bytes s.owners.now s.mem.now };
+
+    ghost writable = { λ s. owns s.owners.now true };
+
+    ghost did = { λ s xs t. (t.mem.ghost_name ≡ s.mem.ghost_name) × (t.owners.now ≡ s.owners.now)
+        × (frozen t.owners.now t.mem.now ≡ frozen s.owners.now s.mem.now) × (length t.mem.now ≡ length s.mem.now)
+        × (first_stray t ≡ noted_all (first_stray s) xs) };
+
+    ghost did_none = { λ a. (refl, refl, refl, refl, refl) };
+
+    ghost did_more = { λ a b c xs ys p q. (q.0 ∙ p.0, q.1 ∙ p.1, q.2 ∙ p.2, q.3 ∙ p.3, noted_on (first_stray a) (first_stray b) (first_stray c) xs ys p.4 q.4) };
+
+    #[inline]
+    #[tactic(auto, using(crate::proofs::Accesses::accesses))]
+    fn fetch(&mut self, pc: u32) -> Result<u32, Access> {
+        let access = Access {
+            pc,
+            addr: pc,
+            len: 4,
+            kind: AccessKind::Fetch,
+        };
+        if self.allows(access, false) {
+            Ok(self.mem.get(pc, 4))
+        } else {
+            Err(access)
+        }
+    }
+
+    #[inline]
+    #[tactic(auto, using(crate::proofs::Accesses::accesses))]
+    fn load(&mut self, pc: u32, addr: u32, len: u32) -> Result<u32, Access> {
+        let access = Access {
+            pc,
+            addr,
+            len,
+            kind: AccessKind::Load,
+        };
+        if self.allows(access, false) {
+            Ok(self.mem.get(addr, len))
+        } else {
+            Err(access)
+        }
+    }
+
+    #[inline]
+    #[tactic(auto, using(crate::proofs::Accesses::accesses))]
+    fn store(&mut self, pc: u32, addr: u32, len: u32, value: u32) -> Result<(), Access> {
+        let access = Access {
+            pc,
+            addr,
+            len,
+            kind: AccessKind::Store,
+        };
+        if self.allows(access, true) {
+            self.mem.set(addr, len, value);
+            Ok(())
+        } else {
+            Err(access)
+        }
+    }
+}

@@ -1,0 +1,12 @@
+//! The list of processes: who lives, who started whom, and what is kept of each. Here stand the list `Procs`, which is
+//! generic in what is kept of a process, and the words on lists with numbers of their own. No registers, no memory and
+//! no turn.
+#![tactic(auto)]
+
+mod entry;
+mod procs;
+
+pub use procs::Procs;
+
+#[cfg(test)]
+mod tests;
