@@ -117,7 +117,7 @@ module _ (c : Call) (ending : Ending) (t : IsTaken c ending) where
 
 -- what was cut short isn't empty
 not_empty : (old new : Option (List ℕ)) (text : List ℕ) → TakesPrefix old new text → text ≡ [] → ⊥
-not_empty old new text (rest, some, sent) empty = let same = ap length (sym empty ∙ sent.whole) in omega (arith, same, length-append sent.front rest, some)
+not_empty old new text (rest, some, sent) empty = let same = ap length (sym empty ∙ sent.whole) in omega (arith, same, length-append sent.prefix rest, some)
 
 failure_is_early : (last : Request) → (failure_ending last).out ≡ []
 failure_is_early (load name) = refl
