@@ -23,7 +23,7 @@ pub fn read_arguments(rt: &(impl Env + AllocGlobal)) -> io::Result<Vec<String>> 
 
 /// All arguments but the first, which is the program's name.
 fn arguments_after_name(alloc: Global, arguments: env::Args) -> Result<Vec<String>, AllocError>
-    ensures { IfOk result (λ arguments. arguments.items ≡ drop 1 (into_iter_items arguments)) }
+    ensures { IfOk result (λ rest. rest.items ≡ drop 1 (into_iter_items arguments)) }
 {
     arguments.skip(1).collect(alloc)
 }
