@@ -18,7 +18,7 @@ usage: flatc COMMAND WORDS
 exit status:
 
   0   done
-  1   wrong words
+  1   wrong arguments
   2   a file can't be read
   3   a file is refused
   7   standard output or error can't be written

@@ -39,7 +39,7 @@ fn next_status(status: Status) -> Option<Status> {
 fn meaning(status: Status) -> &'static str {
     match status {
         Status::Done => "done",
-        Status::Usage => "wrong words",
+        Status::Usage => "wrong arguments",
         Status::HostRead => "a file can't be read",
         Status::Refused => "a file is refused",
         Status::SinkWrite => "standard output or error can't be written",
