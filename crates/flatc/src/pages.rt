@@ -10,7 +10,7 @@ usage: flatc COMMAND WORDS
 
   convert ELF FLT [--stack N]   convert the file ELF, and store its flat file as FLT,
                                 with N bytes of stack: 16 to 1048576, else 4096
-  check ELF                     say what convert would store, and store nothing
+  check ELF                     say whether ELF can be converted, and store nothing
   list FLT                      write the listing of the flat file FLT
   --help                        write this page
   --version                     write the version
