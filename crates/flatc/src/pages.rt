@@ -10,7 +10,7 @@ usage: flatc COMMAND WORDS
 
   convert ELF FLT [--stack N]   convert the file ELF, and store its flat file as FLT,
                                 with N bytes of stack: 16 to 1048576, else 4096
-  check ELF                     say what convert would store, and store nothing
+  check ELF                     say whether ELF can be converted, and store nothing
   list FLT                      write the listing of the flat file FLT
   --help                        write this page
   --version                     write the version
@@ -18,7 +18,7 @@ usage: flatc COMMAND WORDS
 exit status:
 
   0   done
-  1   wrong words
+  1   wrong arguments
   2   a file can't be read
   3   a file is refused
   7   standard output or error can't be written

@@ -57,7 +57,7 @@ fn all_but_the_name_are_read(rt: HostRuntime) -> Result<(), Fail> {
 }
 
 #[test]
-fn words_that_are_no_text_are_no_command(rt: HostRuntime) -> Result<(), Fail> {
+fn arguments_that_are_no_text_are_no_command(rt: HostRuntime) -> Result<(), Fail> {
     let alloc = rt.alloc();
     let mut host = MemHost::new(alloc)?;
     let mut out = MemSink::new(alloc)?;

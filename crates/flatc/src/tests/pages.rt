@@ -14,7 +14,7 @@ usage: flatc COMMAND WORDS
 
   convert ELF FLT [--stack N]   convert the file ELF, and store its flat file as FLT,
                                 with N bytes of stack: 16 to 1048576, else 4096
-  check ELF                     say what convert would store, and store nothing
+  check ELF                     say whether ELF can be converted, and store nothing
   list FLT                      write the listing of the flat file FLT
   --help                        write this page
   --version                     write the version
@@ -39,7 +39,7 @@ fn next_status(status: Status) -> Option<Status> {
 fn meaning(status: Status) -> &'static str {
     match status {
         Status::Done => "done",
-        Status::Usage => "wrong words",
+        Status::Usage => "wrong arguments",
         Status::HostRead => "a file can't be read",
         Status::Refused => "a file is refused",
         Status::SinkWrite => "standard output or error can't be written",

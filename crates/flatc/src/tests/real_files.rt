@@ -1,4 +1,4 @@
-//! A conversion over real files, from the words to the exit status.
+//! A conversion over real files, from the arguments to the exit status.
 
 use crate::program::end;
 use host_io::{FolderHost, MemSink};
@@ -52,7 +52,7 @@ const FLT: [u8; 144] = [
     0x13, 0x05, 0x00, 0x00, 0x93, 0x08, 0xd0, 0x05, 0x00, 0x00, 0x00, 0x40, 0x00, 0x00, 0x00, 0x48,
 ];
 
-/// Runs with these words over the real files, and compares all that it says.
+/// Runs with these arguments over the real files, and compares all that it says.
 fn check_run<R: Abort + Files + AllocGlobal + Clone + Drop>(
     rt: &R,
     words: &[&str],
