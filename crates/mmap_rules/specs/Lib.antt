@@ -1,4 +1,6 @@
--- Space   a private space: its mappings, its break and its bytes
+-- Space   a private space: its mappings, its break and its bytes; the test of one range
 -- Owners  the table of a space's own bytes, page by page
+-- Held    what is kept of a space beside its bytes, and how it changes
 pub mod Space
 pub mod Owners
+pub mod Held

@@ -7,8 +7,13 @@
 
 mod mapping;
 mod owners;
+mod space;
 mod steps;
 
 pub use mapping::{Mapping, Range};
 pub use owners::{Owners, PageOwner};
+pub use space::{Space, SpaceRoom};
 pub use steps::Steps;
+
+#[cfg(test)]
+mod tests;

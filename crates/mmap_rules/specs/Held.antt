@@ -1,0 +1,68 @@
+-- What is kept of a private space beside its bytes, and how it changes.
+use Rattle.std.specs.Prelude.{ℕ, ◌≡◌, ◌+◌, ◌-◌, ◌*◌, ◌/◌, ◌≤◌, Bool, true, false, ◌&&◌, nat_le, if◌then◌else◌, List, [], ◌∷◌}
+use Rattle.nommu_regions.specs.declared.region.Region.{Region}
+use Rattle.nommu_regions.specs.declared.region.Source.TheVariants.{Own}
+use Rattle.nommu_regions.specs.Regions.{IsLive, with_uses}
+use Rattle.mmap_rules.specs.declared.mapping.Range.{Range}
+use Rattle.mmap_rules.specs.declared.mapping.Mapping.{Mapping}
+use Rattle.mmap_rules.specs.Space.{memory_base, page_size}
+use Rattle.mmap_rules.specs.Owners.{IsShaped}
+
+-- the mappings, oldest first, with the program's block at the head; the break, and the area in which it moves, both ends
+-- included; and how many pages memory has
+pub record Held : Type 0 where
+  pub maps : List Mapping
+  pub brk : ℕ
+  pub brk_low : ℕ
+  pub brk_high : ℕ
+  pub pages : ℕ
+
+-- the address of a page
+abbrev pub page_address : ℕ → ℕ
+page_address page = memory_base + page_size * page
+
+-- the bytes of a block that belong to nobody: the flat file's header stands there
+abbrev pub header_len : ℕ
+header_len = 64
+
+-- the mapping of a program's block: all of its run but the header is own, and may be written
+abbrev pub block_mapping : ℕ → ℕ → Mapping
+block_mapping first pages = record {
+  first = first;
+  pages = pages;
+  range = record { from = page_address first + header_len; size = page_size * pages - header_len; writes = true; anonymous = false };
+  source = Own;
+}
+
+-- the region is large enough for an image that ends so many bytes behind the block's first one, and for a stack
+abbrev pub FitsBlock : Region → ℕ → ℕ → Type 0
+FitsBlock r end stack = (header_len ≤ end) × (r.pages ≡ (end + stack + (page_size - 1)) / page_size)
+
+-- a space with the block alone: the break begins behind the image and may go on to the stack
+abbrev pub held_block : ℕ → Region → ℕ → ℕ → Held
+held_block pages r end stack = record {
+  maps = block_mapping r.first r.pages ∷ [];
+  brk = page_address r.first + end;
+  brk_low = page_address r.first + end;
+  brk_high = page_address (r.first + r.pages) - stack;
+  pages = pages;
+}
+
+-- the break after it was asked to go somewhere
+abbrev pub next_brk : Held → ℕ → ℕ
+next_brk h to = if nat_le h.brk_low to && nat_le to h.brk_high then to else h.brk
+
+-- the list begins with the block: its own range ends where a page ends, lies in memory and may be written
+abbrev pub HasBlock : ℕ → List Mapping → Type 0
+HasBlock pages [] = ⊥
+HasBlock pages (block ∷ maps) = IsShaped pages block.range × (block.range.writes ≡ true)
+
+-- a region's run names it: each mapping of the list can give up one use, one after the other
+abbrev pub CanRelease : List Region → List Mapping → Type 0
+CanRelease rs [] = Unit {0}
+CanRelease rs (m ∷ ms) = IsLive rs m.first × CanRelease (with_uses rs m.first (λ uses. uses - 1)) ms
+
+-- the regions after each mapping of the list gave up one use
+abbrev pub released : List Region → List Mapping → List Region
+released rs [] = rs
+released rs (m ∷ ms) = released (with_uses rs m.first (λ uses. uses - 1)) ms
