@@ -4,8 +4,10 @@ use Rattle.std.specs.Prelude.{ℕ, ◌+◌, ◌-◌, ◌*◌, ◌/◌, ◌^◌, 
 use Rattle.byte_words.specs.ByteMap.{Bytes}
 use Rattle.rv32im_step.specs.declared.regs.Regs.{Regs}
 use Rattle.nommu_regions.specs.declared.Source.TheVariants.{Own}
-use Rattle.mmap_rules.specs.Space.{memory_base, page_size, Range, Mapping, Space, in_range}
-use Rattle.flat_loader.specs.Original.{Original, header_len, stack_len, block_pages, block_len}
+use Rattle.mmap_rules.specs.declared.mapping.Range.{Range}
+use Rattle.mmap_rules.specs.Space.{memory_base, page_size, Space, in_range}
+use Rattle.bflt_format.specs.Values.{Values}
+use Rattle.flat_loader.specs.Original.{Original, flat_original, header_len, stack_len, block_pages, block_len}
 use Rattle.flat_loader.specs.Frame.{frame_len, frame, frame_start}
 
 -- a program's block at k, and its arguments and environment
@@ -15,8 +17,15 @@ pub record Loading : Type 0 where
   pub args : List (List ℕ)
   pub env : List (List ℕ)
 
+-- of a flat file's values
+abbrev pub flat_loading : Values → ℕ → List (List ℕ) → List (List ℕ) → Loading
+flat_loading f block args env = record { original = flat_original f; block = block; args = args; env = env }
+
 abbrev pub block_end : Loading → ℕ
 block_end l = l.block + block_len l.original
+
+abbrev pub in_block : Loading → ℕ → Bool
+in_block l a = nat_le l.block a && nat_lt a (block_end l)
 
 -- what of the block is the program's own: all but the header
 abbrev pub own_range : Loading → Range
