@@ -1,18 +1,17 @@
 -- The parts of a space at its start.
-use Rattle.std.proofs.Common.{◌≡◌, ℕ, ◌+◌, ◌-◌, ◌*◌, ◌/◌, ◌%◌, ◌^◌, ◌≤◌, ◌<◌, Bool, true, false, leb, ltb, List, length, slice_index, refl, sym, ap, ◌∙◌, arith}
-use Rattle.std.specs.Prelude.{Some, None, unwrap_or, ◌&&◌, if◌then◌else◌, slice_get}
-use Rattle.std.proofs.lemmas.Bool.{cases_lt, lt-ltb, le-ltb, lt-leb, le-leb}
+use Rattle.std.proofs.Common.{◌≡◌, ℕ, ◌+◌, ◌-◌, ◌%◌, ◌≤◌, ◌<◌, List, refl, sym, ap, ◌∙◌, arith}
+use Rattle.std.specs.Prelude.{Some, unwrap_or, slice_get}
+use Rattle.std.proofs.lemmas.Bool.{lt-ltb, le-ltb, lt-leb, le-leb}
 use Rattle.std.proofs.lemmas.Option.{slice_get-get_or}
 use Rattle.byte_words.specs.Patches.{from_base}
 use Rattle.bflt_format.specs.Values.{Values, image_size}
 use Rattle.bflt_format.specs.Image.{flat_image}
-use Rattle.mmap_rules.specs.Space.{page_size}
-use Rattle.flat_loader.specs.Original.{flat_original, stack_len, block_len}
-use Rattle.flat_loader.specs.Frame.{frame_len, frame, frame_start, frame_fits}
+use Rattle.flat_loader.specs.Original.{flat_original, block_len}
+use Rattle.flat_loader.specs.Frame.{frame_len, frame, frame_start}
 use Rattle.flat_loader.specs.Begin.{Loading, flat_loading, block_end, stack_pointer, begin_byte, begin_bytes, begin_space}
-use Rattle.flat_loader.specs.Laws.{image_start, Begins, ProgramsBegin}
+use Rattle.flat_loader.specs.Laws.{ProgramsBegin}
 use Rattle.flat_loader.proofs.Frames.{length-frame}
-use Rattle.flat_loader.proofs.Blocks.{IsPlaced, block_holds, frame_short, frame_in_stack, frame_start_in, is_placed}
+use Rattle.flat_loader.proofs.Blocks.{block_holds, frame_short, frame_in_stack, frame_start_in, is_placed}
 
 frame_start_whole : (end len : ℕ) → frame_start end len % 16 ≡ 0
 unfolding frame_start
@@ -56,11 +55,11 @@ programs_begin f block args env page fits =
     let start = frame_start_in block (block_len o) (frame_len args env) page (frame_short o args env fits) in
     record {
       image = λ n below.
-        own_at l (block + 64 + n) (omega arith) (omega arith)
-        ∙ ap (λ b. Some b) (below_frame f block args env (block + 64 + n) (omega arith)) ∙ image_some f (block + 64) n below;
+          own_at l (block + 64 + n) (omega arith) (omega arith)
+          ∙ ap (λ b. Some b) (below_frame f block args env (block + 64 + n) (omega arith)) ∙ image_some f (block + 64) n below;
       zeros = λ a from below.
-        own_at l a (omega arith) (omega arith)
-        ∙ ap (λ b. Some b) (below_frame f block args env a below ∙ image_none f (block + 64) a from);
+          own_at l a (omega arith) (omega arith)
+          ∙ ap (λ b. Some b) (below_frame f block args env a below ∙ image_none f (block + 64) a from);
       frame_bytes = λ n below. own_at l (stack_pointer l + n) (omega arith) (omega arith) ∙ on_frame f block args env n below;
       frame_end = inside;
       aligned = frame_start_whole (block + block_len o) (frame_len args env);

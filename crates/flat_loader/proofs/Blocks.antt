@@ -1,5 +1,5 @@
 -- What a block holds.
-use Rattle.std.proofs.Common.{◌≡◌, ℕ, ◌+◌, ◌-◌, ◌*◌, ◌/◌, ◌%◌, ◌^◌, ◌≤◌, ◌<◌, true, leb, List, length, replicate, slice_index, refl, sym, ap, ◌∙◌, arith}
+use Rattle.std.proofs.Common.{◌≡◌, ℕ, ◌+◌, ◌%◌, ◌^◌, ◌≤◌, true, leb, List, length, replicate, slice_index, ap, ◌∙◌, arith}
 use Rattle.std.proofs.lemmas.List.{length-replicate}
 use Rattle.std.proofs.lemmas.Bool.{leb-true, and_parts}
 use Rattle.byte_words.specs.Patches.{Patch, patched, laid}
@@ -61,9 +61,9 @@ is_laid f block m m1 m2 m3 spells above inside e1 e2 e3 =
       header = l2 ∙ l1;
       body = l3 ∙ l2 ∙ l1;
       picture =
-        ap slice_index e ∙ laid_picture m2 b (omega arith)
-        ∙ ap (patched b) (ap slice_index e2 ∙ laid_picture m1 h (omega arith))
-        ∙ ap (λ t. patched b (patched h t)) (ap slice_index e1 ∙ laid_picture m z (omega (arith, length-replicate {A = ℕ} n 0)));
+          ap slice_index e ∙ laid_picture m2 b (omega arith)
+          ∙ ap (patched b) (ap slice_index e2 ∙ laid_picture m1 h (omega arith))
+          ∙ ap (λ t. patched b (patched h t)) (ap slice_index e1 ∙ laid_picture m z (omega (arith, length-replicate {A = ℕ} n 0)));
     }
 
 -- ---- where the frame stands

@@ -1,5 +1,5 @@
 -- The start frame, written piece by piece at rising addresses.
-use Rattle.std.proofs.Common.{◌≡◌, ℕ, zero, suc, ◌+◌, ◌-◌, ◌*◌, ◌^◌, ◌≤◌, ◌<◌, List, [], ◌∷◌, ◌++◌, length, get_or, drop, refl, sym, ap, ◌∙◌, arith, append_assoc, length-append}
+use Rattle.std.proofs.Common.{◌≡◌, ℕ, suc, ◌+◌, ◌*◌, ◌^◌, ◌≤◌, ◌<◌, List, [], ◌∷◌, ◌++◌, length, get_or, drop, refl, sym, ap, ◌∙◌, arith, append_assoc, length-append}
 use Rattle.std.specs.Prelude.{flat_map, Vec}
 use Rattle.std.proofs.lemmas.List.{drop_more, length-map}
 use Rattle.std.proofs.lemmas.Grind.{flat_map-append}
@@ -74,10 +74,10 @@ pieces argc at env_at args env =
     let ps = pointers at args in
     let qs = pointers env_at env ++ 0 ∷ [] in
     let words : pointer_bytes at args ++ pointer_bytes env_at env ≡ f (ps ++ (0 ∷ qs)) =
-        sym (flat_map-append (little_bytes 4) (ps ++ 0 ∷ []) qs) ∙ ap f (append_assoc ps (0 ∷ []) qs) in
+    sym (flat_map-append (little_bytes 4) (ps ++ 0 ∷ []) qs) ∙ ap f (append_assoc ps (0 ∷ []) qs) in
     append_assoc ((little_bytes 4 argc ++ pointer_bytes at args) ++ pointer_bytes env_at env) (strings args) (strings env)
     ∙ ap (λ t. t ++ (strings args ++ strings env))
-      (append_assoc (little_bytes 4 argc) (pointer_bytes at args) (pointer_bytes env_at env) ∙ ap (λ t. little_bytes 4 argc ++ t) words)
+    (append_assoc (little_bytes 4 argc) (pointer_bytes at args) (pointer_bytes env_at env) ∙ ap (λ t. little_bytes 4 argc ++ t) words)
 
 pub frame_laid :
     (m m1 m2 m3 m4 m5 : List ℕ) (sp argc envp at env_at : ℕ) (args env : List (List ℕ)) →
@@ -93,9 +93,9 @@ frame_laid m m1 m2 m3 m4 m5 sp argc envp at env_at args env above inside argc_is
     let x2 = x1 ++ pointer_bytes env_at env in
     let x3 = x2 ++ strings args in
     let argv_len : length (pointer_bytes at args) ≡ 4 * (length args + 1) =
-        length-words (pointers at args ++ 0 ∷ []) ∙ ap (λ k. 4 * k) (length-append (pointers at args) (0 ∷ []) ∙ ap (λ k. k + 1) (length-pointers at args)) in
+    length-words (pointers at args ++ 0 ∷ []) ∙ ap (λ k. 4 * k) (length-append (pointers at args) (0 ∷ []) ∙ ap (λ k. k + 1) (length-pointers at args)) in
     let env_len : length (pointer_bytes env_at env) ≡ 4 * (length env + 1) =
-        length-words (pointers env_at env ++ 0 ∷ []) ∙ ap (λ k. 4 * k) (length-append (pointers env_at env) (0 ∷ []) ∙ ap (λ k. k + 1) (length-pointers env_at env)) in
+    length-words (pointers env_at env ++ 0 ∷ []) ∙ ap (λ k. 4 * k) (length-append (pointers env_at env) (0 ∷ []) ∙ ap (λ k. k + 1) (length-pointers env_at env)) in
     let l1 : length x1 ≡ 4 + 4 * (length args + 1) = omega (arith, length-append x0 (pointer_bytes at args)) in
     let l2 : length x2 ≡ 4 + 4 * (length args + 1) + 4 * (length env + 1) = omega (arith, length-append x1 (pointer_bytes env_at env)) in
     let l3 : length x3 ≡ 4 + 4 * (length args + 1) + 4 * (length env + 1) + length (strings args) = omega (arith, length-append x2 (strings args)) in

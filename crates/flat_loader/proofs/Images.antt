@@ -1,5 +1,5 @@
 -- The bytes of a loaded image, by place: zeros, header, body and links, one over the other.
-use Rattle.std.proofs.Common.{◌≡◌, ℕ, ◌+◌, ◌-◌, ◌*◌, ◌^◌, ◌≤◌, ◌<◌, Bool, true, false, leb, ltb, ◌⊎◌, inl, inr, List, length, get_or, map, replicate, slice_index, refl, sym, ap, ◌∙◌, arith}
+use Rattle.std.proofs.Common.{◌≡◌, ℕ, ◌+◌, ◌-◌, ◌^◌, ◌≤◌, ◌<◌, leb, ltb, ◌⊎◌, inl, inr, length, get_or, map, replicate, slice_index, refl, sym, ap, ◌∙◌, arith}
 use Rattle.std.specs.Prelude.{Some, None, unwrap_or, ◌&&◌, if◌then◌else◌}
 use Rattle.std.proofs.lemmas.Bool.{cases_lt, lt-ltb, le-ltb, le-leb}
 use Rattle.std.proofs.lemmas.List.{length-replicate, get_or-replicate, get_or_past}
@@ -83,7 +83,7 @@ image_own f block m j spells above inside =
     sym (ap (painted (links f.body b f.records) (base f block m)) there)
     ∙ links_moved f.body b f.records (base f block m) j
     ∙ painted_same (map (link f.body b) f.records) (λ k. base f block m (place b + k)) (slice_index f.body) j
-      (ap (base f block m) there ∙ base_byte f block m j spells inside)
+    (ap (base f block m) there ∙ base_byte f block m j spells inside)
 
 pub image_header :
     (f : Values) (block : ℕ) (m : ℕ → ℕ) (k : ℕ) → 2 ^ 31 ≤ block → k < 64 →
@@ -131,5 +131,5 @@ image_byte_is f b a spells from =
           let last : unwrap_or (if leb b a && ltb a (b + image_size f) then Some (linked f b (a - b)) else None) 0 ≡ 0 = rw (le-leb b a from, le-ltb a (b + image_size f) past) refl in
           last
           ∙ sym (links_past f.body b f.records (slice_index f.body) (length f.body) (a - b) (λ k below. (let inside = spells.inside k below in omega arith)) (omega arith)
-            ∙ get_or_past f.body (a - b) 0 (omega arith))
+          ∙ get_or_past f.body (a - b) 0 (omega arith))
     ]

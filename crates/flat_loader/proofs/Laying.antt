@@ -1,5 +1,5 @@
 -- Bytes laid right behind bytes that were laid.
-use Rattle.std.proofs.Common.{◌≡◌, ℕ, ◌+◌, ◌/◌, ◌%◌, ◌≤◌, List, [], ◌∷◌, ◌++◌, length, take, drop, refl, sym, ap, ◌∙◌, arith, append_assoc, length-append}
+use Rattle.std.proofs.Common.{◌≡◌, ℕ, ◌+◌, ◌/◌, ◌%◌, ◌≤◌, List, [], ◌∷◌, ◌++◌, length, take, drop, sym, ap, ◌∙◌, arith, append_assoc, length-append}
 use Rattle.std.proofs.lemmas.List.{length-take-le, take_at, drop_at, drop-drop}
 use Rattle.byteorder.specs.Endian.{little_bytes}
 use Rattle.byte_words.specs.ByteMap.{little_bytes as bytes_of}
@@ -16,7 +16,7 @@ laid_next m a x y n is fits =
     let rest : drop n (laid m a x) ≡ drop (a + length x) m = ap (drop n) whole ∙ drop_at front (drop (a + length x) m) n len in
     let same : a + length x + length y ≡ a + length (x ++ y) = omega (arith, length-append x y) in
     let behind : drop (n + length y) (laid m a x) ≡ drop (a + length (x ++ y)) m =
-        sym (drop-drop (length y) n (laid m a x)) ∙ ap (drop (length y)) rest ∙ drop-drop (length y) (a + length x) m ∙ ap (λ k. drop k m) same in
+    sym (drop-drop (length y) n (laid m a x)) ∙ ap (drop (length y)) rest ∙ drop-drop (length y) (a + length x) m ∙ ap (λ k. drop k m) same in
     ap (λ t. t ++ (y ++ drop (n + length y) (laid m a x))) before
     ∙ ap (λ t. front ++ (y ++ t)) behind
     ∙ append_assoc (take a m) x (y ++ drop (a + length (x ++ y)) m)

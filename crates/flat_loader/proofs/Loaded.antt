@@ -1,24 +1,24 @@
 -- Memory after loading, by address.
 use Rattle.std.proofs.Common.{◌≡◌, ℕ, ◌+◌, ◌-◌, ◌%◌, ◌^◌, ◌≤◌, ◌<◌, Bool, true, false, leb, ltb, ◌⊎◌, inl, inr, List, ◌++◌, length, get_or, take, drop, slice_index, refl, sym, ap, ◌∙◌, arith}
-use Rattle.std.specs.Prelude.{Option, Some, None, unwrap_or, ◌&&◌, if◌then◌else◌, slice_get, slice_range}
-use Rattle.std.proofs.lemmas.Bool.{cases_lt, cases_Bool, lt-ltb, le-ltb, lt-leb, le-leb, leb-true, ltb-true, and_parts}
+use Rattle.std.specs.Prelude.{Some, None, unwrap_or, ◌&&◌, if◌then◌else◌, slice_get, slice_range}
+use Rattle.std.proofs.lemmas.Bool.{cases_lt, lt-ltb, le-ltb, lt-leb, le-leb, leb-true, ltb-true, and_parts}
 use Rattle.std.proofs.lemmas.List.{length-take, length-drop, get_or-take, get_or-drop, ext_get_or, take_at}
 use Rattle.std.proofs.lemmas.Option.{slice_get-get_or, slice_get_past}
 use Rattle.byte_words.specs.ByteMap.{byte_of}
 use Rattle.byte_words.specs.Patches.{Patch, spans, patched, painted, laid}
-use Rattle.byte_words.proofs.Painting.{laid_picture, length-laid, within, spans_within, patched_on, patched_off, spans_below, spans_past}
+use Rattle.byte_words.proofs.Painting.{laid_picture, length-laid, spans_within, patched_on, patched_off, spans_below, spans_past}
 use Rattle.phys_mem.specs.Memory.{place}
-use Rattle.bflt_format.specs.Values.{Values, image_size}
+use Rattle.bflt_format.specs.Values.{Values}
 use Rattle.bflt_format.specs.Spelling.{spell, words_text, header_words, Spells}
 use Rattle.bflt_format.specs.Image.{flat_image}
 use Rattle.mmap_rules.specs.Space.{in_range}
 use Rattle.flat_loader.specs.Original.{flat_original, block_len}
 use Rattle.flat_loader.specs.Frame.{frame_len, frame, frame_fits}
-use Rattle.flat_loader.specs.Begin.{Loading, flat_loading, stack_pointer, own_range, in_block, begin_byte, begin_bytes}
+use Rattle.flat_loader.specs.Begin.{flat_loading, stack_pointer, own_range, in_block, begin_bytes}
 use Rattle.flat_loader.specs.Placed.{image_patches}
 use Rattle.flat_loader.proofs.Frames.{length-frame}
 use Rattle.flat_loader.proofs.Blocks.{IsPlaced, is_placed}
-use Rattle.flat_loader.proofs.Images.{linked, image_own, image_header, image_outside, image_byte_is}
+use Rattle.flat_loader.proofs.Images.{image_own, image_header, image_outside, image_byte_is}
 
 -- ---- an array of bytes as a map
 
@@ -95,9 +95,9 @@ outside_cases : (block n a : ℕ) → (leb block a && ltb a (block + n)) ≡ fal
 outside_cases block n a out = elim (cases_lt a block) [
   | inl below ↦ inl below
   | inr from ↦ elim (cases_lt a (block + n)) [
-      | inl to ↦ absurd (let on : (leb block a && ltb a (block + n)) ≡ true = rw (le-leb block a from, lt-ltb a (block + n) to) refl in let bad : true ≡ false = sym on ∙ out in cc)
-      | inr past ↦ inr past
-    ]
+    | inl to ↦ absurd (let on : (leb block a && ltb a (block + n)) ≡ true = rw (le-leb block a from, lt-ltb a (block + n) to) refl in let bad : true ≡ false = sym on ∙ out in cc)
+    | inr past ↦ inr past
+  ]
 ]
 
 pub others_kept :
@@ -130,12 +130,12 @@ header_there f block sp args env old now h =
     let len : length (take 64 (drop n now)) ≡ 64 = omega (arith, length-take 64 (drop n now), length-drop n now) in
     whole
     ∙ ext_get_or 0 (take 64 (drop n now)) header len
-      (λ k below.
-        let small : k < 64 = omega arith in
-        get_or-take 64 (drop n now) k 0 small ∙ get_or-drop n now k 0
-        ∙ ap (λ m. m (n + k)) h.picture
-        ∙ patched_off p (painted (image_patches f block) (slice_index old)) (n + k) (spans_below p (n + k) (omega arith))
-        ∙ image_header f block (slice_index old) k above small)
+    (λ k below.
+    let small : k < 64 = omega arith in
+    get_or-take 64 (drop n now) k 0 small ∙ get_or-drop n now k 0
+    ∙ ap (λ m. m (n + k)) h.picture
+    ∙ patched_off p (painted (image_patches f block) (slice_index old)) (n + k) (spans_below p (n + k) (omega arith))
+    ∙ image_header f block (slice_index old) k above small)
     ∙ sym (take_at header (f.body ++ words_text f.records) 64 refl)
 
 -- ---- the program's own bytes
@@ -155,7 +155,7 @@ own_byte f block sp args env old now a h from to =
     let number : i ≡ place block + 64 + j = omega arith in
     let below : 64 + j < block_len (flat_original f) = omega arith in
     let image_there : image i ≡ unwrap_or (flat_image f (block + 64) a) 0 =
-        ap image number ∙ image_own f block (slice_index old) j h.spells above below ∙ sym (image_byte_is f (block + 64) a h.spells from) in
+    ap image number ∙ image_own f block (slice_index old) j h.spells above below ∙ sym (image_byte_is f (block + 64) a h.spells from) in
     let on_frame = slice_index (frame sp args env) (a - sp) in
     let off_frame = unwrap_or (flat_image f (block + 64) a) 0 in
     let pick : Bool → ℕ = λ t. if t then on_frame else off_frame in
@@ -163,13 +163,13 @@ own_byte f block sp args env old now a h from to =
     ∙ elim (cases_lt a sp) as (λ _. patched p image i ≡ pick (leb sp a && ltb a (sp + frame_len args env))) [
       | inl before ↦ patched_off p image i (spans_below p i (omega arith)) ∙ image_there ∙ rw (lt-leb sp a before) refl
       | inr behind ↦ elim (cases_lt a (sp + frame_len args env)) as (λ _. patched p image i ≡ pick (leb sp a && ltb a (sp + frame_len args env))) [
-          | inl on ↦
-              let place_on : i - place sp ≡ a - sp = omega arith in
-              patched_on p image i (spans_within p i (record { from = omega arith; to = omega arith })) ∙ ap (slice_index (frame sp args env)) place_on
-              ∙ rw (le-leb sp a behind, lt-ltb a (sp + frame_len args env) on) refl
-          | inr past ↦
-              patched_off p image i (spans_past p i (omega arith)) ∙ image_there ∙ rw (le-leb sp a behind, le-ltb a (sp + frame_len args env) past) refl
-        ]
+        | inl on ↦
+            let place_on : i - place sp ≡ a - sp = omega arith in
+            patched_on p image i (spans_within p i (record { from = omega arith; to = omega arith })) ∙ ap (slice_index (frame sp args env)) place_on
+            ∙ rw (le-leb sp a behind, lt-ltb a (sp + frame_len args env) on) refl
+        | inr past ↦
+            patched_off p image i (spans_past p i (omega arith)) ∙ image_there ∙ rw (le-leb sp a behind, le-ltb a (sp + frame_len args env) past) refl
+      ]
     ]
 
 pub own_there :

@@ -1,6 +1,6 @@
 -- The space and the registers of a program after loading (Linux, fs/binfmt_flat.c; that the header's bytes belong to nobody
 -- is this project's own rule).
-use Rattle.std.specs.Prelude.{ℕ, ◌+◌, ◌-◌, ◌*◌, ◌/◌, ◌^◌, Bool, true, false, ◌&&◌, nat_le, nat_lt, if◌then◌else◌, List, [], ◌∷◌, length, replicate, slice_get, slice_index, slice_set, Option, Some, None, unwrap_or}
+use Rattle.std.specs.Prelude.{ℕ, ◌+◌, ◌-◌, ◌/◌, Bool, true, false, ◌&&◌, nat_le, nat_lt, if◌then◌else◌, List, [], ◌∷◌, replicate, slice_index, slice_set, Some, None, unwrap_or}
 use Rattle.byte_words.specs.ByteMap.{Bytes}
 use Rattle.rv32im_step.specs.declared.regs.Regs.{Regs}
 use Rattle.nommu_regions.specs.declared.Source.TheVariants.{Own}

@@ -67,12 +67,10 @@ pub fn load_at(
     requires page { block % page_size ≡ 0 }
     requires within { Within mem.old block (block_len_of (flat_original flat.now)) }
     ensures regs { result ≡ begin_regs (flat_loading flat.now block (texts args.now) (texts env.now)) }
-    ensures own {
-        let l = flat_loading flat.now block (texts args.now) (texts env.now) in
+    ensures own { let l = flat_loading flat.now block (texts args.now) (texts env.now) in
         (a : ℕ) → in_range (own_range l) a ≡ true → byte_of memory_base mem.new a ≡ begin_bytes l a }
     ensures header { slice_range mem.new (place block) (place block + header_len) ≡ take header_len (spell flat.now) }
-    ensures others {
-        let l = flat_loading flat.now block (texts args.now) (texts env.now) in
+    ensures others { let l = flat_loading flat.now block (texts args.now) (texts env.now) in
         (a : ℕ) → in_block l a ≡ false → byte_of memory_base mem.new a ≡ byte_of memory_base mem.old a }
     ensures length { length mem.new ≡ length mem.old }
 {

@@ -1,4 +1,4 @@
-use Rattle.std.proofs.Common.{◌≡◌, ◌≤◌, ◌∙◌, [], length, drop, ap, arith}
+use Rattle.std.proofs.Common.{◌≡◌, length, drop, ap, arith}
 use Rattle.std.proofs.lemmas.List.{drop_all}
 use Rattle.flat_loader.specs.Frame.{texts, strings}
 use Rattle.flat_loader.proofs.frame.len_with_pointers.Goals as goal

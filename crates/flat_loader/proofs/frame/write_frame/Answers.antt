@@ -1,5 +1,5 @@
-use Rattle.std.proofs.Common.{◌≡◌, ◌+◌, ◌*◌, ◌∙◌, length, sym, arith, refl}
-use Rattle.flat_loader.specs.Frame.{texts, words_len, frame_len}
+use Rattle.std.proofs.Common.{length, sym, arith, refl}
+use Rattle.flat_loader.specs.Frame.{texts, frame_len}
 use Rattle.flat_loader.proofs.Frames.{frame_laid, length-texts}
 use Rattle.flat_loader.proofs.frame.write_frame.Goals as goal
 

@@ -22,11 +22,11 @@ loop-string-preserved c =
     let less = length-texts_more ss i v c.loop-string-test.true c.string-item.is in
     record {
       bytes =
-        ap (λ t. laid t (place (at + 4)) (pointer_bytes (p + (c.len.result + 1)) rest)) c.set32.ensures
-        ∙ ap (λ k. laid (laid m (place at) (little_bytes 4 p)) (place (at + 4)) (pointer_bytes (p + (k + 1)) rest)) len
-        ∙ pointers_more m at p v.items rest (omega arith) (omega arith)
-        ∙ ap (λ ts. laid m (place at) (pointer_bytes p ts)) (sym (texts_more ss i v c.loop-string-test.true c.string-item.is))
-        ∙ kept.bytes;
+          ap (λ t. laid t (place (at + 4)) (pointer_bytes (p + (c.len.result + 1)) rest)) c.set32.ensures
+          ∙ ap (λ k. laid (laid m (place at) (little_bytes 4 p)) (place (at + 4)) (pointer_bytes (p + (k + 1)) rest)) len
+          ∙ pointers_more m at p v.items rest (omega arith) (omega arith)
+          ∙ ap (λ ts. laid m (place at) (pointer_bytes p ts)) (sym (texts_more ss i v c.loop-string-test.true c.string-item.is))
+          ∙ kept.bytes;
       len = ap length c.set32.ensures ∙ length-laid m (place at) (little_bytes 4 p) inside ∙ kept.len;
       at = omega arith;
       place = omega arith;

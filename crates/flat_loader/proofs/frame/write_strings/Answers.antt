@@ -1,4 +1,4 @@
-use Rattle.std.proofs.Common.{◌≡◌, ◌+◌, ◌≤◌, ◌∙◌, ◌∷◌, [], length, drop, sym, ap, arith, rules}
+use Rattle.std.proofs.Common.{◌≡◌, ◌+◌, ◌∙◌, ◌∷◌, [], length, drop, sym, ap, arith, rules}
 use Rattle.byte_words.specs.Patches.{laid}
 use Rattle.phys_mem.specs.Memory.{place}
 use Rattle.flat_loader.specs.Frame.{texts, strings}
@@ -38,13 +38,13 @@ loop-string-preserved c =
     let ended = length-copied c.copy_in.new.self c.set8.new.self (place (at + c.len.result)) (0 ∷ []) (omega arith) c.set8.ensures in
     record {
       bytes =
-        ap (λ t. laid t (place (at + c.len.result + 1)) rest) c.set8.ensures
-        ∙ ap (λ t. laid (laid t (place (at + c.len.result)) (0 ∷ [])) (place (at + c.len.result + 1)) rest) c.copy_in.ensures
-        ∙ ap (λ t. laid (laid (laid m (place at) t) (place (at + c.len.result)) (0 ∷ [])) (place (at + c.len.result + 1)) rest) c.deref.ensures.value
-        ∙ ap (λ k. laid (laid (laid m (place at) v.items) (place (at + k)) (0 ∷ [])) (place (at + k + 1)) rest) len
-        ∙ strings_more m at v.items (texts (drop (i + 1) ss)) (omega arith) (omega arith)
-        ∙ ap (λ ts. laid m (place at) (strings ts)) (sym (texts_more ss i v c.loop-string-test.true c.string-item.is))
-        ∙ kept.bytes;
+          ap (λ t. laid t (place (at + c.len.result + 1)) rest) c.set8.ensures
+          ∙ ap (λ t. laid (laid t (place (at + c.len.result)) (0 ∷ [])) (place (at + c.len.result + 1)) rest) c.copy_in.ensures
+          ∙ ap (λ t. laid (laid (laid m (place at) t) (place (at + c.len.result)) (0 ∷ [])) (place (at + c.len.result + 1)) rest) c.deref.ensures.value
+          ∙ ap (λ k. laid (laid (laid m (place at) v.items) (place (at + k)) (0 ∷ [])) (place (at + k + 1)) rest) len
+          ∙ strings_more m at v.items (texts (drop (i + 1) ss)) (omega arith) (omega arith)
+          ∙ ap (λ ts. laid m (place at) (strings ts)) (sym (texts_more ss i v c.loop-string-test.true c.string-item.is))
+          ∙ kept.bytes;
       len = ended ∙ copied ∙ kept.len;
       above = omega arith;
       at = omega arith;

@@ -1,4 +1,4 @@
-use Rattle.std.proofs.Common.{◌≡◌, ◌∙◌, slice_index, ap, arith}
+use Rattle.std.proofs.Common.{◌∙◌, slice_index, ap, arith}
 use Rattle.flat_loader.proofs.Pictures.{link_laid, link_left}
 use Rattle.flat_loader.proofs.image.link_word.Goals as goal
 

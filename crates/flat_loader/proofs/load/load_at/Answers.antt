@@ -1,14 +1,10 @@
-use Rattle.std.proofs.Common.{◌≡◌, ℕ, ◌+◌, ◌≤◌, ◌<◌, ◌∙◌, List, length, replicate, slice_index, ap, arith}
+use Rattle.std.proofs.Common.{◌≡◌, ℕ, ◌+◌, ◌∙◌, replicate, ap, arith}
 use Rattle.std.specs.Prelude.{slice_set}
-use Rattle.byte_words.specs.Patches.{Patch, patched}
-use Rattle.byte_words.proofs.Painting.{laid_picture}
-use Rattle.phys_mem.specs.Memory.{place}
 use Rattle.rv32im_step.specs.declared.regs.Regs.{Regs}
 use Rattle.flat_loader.specs.Original.{flat_original, block_len}
-use Rattle.flat_loader.specs.Frame.{texts, frame, frame_len, frame_start}
-use Rattle.flat_loader.specs.Begin.{flat_loading, begin_regs}
-use Rattle.flat_loader.proofs.Frames.{length-frame}
-use Rattle.flat_loader.proofs.Blocks.{IsPlaced, frame_short, is_placed}
+use Rattle.flat_loader.specs.Frame.{texts, frame_len, frame_start}
+use Rattle.flat_loader.specs.Begin.{begin_regs}
+use Rattle.flat_loader.proofs.Blocks.{frame_short, is_placed}
 use Rattle.flat_loader.proofs.Loaded.{IsLoaded, is_loaded, others_kept, header_there, own_there}
 use Rattle.flat_loader.proofs.load.load_at.Goals as goal
 
@@ -33,7 +29,7 @@ write_frame-requires-clause-within c =
     let env = texts c.args.env.now in
     let short = frame_short (flat_original f) args env c.requires.fits in
     let sp = same_start c.args.block (block_len (flat_original f)) c.block_len.result (frame_len args env) c.frame_len.result c.frame_start-sp.result
-        c.frame_start-sp.ensures.value c.block_len.ensures.value (omega arith) in
+    c.frame_start-sp.ensures.value c.block_len.ensures.value (omega arith) in
     let placed = is_placed f c.args.block args env c.requires.page c.requires.fits in
     let above = placed.above in
     let inside = placed.inside in
@@ -46,7 +42,7 @@ loaded c =
     let env = texts c.args.env.now in
     let short = frame_short (flat_original f) args env c.requires.fits in
     let sp = same_start c.args.block (block_len (flat_original f)) c.block_len.result (frame_len args env) c.frame_len.result c.frame_start-sp.result
-        c.frame_start-sp.ensures.value c.block_len.ensures.value (omega arith) in
+    c.frame_start-sp.ensures.value c.block_len.ensures.value (omega arith) in
     is_loaded f c.args.block c.frame_start-sp.result args env c.args.mem.now c.write_image.new.mem c.write_frame.new.mem
     c.entry.ensures.spells (omega arith) (omega arith) c.requires.page c.requires.fits sp
     c.write_image.ensures.length c.write_image.ensures.bytes c.write_frame.ensures.mem
@@ -59,7 +55,7 @@ returns-clause-regs c =
     let env = texts c.args.env.now in
     let short = frame_short (flat_original f) args env c.requires.fits in
     let sp = same_start c.args.block (block_len (flat_original f)) c.block_len.result (frame_len args env) c.frame_len.result c.frame_start-sp.result
-        c.frame_start-sp.ensures.value c.block_len.ensures.value (omega arith) in
+    c.frame_start-sp.ensures.value c.block_len.ensures.value (omega arith) in
     let regs : ℕ → ℕ → Regs = λ entry sp. record { pc = c.args.block + entry; x = slice_set (replicate 32 0) 2 sp } in
     c.start_regs.ensures ∙ ap (λ e. regs e c.frame_start-sp.result) c.entry.ensures.value ∙ ap (regs f.entry) sp
 

@@ -1,4 +1,4 @@
-use Rattle.std.proofs.Common.{◌≡◌, ◌+◌, ◌≤◌, ◌∙◌, length, slice_index, replicate, ap, arith}
+use Rattle.std.proofs.Common.{◌+◌, ◌∙◌, length, slice_index, replicate, ap, arith}
 use Rattle.byte_words.specs.Patches.{painted, laid}
 use Rattle.phys_mem.specs.Memory.{place}
 use Rattle.flat_loader.specs.Original.{flat_original, block_len}
@@ -31,9 +31,9 @@ link_words-requires-clause-memory c =
     let m = c.args.mem.now in
     let a = place c.args.block in
     let now = is_laid c.args.flat.now c.args.block m c.clear.new.self c.copy_in.new.self c.copy_in-2.new.self c.body.ensures.spells (omega arith) (omega arith)
-        (c.clear.ensures ∙ ap (λ n. laid m a (replicate n 0)) c.block_len.ensures.value)
-        (c.copy_in.ensures ∙ ap (laid c.clear.new.self a) c.header_bytes.ensures)
-        (c.copy_in-2.ensures ∙ ap (laid c.copy_in.new.self (place (c.args.block + 64))) c.body.ensures.value) in
+    (c.clear.ensures ∙ ap (λ n. laid m a (replicate n 0)) c.block_len.ensures.value)
+    (c.copy_in.ensures ∙ ap (laid c.clear.new.self a) c.header_bytes.ensures)
+    (c.copy_in-2.ensures ∙ ap (laid c.copy_in.new.self (place (c.args.block + 64))) c.body.ensures.value) in
     let same = now.body in
     omega arith
 
@@ -44,9 +44,9 @@ returns-clause-bytes c =
     let f = c.args.flat.now in
     let image = c.args.block + 64 in
     let now = is_laid f c.args.block m c.clear.new.self c.copy_in.new.self c.copy_in-2.new.self c.body.ensures.spells (omega arith) (omega arith)
-        (c.clear.ensures ∙ ap (λ n. laid m a (replicate n 0)) c.block_len.ensures.value)
-        (c.copy_in.ensures ∙ ap (laid c.clear.new.self a) c.header_bytes.ensures)
-        (c.copy_in-2.ensures ∙ ap (laid c.copy_in.new.self (place image)) c.body.ensures.value) in
+    (c.clear.ensures ∙ ap (λ n. laid m a (replicate n 0)) c.block_len.ensures.value)
+    (c.copy_in.ensures ∙ ap (laid c.clear.new.self a) c.header_bytes.ensures)
+    (c.copy_in-2.ensures ∙ ap (laid c.copy_in.new.self (place image)) c.body.ensures.value) in
     c.link_words.ensures.bytes
     ∙ ap (λ b. painted (links b image c.records.result.now) (slice_index c.copy_in-2.new.self)) c.body-2.ensures.value
     ∙ ap (λ rs. painted (links f.body image rs) (slice_index c.copy_in-2.new.self)) c.records.ensures.value
@@ -57,7 +57,7 @@ returns-clause-length c =
     let m = c.args.mem.now in
     let a = place c.args.block in
     let now = is_laid c.args.flat.now c.args.block m c.clear.new.self c.copy_in.new.self c.copy_in-2.new.self c.body.ensures.spells (omega arith) (omega arith)
-        (c.clear.ensures ∙ ap (λ n. laid m a (replicate n 0)) c.block_len.ensures.value)
-        (c.copy_in.ensures ∙ ap (laid c.clear.new.self a) c.header_bytes.ensures)
-        (c.copy_in-2.ensures ∙ ap (laid c.copy_in.new.self (place (c.args.block + 64))) c.body.ensures.value) in
+    (c.clear.ensures ∙ ap (λ n. laid m a (replicate n 0)) c.block_len.ensures.value)
+    (c.copy_in.ensures ∙ ap (laid c.clear.new.self a) c.header_bytes.ensures)
+    (c.copy_in-2.ensures ∙ ap (laid c.copy_in.new.self (place (c.args.block + 64))) c.body.ensures.value) in
     c.link_words.ensures.length ∙ now.body
