@@ -26,7 +26,8 @@ impl Flat {
         Ok(out)
     }
 
-    fn header(&self) -> [u32; 16]
+    /// The sixteen words of the header that `write` writes.
+    pub fn header(&self) -> [u32; 16]
         ensures { result ≡ header_words self.now }
     {
         let data_start = LEN + self.text;

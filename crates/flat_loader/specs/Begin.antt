@@ -1,13 +1,13 @@
 -- The space and the registers of a program after loading (Linux, fs/binfmt_flat.c; that the header's bytes belong to nobody
 -- is this project's own rule).
-use Rattle.std.specs.Prelude.{ℕ, ◌+◌, ◌-◌, ◌*◌, ◌/◌, ◌^◌, Bool, true, false, ◌&&◌, nat_le, nat_lt, if◌then◌else◌, List, [], ◌∷◌, length, replicate, slice_get, slice_index, slice_set, Option, Some, None, unwrap_or}
+use Rattle.std.specs.Prelude.{ℕ, ◌+◌, ◌-◌, ◌/◌, Bool, true, false, ◌&&◌, nat_le, nat_lt, if◌then◌else◌, List, [], ◌∷◌, replicate, slice_index, slice_set, Some, None, unwrap_or}
 use Rattle.byte_words.specs.ByteMap.{Bytes}
 use Rattle.rv32im_step.specs.declared.regs.Regs.{Regs}
 use Rattle.nommu_regions.specs.declared.region.Source.TheVariants.{Own}
 use Rattle.mmap_rules.specs.declared.mapping.Range.{Range}
-use Rattle.mmap_rules.specs.declared.mapping.Mapping.{Mapping}
 use Rattle.mmap_rules.specs.Space.{memory_base, page_size, Space, in_range}
-use Rattle.flat_loader.specs.Original.{Original, header_len, stack_len, block_pages, block_len}
+use Rattle.bflt_format.specs.Values.{Values}
+use Rattle.flat_loader.specs.Original.{Original, flat_original, header_len, stack_len, block_pages, block_len}
 use Rattle.flat_loader.specs.Frame.{frame_len, frame, frame_start}
 
 -- a program's block at k, and its arguments and environment
@@ -17,8 +17,15 @@ pub record Loading : Type 0 where
   pub args : List (List ℕ)
   pub env : List (List ℕ)
 
+-- of a flat file's values
+abbrev pub flat_loading : Values → ℕ → List (List ℕ) → List (List ℕ) → Loading
+flat_loading f block args env = record { original = flat_original f; block = block; args = args; env = env }
+
 abbrev pub block_end : Loading → ℕ
 block_end l = l.block + block_len l.original
+
+abbrev pub in_block : Loading → ℕ → Bool
+in_block l a = nat_le l.block a && nat_lt a (block_end l)
 
 -- what of the block is the program's own: all but the header
 abbrev pub own_range : Loading → Range

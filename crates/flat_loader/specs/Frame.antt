@@ -1,8 +1,12 @@
 -- The start frame on a new stack (System V ABI, RISC-V supplement: argc, argv, envp): argc, the pointers to the arguments,
 -- 0, the pointers to the environment, 0, and then all strings with their zeros, without gaps.
-use Rattle.std.specs.Prelude.{ℕ, ◌+◌, ◌-◌, ◌*◌, ◌/◌, Bool, ◌&&◌, nat_le, List, [], ◌∷◌, ◌++◌, length, flat_map}
+use Rattle.std.specs.Prelude.{ℕ, ◌+◌, ◌-◌, ◌*◌, ◌/◌, Bool, ◌&&◌, nat_le, List, [], ◌∷◌, ◌++◌, length, map, flat_map, Vec}
 use Rattle.byteorder.specs.Endian.{little_bytes}
 use Rattle.flat_loader.specs.Original.{Original, stack_len, block_len}
+
+-- the bytes of each string
+abbrev pub texts : {Z : Type 0} → List (Vec ℕ Z) → List (List ℕ)
+texts ss = map (λ s. s.items) ss
 
 -- strings with their zeros
 abbrev pub strings : List (List ℕ) → List ℕ

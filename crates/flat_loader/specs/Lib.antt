@@ -1,6 +1,10 @@
 -- Original  what a loader knows of a program, and the size of its block
 -- Frame     the start frame: arguments and environment on the stack
 -- Begin     the space and the registers after loading
+-- Placed    what loading writes, where it stands in memory
+-- Laws      the image, zeros and the frame, in this order
 pub mod Original
 pub mod Frame
 pub mod Begin
+pub mod Placed
+pub mod Laws

@@ -1,6 +1,8 @@
 -- What a loader knows of a program, and the block of memory that it needs.
 use Rattle.std.specs.Prelude.{ℕ, ◌+◌, ◌*◌, ◌/◌}
 use Rattle.byte_words.specs.ByteMap.{Bytes}
+use Rattle.bflt_format.specs.Values.{Values, image_size}
+use Rattle.bflt_format.specs.Image.{flat_image}
 use Rattle.mmap_rules.specs.Space.{page_size}
 
 -- its image with image number 0 at a base, the image's bytes, where it starts, counted from the block's first byte, and
@@ -10,6 +12,10 @@ pub record Original : Type 0 where
   pub size : ℕ
   pub entry : ℕ
   pub stack : ℕ
+
+-- a flat file, taken for its own original
+abbrev pub flat_original : Values → Original
+flat_original f = record { image = flat_image f; size = image_size f; entry = f.entry; stack = f.stack }
 
 -- image number 0 stands behind the 64 bytes of the flat file's header
 abbrev pub header_len : ℕ

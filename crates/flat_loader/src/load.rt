@@ -1,0 +1,82 @@
+//! Loading.
+
+ghost use Rattle.std.specs.Prelude.{◌≡◌, ◌+◌, ◌%◌, ◌^◌, ◌<◌, ◌≤◌, ℕ, List, length, replicate, take, true, false, slice_index, slice_range, slice_set};
+ghost use Rattle.byte_words.specs.ByteMap.{byte_of};
+ghost use Rattle.byte_words.specs.Patches.{painted};
+ghost use Rattle.phys_mem.specs.Memory.{Within, place};
+ghost use Rattle.bflt_format.specs.Spelling.{spell, words_text, header_words};
+ghost use Rattle.mmap_rules.specs.Space.{memory_base, page_size, in_range};
+ghost use Rattle.flat_loader.specs.Original.{flat_original, header_len, block_len as block_len_of};
+ghost use Rattle.flat_loader.specs.Frame.{texts, frame_fits};
+ghost use Rattle.flat_loader.specs.Placed.{image_patches};
+ghost use Rattle.flat_loader.specs.Begin.{flat_loading, own_range, in_block, begin_bytes, begin_regs};
+
+use crate::block::{HEADER_LEN, block_len};
+use crate::frame::{frame_len, frame_start, write_frame};
+use crate::image::link_words;
+use bflt_format::Flat;
+use byteorder::{BigEndian, ByteOrder};
+use phys_mem::PhysMem;
+use rv32im_step::Regs;
+
+/// The 64 bytes of the header that is written for a flat file.
+fn header_bytes(flat: &Flat) -> [u8; 64]
+    ensures { result ≡ words_text (header_words flat.now) }
+{
+    let mut bytes = [0; 64];
+    BigEndian::write_u32_into(&flat.header(), &mut bytes);
+    bytes
+}
+
+/// The registers at the start: `pc` at the entry, the stack pointer in x2, and 0 in all others.
+fn start_regs(pc: u32, sp: u32) -> Regs
+    ensures { result ≡ record { pc = pc; x = slice_set (replicate 32 0) 2 sp } }
+{
+    let mut x = [0; 32];
+    x[2] = sp;
+    Regs { pc, x }
+}
+
+/// Writes all of a program's block but the frame: header, image, and zeros.
+fn write_image(mem: &mut PhysMem, block: u32, flat: &Flat)
+    requires within { Within mem.old block (block_len_of (flat_original flat.now)) }
+    requires memory { length mem.old ≤ 2 ^ 26 }
+    ensures bytes { slice_index mem.new ≡ painted (image_patches flat.now block) (slice_index mem.old) }
+    ensures length { length mem.new ≡ length mem.old }
+{
+    let image = block + HEADER_LEN;
+    mem.clear(block, block_len(flat));
+    mem.copy_in(block, &header_bytes(flat));
+    mem.copy_in(image, flat.body());
+    link_words(mem, image, flat.body(), flat.records());
+}
+
+/// Loads a flat program into the block of memory that begins at an address, with its arguments and its
+/// environment on the stack, and gives its first registers.
+///
+/// The file's header stands in the first 64 bytes, which are not the program's own: with the flags and the
+/// stack that the file has, the records right behind the data, and build date and fillers 0.
+pub fn load_at(
+    mem: &mut PhysMem,
+    block: u32,
+    flat: &Flat,
+    args: &[Vec<u8>],
+    env: &[Vec<u8>],
+) -> Regs
+    requires fits { frame_fits (flat_original flat.now) (texts args.now) (texts env.now) ≡ true }
+    requires page { block % page_size ≡ 0 }
+    requires within { Within mem.old block (block_len_of (flat_original flat.now)) }
+    ensures regs { result ≡ begin_regs (flat_loading flat.now block (texts args.now) (texts env.now)) }
+    ensures own { let l = flat_loading flat.now block (texts args.now) (texts env.now) in
+        (a : ℕ) → in_range (own_range l) a ≡ true → byte_of memory_base mem.new a ≡ begin_bytes l a }
+    ensures header { slice_range mem.new (place block) (place block + header_len) ≡ take header_len (spell flat.now) }
+    ensures others { let l = flat_loading flat.now block (texts args.now) (texts env.now) in
+        (a : ℕ) → in_block l a ≡ false → byte_of memory_base mem.new a ≡ byte_of memory_base mem.old a }
+    ensures length { length mem.new ≡ length mem.old }
+{
+    let _pages = mem.pages();
+    write_image(mem, block, flat);
+    let sp = frame_start(block + block_len(flat), frame_len(args, env) as u32);
+    write_frame(mem, sp, args, env);
+    start_regs(block + flat.entry(), sp)
+}
