@@ -1,2 +1,6 @@
-//! Draft.
+//! What a run of several programs must do, as definitions over worlds in which every program has a private
+//! space of its own.
+//!
+//! What may stand here: worlds, events, turns, the opening world, and laws over these. What may not: any
+//! code that runs a program, and physical memory.
 #![tactic(auto)]
