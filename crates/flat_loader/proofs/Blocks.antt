@@ -3,7 +3,7 @@ use Rattle.std.proofs.Common.{◌≡◌, ℕ, ◌+◌, ◌%◌, ◌^◌, ◌≤�
 use Rattle.std.proofs.lemmas.List.{length-replicate}
 use Rattle.std.proofs.lemmas.Bool.{leb-true, and_parts}
 use Rattle.byte_words.specs.Patches.{Patch, patched, laid}
-use Rattle.byte_words.proofs.Painting.{laid_picture, length-laid}
+use Rattle.byte_words.proofs.Laid.{laid_picture, length-laid}
 use Rattle.phys_mem.specs.Memory.{place}
 use Rattle.bflt_format.specs.Values.{Values, image_size}
 use Rattle.bflt_format.specs.Spelling.{words_text, header_words, Spells}

@@ -6,7 +6,8 @@ use Rattle.std.proofs.lemmas.List.{length-take, length-drop, get_or-take, get_or
 use Rattle.std.proofs.lemmas.Option.{slice_get-get_or, slice_get_past}
 use Rattle.byte_words.specs.ByteMap.{byte_of}
 use Rattle.byte_words.specs.Patches.{Patch, spans, patched, painted, laid}
-use Rattle.byte_words.proofs.Painting.{laid_picture, length-laid, spans_within, patched_on, patched_off, spans_below, spans_past}
+use Rattle.byte_words.proofs.Painting.{spans_within, patched_on, patched_off, spans_below, spans_past}
+use Rattle.byte_words.proofs.Laid.{laid_picture, length-laid}
 use Rattle.phys_mem.specs.Memory.{place}
 use Rattle.bflt_format.specs.Values.{Values}
 use Rattle.bflt_format.specs.Spelling.{spell, words_text, header_words, Spells}

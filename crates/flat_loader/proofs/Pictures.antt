@@ -5,7 +5,8 @@ use Rattle.std.proofs.lemmas.Bool.{cases_lt, cases_eq, cases_Bool, ne_eqb, false
 use Rattle.byteorder.specs.Endian.{little_bytes}
 use Rattle.byte_words.specs.ByteMap.{little_bytes as bytes_of}
 use Rattle.byte_words.specs.Patches.{Patch, spans, patched, painted, little_word, laid}
-use Rattle.byte_words.proofs.Painting.{laid_picture, within, spans_within, patched_on, patched_off, painted_same, spans_below, spans_past}
+use Rattle.byte_words.proofs.Painting.{within, spans_within, patched_on, patched_off, painted_same, spans_below, spans_past}
+use Rattle.byte_words.proofs.Laid.{laid_picture}
 use Rattle.phys_mem.specs.Memory.{place}
 use Rattle.bflt_format.specs.Numbers.{big_at}
 use Rattle.bflt_format.specs.Image.{link}

@@ -1,7 +1,7 @@
 use Rattle.std.proofs.Common.{◌≡◌, ◌+◌, ◌≤◌, ◌∙◌, length, drop, sym, ap, arith, rules}
 use Rattle.byte_words.specs.ByteMap.{little_bytes}
 use Rattle.byte_words.specs.Patches.{laid}
-use Rattle.byte_words.proofs.Painting.{length-laid}
+use Rattle.byte_words.proofs.Laid.{length-laid}
 use Rattle.phys_mem.specs.Memory.{place}
 use Rattle.flat_loader.specs.Frame.{texts}
 use Rattle.flat_loader.proofs.Frames.{texts_more, length-texts_more, pointers_more, pointer_bytes}
