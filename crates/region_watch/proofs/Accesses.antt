@@ -9,7 +9,8 @@ use Rattle.mmap_rules.specs.Space.{all_pass, may_use}
 use Rattle.mmap_rules.specs.Owners.{owns_in, owns, owns_at}
 use Rattle.byte_words.specs.ByteMap.{number, little, little_bytes, with_bytes}
 use Rattle.byte_words.specs.Patches.{laid}
-use Rattle.byte_words.proofs.ByteArrays.{byte_at, number_within, length-little_bytes, length-overwritten}
+use Rattle.byte_words.proofs.ByteArrays.{byte_at, number_within, length-little_bytes}
+use Rattle.byte_words.proofs.Laid.{length-overwritten}
 use Rattle.byte_words.proofs.ByteArrays.{laid_little, byte_of-laid}
 use Rattle.rv32im_step.specs.declared.access.Access.{Access}
 use Rattle.rv32im_step.specs.Memory.{loaded, all_writable, stored}
