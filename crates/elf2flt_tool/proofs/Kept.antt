@@ -187,31 +187,40 @@ near_fails : (cover : Cover) (q : ℕ) (ks : List Recorded) → Each (λ k. met_
     → Each (λ k. stands_at q k ≡ false) ks
 unfolding is_met
 near_fails cover q [] each near = tt
-near_fails cover q (k ∷ ks) each near = (elim (cases_Bool (stands_at q k)) [
-  | inl on ↦
-      let same = eqb-true k.place q on in
-      let met = or_right (list_any (λ b. is_shared cover.still.items k (k.place + b)) (range_with_len 0 4)) (list_any (begins_near cover.words.items k.place) (range_with_len 1 3))
-      (ap (λ p. list_any (begins_near cover.words.items p) (range_with_len 1 3)) same ∙ near) in
-      and_fails (stands_at q k) _ each.0 met
-  | inr out ↦ out
-], near_fails cover q ks each.1 near)
+near_fails cover q (k ∷ ks) each near = (
+  elim (cases_Bool (stands_at q k)) [
+    | inl on ↦
+        let same = eqb-true k.place q on in
+        let met = or_right (list_any (λ b. is_shared cover.still.items k (k.place + b)) (range_with_len 0 4)) (list_any (begins_near cover.words.items k.place) (range_with_len 1 3))
+        (ap (λ p. list_any (begins_near cover.words.items p) (range_with_len 1 3)) same ∙ near) in
+        and_fails (stands_at q k) _ each.0 met
+    | inr out ↦ out
+  ],
+  near_fails cover q ks each.1 near,
+)
 
 -- a byte of q's word that none of the words at q shares is covered by the instruction of each
 share_fails : (cover : Cover) (q b : ℕ) (ks : List Recorded) → Each (λ k. met_at cover q k ≡ false) ks
     → ((k : Recorded) → k.place ≡ q → is_shared cover.still.items k (q + b) ≡ true → is_met cover k ≡ true)
     → Each (λ k. stands_at q k ≡ true → slice_index cover.still.items (q + b) ≤ own_cover k.instruction (q + b)) ks
 share_fails cover q b [] each met = tt
-share_fails cover q b (k ∷ ks) each met = ((λ on. elim (cases_Bool (is_shared cover.still.items k (q + b))) [
-  | inl shared ↦ absurd (false≢true (sym (and_fails (stands_at q k) (is_met cover k) each.0 (met k (eqb-true k.place q on) shared)) ∙ on))
-  | inr free ↦ ltb-false (own_cover k.instruction (q + b)) (slice_index cover.still.items (q + b)) free
-]), share_fails cover q b ks each.1 met)
+share_fails cover q b (k ∷ ks) each met = (
+  (λ on. elim (cases_Bool (is_shared cover.still.items k (q + b))) [
+    | inl shared ↦ absurd (false≢true (sym (and_fails (stands_at q k) (is_met cover k) each.0 (met k (eqb-true k.place q on) shared)) ∙ on))
+    | inr free ↦ ltb-false (own_cover k.instruction (q + b)) (slice_index cover.still.items (q + b)) free
+  ]),
+  share_fails cover q b ks each.1 met,
+)
 
 at_most_one : (b q n : ℕ) (ks : List Recorded) → 2 ≤ n → Each (λ k. stands_at q k ≡ true → n ≤ own_cover k.instruction b) ks → Each (λ k. stands_at q k ≡ false) ks
 at_most_one b q n [] two each = tt
-at_most_one b q n (k ∷ ks) two each = (elim (cases_Bool (stands_at q k)) [
-  | inl on ↦ (let low = each.0 on in absurd (omega (arith, own_small k.instruction b)))
-  | inr out ↦ out
-], at_most_one b q n ks two each.1)
+at_most_one b q n (k ∷ ks) two each = (
+  elim (cases_Bool (stands_at q k)) [
+    | inl on ↦ (let low = each.0 on in absurd (omega (arith, own_small k.instruction b)))
+    | inr out ↦ out
+  ],
+  at_most_one b q n ks two each.1,
+)
 
 -- the byte at q + b belongs to another relocation, and two words are kept at q
 shared_kept : (cover : Cover) (still : ℕ → ℕ) (q b : ℕ) (r : Recorded) (ks : List Recorded) → ((b : ℕ) → slice_index cover.still.items b ≡ min 2 (still b))

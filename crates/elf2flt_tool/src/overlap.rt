@@ -30,7 +30,11 @@ pub fn lower(number: u32, least: Option<u32>) -> u32
 pub fn count_at(words: &[u8], number: usize) -> u8
     ensures { result ≡ slice_index words.now number }
 {
-    if number < words.len() { words[number] } else { 0 }
+    if number < words.len() {
+        words[number]
+    } else {
+        0
+    }
 }
 
 /// How often a word's own instruction covers a byte.

@@ -115,8 +115,8 @@ run-one_by_one :
     ≡ Some (record {
       console = codes "hi\nho\n";
       notes = loaded_at 1 0 0x8000_0000 ∷ loaded_at 2 1 0x8000_2000
-        ∷ wrote 1 0x8000_00a4 (codes "hi\n") ∷ exits 1 0x8000_00a4
-        ++ wrote 2 0x8000_20a4 (codes "ho\n") ∷ exits 2 0x8000_20a4;
+          ∷ wrote 1 0x8000_00a4 (codes "hi\n") ∷ exits 1 0x8000_00a4
+          ++ wrote 2 0x8000_20a4 (codes "ho\n") ∷ exits 2 0x8000_20a4;
       events = 18;
       end = Some all_ended;
     })
@@ -129,7 +129,7 @@ run-by_turns :
     ≡ Some (record {
       console = codes "ho\nhi\n";
       notes = loaded_at 1 0 0x8000_0000 ∷ loaded_at 2 1 0x8000_2000
-        ∷ wrote 2 0x8000_20a4 (codes "ho\n") ∷ wrote 1 0x8000_00a4 (codes "hi\n") ∷ [];
+          ∷ wrote 2 0x8000_20a4 (codes "ho\n") ∷ wrote 1 0x8000_00a4 (codes "hi\n") ∷ [];
       events = 12;
       end = Some out_of_quanta;
     })
@@ -142,7 +142,7 @@ run-stray :
     ≡ Some (record {
       console = [];
       notes = loaded_at 1 0 0x8000_0000 ∷ loaded_at 2 1 0x8000_2000
-        ∷ stray_note 1 (record { pc = 0x8000_0088; addr = 0x8000_2040; len = 1; kind = seen.Store }) ∷ [];
+          ∷ stray_note 1 (record { pc = 0x8000_0088; addr = 0x8000_2040; len = 1; kind = seen.Store }) ∷ [];
       events = 2;
       end = Some (stray_at 1 (record { pc = 0x8000_0088; addr = 0x8000_2040; len = 1; kind = Store }));
     })

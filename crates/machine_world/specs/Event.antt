@@ -109,9 +109,9 @@ replied regs value = setting regs 10 value
 unfoldable pub served : World → Ask → Reply → Bytes → Outcome
 served w a r bytes =
     if has_room w.notes (weight_of a.sent r.got) then
-      went
-        (noted (call_note (entry_of a r.value r.got)) (counted (with_state (record w { rest = r.rest }) a.process (replied a.process.regs r.value) bytes r.brk)))
-        (record { space = a.process.space; events = 1; entries = entry_of a r.value r.got ∷ []; over = r.over })
+    went
+    (noted (call_note (entry_of a r.value r.got)) (counted (with_state (record w { rest = r.rest }) a.process (replied a.process.regs r.value) bytes r.brk)))
+    (record { space = a.process.space; events = 1; entries = entry_of a r.value r.got ∷ []; over = r.over })
     else full
 
 abbrev pub put : World → Ask → Reply → Result Bytes Span → Outcome
@@ -133,9 +133,9 @@ exit_code a = register a.process.regs.x 10 % 256
 unfoldable pub exited : World → Ask → Outcome
 exited w a =
     if has_room w.notes (weight_of a.sent []) then
-      went
-        (ended (noted (call_note (entry_of a 0 [])) (counted w)) a.process (Exit (exit_code a)))
-        (record { space = a.process.space; events = 1; entries = entry_of a 0 [] ∷ []; over = true })
+    went
+    (ended (noted (call_note (entry_of a 0 [])) (counted w)) a.process (Exit (exit_code a)))
+    (record { space = a.process.space; events = 1; entries = entry_of a 0 [] ∷ []; over = true })
     else full
 
 abbrev pub is_exit : ℕ → Bool

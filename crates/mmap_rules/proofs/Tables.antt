@@ -74,9 +74,9 @@ add_more r old now page d within each p =
         | inl past ↦
             set_elsewhere now page _ p (λ e. absurd (omega arith)) ∙ each p ∙ rw (le-ltb p page (omega arith), le-ltb p (page + 1) (omega arith)) refl
         | inr to ↦ (
-          let same : p ≡ page = omega arith in
-          let was : slice_get old page ≡ Some (get_or now page d) = sym (each page ∙ rw (le-ltb page page (omega arith)) refl) ∙ slice_get-get_or now page d within in
-          rw (same, lt-ltb page (page + 1) (omega arith), was) (set_here now page _ within))
+            let same : p ≡ page = omega arith in
+            let was : slice_get old page ≡ Some (get_or now page d) = sym (each page ∙ rw (le-ltb page page (omega arith)) refl) ∙ slice_get-get_or now page d within in
+            rw (same, lt-ltb page (page + 1) (omega arith), was) (set_here now page _ within))
       ]
     ]
 
@@ -106,12 +106,14 @@ one_entry pages r write d shaped =
     and_true : (x y : Bool) → (true && x && y) ≡ (x && true && y)
     and_true true y = refl
     and_true false y = refl
+
     on_page : (r : Range) (write : Bool) (d : ℕ) → 0 < r.size → (distance r + r.size) % 4096 ≡ 0 → meets r (d / 4096) ≡ true
         → (true && nat_le (distance r - 4096 * (d / 4096)) (d % 4096) && (r.writes || not write)) ≡ (nat_le (distance r) d && nat_lt d (distance r + r.size) && (r.writes || not write))
     on_page r write d some whole on =
         let from : nat_le (distance r - 4096 * (d / 4096)) (d % 4096) ≡ nat_le (distance r) d = grind (arith, nat_tests) in
         let to : nat_lt d (distance r + r.size) ≡ true = grind (arith, nat_tests) in
         rw (from, to) (and_true (nat_le (distance r) d) (r.writes || not write))
+
     off_page : (r : Range) (write : Bool) (d : ℕ) → 0 < r.size → (distance r + r.size) % 4096 ≡ 0 → meets r (d / 4096) ≡ false
         → false ≡ (nat_le (distance r) d && nat_lt d (distance r + r.size) && (r.writes || not write))
     off_page r write d some whole off = grind (arith, nat_tests)
@@ -127,16 +129,16 @@ one_owned pages r table shaped len each write a =
       | inl below ↦ grind (arith, nat_tests)
       | inr from ↦ elim (cases_lt ((a - 2 ^ 31) / 4096) pages) [
         | inl within ↦ (
-          let entry = entry_of pages r table each ((a - 2 ^ 31) / 4096) within in
-          let same = one_entry pages r write (a - 2 ^ 31) shaped in
-          let front : nat_le (2 ^ 31) a ≡ true = grind (arith, nat_tests) in
-          let low : nat_le (distance r) (a - 2 ^ 31) ≡ nat_le r.from a = grind (arith, nat_tests) in
-          let high : nat_lt (a - 2 ^ 31) (distance r + r.size) ≡ nat_lt a (r.from + r.size) = grind (arith, nat_tests) in
-          rw (front, entry, same, low, high) refl)
+            let entry = entry_of pages r table each ((a - 2 ^ 31) / 4096) within in
+            let same = one_entry pages r write (a - 2 ^ 31) shaped in
+            let front : nat_le (2 ^ 31) a ≡ true = grind (arith, nat_tests) in
+            let low : nat_le (distance r) (a - 2 ^ 31) ≡ nat_le r.from a = grind (arith, nat_tests) in
+            let high : nat_lt (a - 2 ^ 31) (distance r + r.size) ≡ nat_lt a (r.from + r.size) = grind (arith, nat_tests) in
+            rw (front, entry, same, low, high) refl)
         | inr past ↦ (
-          let none : slice_get table ((a - 2 ^ 31) / 4096) ≡ None = slice_get_past table ((a - 2 ^ 31) / 4096) (omega arith) in
-          let high : nat_lt a (r.from + r.size) ≡ false = grind (arith, nat_tests) in
-          rw (none, high) (outside (nat_le (2 ^ 31) a) (nat_le r.from a) (r.writes || not write)))
+            let none : slice_get table ((a - 2 ^ 31) / 4096) ≡ None = slice_get_past table ((a - 2 ^ 31) / 4096) (omega arith) in
+            let high : nat_lt a (r.from + r.size) ≡ false = grind (arith, nat_tests) in
+            rw (none, high) (outside (nat_le (2 ^ 31) a) (nat_le r.from a) (r.writes || not write)))
       ]
     ]
   where

@@ -110,7 +110,10 @@ impl Space {
         let pages = regions.pages();
         let region = regions.region(block);
         let mapping = block_mapping(region.first, region.pages);
-        let SpaceRoom { mut maps, mut owners } = room;
+        let SpaceRoom {
+            mut maps,
+            mut owners,
+        } = room;
         owners.add(&mapping.range);
         maps.push(mapping).unwrap();
         let first = BASE + PAGE * region.first;

@@ -269,11 +269,7 @@ fn convert_one_word(rt: HostRuntime) -> Result<(), Fail> {
     want.extend_from_slice(&[0; 84])?;
     want.extend_from_slice(&BODY)?;
     assert_eq!(rt; want.len(), 144);
-    let files = [
-        one_word(alloc)?,
-        file(alloc, &SHORT)?,
-        file(alloc, &LOW)?,
-    ];
+    let files = [one_word(alloc)?, file(alloc, &SHORT)?, file(alloc, &LOW)?];
     for file in &files {
         let found = convert(alloc, file, 4096)?;
         assert_eq!(rt; found.as_slice(), want.as_slice());
