@@ -25,7 +25,7 @@ exit status:
   8   out of memory
   9   a file can't be written
 
-Read on in README.md.
+Read on in the manual page, flatc(1), and in README.md.
 ";
 
 pub const VERSION: &str = "flatc 0.1.0\n";

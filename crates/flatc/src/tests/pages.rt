@@ -59,7 +59,7 @@ fn expected_help(alloc: Global) -> Result<String, AllocError> {
             status = next_status(one);
         }
     }
-    page.push_str("\nRead on in README.md.\n")?;
+    page.push_str("\nRead on in the manual page, flatc(1), and in README.md.\n")?;
     Ok(page)
 }
 
