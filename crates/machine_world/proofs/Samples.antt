@@ -30,7 +30,7 @@ use Rattle.vfork_exec.specs.Keyed.{find, change, without}
 use Rattle.machine_world.specs.World.{Program, Rest, World}
 use Rattle.machine_world.specs.Free.{free}
 use Rattle.machine_world.specs.Rows.{write_row, row}
-use Rattle.machine_world.specs.Event.{ended, stepped, trapped, served, exited, answer, event}
+use Rattle.machine_world.specs.Event.{ended, stepped, trapped, served, exited, answer, at_process, event}
 use Rattle.machine_world.specs.Turns.{End, all_ended, out_of_quanta, stray_at, Walk, turn, turns}
 use Rattle.machine_world.specs.Boot.{StartLine, BootFault, bad_start, no_run, started, all_started, boot}
 
@@ -103,7 +103,7 @@ run-hi :
       events = 9;
       end = Some all_ended;
     })
-unfolding number_at byte_at from_base decoded opcode funct3 funct7 rd rs1 rs2 imm_i imm_s imm_b imm_u imm_j loaded stored effect meaning register with_register free_runs place refusal has_room sent read_span writable_in may_use block_pages frame_len frame frame_start frame_fits begin_space begin_regs find change without free write_row row ended stepped trapped served exited answer event turn picked turns started all_started boot
+unfolding number_at byte_at from_base decoded opcode funct3 funct7 rd rs1 rs2 imm_i imm_s imm_b imm_u imm_j loaded stored effect meaning register with_register free_runs place refusal has_room sent read_span writable_in may_use block_pages frame_len frame frame_start frame_fits begin_space begin_regs find change without free write_row row ended stepped trapped served exited answer at_process event turn picked turns started all_started boot
 run-hi = refl
 
 -- both programs in one memory, one after the other
@@ -120,7 +120,7 @@ run-one_by_one :
       events = 18;
       end = Some all_ended;
     })
-unfolding number_at byte_at from_base decoded opcode funct3 funct7 rd rs1 rs2 imm_i imm_s imm_b imm_u imm_j loaded stored effect meaning register with_register free_runs place refusal has_room sent read_span writable_in may_use block_pages frame_len frame frame_start frame_fits begin_space begin_regs find change without free write_row row ended stepped trapped served exited answer event turn picked turns started all_started boot
+unfolding number_at byte_at from_base decoded opcode funct3 funct7 rd rs1 rs2 imm_i imm_s imm_b imm_u imm_j loaded stored effect meaning register with_register free_runs place refusal has_room sent read_span writable_in may_use block_pages frame_len frame frame_start frame_fits begin_space begin_regs find change without free write_row row ended stepped trapped served exited answer at_process event turn picked turns started all_started boot
 run-one_by_one = refl
 
 -- by turns: the second one writes first
@@ -133,7 +133,7 @@ run-by_turns :
       events = 12;
       end = Some out_of_quanta;
     })
-unfolding number_at byte_at from_base decoded opcode funct3 funct7 rd rs1 rs2 imm_i imm_s imm_b imm_u imm_j loaded stored effect meaning register with_register free_runs place refusal has_room sent read_span writable_in may_use block_pages frame_len frame frame_start frame_fits begin_space begin_regs find change without free write_row row ended stepped trapped served exited answer event turn picked turns started all_started boot
+unfolding number_at byte_at from_base decoded opcode funct3 funct7 rd rs1 rs2 imm_i imm_s imm_b imm_u imm_j loaded stored effect meaning register with_register free_runs place refusal has_room sent read_span writable_in may_use block_pages frame_len frame frame_start frame_fits begin_space begin_regs find change without free write_row row ended stepped trapped served exited answer at_process event turn picked turns started all_started boot
 run-by_turns = refl
 
 -- the first stray access, a store to the next block's first own byte, stops the run before it has any effect
@@ -146,7 +146,7 @@ run-stray :
       events = 2;
       end = Some (stray_at 1 (record { pc = 0x8000_0088; addr = 0x8000_2040; len = 1; kind = Store }));
     })
-unfolding number_at byte_at from_base decoded opcode funct3 funct7 rd rs1 rs2 imm_i imm_s imm_b imm_u imm_j loaded stored effect meaning register with_register free_runs place refusal has_room sent read_span writable_in may_use block_pages frame_len frame frame_start frame_fits begin_space begin_regs find change without free write_row row ended stepped trapped served exited answer event turn picked turns started all_started boot
+unfolding number_at byte_at from_base decoded opcode funct3 funct7 rd rs1 rs2 imm_i imm_s imm_b imm_u imm_j loaded stored effect meaning register with_register free_runs place refusal has_room sent read_span writable_in may_use block_pages frame_len frame frame_start frame_fits begin_space begin_regs find change without free write_row row ended stepped trapped served exited answer at_process event turn picked turns started all_started boot
 run-stray = refl
 
 -- a program that isn't there, and one that finds no free run

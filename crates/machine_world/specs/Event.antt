@@ -161,16 +161,27 @@ effect w p s call = answer w p s
 effect w p s (trap signal) = trapped w p signal
 effect w p s (refused access) = strays access
 
-abbrev pub event_in : World → Process → Option LiveSpace → Outcome
-event_in w p None = idle
-event_in w p (Some s) = effect w p s.space (meaning p.regs s.space.bytes (writable_in s.space.maps))
+-- what comes of a process in its space, if it lives
+abbrev pub in_space : (Process → Space → Outcome) → Process → Option LiveSpace → Outcome
+in_space act p None = idle
+in_space act p (Some s) = act p s.space
 
-abbrev pub event_of : World → Option Process → Outcome
-event_of w None = idle
-event_of w (Some p) = event_in w p (find id_of p.space w.spaces)
+abbrev pub by_process : List LiveSpace → (Process → Space → Outcome) → Option Process → Outcome
+by_process spaces act None = idle
+by_process spaces act (Some p) = in_space act p (find id_of p.space spaces)
+
+unfoldable pub at_process : World → ℕ → (Process → Space → Outcome) → Outcome
+at_process w pid act = by_process w.spaces act (find pid_of pid w.procs)
 
 unfoldable pub event : World → ℕ → Outcome
-event w pid = event_of w (find pid_of pid w.procs)
+event w pid = at_process w pid (λ p s. effect w p s (meaning p.regs s.bytes (writable_in s.maps)))
+
+-- the system call of a process, and its end by a signal
+unfoldable pub called : World → ℕ → Outcome
+called w pid = at_process w pid (answer w)
+
+unfoldable pub died : World → ℕ → ℕ → Outcome
+died w pid signal = at_process w pid (λ p s. trapped w p signal)
 
 -- the first stray access of the process's next event, if it has one
 abbrev pub stray_in : Outcome → Option Access

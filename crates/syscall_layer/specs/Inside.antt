@@ -1,0 +1,13 @@
+-- The fields of `Parts` as what is kept.
+use Rattle.syscall_layer.specs.declared.parts.Parts.TheInside.{Inside}
+use Rattle.syscall_layer.specs.Kept.{Kept}
+
+abbrev pub kept_of : Inside → Kept
+kept_of p = record {
+  mem = p.mem;
+  regions = p.regions;
+  spaces = p.spaces.items;
+  procs = p.procs;
+  notes = p.log.notes;
+  console = p.console.items;
+}

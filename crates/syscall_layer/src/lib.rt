@@ -1,0 +1,18 @@
+//! All programs of a machine in one memory: their processes and spaces, the system calls that they make, the log and the
+//! console.
+//!
+//! What may stand here: what is kept of all programs, how a program starts and ends, and one system call. What may not:
+//! whose turn it is, how often, and what is written of a run.
+#![tactic(auto)]
+
+mod answer;
+mod ending;
+mod parts;
+mod start;
+mod stray;
+mod task;
+
+pub use answer::{Served, serve};
+pub use parts::Parts;
+pub use start::StartRefusal;
+pub use task::Task;

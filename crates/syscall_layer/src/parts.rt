@@ -1,0 +1,61 @@
+//! What is kept of all programs.
+
+ghost use Rattle.std.specs.Prelude.{◌≡◌, ◌≤◌, IfOk};
+ghost use Rattle.syscall_layer.specs.Kept.{nothing_yet};
+
+use crate::task::Task;
+use call_log::Log;
+use mmap_rules::Space;
+use nommu_regions::Regions;
+use phys_mem::PhysMem;
+use std::alloc::{AllocError, Global};
+use std::marker::Model;
+use vfork_exec::Procs;
+
+/// Everything of a run but whose turn it is.
+#[derive(Drop)]
+pub struct Parts {
+    /// The memory of all programs.
+    pub mem: PhysMem,
+    /// Which of its pages are held.
+    pub regions: Regions,
+    /// By the number of their load note; None where the space is gone.
+    pub spaces: Vec<Option<Space>>,
+    /// The processes that live.
+    pub procs: Procs<Task>,
+    /// The notes.
+    pub log: Log,
+    /// What was written to the console.
+    pub console: Vec<u8>,
+}
+
+impl Model for Parts {
+    ghost use Rattle.syscall_layer.specs.Kept.{Kept};
+
+    ghost Value = { Kept };
+
+    ghost use Rattle.syscall_layer.specs.Inside.{kept_of};
+    ghost use Rattle.syscall_layer.specs.Regular.{Regular};
+
+    ghost view = { kept_of };
+
+    ghost invariant = { λ p. Regular (kept_of p) };
+}
+
+impl Parts {
+    /// A memory of so many pages, in which nothing runs.
+    pub fn new(alloc: Global, pages: u32) -> Result<Parts, AllocError>
+        requires some { 1 ≤ pages }
+        requires most { pages ≤ 16384 }
+        ensures { IfOk result (λ parts. parts ≡ nothing_yet pages) }
+    {
+        Ok(Parts {
+            mem: PhysMem::new(alloc, pages)?,
+            regions: Regions::new(alloc, pages)?,
+            spaces: Vec::new(alloc),
+            procs: Procs::new(alloc)?,
+            log: Log::new(alloc)?,
+            console: Vec::new(alloc),
+        })
+    }
+}
