@@ -46,3 +46,6 @@ pid_of p = p.pid
 
 abbrev pub id_of : LiveSpace → ℕ
 id_of s = s.id
+
+abbrev pub program_path : Program → List ℕ
+program_path p = p.path

@@ -1,0 +1,23 @@
+-- What a boot gives.
+use Rattle.std.specs.Prelude.{◌≡◌, Result, Ok, Err}
+use Rattle.machine_world.specs.World.{World}
+use Rattle.machine_world.specs.Boot.{BootFault, bad_start, args_too_big, no_run}
+use Rattle.flat_machine.specs.declared.boot.BootRefusal.{BootRefusal}
+use Rattle.flat_machine.specs.declared.boot.BootRefusal.TheVariants as refusal
+use Rattle.flat_machine.specs.State.{State, world}
+
+-- the fault of a start line, or out of memory
+abbrev pub IsFault : BootFault → BootRefusal → Type 0
+IsFault (bad_start line) (refusal.BadStart at) = at ≡ line
+IsFault (args_too_big line) (refusal.E2big at) = at ≡ line
+IsFault (no_run line) (refusal.NoRun at) = at ≡ line
+IsFault fault refusal.Memory = Unit {0}
+IsFault fault other = ⊥
+
+-- the machine stands for the opening world, or the first start line that fails is told; out of memory says nothing
+abbrev pub Boots : Result World BootFault → Result State BootRefusal → Type 0
+Boots (Ok w) (Ok machine) = world machine ≡ w
+Boots (Ok w) (Err refusal.Memory) = Unit {0}
+Boots (Ok w) (Err other) = ⊥
+Boots (Err fault) (Ok machine) = ⊥
+Boots (Err fault) (Err refusal) = IsFault fault refusal

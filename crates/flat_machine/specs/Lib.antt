@@ -1,0 +1,10 @@
+-- State     what a machine keeps, and the world that it stands for
+-- Boots     what a boot gives
+-- Runs      what a run leaves, and why it stops
+-- OwnBytes  bytes of a process
+-- Inside    the fields of `Machine` as what it keeps
+pub mod State
+pub mod Boots
+pub mod Runs
+pub mod OwnBytes
+pub mod Inside

@@ -1,0 +1,58 @@
+-- What a run leaves, and why it stops.
+use Rattle.std.specs.Prelude.{◌≡◌, ◌≢◌, ℕ, zero, suc, ◌<◌, List, [], ◌∷◌, ◌++◌, map, Option, Some, None, Result, Ok, Err}
+use Rattle.std.specs.declared.alloc.AllocError.{AllocError}
+use Rattle.byte_words.specs.ByteMap.{Bytes}
+use Rattle.rv32im_step.specs.declared.regs.Regs.{Regs}
+use Rattle.rv32im_step.specs.Meaning.{next, meaning}
+use Rattle.mmap_rules.specs.Space.{writable_in}
+use Rattle.quantum_sched.specs.declared.Quantum.{Quantum}
+use Rattle.quantum_sched.specs.Picked.{picked}
+use Rattle.vfork_exec.specs.Keyed.{find}
+use Rattle.machine_world.specs.World.{World, Process, LiveSpace, pid_of, id_of}
+use Rattle.machine_world.specs.Turns.{End, all_ended, out_of_quanta, stray_at, log_full, Walk, turn, turns}
+use Rattle.flat_machine.specs.declared.run.End.{End as Told}
+use Rattle.flat_machine.specs.declared.run.End.TheVariants as told
+use Rattle.flat_machine.specs.State.{State, world}
+
+-- the quanta so many times
+abbrev pub repeated : ℕ → List Quantum → List Quantum
+repeated zero quanta = []
+repeated (suc n) quanta = quanta ++ repeated n quanta
+
+abbrev pub Ends : Option End → Told → Type 0
+Ends (Some all_ended) told.AllEnded = Unit {0}
+Ends (Some (stray_at pid access)) (told.Stray seen) = seen ≡ access
+Ends (Some out_of_quanta) told.OutOfQuanta = Unit {0}
+Ends (Some log_full) told.LogFull = Unit {0}
+Ends end other = ⊥
+
+-- the next instruction of a process isn't carried out: it makes a call, traps, or strays
+pub record StandsStill (w : World) (pid : ℕ) : Type 0 where
+  pub process : Process
+  pub space : LiveSpace
+  pub lives : find pid_of pid w.procs ≡ Some process
+  pub has : find id_of process.space w.spaces ≡ Some space
+  pub still : (regs : Regs) (bytes : Bytes) → meaning process.regs space.space.bytes (writable_in space.space.maps) ≢ next regs bytes
+
+-- a run out of memory: it stands within the turn of a quantum, behind a whole number of events, and the next event isn't
+-- an instruction that is carried out
+pub record Stops (quanta : List Quantum) (old new : World) : Type 0 where
+  pub front : List Quantum
+  pub quantum : Quantum
+  pub back : List Quantum
+  pub are : quanta ≡ front ++ quantum ∷ back
+  -- the world when that turn begins
+  pub before : World
+  pub reached : (turns front old).world ≡ before
+  pub pid : ℕ
+  pub chosen : picked quantum.pick (map pid_of before.procs) ≡ Some pid
+  pub done : ℕ
+  pub less : done < quantum.count
+  pub walked : (turn done pid before).world ≡ new
+  pub goes_on : (turn done pid before).end ≡ None
+  pub still : StandsStill new pid
+
+-- the machine stands for the world that the turns lead to, and tells their end
+abbrev pub Runs : List Quantum → State → State → Result Told AllocError → Type 0
+Runs quanta old new (Ok end) = (world new ≡ (turns quanta (world old)).world) × Ends (turns quanta (world old)).end end
+Runs quanta old new (Err error) = Stops quanta (world old) (world new)

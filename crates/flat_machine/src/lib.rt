@@ -1,0 +1,14 @@
+//! A machine that runs several flat programs by turns in one memory.
+//!
+//! What may stand here: how the start lines are loaded, whose turn it is and for how long, why a run stops, and what can be
+//! read of it. What may not: single rows of system calls, files of the host, and texts for users.
+#![tactic(auto)]
+
+mod boot;
+mod bytes;
+mod machine;
+mod run;
+
+pub use boot::{BootRefusal, Setup};
+pub use machine::Machine;
+pub use run::End;

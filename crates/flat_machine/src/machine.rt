@@ -1,0 +1,72 @@
+//! The machine, and what can be read of it.
+
+ghost use Rattle.std.specs.Prelude.{◌≡◌, map, reverse};
+ghost use Rattle.call_log.specs.Values.{note_value};
+ghost use Rattle.call_log.specs.Programs.{paths_of};
+ghost use Rattle.machine_world.specs.World.{program_path};
+ghost use Rattle.flat_machine.specs.State.{world};
+
+use bflt_format::Flat;
+use call_log::Note;
+use page_runs::Kind;
+use std::marker::Model;
+use syscall_layer::Parts;
+
+/// The programs of a run in one memory, and how far they came.
+#[derive(Drop)]
+pub struct Machine {
+    pub(crate) parts: Parts,
+    pub(crate) kind: Kind,
+    /// The path of each program.
+    pub(crate) paths: Vec<Vec<u8>>,
+    pub(crate) programs: Vec<Flat>,
+    /// How many events were carried out.
+    pub(crate) events: u64,
+}
+
+impl Model for Machine {
+    ghost use Rattle.flat_machine.specs.State.{State};
+
+    ghost Value = { State };
+
+    ghost use Rattle.flat_machine.specs.Inside.{state_of};
+
+    ghost view = { state_of };
+}
+
+impl Machine {
+    /// How free runs are chosen.
+    pub fn kind(&self) -> Kind
+        ensures { result ≡ (world self.now).rest.kind }
+    {
+        self.kind
+    }
+
+    /// How many events were carried out.
+    pub fn events(&self) -> u64
+        ensures { result ≡ (world self.now).events }
+    {
+        self.events
+    }
+
+    /// All that was written to the console.
+    pub fn console(&self) -> &[u8]
+        ensures { result.now ≡ (world self.now).rest.console }
+    {
+        &self.parts.console
+    }
+
+    /// The notes, oldest first.
+    pub fn notes(&self) -> &[Note]
+        ensures { (world self.now).notes ≡ reverse (map note_value result.now) }
+    {
+        self.parts.log.notes()
+    }
+
+    /// The paths of the programs, in their order.
+    pub fn paths(&self) -> &[Vec<u8>]
+        ensures { paths_of result.now ≡ map program_path (world self.now).rest.programs }
+    {
+        &self.paths
+    }
+}
