@@ -1,0 +1,2 @@
+-- Begins  the parts before the first program
+mod Begins
