@@ -3,6 +3,7 @@ use Rattle.std.specs.Prelude.{slice_set}
 use Rattle.byte_words.specs.Patches.{laid}
 use Rattle.page_runs.specs.Choosers.{kind_of}
 use Rattle.nommu_regions.specs.Regions.{AreFree}
+use Rattle.mmap_rules.specs.Held.{held_block}
 use Rattle.flat_loader.specs.Original.{flat_original, block_pages}
 use Rattle.flat_loader.specs.Frame.{texts}
 use Rattle.flat_loader.specs.Loads.{block_page, block_region}
@@ -31,6 +32,8 @@ returns g c =
     let fits : 4096 * page + 4096 * block_pages (flat_original f) ≤ length c.args.mem.now = (let memory = c.requires.memory in omega arith) in
     let mid : List ℕ = laid c.args.mem.now (4096 * page) (replicate (4096 * block_pages (flat_original f)) 0) in
     let cleared : c.fresh.new.mem ≡ mid = c.in-Some.ensures.memory ∙ ap (λ k. laid c.args.mem.now (4096 * page) (replicate (4096 * k) 0)) same in
+    let space : c.new-space.result ≡ held_block (length c.fresh.new.self) (block_region page n) (64 + c.image_len-end.result) c.stack_len.result =
+    c.new-space.ensures (block_region page n) there in
     record {
       fits = search rules;
       page = page;
@@ -40,7 +43,7 @@ returns g c =
       base = refl;
       pages = same;
       regs = c.load_at-regs.ensures.regs;
-      space = c.new-space.ensures (block_region page n) there
+      space = space
           ∙ space_started f page (length old) args env (length c.fresh.new.self) n c.image_len-end.result c.stack_len.result len same c.image_len-end.ensures.value c.stack_len.ensures.value;
       own = c.load_at-regs.ensures.own;
       header = c.load_at-regs.ensures.header;
