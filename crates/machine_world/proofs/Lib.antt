@@ -1,2 +1,10 @@
--- Samples  the definitions, computed on whole runs
+-- Samples   the definitions, computed on whole runs
+-- States    a world in which one process has other registers and other bytes
+-- TurnLaws  turns, event by event
+-- RunLaws   runs, quantum by quantum
+-- Steps     instructions of one process, one after the other
 mod Samples
+pub mod States
+pub mod TurnLaws
+pub mod RunLaws
+pub mod Steps
