@@ -1,6 +1,14 @@
 -- Worlds    the world of the parts, where one space or one process is found, changed or taken out
 -- CallRows  the row of each call, and the effect that the code gives it
 -- Runs      a process that runs in its space, and the call at which it stands
+-- Stays     what holds of the parts stays so where one process and its space change
+-- Settled   small facts of a call's reply
+-- Moves     the world after one process went on, and after one is gone
+-- Outcomes  what comes of a call and of an end, in the world and in the parts
 pub mod Worlds
 pub mod CallRows
 pub mod Runs
+pub mod Stays
+pub mod Settled
+pub mod Moves
+pub mod Outcomes
