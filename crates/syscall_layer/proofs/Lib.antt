@@ -5,6 +5,7 @@
 -- Settled   small facts of a call's reply
 -- Moves     the world after one process went on, and after one is gone
 -- Outcomes  what comes of a call and of an end, in the world and in the parts
+-- ReadRanges  what a call reads in one memory, range by range
 pub mod Worlds
 pub mod CallRows
 pub mod Runs
@@ -12,3 +13,4 @@ pub mod Stays
 pub mod Settled
 pub mod Moves
 pub mod Outcomes
+pub mod ReadRanges
