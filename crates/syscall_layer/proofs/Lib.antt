@@ -1,2 +1,6 @@
 -- Begins  the parts before the first program
+-- Counts  places of lists, and how many mappings name a region
+-- Apart   what one space may write no other one has
 mod Begins
+pub mod Counts
+pub mod Apart
