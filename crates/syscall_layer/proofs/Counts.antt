@@ -72,7 +72,7 @@ module _ {A : Type 0} where
 
 -- ---- how many name a region
 
-eqb_is : (n k : ℕ) → (n == k) ≡ true → n ≡ k
+pub eqb_is : (n k : ℕ) → (n == k) ≡ true → n ≡ k
 eqb_is n k h = grind (arith, nat_tests)
 
 named_cons : (id : ℕ) (n : Mapping) (maps : List Mapping) (b : Bool) → (n.first == id) ≡ b → named_in id (n ∷ maps) ≡ cond b 1 0 + named_in id maps

@@ -1,6 +1,8 @@
 -- Begins  the parts before the first program
 -- Counts  places of lists, and how many mappings name a region
 -- Apart   what one space may write no other one has
+-- Gone    the parts without a process and its space
 mod Begins
 pub mod Counts
 pub mod Apart
+pub mod Gone
