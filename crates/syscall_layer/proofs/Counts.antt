@@ -27,6 +27,9 @@ pub record Passing (A : Type 0) (p : A → Bool) (xs : List A) : Type 0 where
   pub passes : p item ≡ true
 
 module _ {A : Type 0} where
+  pub same_item : (xs : List A) (i j : ℕ) (x y : A) → i ≡ j → slice_get xs i ≡ Some x → slice_get xs j ≡ Some y → x ≡ y
+  same_item xs i j x y same is it = same_Some _ _ (sym is ∙ ap (slice_get xs) same ∙ it)
+
   pub get_set : (xs : List A) (i : ℕ) (v : A) → i < length xs → slice_get (slice_set xs i v) i ≡ Some v
   get_set [] i v less = absurd (omega arith)
   get_set (x ∷ xs) zero v less = refl

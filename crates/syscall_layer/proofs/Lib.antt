@@ -2,7 +2,9 @@
 -- Counts  places of lists, and how many mappings name a region
 -- Apart   what one space may write no other one has
 -- Gone    the parts without a process and its space
+-- FreePages  the free pages of the world are those of the regions
 mod Begins
 pub mod Counts
 pub mod Apart
 pub mod Gone
+pub mod FreePages
