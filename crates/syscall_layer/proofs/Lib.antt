@@ -6,6 +6,16 @@
 -- Moves     the world after one process went on, and after one is gone
 -- Outcomes  what comes of a call and of an end, in the world and in the parts
 -- ReadRanges  what a call reads in one memory, range by range
+-- Begins     the parts before the first program
+-- Counts     places of lists, and how many mappings name a region
+-- Apart      what one space may write no other one has
+-- Gone       the parts without a process and its space
+-- FreePages  the free pages of the world are those of the regions
+mod Begins
+pub mod Counts
+pub mod Apart
+pub mod Gone
+pub mod FreePages
 pub mod Worlds
 pub mod CallRows
 pub mod Runs

@@ -1,5 +1,5 @@
 -- What a system call, a signal and a stray access leave.
-use Rattle.std.specs.Prelude.{◌≡◌, ℕ, true, false, Option, None, Result, Ok, Err, ⊤}
+use Rattle.std.specs.Prelude.{◌≡◌, ℕ, true, false, None, Result, Ok, Err, ⊤}
 use Rattle.std.specs.declared.alloc.AllocError.{AllocError}
 use Rattle.rv32im_step.specs.declared.access.Access.{Access}
 use Rattle.call_log.specs.Notes.{stray_note}

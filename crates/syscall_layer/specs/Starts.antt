@@ -4,7 +4,7 @@ use Rattle.page_runs.specs.declared.place.Kind.{Kind}
 use Rattle.flat_loader.specs.Original.{Original}
 use Rattle.flat_loader.specs.Frame.{frame_fits}
 use Rattle.machine_world.specs.World.{World}
-use Rattle.machine_world.specs.Boot.{StartLine, BootFault, args_too_big, no_run, Found, fitting}
+use Rattle.machine_world.specs.Boot.{StartLine, BootFault, args_too_big, no_run, fitting}
 use Rattle.syscall_layer.specs.declared.start.StartRefusal.{StartRefusal}
 use Rattle.syscall_layer.specs.declared.start.StartRefusal.TheVariants as refusal
 use Rattle.syscall_layer.specs.Kept.{Kept}

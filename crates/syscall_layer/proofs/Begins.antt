@@ -1,0 +1,57 @@
+-- The parts before the first program.
+use Rattle.std.proofs.Common.{◌≡◌, ℕ, zero, suc, ◌*◌, ◌≤◌, length, replicate, List, [], arith, refl, sym, ap}
+use Rattle.std.proofs.lemmas.List.{length-replicate}
+use Rattle.std.proofs.lemmas.Option.{same_Some, none-some}
+use Rattle.std.specs.Prelude.{Some, slice_get, true}
+use Rattle.std.proofs.lemmas.Bool.Decides.{nat_tests}
+use Rattle.nommu_regions.specs.declared.region.Region.{Region}
+use Rattle.nommu_regions.specs.declared.region.Source.TheVariants.{Own}
+use Rattle.nommu_regions.specs.Regions.{holds, AreRegions}
+use Rattle.vfork_exec.specs.Keyed.{find}
+use Rattle.call_log.specs.Notes.{Note}
+use Rattle.syscall_layer.specs.Kept.{Kept, nothing_yet}
+use Rattle.syscall_layer.specs.Regular.{Regular}
+
+get-replicate : (n i : ℕ) (v r : Region) → slice_get (replicate n v) i ≡ Some r → r ≡ v
+get-replicate zero i v r is = absurd (none-some r is)
+get-replicate (suc n) zero v r is = sym (same_Some _ _ is)
+get-replicate (suc n) (suc i) v r is = get-replicate n i v r is
+
+no_use : (n i : ℕ) (v r : Region) → v.uses ≡ 0 → slice_get (replicate n v) i ≡ Some r → r.uses ≡ 0
+no_use n i v r gone is = omega (arith, ap (λ (q : Region). q.uses) (get-replicate n i v r is))
+
+no_page : (n i : ℕ) (v r : Region) (p : ℕ) → v.uses ≡ 0 → slice_get (replicate n v) i ≡ Some r → holds r p ≡ true → ⊥
+no_page n i v r p gone is has = let uses = no_use n i v r gone is in grind (arith, nat_tests, uses)
+
+no_regions : (n : ℕ) (v : Region) → v.uses ≡ 0 → AreRegions (replicate n v)
+no_regions n v gone = record {
+  begins = λ id r is live. absurd (omega (arith, no_use n id v r gone is));
+  some = λ id r is live. absurd (omega (arith, no_use n id v r gone is));
+  inside = λ id r is live. absurd (omega (arith, no_use n id v r gone is));
+  apart = λ i j r s p is it has. absurd (no_page n i v r p gone is has);
+}
+
+-- whatever stands in the log and on the console
+begins_with : (pages : ℕ) (notes : List Note) (console : List ℕ) → 1 ≤ pages → pages ≤ 16384 → Regular (record (nothing_yet pages) { notes = notes; console = console })
+unfolding find
+begins_with pages notes console some most =
+    let v : Region = record { first = 0; pages = 0; source = Own; uses = 0 } in
+    let len : length (replicate pages v) ≡ pages = length-replicate pages v in
+    let bytes = length-replicate {A = ℕ} (4096 * pages) 0 in
+    record {
+      memory = rw (len, bytes) refl;
+      some = omega arith;
+      most = omega arith;
+      regions = no_regions pages v refl;
+      uses = λ id r is. no_use pages id v r refl is;
+      one_use = λ id r is own. omega (arith, no_use pages id v r refl is);
+      names = λ i j h m there. absurd (none-some _ there);
+      pages = λ i h there. absurd (none-some _ there);
+      runs = λ pid e is. absurd (none-some _ is);
+      alone = λ p q e f is. absurd (none-some _ is);
+      falls = tt;
+      few = omega arith;
+    }
+
+pub regular_begins : (k : Kept) (pages : ℕ) → 1 ≤ pages → pages ≤ 16384 → k ≡ nothing_yet pages → Regular k
+regular_begins k pages some most is = rw is (begins_with pages [] [] some most)
