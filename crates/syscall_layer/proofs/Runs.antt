@@ -1,5 +1,5 @@
 -- A process that runs in its space, and the call at which it stands.
-use Rattle.std.proofs.Common.{◌≡◌, ℕ, List, [], ◌∷◌, Bool, true, false, ◌⊎◌, inl, inr, Option, Some, None, refl, sym, ap, ◌∙◌, arith}
+use Rattle.std.proofs.Common.{◌≡◌, ℕ, List, [], ◌∷◌, Bool, true, false, ◌⊎◌, inl, inr, Option, Some, None, Global, refl, sym, ap, ◌∙◌, arith}
 use Rattle.std.specs.Prelude.{◌==◌, ◌*◌, length, IsSome, Vec, Result, Ok, Err, option_map, slice_get, slice_index}
 use Rattle.std.proofs.lemmas.Bool.Decides.{nat_tests}
 use Rattle.byte_words.specs.ByteMap.{Bytes}
@@ -17,7 +17,10 @@ use Rattle.syscall_layer.specs.declared.task.Task.{Task}
 use Rattle.syscall_layer.specs.Kept.{Kept}
 use Rattle.syscall_layer.specs.Regular.{Regular, HasSpace}
 use Rattle.syscall_layer.specs.Stands.{private_bytes}
-use Rattle.syscall_layer.specs.Calls.{RunsIn, IsCall}
+use Rattle.syscall_layer.specs.Calls.{RunsIn, IsCall, Made}
+use Rattle.syscall_layer.specs.Reading.{Reads}
+use Rattle.syscall_layer.specs.declared.reading.Unread.{Unread}
+use Rattle.syscall_layer.specs.declared.reading.Unread.TheVariants.{Stray, Memory}
 
 decide : (b : Bool) → (b ≡ true) ⊎ (b ≡ false)
 decide true = inl refl
@@ -99,3 +102,7 @@ module _ (k : Kept) (pid : ℕ) (e : Entry Task) (h : Held) (runs : RunsIn k pid
     args = same_args;
     sent = sent_is ∙ reads;
   }
+
+  pub unread_is : (unread : Unread) → Reads {Y = Global} (sent (slice_index t.regs.x 17) args (private_bytes k.mem g)) (Err unread) → Made k.mem e h (Err unread)
+  unread_is (Stray addr len) reads = sent_is ∙ reads
+  unread_is Memory reads = tt

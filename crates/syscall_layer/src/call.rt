@@ -1,6 +1,6 @@
 //! A system call, as a process makes it.
 
-ghost use Rattle.std.specs.Prelude.{◌≡◌, slice_get, Some};
+ghost use Rattle.std.specs.Prelude.{◌≡◌, IfOk, slice_get, Some};
 ghost use Rattle.mmap_rules.specs.Held.{Held};
 ghost use Rattle.vfork_exec.specs.declared.entry.Entry.{Entry};
 ghost use Rattle.vfork_exec.specs.Procs.{Lives};
@@ -48,19 +48,22 @@ fn home(spaces: &[Option<Space>], number: u32) -> &Space
 /// The call at which a process stands, with the bytes that it reads.
 pub fn call_of(parts: &Parts, pid: u32) -> Result<Call, Unread>
     requires { Lives parts.now.procs pid }
-    ensures { (e : Entry Task) → (h : Held) → RunsIn parts.now pid e h → Made parts.now.mem e h result }
+    ensures made { (e : Entry Task) → (h : Held) → RunsIn parts.now pid e h → Made parts.now.mem e h result }
+    ensures pid { IfOk result (λ call. call.pid ≡ pid) }
 {
     let task = parts.procs.get(pid);
     let number = task.regs.x[17];
     let args = args_of(&task.regs);
     let alloc = *parts.console.allocator();
     let space = home(&parts.spaces, task.space);
-    let sent = read_sent(alloc, &parts.mem, space, number, &args)?;
-    Ok(Call {
-        pid,
-        parent: parts.procs.parent(pid),
-        number,
-        args,
-        sent,
-    })
+    match read_sent(alloc, &parts.mem, space, number, &args) {
+        Ok(sent) => Ok(Call {
+            pid,
+            parent: parts.procs.parent(pid),
+            number,
+            args,
+            sent,
+        }),
+        Err(unread) => Err(unread),
+    }
 }
