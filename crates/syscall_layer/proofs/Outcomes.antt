@@ -1,8 +1,10 @@
 -- What comes of a call and of an end, in the world and in the parts.
 use Rattle.std.proofs.Common.{◌≡◌, ℕ, ◌+◌, Bool, true, false, List, [], ◌∷◌, ◌++◌, length, Option, Some, None, refl, sym, ap, subst, ◌∙◌, arith, add-zero}
 use Rattle.std.specs.Prelude.{◌%◌, option_map, Result, Ok, Err, slice_index, slice_get}
+use Rattle.std.specs.declared.alloc.AllocError.{AllocError}
 use Rattle.byte_words.specs.ByteMap.{Bytes}
 use Rattle.rv32im_step.specs.declared.access.Access.{Access}
+use Rattle.rv32im_step.specs.declared.access.AccessKind.TheVariants.{Call}
 use Rattle.rv32im_step.specs.declared.regs.Regs.{Regs}
 use Rattle.rv32im_step.specs.Registers.{register}
 use Rattle.call_log.specs.declared.how.How.{How}
@@ -14,24 +16,25 @@ use Rattle.mmap_rules.specs.Held.{Held}
 use Rattle.mmap_rules.specs.Space.{Space}
 use Rattle.vfork_exec.specs.declared.entry.Entry.{Entry}
 use Rattle.vfork_exec.specs.Keyed.{find}
-use Rattle.vfork_exec.specs.Procs.{process, Lives}
+use Rattle.vfork_exec.specs.Procs.{process, Lives, value_at}
 use Rattle.machine_world.specs.World.{Process, LiveSpace, Rest, World, pid_of, id_of}
-use Rattle.machine_world.specs.Rows.{Ask, Reply, row, replies}
+use Rattle.machine_world.specs.Rows.{Ask, Reply, Row, row, replies}
 use Rattle.machine_world.specs.Event.{Trace, Outcome, went, strays, full, with_state, counted, noted, departed, ended, number_of, args_of, ask_of, entry_of, call_access, replied, served, answered, exit_code, exited, is_exit, classed, answer, asked, trapped, called, died, at_process, by_process, in_space}
 use Rattle.machine_world.specs.Turns.{seen_of}
 use Rattle.syscall_layer.specs.declared.task.Task.{Task}
-use Rattle.syscall_layer.specs.declared.call.Call.{Call}
+use Rattle.syscall_layer.specs.declared.call.Call.{Call as Made}
 use Rattle.syscall_layer.specs.declared.effect.Effect.{Effect}
 use Rattle.syscall_layer.specs.declared.effect.Effect.TheVariants.{Answer, Yield, Show, Break}
 use Rattle.syscall_layer.specs.declared.answer.Served.{Served}
-use Rattle.syscall_layer.specs.declared.answer.Served.TheVariants.{Ended, LogFull}
+use Rattle.syscall_layer.specs.declared.answer.Served.TheVariants.{Ended, LogFull, Stray}
 use Rattle.syscall_layer.specs.Kept.{Kept}
+use Rattle.syscall_layer.specs.Regular.{Regular}
 use Rattle.syscall_layer.specs.Stands.{About, later, private_bytes, private_of, process_of, world_of}
-use Rattle.syscall_layer.specs.Serves.{Went, Answered, Died}
+use Rattle.syscall_layer.specs.Serves.{Went, Answered, Serves, Died}
 use Rattle.syscall_layer.specs.Gone.{gone}
-use Rattle.syscall_layer.specs.Calls.{RunsIn, IsCall, ends_turn, reply_of, ask_in, served_by, call_value, after_call, after_exit}
+use Rattle.syscall_layer.specs.Calls.{RunsIn, IsCall, MadeBy, ends_turn, reply_of, ask_in, served_by, call_value, after_call, after_exit}
 use Rattle.syscall_layer.proofs.Worlds.{find_space, find_process}
-use Rattle.syscall_layer.proofs.Runs.{pid_found}
+use Rattle.syscall_layer.proofs.Runs.{pid_found, value_found, runs_in}
 use Rattle.syscall_layer.proofs.Moves.{moved_world, moved_lives, gone_world, gone_dead}
 
 -- ---- the process and its space in the world
@@ -63,6 +66,19 @@ module _ (a : About) (k : Kept) (pid : ℕ) (e : Entry Task) (h : Held) (runs : 
 answer_is : (w : World) (p : Process) (s : Space) (found : Result (List ℕ) Span) → sent (number_of p.regs) (args_of p.regs) s.bytes ≡ found → answer w p s ≡ asked w p s found
 unfolding answer
 answer_is w p s found is = ap (asked w p s) is
+
+-- the call strays
+stray_serves : (a : About) (k : Kept) (pid : ℕ) (e : Entry Task) (h : Held) → RunsIn k pid e h → (span : Span) →
+    sent (number_of e.value.regs) (args_of e.value.regs) (private_bytes k.mem h) ≡ Err span → called (world_of a k) pid ≡ strays (call_access (process_of e) span)
+stray_serves a k pid e h runs span is = called_is a k pid e h runs ∙ answer_is (world_of a k) (process_of e) (private_of k.mem h) (Err span) is
+
+-- ---- classes
+
+class_exit : (w : World) (a : Ask) → is_exit a.number ≡ true → classed w a ≡ exited w a
+class_exit w a exits = rw exits refl
+
+class_row : (w : World) (a : Ask) (r : Row) → is_exit a.number ≡ false → row a ≡ r → classed w a ≡ answered w a r
+class_row w a r goes is = rw goes (ap (answered w a) is)
 
 -- ---- room in the log
 
@@ -108,7 +124,7 @@ same_entry : (p q n m : ℕ) (xs ys : List ℕ) (bytes : List ℕ) (value : ℕ)
     call_note (record { pid = p; call = n; args = xs; sent = bytes; reply = value; got = [] }) ≡ call_note (record { pid = q; call = m; args = ys; sent = bytes; reply = value; got = [] })
 same_entry p q n m xs ys bytes value e f g = cc
 
-module _ (a : About) (k : Kept) (e : Entry Task) (h : Held) (call : Call) (runs : RunsIn k call.pid e h) (is : IsCall k.mem e h call) where
+module _ (a : About) (k : Kept) (e : Entry Task) (h : Held) (call : Made) (runs : RunsIn k call.pid e h) (is : IsCall k.mem e h call) where
   note_is : (value : ℕ) →
       call_note (record { pid = call.pid; call = call.number; args = call.args; sent = call.sent.items; reply = value; got = [] })
       ≡ call_note (entry_of (ask_in a k e h call) value [])
@@ -182,11 +198,49 @@ module _ (a : About) (k : Kept) (e : Entry Task) (h : Held) (call : Call) (runs 
   pub exit_full : has_room k.notes (length call.sent.items) ≡ false → Answered a (exited (world_of a k) (ask_in a k e h call)) k k call.pid LogFull
   exit_full room = subst (λ (o : Outcome). Answered a o k k call.pid LogFull) (sym (exited_full (world_of a k) (ask_in a k e h call) (room_in a k call.sent.items false room))) refl
 
--- ---- a stray call
+  -- ---- either
 
-pub stray_serves : (a : About) (k : Kept) (pid : ℕ) (e : Entry Task) (h : Held) → RunsIn k pid e h → (span : Span) →
-    sent (number_of e.value.regs) (args_of e.value.regs) (private_bytes k.mem h) ≡ Err span → called (world_of a k) pid ≡ strays (call_access (process_of e) span)
-stray_serves a k pid e h runs span is = called_is a k pid e h runs ∙ answer_is (world_of a k) (process_of e) (private_of k.mem h) (Err span) is
+  made_by : MadeBy call (ask_in a k e h call)
+  made_by = record { pid = sym is.pid; parent = sym is.parent; number = sym is.number; args = sym is.args; sent = refl }
+
+  module _ (new : Kept) (result : Result Served AllocError) where
+    by_outcome : (o : Outcome) → classed (world_of a k) (ask_in a k e h call) ≡ o → Serves a o k new call.pid result → Serves a (classed (world_of a k) (ask_in a k e h call)) k new call.pid result
+    by_outcome o same serves = subst (λ (x : Outcome). Serves a x k new call.pid result) (sym same) serves
+
+    pub exit_classed : is_exit call.number ≡ true → Serves a (exited (world_of a k) (ask_in a k e h call)) k new call.pid result → Serves a (classed (world_of a k) (ask_in a k e h call)) k new call.pid result
+    exit_classed exits = by_outcome (exited (world_of a k) (ask_in a k e h call)) (class_exit (world_of a k) (ask_in a k e h call) (ap is_exit (sym is.number) ∙ exits))
+
+    pub effect_classed : (f : Effect) → is_exit call.number ≡ false → ((b : Ask) → MadeBy call b → row b ≡ replies (reply_of b f)) →
+        Serves a (answered (world_of a k) (ask_in a k e h call) (replies (reply_of (ask_in a k e h call) f))) k new call.pid result → Serves a (classed (world_of a k) (ask_in a k e h call)) k new call.pid result
+    effect_classed f goes rows = by_outcome (answered (world_of a k) (ask_in a k e h call) (replies (reply_of (ask_in a k e h call) f)))
+        (class_row (world_of a k) (ask_in a k e h call) (replies (reply_of (ask_in a k e h call) f)) (ap is_exit (sym is.number) ∙ goes) (rows (ask_in a k e h call) made_by))
+
+-- ---- the whole call
+
+module _ (a : About) (k : Kept) (pid : ℕ) (regular : Regular k) (lives : Lives k.procs pid) where
+  pub serve_call : (call : Made) → call.pid ≡ pid → ((e : Entry Task) → (h : Held) → RunsIn k pid e h → IsCall k.mem e h call) → (new : Kept) (result : Result Served AllocError) →
+      ((b : About) → (e : Entry Task) → (h : Held) → RunsIn k call.pid e h → IsCall k.mem e h call → Serves b (classed (world_of b k) (ask_in b k e h call)) k new call.pid result) →
+      Serves a (called (world_of a k) pid) k new pid result
+  serve_call call same made new result serves =
+      let r = runs_in k pid regular lives in
+      let e : Entry Task = r.0 in
+      let h : Held = r.1.0 in
+      let is : IsCall k.mem e h call = made e h r.1.1 in
+      let runs : RunsIn k call.pid e h = subst (λ (p : ℕ). RunsIn k p e h) (sym same) r.1.1 in
+      let done = subst (λ (o : Outcome). Serves a o k new call.pid result) (sym (call_answer a k e h call runs is)) (serves a e h runs is) in
+      subst (λ (p : ℕ). Serves a (called (world_of a k) p) k new p result) same done
+
+  pub serve_stray : (t : Task) → value_at k.procs pid ≡ Some t → (span : Span) →
+      ((e : Entry Task) → (h : Held) → RunsIn k pid e h → sent (number_of e.value.regs) (args_of e.value.regs) (private_bytes k.mem h) ≡ Err span) →
+      Answered a (called (world_of a k) pid) k k pid (Stray (record { pc = t.regs.pc; addr = span.addr; len = span.len; kind = Call }))
+  serve_stray t kept span unread =
+      let r = runs_in k pid regular lives in
+      let e : Entry Task = r.0 in
+      let h : Held = r.1.0 in
+      let seen : Access = record { pc = t.regs.pc; addr = span.addr; len = span.len; kind = Call } in
+      let at : seen ≡ call_access (process_of e) span =
+          ap (λ (x : Task). record { pc = x.regs.pc; addr = span.addr; len = span.len; kind = Call }) (value_found k.procs pid e r.1.1.lives t kept) in
+      subst (λ (o : Outcome). Answered a o k k pid (Stray seen)) (sym (stray_serves a k pid e h r.1.1 span (unread e h r.1.1))) (at, refl)
 
 -- ---- an end by a signal
 
@@ -206,6 +260,17 @@ module _ (a : About) (k : Kept) (pid : ℕ) (e : Entry Task) (h : Held) (runs : 
 
   pub end_serves : Died a (died (world_of a k) pid signal) after_end pid
   end_serves = subst (λ (o : Outcome). Died a o after_end pid) (sym (died_is a k pid e h runs signal ∙ trapped_is)) (sym after_end_world, refl, gone_dead k pid e h runs)
+
+-- the same of the parts that are left, where the end was noted before the process went
+pub end_done : (a : About) (k : Kept) (pid signal : ℕ) → Regular k → Lives k.procs pid → (new : Kept) (notes : List Note) → notes ≡ end_note pid (Signal signal) ∷ k.notes →
+    ((e : Entry Task) → (h : Held) → RunsIn (record k { notes = notes }) pid e h → new ≡ gone (record k { notes = notes }) pid e.value.space h) → Died a (died (world_of a k) pid signal) new pid
+end_done a k pid signal regular lives new notes is_noted departs =
+    let r = runs_in k pid regular lives in
+    let e : Entry Task = r.0 in
+    let h : Held = r.1.0 in
+    let runs : RunsIn k pid e h = r.1.1 in
+    let is = departs e h (record { lives = runs.lives; home = runs.home }) ∙ ap (λ (ns : List Note). record (gone k pid e.value.space h) { notes = ns }) is_noted in
+    subst (λ (now : Kept). Died a (died (world_of a k) pid signal) now pid) (sym is) (end_serves a k pid e h runs signal)
 
 -- ---- a note alone
 
