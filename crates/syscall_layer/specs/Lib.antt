@@ -5,6 +5,8 @@
 -- Starts   what the start of a program leaves
 -- Inside   the fields of `Parts` as what is kept
 -- Reading  what the reading of a call's bytes answers
+-- Gone     the parts without a process and its space
+-- Calls    a system call by its parts, and what is kept after it
 pub mod Kept
 pub mod Regular
 pub mod Stands
@@ -12,3 +14,5 @@ pub mod Serves
 pub mod Starts
 pub mod Inside
 pub mod Reading
+pub mod Gone
+pub mod Calls
