@@ -5,6 +5,7 @@
 -- Starts   what the start of a program leaves
 -- Inside   the fields of `Parts` as what is kept
 -- Gone     the parts without a process and its space
+-- Refusals  why a program doesn't start, by the loader's reason
 pub mod Kept
 pub mod Regular
 pub mod Stands
@@ -12,3 +13,4 @@ pub mod Serves
 pub mod Starts
 pub mod Inside
 pub mod Gone
+pub mod Refusals
