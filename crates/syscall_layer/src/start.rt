@@ -12,7 +12,7 @@ use crate::parts::Parts;
 use crate::task::Task;
 use bflt_format::Flat;
 use call_log::Note;
-use flat_loader::{LoadRefusal, load};
+use flat_loader::{LoadRefusal, Loaded, load};
 use page_runs::{Chooser, Run};
 
 /// Why a program doesn't start.
@@ -57,7 +57,12 @@ impl Parts {
             return Err(StartRefusal::Memory);
         }
         let alloc = *self.spaces.allocator();
-        let program = load(
+        let Loaded {
+            space,
+            regs,
+            base,
+            pages,
+        } = load(
             alloc,
             &mut self.regions,
             &mut self.mem,
@@ -66,12 +71,13 @@ impl Parts {
             &[],
             chooser,
         )?;
-        let space = self.spaces.len() as u32;
-        let regs = program.regs;
-        let base = program.base;
-        let pages = program.pages;
-        self.spaces.push_reserved(Some(program.space));
-        let pid = self.procs.start(Task { regs, space }).unwrap();
+        let number = self.spaces.len() as u32;
+        self.spaces.push_reserved(Some(space));
+        let task = Task {
+            regs,
+            space: number,
+        };
+        let pid = self.procs.start(task).unwrap();
         let note = Note::Load {
             pid,
             program: index,

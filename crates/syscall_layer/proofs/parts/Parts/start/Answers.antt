@@ -8,9 +8,9 @@ use Rattle.syscall_layer.specs.Inside.{kept_of}
 use Rattle.syscall_layer.proofs.Boots.{refuses_by, Begun, begun_by, regular_by, starts_by, process_started, note_pushed}
 use Rattle.syscall_layer.proofs.parts.Parts.start.Goals as goal
 
-pub returns-in_err-program : goal.returns-in_err-program
-returns-in_err-program g c =
-    refuses_by _ (kept_of c.self.inside) _ _ (search rules) c.self.invariant _ _ _ _ c.in_err-program.field-0.0 c.in_err-program.ensures
+pub returns-in_err-space : goal.returns-in_err-space
+returns-in_err-space g c =
+    refuses_by _ (kept_of c.self.inside) _ _ (search rules) c.self.invariant _ _ _ _ c.in_err-space.field-0.0 c.in_err-space.ensures
     c.reserve.ensures.items refl c.reserve-else-is_err.ensures.same refl (search rules)
 
 abbrev new_parts : (g : Over) → goal.After-unwrap g → Kept
@@ -25,10 +25,11 @@ new_parts g c = record {
 
 begun : (g : Over) (c : goal.After-unwrap g) → Begun (kept_of c.self.inside) (new_parts g c) (kind_of c.args.chooser.now) c.args.index c.args.flat.now (texts c.args.args.now)
 begun g c =
-    let spaces : c.push_reserved.new.self.items ≡ c.self.inside.spaces.items ++ Some c.in_ok-program.program.space ∷ [] = search rules in
-    let number : c.len-space.result ≡ length c.self.inside.spaces.items = search rules in
-    let note = load_note (record { pid = c.unwrap-pid.result; program = c.args.index; base = c.in_ok-program.program.base; pages = c.in_ok-program.program.pages }) in
-    begun_by (kept_of c.self.inside) (new_parts g c) _ _ _ _ c.in_ok-program.program c.unwrap-pid.result c.len-space.result c.in_ok-program.ensures spaces number
+    let spaces : c.push_reserved.new.self.items ≡ c.self.inside.spaces.items ++ Some c.in_ok-space.field-0.space ∷ [] = search rules in
+    let number : c.len-number.result ≡ length c.self.inside.spaces.items = search rules in
+    let loaded = c.in_ok-space.field-0 in
+    let note = load_note (record { pid = c.unwrap-pid.result; program = c.args.index; base = loaded.base; pages = loaded.pages }) in
+    begun_by (kept_of c.self.inside) (new_parts g c) _ _ _ _ loaded c.unwrap-pid.result c.len-number.result c.in_ok-space.ensures spaces number
     (process_started _ _ _ _ _ c.start.ensures c.unwrap-pid.ensures)
     (note_pushed c.reserve-else-is_err.new.self _ note c.push.new.self c.push.result c.unwrap.result c.reserve-else-is_err.ensures.same c.push.ensures c.unwrap.ensures)
     refl
