@@ -11,6 +11,8 @@
 -- Apart      what one space may write no other one has
 -- Gone       the parts without a process and its space
 -- FreePages  the free pages of the world are those of the regions
+-- Started    the parts after the start of a program are regular
+-- Boots      they stand for the world that starts it
 mod Begins
 pub mod Worlds
 pub mod Counts
@@ -24,3 +26,5 @@ pub mod Settled
 pub mod Moves
 pub mod Outcomes
 pub mod ReadRanges
+mod Started
+mod Boots
