@@ -1,13 +1,12 @@
 -- The row of each call, and the effect that the code gives it.
-use Rattle.std.proofs.Common.{◌≡◌, ◌≢◌, ℕ, ◌+◌, ◌*◌, ◌<◌, ◌≤◌, Bool, true, false, ◌⊎◌, inl, inr, List, [], ◌++◌, drop, refl, sym, ap, subst, ◌∙◌, arith}
-use Rattle.std.specs.Prelude.{◌==◌, ◌||◌, nat_lt, slice_index}
+use Rattle.std.proofs.Common.{◌≡◌, ◌≢◌, ℕ, ◌*◌, ◌<◌, ◌≤◌, Bool, true, false, [], ◌++◌, drop, refl, sym, ap, arith}
+use Rattle.std.specs.Prelude.{nat_lt, slice_index}
 use Rattle.std.proofs.lemmas.List.{append-nil}
 use Rattle.std.proofs.lemmas.Bool.Decides.{nat_tests}
 use Rattle.call_log.specs.declared.errno.Errno.TheVariants.{Ebadf, Einval, Enosys}
 use Rattle.call_log.specs.Errno.{refusal}
-use Rattle.call_log.specs.Sent.{most_pieces}
 use Rattle.vfork_exec.proofs.Keyed.{eqb_other}
-use Rattle.machine_world.specs.Rows.{Ask, Row, arg, replies, answers, refuses, write_row, writev_row, yield_row, brk_row, next_brk, is_console, asks_pid, row}
+use Rattle.machine_world.specs.Rows.{Ask, arg, replies, answers, write_row, writev_row, yield_row, brk_row, next_brk, is_console, asks_pid, row}
 use Rattle.syscall_layer.specs.declared.call.Call.{Call}
 use Rattle.syscall_layer.specs.declared.effect.Effect.{Effect}
 use Rattle.syscall_layer.specs.declared.effect.Effect.TheVariants.{Answer, Yield, Show, Break}
@@ -39,7 +38,6 @@ unfolding write_row
 others_refuse a fd from value is says at = rw (at, is, says) (answered a (refusal Ebadf))
 
 -- ---- each number
-
 
 module _ (call : Call) (a : Ask) (made : MadeBy call a) where
   at_arg : (i : ℕ) → arg a i ≡ slice_index call.args i

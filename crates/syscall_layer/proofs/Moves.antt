@@ -1,35 +1,27 @@
 -- The world after one process went on, and after one is gone.
-use Rattle.std.proofs.Common.{◌≡◌, ◌≢◌, ℕ, ◌+◌, Bool, true, false, ◌⊎◌, inl, inr, List, [], ◌∷◌, ◌++◌, map, length, Option, Some, None, refl, sym, ap, ◌∙◌, arith}
-use Rattle.std.specs.Prelude.{◌==◌, ◌-◌, cond, IsSome, slice_get, slice_set, option_map}
+use Rattle.std.proofs.Common.{◌≡◌, ◌≢◌, ℕ, ◌+◌, Bool, true, false, inl, inr, List, [], ◌∷◌, map, length, Option, Some, None, refl, sym, ap, ◌∙◌}
+use Rattle.std.specs.Prelude.{◌==◌, cond, IsSome, slice_get, slice_set, option_map}
+use Rattle.std.proofs.lemmas.Option.{same_Some}
 use Rattle.std.proofs.lemmas.List.{length-set}
-use Rattle.byte_words.specs.ByteMap.{Bytes}
-use Rattle.nommu_regions.specs.declared.region.Region.{Region}
-use Rattle.nommu_regions.specs.Regions.{with_uses_of, with_uses}
-use Rattle.mmap_rules.specs.declared.mapping.Mapping.{Mapping}
-use Rattle.mmap_rules.specs.Held.{Held, released}
+use Rattle.mmap_rules.specs.Held.{Held}
 use Rattle.rv32im_step.specs.declared.regs.Regs.{Regs}
 use Rattle.call_log.specs.Notes.{Note}
 use Rattle.vfork_exec.specs.declared.entry.Entry.{Entry}
 use Rattle.vfork_exec.specs.Keyed.{find, change, without}
-use Rattle.vfork_exec.specs.Procs.{Listed, process, Lives, with_value, with_value_at, with_end}
+use Rattle.vfork_exec.specs.Procs.{process, Lives, with_value, with_value_at, with_end}
 use Rattle.vfork_exec.specs.Procs.{pid_of as entry_pid}
 use Rattle.vfork_exec.proofs.Keyed.{find_head, find_changed, find_gone}
-use Rattle.machine_world.specs.World.{Process, LiveSpace, Rest, World, pid_of, id_of}
+use Rattle.machine_world.specs.World.{Process, LiveSpace, World, pid_of, id_of}
 use Rattle.machine_world.specs.Event.{with_state, departed}
 use Rattle.syscall_layer.specs.declared.task.Task.{Task}
 use Rattle.syscall_layer.specs.Kept.{Kept}
 use Rattle.syscall_layer.specs.Gone.{gone}
-use Rattle.syscall_layer.specs.Stands.{About, later, private_bytes, private_of, live_spaces, process_of, world_of}
+use Rattle.syscall_layer.specs.Stands.{About, later, private_bytes, live_spaces, process_of, world_of}
 use Rattle.syscall_layer.specs.Calls.{RunsIn, with_task}
 use Rattle.syscall_layer.proofs.Worlds.{change_space, without_space, change_process, without_process}
 use Rattle.syscall_layer.proofs.Runs.{pid_found}
-
-decide : (b : Bool) → (b ≡ true) ⊎ (b ≡ false)
-decide true = inl refl
-decide false = inr refl
-
-some_is : {A : Type 0} (x y : A) → Some x ≡ Some y → x ≡ y
-some_is x y h = cc
+use Rattle.syscall_layer.proofs.Counts.{decide}
+use Rattle.syscall_layer.proofs.Gone.{length_released}
 
 -- two changes that agree at what is found
 module _ {A : Type 0} (key : A → ℕ) (k : ℕ) (f g : A → A) where
@@ -42,7 +34,7 @@ module _ {A : Type 0} (key : A → ℕ) (k : ℕ) (f g : A → A) where
   same_change [] x there same = absurd cc
   same_change (y ∷ xs) x there same = elim (decide (key y == k)) [
     | inl is ↦
-        let at : y ≡ x = some_is y x (sym (find_head key k y xs true is) ∙ there) in
+        let at : y ≡ x = same_Some y x (sym (find_head key k y xs true is) ∙ there) in
         head f y xs true is ∙ ap (λ z. z ∷ xs) (ap f at ∙ same ∙ ap g (sym at)) ∙ sym (head g y xs true is)
     | inr is ↦
         head f y xs false is
@@ -62,16 +54,7 @@ same_world ps qs ss ts m n pages more ns ms w p s l g t =
     ∙ ap (λ (x : ℕ). record w { procs = qs; spaces = ts; loads = n; rest = record w.rest { pages = x }; notes = ns }) g
     ∙ ap (λ (x : List Note). record w { procs = qs; spaces = ts; loads = n; rest = record w.rest { pages = more }; notes = x }) t
 
-length_uses : (rs : List Region) (id : ℕ) (f : ℕ → ℕ) (o : Option Region) → length (with_uses_of rs id f o) ≡ length rs
-length_uses rs id f None = refl
-length_uses rs id f (Some r) = length-set rs id (record r { uses = f r.uses })
-
-length_released : (rs : List Region) (ms : List Mapping) → length (released rs ms) ≡ length rs
-length_released rs [] = refl
-length_released rs (m ∷ ms) =
-    length_released (with_uses rs m.first (λ uses. uses - 1)) ms ∙ length_uses rs m.first (λ uses. uses - 1) (slice_get rs m.first)
-
--- nothing of the others changes
+-- the other spaces have the bytes that they had
 abbrev pub OthersSame : Kept → ℕ → List ℕ → Type 0
 OthersSame k number now = (j : ℕ) (o : Held) → j ≢ number → slice_get k.spaces j ≡ Some (Some o) → private_bytes now o ≡ private_bytes k.mem o
 

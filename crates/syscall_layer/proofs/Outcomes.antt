@@ -1,26 +1,23 @@
 -- What comes of a call and of an end, in the world and in the parts.
-use Rattle.std.proofs.Common.{◌≡◌, ℕ, ◌+◌, Bool, true, false, List, [], ◌∷◌, ◌++◌, length, Option, Some, None, refl, sym, ap, subst, ◌∙◌, arith, add-zero}
-use Rattle.std.specs.Prelude.{◌%◌, option_map, Result, Ok, Err, slice_index, slice_get}
+use Rattle.std.proofs.Common.{◌≡◌, ℕ, ◌+◌, Bool, true, false, List, [], ◌∷◌, length, Option, Some, refl, sym, ap, subst, ◌∙◌, add-zero}
+use Rattle.std.specs.Prelude.{◌%◌, option_map, Result, Ok, Err, slice_index}
 use Rattle.std.specs.declared.alloc.AllocError.{AllocError}
 use Rattle.byte_words.specs.ByteMap.{Bytes}
 use Rattle.rv32im_step.specs.declared.access.Access.{Access}
 use Rattle.rv32im_step.specs.declared.access.AccessKind.TheVariants.{Call}
-use Rattle.rv32im_step.specs.declared.regs.Regs.{Regs}
 use Rattle.rv32im_step.specs.Registers.{register}
 use Rattle.call_log.specs.declared.how.How.{How}
 use Rattle.call_log.specs.declared.how.How.TheVariants.{Exit, Signal}
-use Rattle.call_log.specs.declared.how.Seen.{Seen}
-use Rattle.call_log.specs.Notes.{CallEntry, Note, call_note, end_note, stray_note, weight_of, has_room}
+use Rattle.call_log.specs.Notes.{Note, call_note, end_note, weight_of, has_room}
 use Rattle.call_log.specs.Sent.{Span, sent}
 use Rattle.mmap_rules.specs.Held.{Held}
 use Rattle.mmap_rules.specs.Space.{Space}
 use Rattle.vfork_exec.specs.declared.entry.Entry.{Entry}
 use Rattle.vfork_exec.specs.Keyed.{find}
-use Rattle.vfork_exec.specs.Procs.{process, Lives, value_at}
-use Rattle.machine_world.specs.World.{Process, LiveSpace, Rest, World, pid_of, id_of}
+use Rattle.vfork_exec.specs.Procs.{Lives, value_at}
+use Rattle.machine_world.specs.World.{Process, LiveSpace, World, pid_of, id_of}
 use Rattle.machine_world.specs.Rows.{Ask, Reply, Row, row, replies}
-use Rattle.machine_world.specs.Event.{Trace, Outcome, went, strays, full, with_state, counted, noted, departed, ended, number_of, args_of, ask_of, entry_of, call_access, replied, served, answered, exit_code, exited, is_exit, classed, answer, asked, trapped, called, died, at_process, by_process, in_space}
-use Rattle.machine_world.specs.Turns.{seen_of}
+use Rattle.machine_world.specs.Event.{Trace, Outcome, went, strays, full, with_state, counted, noted, departed, ended, number_of, args_of, entry_of, call_access, replied, served, answered, exit_code, exited, is_exit, classed, answer, asked, trapped, called, died, at_process, by_process, in_space}
 use Rattle.syscall_layer.specs.declared.task.Task.{Task}
 use Rattle.syscall_layer.specs.declared.call.Call.{Call as Made}
 use Rattle.syscall_layer.specs.declared.effect.Effect.{Effect}
@@ -85,7 +82,7 @@ class_row w a r goes is = rw goes (ap (answered w a) is)
 served_when : (w : World) (a : Ask) (r : Reply) (bytes : Bytes) → has_room w.notes (weight_of a.sent r.got) ≡ true →
     served w a r bytes
     ≡ went (noted (call_note (entry_of a r.value r.got)) (counted (with_state (record w { rest = r.rest }) a.process (replied a.process.regs r.value) bytes r.brk)))
-        (record { space = a.process.space; events = 1; entries = entry_of a r.value r.got ∷ []; over = r.over })
+    (record { space = a.process.space; events = 1; entries = entry_of a r.value r.got ∷ []; over = r.over })
 unfolding served
 served_when w a r bytes room = rw room refl
 
@@ -96,7 +93,7 @@ served_full w a r bytes room = rw room refl
 exited_when : (w : World) (a : Ask) → has_room w.notes (weight_of a.sent []) ≡ true →
     exited w a
     ≡ went (ended (noted (call_note (entry_of a 0 [])) (counted w)) a.process (Exit (exit_code a)))
-        (record { space = a.process.space; events = 1; entries = entry_of a 0 [] ∷ []; over = true })
+    (record { space = a.process.space; events = 1; entries = entry_of a 0 [] ∷ []; over = true })
 unfolding exited
 exited_when w a room = rw room refl
 
@@ -239,7 +236,7 @@ module _ (a : About) (k : Kept) (pid : ℕ) (regular : Regular k) (lives : Lives
       let h : Held = r.1.0 in
       let seen : Access = record { pc = t.regs.pc; addr = span.addr; len = span.len; kind = Call } in
       let at : seen ≡ call_access (process_of e) span =
-          ap (λ (x : Task). record { pc = x.regs.pc; addr = span.addr; len = span.len; kind = Call }) (value_found k.procs pid e r.1.1.lives t kept) in
+      ap (λ (x : Task). record { pc = x.regs.pc; addr = span.addr; len = span.len; kind = Call }) (value_found k.procs pid e r.1.1.lives t kept) in
       subst (λ (o : Outcome). Answered a o k k pid (Stray seen)) (sym (stray_serves a k pid e h r.1.1 span (unread e h r.1.1))) (at, refl)
 
 -- ---- an end by a signal

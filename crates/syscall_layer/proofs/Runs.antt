@@ -1,11 +1,10 @@
 -- A process that runs in its space, and the call at which it stands.
-use Rattle.std.proofs.Common.{◌≡◌, ℕ, List, [], ◌∷◌, Bool, true, false, ◌⊎◌, inl, inr, Option, Some, None, Global, refl, sym, ap, ◌∙◌, arith}
-use Rattle.std.specs.Prelude.{◌==◌, ◌*◌, length, IsSome, Vec, Result, Ok, Err, option_map, slice_get, slice_index}
-use Rattle.std.proofs.lemmas.Bool.Decides.{nat_tests}
+use Rattle.std.proofs.Common.{◌≡◌, ℕ, List, [], ◌∷◌, true, false, inl, inr, Some, Global, sym, ap, ◌∙◌}
+use Rattle.std.specs.Prelude.{◌==◌, ◌*◌, length, Vec, Ok, Err, option_map, slice_get, slice_index}
+use Rattle.std.proofs.lemmas.Option.{same_Some}
 use Rattle.byte_words.specs.ByteMap.{Bytes}
-use Rattle.call_log.specs.Sent.{Span, sent}
+use Rattle.call_log.specs.Sent.{sent}
 use Rattle.mmap_rules.specs.Held.{Held}
-use Rattle.rv32im_step.specs.declared.regs.Regs.{Regs}
 use Rattle.rv32im_step.specs.Registers.{register}
 use Rattle.vfork_exec.specs.declared.entry.Entry.{Entry}
 use Rattle.vfork_exec.specs.Keyed.{find}
@@ -21,13 +20,7 @@ use Rattle.syscall_layer.specs.Calls.{RunsIn, IsCall, Made}
 use Rattle.syscall_layer.specs.Reading.{Reads}
 use Rattle.syscall_layer.specs.declared.reading.Unread.{Unread}
 use Rattle.syscall_layer.specs.declared.reading.Unread.TheVariants.{Stray, Memory}
-
-decide : (b : Bool) → (b ≡ true) ⊎ (b ≡ false)
-decide true = inl refl
-decide false = inr refl
-
-eqb_is : (n k : ℕ) → (n == k) ≡ true → n ≡ k
-eqb_is n k h = grind (arith, nat_tests)
+use Rattle.syscall_layer.proofs.Counts.{decide, eqb_is}
 
 -- what is found has the number
 pub found_key : {A : Type 0} (key : A → ℕ) (k : ℕ) (xs : List A) (x : A) → find key k xs ≡ Some x → key x ≡ k
@@ -38,15 +31,12 @@ found_key key k (y ∷ ys) x h = elim (decide (key y == k)) [
   | inr is ↦ found_key key k ys x (sym (find_head key k y ys false is) ∙ h)
 ]
 
-some_is : {A : Type 0} (x y : A) → Some x ≡ Some y → x ≡ y
-some_is x y h = cc
-
 module _ (s : Listed Task) (pid : ℕ) (e : Entry Task) (lives : process s pid ≡ Some e) where
   pub value_found : (t : Task) → value_at s pid ≡ Some t → t ≡ e.value
-  value_found t is = some_is t e.value (sym is ∙ ap (option_map (λ (x : Entry Task). x.value)) lives)
+  value_found t is = same_Some t e.value (sym is ∙ ap (option_map (λ (x : Entry Task). x.value)) lives)
 
   pub parent_found : (parent : ℕ) → parent_at s pid ≡ Some parent → parent ≡ e.parent
-  parent_found parent is = some_is parent e.parent (sym is ∙ ap (option_map (λ (x : Entry Task). x.parent)) lives)
+  parent_found parent is = same_Some parent e.parent (sym is ∙ ap (option_map (λ (x : Entry Task). x.parent)) lives)
 
   pub pid_found : pid ≡ e.pid
   pid_found = sym (found_key pid_of pid s.entries e lives)
@@ -81,7 +71,7 @@ module _ (k : Kept) (pid : ℕ) (e : Entry Task) (h : Held) (runs : RunsIn k pid
   same_space : g ≡ h
   same_space =
       let both : Some (Some g) ≡ Some (Some h) = sym home ∙ ap (λ (x : Task). slice_get k.spaces x.space) same_task ∙ runs.home in
-      some_is g h (some_is (Some g) (Some h) both)
+      same_Some g h (same_Some (Some g) (Some h) both)
 
   same_number : slice_index t.regs.x 17 ≡ number_of e.value.regs
   unfolding register

@@ -1,5 +1,5 @@
 -- Small facts of a call's reply and of an end.
-use Rattle.std.proofs.Common.{◌≡◌, ℕ, ◌+◌, ◌<◌, ◌≤◌, Bool, true, false, List, [], ◌∷◌, ◌++◌, length, drop, Option, Some, None, Global, refl, sym, ap, subst, ◌∙◌, arith, length-drop}
+use Rattle.std.proofs.Common.{◌≡◌, ℕ, ◌+◌, ◌<◌, ◌≤◌, Bool, true, false, List, length, Option, Some, None, Global, refl, sym, ap, subst, ◌∙◌, arith, length-drop}
 use Rattle.std.specs.Prelude.{◌^◌, ◌&&◌, nat_le, slice_get, slice_set, map, sum, Vec, vec_len}
 use Rattle.std.proofs.lemmas.Bool.Decides.{nat_tests}
 use Rattle.std.specs.Vec.{with_items}
@@ -47,7 +47,7 @@ room_bounds : (notes : List Note) (bytes : ℕ) → has_room notes bytes ≡ tru
 unfolding has_room
 room_bounds notes bytes h =
     let fits : nat_le (sum (map bytes_in notes) + bytes) most_bytes ≡ true =
-        both_true (nat_le (sum (map calls_in notes) + 1) most_calls) (nat_le (sum (map bytes_in notes) + bytes) most_bytes) h in
+    both_true (nat_le (sum (map calls_in notes) + 1) most_calls) (nat_le (sum (map bytes_in notes) + bytes) most_bytes) h in
     grind (arith, nat_tests, fits)
 
 -- the log was asked for its room
@@ -92,10 +92,10 @@ module _ (k : Kept) (pid : ℕ) (t : Task) (h : Held) (regular : Regular k) (liv
       rs ≡ released k.regions h.maps → ss ≡ slice_set k.spaces t.space None → ps ≡ with_end k.procs pid → Regular (record k { regions = rs; spaces = ss; procs = ps })
   regular_departed rs ss ps regions spaces procs =
       let there : record k { regions = released k.regions h.maps; spaces = slice_set k.spaces entered.e.value.space None; procs = with_end k.procs pid } ≡ record k { regions = rs; spaces = ss; procs = ps } =
-          ap (λ (x : List Region). record k { regions = x; spaces = slice_set k.spaces entered.e.value.space None; procs = with_end k.procs pid }) (sym regions)
-          ∙ ap (λ (n : ℕ). record k { regions = rs; spaces = slice_set k.spaces n None; procs = with_end k.procs pid }) (sym entered.space)
-          ∙ ap (λ (x : List (Option Held)). record k { regions = rs; spaces = x; procs = with_end k.procs pid }) (sym spaces)
-          ∙ ap (λ (x : Listed Task). record k { regions = rs; spaces = ss; procs = x }) (sym procs) in
+      ap (λ (x : List Region). record k { regions = x; spaces = slice_set k.spaces entered.e.value.space None; procs = with_end k.procs pid }) (sym regions)
+      ∙ ap (λ (n : ℕ). record k { regions = rs; spaces = slice_set k.spaces n None; procs = with_end k.procs pid }) (sym entered.space)
+      ∙ ap (λ (x : List (Option Held)). record k { regions = rs; spaces = x; procs = with_end k.procs pid }) (sym spaces)
+      ∙ ap (λ (x : Listed Task). record k { regions = rs; spaces = ss; procs = x }) (sym procs) in
       subst Regular there released_gone.1
 
   -- a process has other registers, and its space another break
@@ -110,5 +110,5 @@ module _ (k : Kept) (pid : ℕ) (t : Task) (h : Held) (regular : Regular k) (liv
         console = console;
       } in
       let there = ap moved (sym entered.space)
-          ∙ ap (λ (x : List (Option Held)). record k { spaces = x; procs = with_value_at k.procs pid (record { regs = regs; space = t.space }); notes = notes; console = console }) (sym spaces) in
+      ∙ ap (λ (x : List (Option Held)). record k { spaces = x; procs = with_value_at k.procs pid (record { regs = regs; space = t.space }); notes = notes; console = console }) (sym spaces) in
       subst Regular there (regular_stays k pid entered.e h regular entered.there home_entered regs brk k.mem refl notes console)

@@ -1,34 +1,23 @@
 -- What holds of the parts still holds where memory, the registers of one process and the break of its space are others.
-use Rattle.std.proofs.Common.{◌≡◌, ◌≢◌, ℕ, zero, suc, ◌+◌, Bool, true, false, ◌⊎◌, inl, inr, List, [], ◌∷◌, length, set, Option, Some, None, refl, sym, ap, subst, ◌∙◌, arith}
+use Rattle.std.proofs.Common.{◌≡◌, ◌≢◌, ℕ, zero, suc, ◌+◌, false, inl, inr, List, [], ◌∷◌, length, set, Option, Some, None, refl, sym, ap, subst, ◌∙◌, arith}
 use Rattle.std.specs.Prelude.{◌==◌, ◌≤◌, slice_get, slice_set, option_map}
 use Rattle.std.proofs.lemmas.Bool.Decides.{nat_tests}
 use Rattle.std.proofs.lemmas.List.{set-get_or}
-use Rattle.std.proofs.lemmas.Option.{get_or_from_slice_get}
+use Rattle.std.proofs.lemmas.Option.{same_Some, get_or_from_slice_get}
 use Rattle.rv32im_step.specs.declared.regs.Regs.{Regs}
 use Rattle.mmap_rules.specs.declared.mapping.Mapping.{Mapping}
 use Rattle.mmap_rules.specs.Held.{Held}
 use Rattle.call_log.specs.Notes.{Note}
 use Rattle.vfork_exec.specs.declared.entry.Entry.{Entry}
-use Rattle.vfork_exec.specs.Keyed.{find}
 use Rattle.vfork_exec.specs.Procs.{Listed, process, pid_of, with_value, with_value_at, most_entries}
 use Rattle.vfork_exec.proofs.Keyed.{find_changed, find_beside_change, falls_change, length_change}
 use Rattle.syscall_layer.specs.declared.task.Task.{Task}
 use Rattle.syscall_layer.specs.Kept.{Kept}
-use Rattle.syscall_layer.specs.Regular.{Regular, HasSpace, Names, named_in, uses_in}
-use Rattle.syscall_layer.specs.Calls.{RunsIn, with_task}
-
-decide : (b : Bool) → (b ≡ true) ⊎ (b ≡ false)
-decide true = inl refl
-decide false = inr refl
-
-eqb_is : (n k : ℕ) → (n == k) ≡ true → n ≡ k
-eqb_is n k h = grind (arith, nat_tests)
+use Rattle.syscall_layer.specs.Regular.{Regular, HasSpace, named_in, uses_in}
+use Rattle.syscall_layer.proofs.Counts.{decide, eqb_is}
 
 eqb_not : (n k : ℕ) → (n == k) ≡ false → n ≢ k
 eqb_not n k h = grind (arith, nat_tests)
-
-some_is : {A : Type 0} (x y : A) → Some x ≡ Some y → x ≡ y
-some_is x y h = cc
 
 -- what stands at a place, set there again
 pub set_kept : {A : Type 0} (xs : List A) (i : ℕ) (x : A) → slice_get xs i ≡ Some x → slice_set xs i x ≡ xs
@@ -53,7 +42,7 @@ module _ (h : Held) (brk : ℕ) where
   was : (ss : List (Option Held)) (n i : ℕ) (g : Held) → slice_get ss n ≡ Some (Some h) → slice_get (slice_set ss n (Some moved)) i ≡ Some (Some g) → Was ss i g
   was [] n i g at there = absurd cc
   was (s ∷ ss) zero zero g at there =
-      let same : moved ≡ g = some_is moved g (some_is (Some moved) (Some g) there) in
+      let same : moved ≡ g = same_Some moved g (same_Some (Some moved) (Some g) there) in
       record { old = h; there = at; maps = ap (λ (x : Held). x.maps) same; pages = ap (λ (x : Held). x.pages) same }
   was (s ∷ ss) zero (suc i) g at there = record { old = g; there = there; maps = refl; pages = refl }
   was (s ∷ ss) (suc n) zero g at there = record { old = g; there = there; maps = refl; pages = refl }
@@ -70,7 +59,7 @@ module _ (h : Held) (brk : ℕ) where
 
   uses_kept : (id : ℕ) (ss : List (Option Held)) (n : ℕ) → slice_get ss n ≡ Some (Some h) → uses_in id (slice_set ss n (Some moved)) ≡ uses_in id ss
   uses_kept id [] n at = absurd cc
-  uses_kept id (s ∷ ss) zero at = ap (λ (o : Option Held). uses_in id (o ∷ ss)) (some_is (Some h) s (sym at))
+  uses_kept id (s ∷ ss) zero at = ap (λ (o : Option Held). uses_in id (o ∷ ss)) (same_Some (Some h) s (sym at))
   uses_kept id (None ∷ ss) (suc n) at = uses_kept id ss n at
   uses_kept id (Some g ∷ ss) (suc n) at = ap (λ more. named_in id g.maps + more) (uses_kept id ss n at)
 
@@ -88,16 +77,16 @@ ran s pid e value lives same q x there = elim (decide (q == pid)) [
   | inl is ↦
       let at : q ≡ pid = eqb_is q pid is in
       let after : Some (with_value e value) ≡ Some x =
-          ap (option_map (λ (y : Entry Task). with_value y value)) (sym lives)
-          ∙ sym (find_changed pid_of pid (λ (y : Entry Task). with_value y value) (λ y. refl) s.entries)
-          ∙ ap (λ n. process (with_value_at s pid value) n) (sym at)
-          ∙ there in
-      record { old = e; there = ap (λ n. process s n) at ∙ lives; space = sym same ∙ ap (λ (y : Entry Task). y.value.space) (some_is (with_value e value) x after) }
+      ap (option_map (λ (y : Entry Task). with_value y value)) (sym lives)
+      ∙ sym (find_changed pid_of pid (λ (y : Entry Task). with_value y value) (λ y. refl) s.entries)
+      ∙ ap (λ n. process (with_value_at s pid value) n) (sym at)
+      ∙ there in
+      record { old = e; there = ap (λ n. process s n) at ∙ lives; space = sym same ∙ ap (λ (y : Entry Task). y.value.space) (same_Some (with_value e value) x after) }
   | inr is ↦ record {
-      old = x;
-      there = sym (find_beside_change pid_of pid q (eqb_not q pid is) (λ (y : Entry Task). with_value y value) (λ y. refl) s.entries) ∙ there;
-      space = refl;
-    }
+    old = x;
+    there = sym (find_beside_change pid_of pid q (eqb_not q pid is) (λ (y : Entry Task). with_value y value) (λ y. refl) s.entries) ∙ there;
+    space = refl;
+  }
 ]
 
 -- ---- both

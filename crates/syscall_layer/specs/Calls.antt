@@ -1,7 +1,7 @@
 -- A system call by its parts, and what the parts of a run are after it.
-use Rattle.std.specs.Prelude.{◌≡◌, ℕ, Bool, true, false, List, [], ◌∷◌, ◌++◌, drop, length, Option, Some, Result, Ok, Err, ⊤, ◌%◌, slice_index, slice_get, slice_set}
+use Rattle.std.specs.Prelude.{◌≡◌, ℕ, Bool, true, false, List, [], ◌∷◌, ◌++◌, drop, length, Some, Result, Ok, Err, ⊤, ◌%◌, slice_index, slice_get, slice_set}
 use Rattle.call_log.specs.Notes.{call_note, end_note}
-use Rattle.call_log.specs.Sent.{Span, sent}
+use Rattle.call_log.specs.Sent.{sent}
 use Rattle.mmap_rules.specs.Held.{Held}
 use Rattle.mmap_rules.specs.Held.{next_brk as held_next_brk}
 use Rattle.rv32im_step.specs.declared.regs.Regs.{Regs}

@@ -1,5 +1,5 @@
 -- The call's parts are those of the process.
-use Rattle.std.proofs.Common.{sym, ap, subst, ◌∙◌, List, Option, Result, Ok, Err}
+use Rattle.std.proofs.Common.{sym, ap, subst, ◌∙◌, List, Option, Err}
 use Rattle.std.specs.Prelude.{slice_get, slice_index}
 use Rattle.mmap_rules.specs.Held.{Held}
 use Rattle.syscall_layer.specs.declared.call.Call.{Call}

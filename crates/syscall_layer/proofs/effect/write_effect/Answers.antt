@@ -1,5 +1,5 @@
 -- The console, and what is none.
-use Rattle.std.proofs.Common.{sym, ◌∙◌}
+use Rattle.std.proofs.Common.{sym}
 use Rattle.syscall_layer.proofs.CallRows.{console_shows, others_refuse}
 use Rattle.syscall_layer.proofs.effect.write_effect.Goals as goal
 

@@ -12,7 +12,7 @@ returns c = λ a.
     let v = c.self.view_is in
     let note = stray_note c.args.pid (seen_of c.args.access) in
     let is =
-        c.keep.ensures.notes
-        ∙ ap (λ (s : Seen). stray_note c.args.pid s ∷ c.reserve.new.self.notes) c.seen.ensures
-        ∙ ap (λ (ns : List Note). note ∷ ns) c.reserve.ensures.same in
+    c.keep.ensures.notes
+    ∙ ap (λ (s : Seen). stray_note c.args.pid s ∷ c.reserve.new.self.notes) c.seen.ensures
+    ∙ ap (λ (ns : List Note). note ∷ ns) c.reserve.ensures.same in
     rw (← v) (noted_world a (kept_of c.self.inside) note c.keep.new.log.notes is)
