@@ -1,6 +1,7 @@
 -- What the next event, a turn and the turns of some quanta leave.
 use Rattle.std.specs.Prelude.{◌≡◌, ℕ, ◌<◌, true, false, List, ◌++◌, Option, Some, None, Result, Ok, Err}
 use Rattle.std.specs.declared.alloc.AllocError.{AllocError}
+use Rattle.rv32im_step.specs.declared.access.Access.{Access}
 use Rattle.call_log.specs.Notes.{stray_note}
 use Rattle.quantum_sched.specs.declared.Quantum.{Quantum}
 use Rattle.vfork_exec.specs.Procs.{Lives}
@@ -25,6 +26,13 @@ Carried a (strays access) old new pid (Ok (after.RunEnds (told.Stray seen))) =
     (seen ≡ access) × (world_of a new ≡ noted (stray_note pid (seen_of access)) (world_of a old))
 Carried a full old new pid (Ok (after.RunEnds told.LogFull)) = new ≡ old
 Carried a outcome old new pid (Ok other) = ⊥
+
+-- a stray access ends the run, with its note
+abbrev pub TellsStray : ℕ → Access → Kept → Kept → Result After AllocError → Type 0
+TellsStray pid access old new (Ok (after.RunEnds (told.Stray seen))) =
+    (seen ≡ access) × ((a : About) → world_of a new ≡ noted (stray_note pid (seen_of access)) (world_of a old))
+TellsStray pid access old new (Ok other) = ⊥
+TellsStray pid access old new (Err error) = new ≡ old
 
 -- a turn out of memory: behind some events the process stands at one that isn't an instruction that is carried out
 pub record TurnStops (pid count : ℕ) (old : World) (done : ℕ) (new : World) : Type 0 where

@@ -1,6 +1,6 @@
 //! The start of a machine.
 
-ghost use Rattle.std.specs.Prelude.{◌≡◌, ◌<◌, ◌≤◌, ℕ, Some, slice_get, length, vec_len};
+ghost use Rattle.std.specs.Prelude.{◌≡◌, ◌^◌, ◌<◌, ◌≤◌, ℕ, Some, slice_get, length, vec_len};
 ghost use Rattle.page_runs.specs.Choosers.{IsChooser, kind_of};
 ghost use Rattle.machine_world.specs.Boot.{boot};
 ghost use Rattle.manifest_text.specs.declared.manifest.Start.{Start as StartItem};

@@ -5,7 +5,7 @@ ghost use Rattle.vfork_exec.specs.Procs.{Lives};
 ghost use Rattle.machine_world.specs.Event.{event};
 ghost use Rattle.machine_world.specs.Courses.{StandsAt};
 ghost use Rattle.syscall_layer.specs.Stands.{About, later, world_of};
-ghost use Rattle.flat_machine.specs.Leaves.{Carried, TurnLeaves};
+ghost use Rattle.flat_machine.specs.Leaves.{Carried, TellsStray, TurnLeaves};
 
 use crate::advance::advance;
 use crate::run::End;
@@ -26,6 +26,7 @@ enum After {
 
 /// Notes an access that isn't carried out.
 fn stray(parts: &mut Parts, pid: u32, access: Access) -> Result<After, AllocError>
+    ensures { TellsStray pid access parts.old parts.new result }
 {
     parts.note_stray(pid, access)?;
     Ok(After::RunEnds(End::Stray(access)))
@@ -73,7 +74,10 @@ pub(crate) fn turn(parts: &mut Parts, pid: u32, count: u32) -> TurnEnd
         let progress = advance(parts, pid, count - events);
         events += progress.done;
         if progress.stop == Stop::Next {
-            break;
+            return TurnEnd {
+                events,
+                end: Ok(None),
+            };
         }
         match next_event(parts, pid, progress.stop) {
             Ok(After::GoesOn) => events += 1,

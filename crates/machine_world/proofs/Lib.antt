@@ -3,8 +3,10 @@
 -- TurnLaws  turns, event by event
 -- RunLaws   runs, quantum by quantum
 -- Steps     instructions of one process, one after the other
+-- Signals   the signals of instructions
 mod Samples
 pub mod States
 pub mod TurnLaws
 pub mod RunLaws
 pub mod Steps
+pub mod Signals
