@@ -1,6 +1,8 @@
 -- Advanced  the parts after instructions of one process
 -- Windows   the block's own range may be used whole
 -- Events    the next event of a process, by the step at which it stands
+-- Turned    a turn, by its events
 pub mod Advanced
 pub mod Windows
 pub mod Events
+pub mod Turned
