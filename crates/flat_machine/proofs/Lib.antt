@@ -2,7 +2,11 @@
 -- Windows   the block's own range may be used whole
 -- Events    the next event of a process, by the step at which it stands
 -- Turned    a turn, by its events
+-- Picks     the process of a turn
+-- Rounds    runs by quanta
 pub mod Advanced
 pub mod Windows
 pub mod Events
 pub mod Turned
+pub mod Picks
+pub mod Rounds

@@ -1,8 +1,13 @@
 //! A run by quanta.
 
-ghost use Rattle.std.specs.Prelude.{◌≡◌, ◌+◌, ◌*◌, ◌^◌, ◌<◌, ◌≤◌, [], ◌∷◌, sum_by};
+ghost use Rattle.std.specs.Prelude.{◌≡◌, ◌+◌, ◌*◌, ◌^◌, ◌<◌, ◌≤◌, [], ◌∷◌, map, sum_by, IfSome};
+ghost use Rattle.vfork_exec.specs.Procs.{Lives};
+ghost use Rattle.quantum_sched.specs.Picked.{picked};
+ghost use Rattle.machine_world.specs.World.{pid_of};
+ghost use Rattle.machine_world.specs.Turns.{turns};
+ghost use Rattle.syscall_layer.specs.Stands.{About, world_of};
 ghost use Rattle.flat_machine.specs.State.{world};
-ghost use Rattle.flat_machine.specs.Runs.{Runs, repeated};
+ghost use Rattle.flat_machine.specs.Runs.{Ends, Runs, repeated};
 ghost use Rattle.flat_machine.specs.Leaves.{Leaves};
 
 use crate::machine::Machine;
@@ -10,6 +15,7 @@ use crate::turn::{TurnEnd, turn};
 use quantum_sched::{Quantum, pick};
 use rv32im_step::Access;
 use std::alloc::AllocError;
+use syscall_layer::Parts;
 
 /// Why a run stops.
 #[derive(Clone, Copy, Debug, PartialEq, Eq)]
@@ -24,6 +30,25 @@ pub enum End {
     LogFull,
 }
 
+/// The process of a quantum, if any lives.
+fn chosen(parts: &Parts, quantum: Quantum) -> Option<u32>
+    ensures picked { (a : About) → result ≡ picked quantum.pick (map pid_of (world_of a parts.now).procs) }
+    ensures lives { IfSome result (λ pid. Lives parts.now.procs pid) }
+{
+    pick(&parts.procs, quantum)
+}
+
+/// Why a run stops behind its last quantum.
+fn last_end(parts: &Parts) -> End
+    ensures { (a : About) → Ends (turns [] (world_of a parts.now)).end result }
+{
+    if parts.procs.live() == 0 {
+        End::AllEnded
+    } else {
+        End::OutOfQuanta
+    }
+}
+
 impl Machine {
     /// Gives the process of a quantum its turn.
     fn take_turn(&mut self, quantum: Quantum) -> Result<Option<End>, AllocError>
@@ -31,7 +56,7 @@ impl Machine {
         ensures events { self.new.events ≤ self.old.events + quantum.count }
         ensures leaves { Leaves (quantum ∷ []) (world self.old) (world self.new) result }
     {
-        let Some(pid) = pick(&self.parts.procs, quantum) else {
+        let Some(pid) = chosen(&self.parts, quantum) else {
             return Ok(Some(End::AllEnded));
         };
         let TurnEnd { events, end } = turn(&mut self.parts, pid, quantum.count);
@@ -63,10 +88,6 @@ impl Machine {
                 return Ok(end);
             }
         }
-        if self.parts.procs.live() == 0 {
-            Ok(End::AllEnded)
-        } else {
-            Ok(End::OutOfQuanta)
-        }
+        Ok(last_end(&self.parts))
     }
 }
