@@ -1,6 +1,10 @@
 -- Runs by quanta.
-use Rattle.std.proofs.Common.{◌≡◌, ◌≢◌, ℕ, zero, suc, ◌+◌, ◌-◌, ◌*◌, ◌<◌, ◌≤◌, true, false, if◌then◌else◌, List, [], ◌∷◌, ◌++◌, map, length, Option, Some, None, Result, Ok, Err, refl, sym, ap, subst, ◌∙◌, arith, append_assoc}
-use Rattle.std.specs.Prelude.{◌==◌}
+use Rattle.std.proofs.Common.{◌≡◌, ◌≢◌, ℕ, zero, suc, ◌+◌, ◌-◌, ◌*◌, ◌<◌, ◌≤◌, true, false, if◌then◌else◌, List, [], ◌∷◌, ◌++◌, map, length, Option, Some, None, Result, Ok, Err, refl, sym, ap, subst, ◌∙◌, arith, append_assoc, append-nil, take, drop, get_or}
+use Rattle.std.specs.Result.{IsErr}
+use Rattle.std.proofs.Math.Nat.{mul-le-mul_left}
+use Rattle.std.proofs.Math.Seq.{take-suc}
+use Rattle.std.proofs.lemmas.List.{take-append-drop}
+use Rattle.std.specs.Prelude.{◌==◌, alloc_error}
 use Rattle.std.specs.declared.alloc.AllocError.{AllocError}
 use Rattle.quantum_sched.specs.declared.Quantum.{Quantum}
 use Rattle.quantum_sched.specs.Picked.{picked}
@@ -104,6 +108,31 @@ leaves_failed front more old new error x = record {
   still = x.still;
 }
 
+-- ---- the quantum of number i
+
+module _ (qs : List Quantum) (i : ℕ) (d : Quantum) (less : i < length qs) (old mid new : World) (comes : Comes (take i qs) old mid) where
+  next_is : take (i + 1) qs ≡ take i qs ++ (get_or qs i d ∷ [])
+  next_is = let one : i + 1 ≡ suc i = omega arith in ap (λ n. take n qs) one ∙ take-suc qs i d less
+
+  all_are : qs ≡ (take i qs ++ (get_or qs i d ∷ [])) ++ drop (i + 1) qs
+  all_are = sym (take-append-drop (i + 1) qs) ∙ ap (λ rs. rs ++ drop (i + 1) qs) next_is
+
+  pub round_on : Leaves (get_or qs i d ∷ []) mid new (Ok None) → Comes (take (i + 1) qs) old new
+  round_on x = subst (λ rs. Comes rs old new) (sym next_is) (comes_on (take i qs) (get_or qs i d ∷ []) old mid new comes x)
+
+  pub round_ends : (end : Told) → Leaves (get_or qs i d ∷ []) mid new (Ok (Some end)) → Leaves qs old new (Ok (Some end))
+  round_ends end x =
+      subst (λ rs. Leaves rs old new (Ok (Some end))) (sym all_are)
+      (leaves_ended (take i qs ++ (get_or qs i d ∷ [])) (drop (i + 1) qs) old new end
+      (leaves_front (take i qs) (get_or qs i d ∷ []) old mid new (Ok (Some end)) comes x))
+
+  pub round_fails : (r : Result (Option Told) AllocError) → IsErr r → Stops (get_or qs i d ∷ []) mid new → Leaves qs old new r
+  round_fails (Ok end) is x = absurd cc
+  round_fails (Err error) is x =
+      subst (λ rs. Stops rs old new) (sym all_are)
+      (leaves_failed (take i qs ++ (get_or qs i d ∷ [])) (drop (i + 1) qs) old new error
+      (leaves_front (take i qs) (get_or qs i d ∷ []) old mid new (Err error) comes x))
+
 -- ---- the quanta so many times
 
 pub repeated_more : (n : ℕ) (qs : List Quantum) → repeated (n + 1) qs ≡ repeated n qs ++ qs
@@ -111,6 +140,13 @@ repeated_more zero qs = let one : 0 + 1 ≡ 1 = omega arith in ap (λ m. repeate
 repeated_more (suc n) qs =
     let sum : suc n + 1 ≡ suc (n + 1) = omega arith in
     ap (λ m. repeated m qs) sum ∙ ap (λ rs. qs ++ rs) (repeated_more n qs) ∙ sym (append_assoc qs (repeated n qs) qs)
+
+-- what one time more takes
+pub time_fits : (i count sum : ℕ) → i < count → i * sum + sum ≤ count * sum
+time_fits i count sum less = let more : i + 1 ≤ count = omega arith in omega (arith, mul-le-mul_left sum more)
+
+pub one_more_time : (i sum : ℕ) → (i + 1) * sum ≡ i * sum + sum
+one_more_time i sum = omega arith
 
 -- up to the time of this number, and those behind it
 pub repeated_parts : (i n : ℕ) (qs : List Quantum) → repeated (i + n) qs ≡ repeated i qs ++ repeated n qs
@@ -135,14 +171,23 @@ module _ (qs : List Quantum) (i count : ℕ) (less : i < count) (old mid new : W
       let here = all (repeated (count - (i + 1)) qs) in
       rw split (sym here.0, here.1)
 
-  pub time_fails : (error : AllocError) → Leaves qs mid new (Err error) → Stops (repeated count qs) old new
-  time_fails error x =
+  pub time_fails : Stops qs mid new → Stops (repeated count qs) old new
+  time_fails x =
       subst (λ rs. Stops rs old new) (sym split)
-      (leaves_failed (repeated i qs ++ qs) (repeated (count - (i + 1)) qs) old new error (leaves_front (repeated i qs) qs old mid new (Err error) comes x))
+      (leaves_failed (repeated i qs ++ qs) (repeated (count - (i + 1)) qs) old new alloc_error
+      (leaves_front (repeated i qs) qs old mid new (Err alloc_error) comes x))
 
 -- behind the last quantum
-pub all_comes : (qs : List Quantum) (old new : World) (end : Told) → Comes qs old new → Ends (turns [] new).end end → (new ≡ (turns qs old).world) × Ends (turns qs old).end end
+all_comes : (qs : List Quantum) (old new : World) (end : Told) → Comes qs old new → Ends (turns [] new).end end → (new ≡ (turns qs old).world) × Ends (turns qs old).end end
 all_comes qs old new end comes last =
     let same : turns qs old ≡ walked comes.traces (turns [] new) = ap (λ rs. turns rs old) (sym (append-nil qs)) ∙ comes.on [] in
     let world : (turns [] new).world ≡ new = ap (λ (v : Walk). v.world) (none_left new) in
     rw same (sym world, last)
+
+pub runs_fail : (qs : List Quantum) (old new : State) (r : Result Told AllocError) → IsErr r → Stops qs (world old) (world new) → Runs qs old new r
+runs_fail qs old new (Ok end) is x = absurd cc
+runs_fail qs old new (Err error) is x = x
+
+pub machine_ends : (qs : List Quantum) (old : World) (new seen : State) (end : Told) → seen ≡ new → Comes qs old (world new) → Ends (turns [] (world seen)).end end
+    → (world new ≡ (turns qs old).world) × Ends (turns qs old).end end
+machine_ends qs old new seen end same comes last = all_comes qs old (world new) end comes (subst (λ (s : State). Ends (turns [] (world s)).end end) same last)

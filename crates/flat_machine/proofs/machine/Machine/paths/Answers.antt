@@ -4,4 +4,4 @@ use Rattle.flat_machine.proofs.machine.Machine.paths.Goals as goal
 
 pub returns : goal.returns
 unfolding world_of
-returns c = let v = c.self.view_is in rw (← v) ?
+returns c = let v = c.self.view_is in let e = c.deref.ensures.value in rw (← v) ?

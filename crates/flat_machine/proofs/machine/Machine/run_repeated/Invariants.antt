@@ -6,8 +6,8 @@ use Rattle.flat_machine.specs.State.{world}
 use Rattle.flat_machine.specs.Runs.{repeated}
 use Rattle.flat_machine.proofs.machine.Machine.run_repeated.Given as goal
 
-abbrev pub invariant-loop-_time : goal.invariant-loop-_time
-invariant-loop-_time l = record {
+abbrev pub invariant-loop-time : goal.invariant-loop-time
+invariant-loop-time l = record {
   comes : Comes (repeated l._time l.quanta) (world l.fn.self) (world l.self);
   events : l.self.events ≤ l.fn.self.events + l._time * sum_by (λ q. q.count) l.quanta;
 }
