@@ -1,2 +1,14 @@
 -- Readers: what the fields of a machine say of its world.
+-- Advanced  the parts after instructions of one process
+-- Windows   the block's own range may be used whole
+-- Events    the next event of a process, by the step at which it stands
+-- Turned    a turn, by its events
+-- Picks     the process of a turn
+-- Rounds    runs by quanta
 pub mod Readers
+pub mod Advanced
+pub mod Windows
+pub mod Events
+pub mod Turned
+pub mod Picks
+pub mod Rounds

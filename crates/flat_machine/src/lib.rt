@@ -4,10 +4,12 @@
 //! read of it. What may not: single rows of system calls, files of the host, and texts for users.
 #![tactic(auto)]
 
+mod advance;
 mod boot;
 mod bytes;
 mod machine;
 mod run;
+mod turn;
 
 pub use boot::{BootRefusal, Setup};
 pub use machine::Machine;

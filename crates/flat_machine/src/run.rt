@@ -1,12 +1,21 @@
 //! A run by quanta.
 
-ghost use Rattle.std.specs.Prelude.{◌≡◌, ◌+◌, ◌*◌, ◌^◌, ◌<◌, sum_by};
-ghost use Rattle.flat_machine.specs.Runs.{Runs, repeated};
+ghost use Rattle.std.specs.Prelude.{◌≡◌, ◌+◌, ◌*◌, ◌^◌, ◌<◌, ◌≤◌, [], ◌∷◌, map, sum_by, IfSome};
+ghost use Rattle.vfork_exec.specs.Procs.{Lives};
+ghost use Rattle.quantum_sched.specs.Picked.{picked};
+ghost use Rattle.machine_world.specs.World.{pid_of};
+ghost use Rattle.machine_world.specs.Turns.{turns};
+ghost use Rattle.syscall_layer.specs.Stands.{About, world_of};
+ghost use Rattle.flat_machine.specs.State.{world};
+ghost use Rattle.flat_machine.specs.Runs.{Ends, Runs, repeated};
+ghost use Rattle.flat_machine.specs.Leaves.{Leaves};
 
 use crate::machine::Machine;
-use quantum_sched::Quantum;
+use crate::turn::{TurnEnd, turn};
+use quantum_sched::{Quantum, pick};
 use rv32im_step::Access;
 use std::alloc::AllocError;
+use syscall_layer::Parts;
 
 /// Why a run stops.
 #[derive(Clone, Copy, Debug, PartialEq, Eq)]
@@ -21,12 +30,64 @@ pub enum End {
     LogFull,
 }
 
+/// The process of a quantum, if any lives.
+fn chosen(parts: &Parts, quantum: Quantum) -> Option<u32>
+    ensures picked { (a : About) → result ≡ picked quantum.pick (map pid_of (world_of a parts.now).procs) }
+    ensures lives { IfSome result (λ pid. Lives parts.now.procs pid) }
+{
+    pick(&parts.procs, quantum)
+}
+
+/// Why a run stops behind its last quantum.
+fn last_end(parts: &Parts) -> End
+    ensures { (a : About) → Ends (turns [] (world_of a parts.now)).end result }
+{
+    if parts.procs.live() == 0 {
+        End::AllEnded
+    } else {
+        End::OutOfQuanta
+    }
+}
+
 impl Machine {
+    /// Gives the process of a quantum its turn.
+    fn take_turn(&mut self, quantum: Quantum) -> Result<Option<End>, AllocError>
+        requires { self.old.events + quantum.count < 2 ^ 64 }
+        ensures events { self.new.events ≤ self.old.events + quantum.count }
+        ensures leaves { Leaves (quantum ∷ []) (world self.old) (world self.new) result }
+    {
+        let Some(pid) = chosen(&self.parts, quantum) else {
+            return Ok(Some(End::AllEnded));
+        };
+        let TurnEnd { events, end } = turn(&mut self.parts, pid, quantum.count);
+        self.events += u64::from(events);
+        end
+    }
+
+    /// Gives each quantum its turn, until the run stops.
+    fn round(&mut self, quanta: &[Quantum]) -> Result<Option<End>, AllocError>
+        requires { self.old.events + sum_by (λ q. q.count) quanta.now < 2 ^ 64 }
+        ensures events { self.new.events ≤ self.old.events + sum_by (λ q. q.count) quanta.now }
+        ensures leaves { Leaves quanta.now (world self.old) (world self.new) result }
+    {
+        for quantum in quanta {
+            if let Some(end) = self.take_turn(*quantum)? {
+                return Ok(Some(end));
+            }
+        }
+        Ok(None)
+    }
+
     /// Gives each quantum its turn, and all of them so many times, until the run stops.
     pub fn run_repeated(&mut self, quanta: &[Quantum], count: u32) -> Result<End, AllocError>
         requires { self.old.events + count * sum_by (λ q. q.count) quanta.now < 2 ^ 64 }
         ensures { Runs (repeated count quanta.now) self.old self.new result }
     {
-        Err(AllocError)
+        for _time in 0..count {
+            if let Some(end) = self.round(quanta)? {
+                return Ok(end);
+            }
+        }
+        Ok(last_end(&self.parts))
     }
 }

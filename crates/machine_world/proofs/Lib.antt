@@ -4,9 +4,11 @@
 -- RunLaws   runs, quantum by quantum
 -- Steps     instructions of one process, one after the other
 -- Loads     the programs that load notes name
+-- Signals   the signals of instructions
 mod Samples
 pub mod States
 pub mod TurnLaws
 pub mod RunLaws
 pub mod Steps
 pub mod Loads
+pub mod Signals

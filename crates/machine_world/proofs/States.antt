@@ -36,16 +36,31 @@ module _ {A : Type 0} (key : A → ℕ) (k : ℕ) where
     | inr is ↦ find_has ys x (sym (find_head key k y ys false is) ∙ h)
   ]
 
-  -- changed to what it is
-  pub change_same : (f : A → A) (xs : List A) (x : A) → find key k xs ≡ Some x → f x ≡ x → change key k f xs ≡ xs
+  -- changed alike
+  pub change_alike : (f g : A → A) (xs : List A) (x : A) → find key k xs ≡ Some x → f x ≡ g x → change key k f xs ≡ change key k g xs
   unfolding find change
-  change_same f [] x h goes = refl
-  change_same f (y ∷ ys) x h goes = elim (decide (key y == k)) [
+  change_alike f g [] x h goes = refl
+  change_alike f g (y ∷ ys) x h goes = elim (decide (key y == k)) [
     | inl is ↦
         let same : y ≡ x = let e = sym (find_head key k y ys true is) ∙ h in cc in
-        change_head f y ys true is ∙ ap (λ z. f z ∷ ys) same ∙ ap (λ z. z ∷ ys) (goes ∙ sym same)
-    | inr is ↦ change_head f y ys false is ∙ ap (λ zs. y ∷ zs) (change_same f ys x (sym (find_head key k y ys false is) ∙ h) goes)
+        change_head f y ys true is ∙ ap (λ z. z ∷ ys) (ap f same ∙ goes ∙ ap g (sym same)) ∙ sym (change_head g y ys true is)
+    | inr is ↦
+        change_head f y ys false is ∙ ap (λ zs. y ∷ zs) (change_alike f g ys x (sym (find_head key k y ys false is) ∙ h) goes)
+        ∙ sym (change_head g y ys false is)
   ]
+
+  -- not at all
+  change_none : (xs : List A) → change key k (λ x. x) xs ≡ xs
+  unfolding change
+  change_none [] = refl
+  change_none (y ∷ ys) = elim (decide (key y == k)) [
+    | inl is ↦ change_head (λ x. x) y ys true is
+    | inr is ↦ change_head (λ x. x) y ys false is ∙ ap (λ zs. y ∷ zs) (change_none ys)
+  ]
+
+  -- changed to what it is
+  pub change_same : (f : A → A) (xs : List A) (x : A) → find key k xs ≡ Some x → f x ≡ x → change key k f xs ≡ xs
+  change_same f xs x h goes = change_alike f (λ y. y) xs x h goes ∙ change_none xs
 
   -- changed twice
   pub change_twice : (f g h : A → A) → ((x : A) → key (f x) ≡ key x) → ((x : A) → g (f x) ≡ h x) → (xs : List A) → change key k g (change key k f xs) ≡ change key k h xs

@@ -4,6 +4,7 @@
 -- Outcomes: what an outcome can be.
 -- StatusLaws, HostLaws: the laws over every call.
 -- OneFileLaws, ConvertLaws, CheckLaws, ListLaws, SizesLaw: the laws of the commands.
+-- Reports: the parts of the report of a run.
 -- Samples, ListSamples: the definitions on the worked example.
 pub mod HostCourses
 pub mod HostSteps
@@ -22,5 +23,6 @@ pub mod ConvertLaws
 pub mod CheckLaws
 pub mod ListLaws
 pub mod SizesLaw
+pub mod Reports
 pub mod Samples
 pub mod ListSamples

@@ -9,6 +9,7 @@
 -- Arguments   the table of commands; Invocation: a command with its arguments
 -- OneFile     a command that begins with the load of a file
 -- Convert, Check, List   the commands
+-- Report      the report of a run, and the status that it ends with
 -- Result      result_of: the outcome of each command line
 --
 -- Observed    what a host or a sink tells at one moment, and its count of faults
@@ -37,3 +38,4 @@ pub mod StatusLaws
 pub mod HostLaws
 pub mod Answer
 pub mod FileLoad
+pub mod Report

@@ -13,6 +13,7 @@ mod file_load;
 mod laws;
 mod list;
 mod placements;
+mod report;
 mod status;
 mod texts;
 mod top;

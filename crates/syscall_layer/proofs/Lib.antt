@@ -19,6 +19,8 @@ pub mod Counts
 pub mod Apart
 pub mod Gone
 pub mod FreePages
+mod Started
+mod Boots
 pub mod CallRows
 pub mod Runs
 pub mod Stays
@@ -26,5 +28,3 @@ pub mod Settled
 pub mod Moves
 pub mod Outcomes
 pub mod ReadRanges
-mod Started
-mod Boots

@@ -4,7 +4,7 @@ use Rattle.std.specs.Prelude.{◌%◌, option_map, Result, Ok, Err, slice_index}
 use Rattle.std.specs.declared.alloc.AllocError.{AllocError}
 use Rattle.byte_words.specs.ByteMap.{Bytes}
 use Rattle.rv32im_step.specs.declared.access.Access.{Access}
-use Rattle.rv32im_step.specs.declared.access.AccessKind.TheVariants.{Call}
+use Rattle.rv32im_step.specs.declared.access.AccessKind.TheVariants as access_kind
 use Rattle.rv32im_step.specs.Registers.{register}
 use Rattle.call_log.specs.declared.how.How.{How}
 use Rattle.call_log.specs.declared.how.How.TheVariants.{Exit, Signal}
@@ -19,7 +19,7 @@ use Rattle.machine_world.specs.World.{Process, LiveSpace, World, pid_of, id_of}
 use Rattle.machine_world.specs.Rows.{Ask, Reply, Row, row, replies}
 use Rattle.machine_world.specs.Event.{Trace, Outcome, went, strays, full, with_state, counted, noted, departed, ended, number_of, args_of, entry_of, call_access, replied, served, answered, exit_code, exited, is_exit, classed, answer, asked, trapped, called, died, at_process, by_process, in_space}
 use Rattle.syscall_layer.specs.declared.task.Task.{Task}
-use Rattle.syscall_layer.specs.declared.call.Call.{Call as Made}
+use Rattle.syscall_layer.specs.declared.call.Call.{Call}
 use Rattle.syscall_layer.specs.declared.effect.Effect.{Effect}
 use Rattle.syscall_layer.specs.declared.effect.Effect.TheVariants.{Answer, Yield, Show, Break}
 use Rattle.syscall_layer.specs.declared.answer.Served.{Served}
@@ -121,7 +121,7 @@ same_entry : (p q n m : ℕ) (xs ys : List ℕ) (bytes : List ℕ) (value : ℕ)
     call_note (record { pid = p; call = n; args = xs; sent = bytes; reply = value; got = [] }) ≡ call_note (record { pid = q; call = m; args = ys; sent = bytes; reply = value; got = [] })
 same_entry p q n m xs ys bytes value e f g = cc
 
-module _ (a : About) (k : Kept) (e : Entry Task) (h : Held) (call : Made) (runs : RunsIn k call.pid e h) (is : IsCall k.mem e h call) where
+module _ (a : About) (k : Kept) (e : Entry Task) (h : Held) (call : Call) (runs : RunsIn k call.pid e h) (is : IsCall k.mem e h call) where
   note_is : (value : ℕ) →
       call_note (record { pid = call.pid; call = call.number; args = call.args; sent = call.sent.items; reply = value; got = [] })
       ≡ call_note (entry_of (ask_in a k e h call) value [])
@@ -215,7 +215,7 @@ module _ (a : About) (k : Kept) (e : Entry Task) (h : Held) (call : Made) (runs 
 -- ---- the whole call
 
 module _ (a : About) (k : Kept) (pid : ℕ) (regular : Regular k) (lives : Lives k.procs pid) where
-  pub serve_call : (call : Made) → call.pid ≡ pid → ((e : Entry Task) → (h : Held) → RunsIn k pid e h → IsCall k.mem e h call) → (new : Kept) (result : Result Served AllocError) →
+  pub serve_call : (call : Call) → call.pid ≡ pid → ((e : Entry Task) → (h : Held) → RunsIn k pid e h → IsCall k.mem e h call) → (new : Kept) (result : Result Served AllocError) →
       ((b : About) → (e : Entry Task) → (h : Held) → RunsIn k call.pid e h → IsCall k.mem e h call → Serves b (classed (world_of b k) (ask_in b k e h call)) k new call.pid result) →
       Serves a (called (world_of a k) pid) k new pid result
   serve_call call same made new result serves =
@@ -229,14 +229,14 @@ module _ (a : About) (k : Kept) (pid : ℕ) (regular : Regular k) (lives : Lives
 
   pub serve_stray : (t : Task) → value_at k.procs pid ≡ Some t → (span : Span) →
       ((e : Entry Task) → (h : Held) → RunsIn k pid e h → sent (number_of e.value.regs) (args_of e.value.regs) (private_bytes k.mem h) ≡ Err span) →
-      Answered a (called (world_of a k) pid) k k pid (Stray (record { pc = t.regs.pc; addr = span.addr; len = span.len; kind = Call }))
+      Answered a (called (world_of a k) pid) k k pid (Stray (record { pc = t.regs.pc; addr = span.addr; len = span.len; kind = access_kind.Call }))
   serve_stray t kept span unread =
       let r = runs_in k pid regular lives in
       let e : Entry Task = r.0 in
       let h : Held = r.1.0 in
-      let seen : Access = record { pc = t.regs.pc; addr = span.addr; len = span.len; kind = Call } in
+      let seen : Access = record { pc = t.regs.pc; addr = span.addr; len = span.len; kind = access_kind.Call } in
       let at : seen ≡ call_access (process_of e) span =
-      ap (λ (x : Task). record { pc = x.regs.pc; addr = span.addr; len = span.len; kind = Call }) (value_found k.procs pid e r.1.1.lives t kept) in
+      ap (λ (x : Task). record { pc = x.regs.pc; addr = span.addr; len = span.len; kind = access_kind.Call }) (value_found k.procs pid e r.1.1.lives t kept) in
       subst (λ (o : Outcome). Answered a o k k pid (Stray seen)) (sym (stray_serves a k pid e h r.1.1 span (unread e h r.1.1))) (at, refl)
 
 -- ---- an end by a signal

@@ -1,6 +1,6 @@
 -- Small facts of a call's reply and of an end.
-use Rattle.std.proofs.Common.{◌≡◌, ℕ, ◌+◌, ◌<◌, ◌≤◌, Bool, true, false, List, length, Option, Some, None, Global, refl, sym, ap, subst, ◌∙◌, arith, length-drop}
-use Rattle.std.specs.Prelude.{◌^◌, ◌&&◌, nat_le, slice_get, slice_set, map, sum, Vec, vec_len}
+use Rattle.std.proofs.Common.{◌≡◌, ℕ, ◌+◌, ◌<◌, ◌≤◌, Bool, true, false, List, length, Option, Some, None, refl, sym, ap, subst, ◌∙◌, arith, length-drop}
+use Rattle.std.specs.Prelude.{◌^◌, ◌&&◌, nat_le, slice_get, slice_set, map, sum, Vec}
 use Rattle.std.proofs.lemmas.Bool.Decides.{nat_tests}
 use Rattle.std.specs.Vec.{with_items}
 use Rattle.std.proofs.lemmas.List.{with_items_is, length-set}
@@ -51,9 +51,8 @@ room_bounds notes bytes h =
     grind (arith, nat_tests, fits)
 
 -- the log was asked for its room
-pub room_is : (k now : Kept) → k ≡ now → (sent : Vec ℕ Global) (n : ℕ) (room b : Bool) → n ≡ vec_len sent → room ≡ has_room k.notes n → room ≡ b → has_room now.notes (length sent.items) ≡ b
-room_is k now same sent n room b count asked is =
-    ap (λ (x : Kept). has_room x.notes (length sent.items)) (sym same) ∙ ap (has_room k.notes) (sym (count ∙ sent.ok.0)) ∙ sym asked ∙ is
+pub room_is : (k now : Kept) → k ≡ now → (bytes : ℕ) (room b : Bool) → room ≡ has_room k.notes bytes → room ≡ b → has_room now.notes bytes ≡ b
+room_is k now same bytes room b asked is = ap (λ (x : Kept). has_room x.notes bytes) (sym same) ∙ sym asked ∙ is
 
 -- what is shown of a call that is noted has fewer than 2^32 bytes
 pub shown_fits : (notes : List Note) (sent bytes : List ℕ) (f : Effect) → has_room notes (length sent) ≡ true → bytes ≡ shown sent f → length bytes < 2 ^ 32

@@ -1,6 +1,7 @@
 //! A system call.
 
-ghost use Rattle.std.specs.Prelude.{◌≡◌};
+ghost use Rattle.std.specs.Prelude.{◌≡◌, length};
+ghost use Rattle.call_log.specs.Notes.{has_room};
 ghost use Rattle.mmap_rules.specs.Held.{Held};
 ghost use Rattle.vfork_exec.specs.declared.entry.Entry.{Entry};
 ghost use Rattle.vfork_exec.specs.Procs.{Lives};
@@ -15,6 +16,7 @@ use crate::call::{Call, call_of};
 use crate::effect::{Effect, effect_of};
 use crate::parts::Parts;
 use crate::reading::Unread;
+use call_log::Log;
 use rv32im_step::{Access, AccessKind};
 use std::alloc::AllocError;
 
@@ -50,13 +52,20 @@ fn served_by(effect: Effect) -> Served
     }
 }
 
+/// Whether the log has room for a call.
+fn has_room(log: &Log, call: &Call) -> bool
+    ensures { result ≡ has_room log.now.notes (length call.now.sent.items) }
+{
+    log.room(call.sent.len() as u64)
+}
+
 /// Carries out an exit, where the log has room for it.
 fn answer_exit(parts: &mut Parts, call: Call) -> Result<Served, AllocError>
     requires { Lives parts.old.procs call.pid }
     ensures { (a : About) → (e : Entry Task) → (h : Held) → RunsIn parts.old call.pid e h → IsCall parts.old.mem e h call →
         Serves a (exited (world_of a parts.old) (ask_in a parts.old e h call)) parts.old parts.new call.pid result }
 {
-    if !parts.log.room(call.sent.len() as u64) {
+    if !has_room(&parts.log, &call) {
         return Ok(Served::LogFull);
     }
     parts.exit(call)?;
@@ -69,7 +78,7 @@ fn answer_effect(parts: &mut Parts, call: Call, effect: Effect) -> Result<Served
     ensures { (a : About) → (e : Entry Task) → (h : Held) → RunsIn parts.old call.pid e h → IsCall parts.old.mem e h call →
         Serves a (answered (world_of a parts.old) (ask_in a parts.old e h call) (replies (reply_of (ask_in a parts.old e h call) effect))) parts.old parts.new call.pid result }
 {
-    if !parts.log.room(call.sent.len() as u64) {
+    if !has_room(&parts.log, &call) {
         return Ok(Served::LogFull);
     }
     parts.reply(call, effect)?;

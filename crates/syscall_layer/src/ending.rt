@@ -46,7 +46,7 @@ impl Parts {
 
     /// Ends the process that makes this call, exit or exit_group, by the lowest eight bits of its code. The call is noted
     /// and then the end; there is room for the call's note.
-    pub fn exit(&mut self, call: Call) -> Result<(), AllocError>
+    pub(crate) fn exit(&mut self, call: Call) -> Result<(), AllocError>
         requires lives { Lives self.old.procs call.pid }
         requires room { has_room self.old.notes (length call.sent.items) ≡ true }
         ensures { (e : Listed Task) → (h : Held) → RunsIn self.old call.pid e h → Exits self.old e h call self.new result }
@@ -83,8 +83,11 @@ impl Parts {
         ensures { (a : About) → Dies a (died (world_of a self.old) pid signal) self.old self.new pid result }
     {
         self.log.reserve(1)?;
-        let how = How::Signal(signal);
-        keep(&mut self.log, Note::End { pid, how });
+        let end = Note::End {
+            pid,
+            how: How::Signal(signal),
+        };
+        keep(&mut self.log, end);
         self.depart(pid);
         Ok(())
     }

@@ -66,7 +66,7 @@ fn settle(spaces: &mut [Option<Space>], number: u32, effect: Effect, count: u32)
 
 impl Parts {
     /// Gives a call its reply, and notes it. There is room for its note.
-    pub fn reply(&mut self, call: Call, effect: Effect) -> Result<(), AllocError>
+    pub(crate) fn reply(&mut self, call: Call, effect: Effect) -> Result<(), AllocError>
         requires lives { Lives self.old.procs call.pid }
         requires room { has_room self.old.notes (length call.sent.items) ≡ true }
         ensures { (e : Listed Task) → (h : Held) → RunsIn self.old call.pid e h → Replies self.old e h call effect self.new result }

@@ -1,0 +1,165 @@
+-- A turn, by its events.
+use Rattle.std.proofs.Common.{◌≡◌, ◌≢◌, ℕ, ◌+◌, ◌-◌, ◌<◌, ◌≤◌, true, false, [], ◌∷◌, ◌++◌, Option, Some, None, Result, Ok, Err, refl, sym, ap, subst, ◌∙◌, arith}
+use Rattle.std.specs.declared.alloc.AllocError.{AllocError}
+use Rattle.byte_words.specs.ByteMap.{Bytes}
+use Rattle.rv32im_step.specs.declared.access.Access.{Access}
+use Rattle.rv32im_step.specs.declared.regs.Regs.{Regs}
+use Rattle.rv32im_step.specs.declared.stop.Stop.{Stop}
+use Rattle.rv32im_step.specs.declared.stop.Stop.TheVariants.{Next, Call, Trap, Refused}
+use Rattle.call_log.specs.Notes.{stray_note}
+use Rattle.vfork_exec.specs.Procs.{Lives}
+use Rattle.machine_world.specs.World.{World}
+use Rattle.machine_world.specs.Event.{Trace, Outcome, went, strays, full, idle, noted, event}
+use Rattle.machine_world.specs.Turns.{End, stray_at, log_full, Walk, seen_of, stays_at, turn, walked}
+use Rattle.machine_world.specs.Courses.{Leads, StandsAt, Halts}
+use Rattle.machine_world.proofs.TurnLaws.{leads_none, leads_on, leads_event, turn_over, turn_strays, turn_full, turn_used, turn_from}
+use Rattle.syscall_layer.specs.Kept.{Kept}
+use Rattle.syscall_layer.specs.Stands.{About, later, world_of}
+use Rattle.flat_machine.specs.declared.run.End.{End as Told}
+use Rattle.flat_machine.specs.declared.run.End.TheVariants as told
+use Rattle.flat_machine.specs.declared.turn.After.{After}
+use Rattle.flat_machine.specs.declared.turn.After.TheVariants as after
+use Rattle.flat_machine.specs.Runs.{StandsStill}
+use Rattle.flat_machine.specs.Leaves.{Carried, TurnStops, TurnLeaves}
+use Rattle.flat_machine.proofs.Advanced.{some_about}
+
+-- behind so many events of a process the parts are others
+abbrev pub Reached : ℕ → Kept → ℕ → Kept → Type 0
+Reached pid old n now = (a : About) → Leads pid (world_of a old) n (world_of (later n a) now)
+
+later_none : (a : About) → later 0 a ≡ a
+later_none a = let sum : a.events + 0 ≡ a.events = omega arith in rw sum refl
+
+later_on : (i j : ℕ) (a : About) → later j (later i a) ≡ later (i + j) a
+later_on i j a = let sum : a.events + i + j ≡ a.events + (i + j) = omega arith in rw sum refl
+
+pub reached_none : (pid : ℕ) (k : Kept) → Reached pid k 0 k
+reached_none pid k a = subst (λ (b : About). Leads pid (world_of a k) 0 (world_of b k)) (sym (later_none a)) (leads_none pid (world_of a k))
+
+pub reached_on : (pid : ℕ) (old mid now : Kept) (i j : ℕ) → Reached pid old i mid → Reached pid mid j now → Reached pid old (i + j) now
+reached_on pid old mid now i j x y a =
+    subst (λ (b : About). Leads pid (world_of a old) (i + j) (world_of b now)) (later_on i j a)
+    (leads_on pid (world_of a old) (world_of (later i a) mid) (world_of (later j (later i a)) now) i j (x a) (y (later i a)))
+
+-- ---- where a process stands
+
+-- whatever is known of the run
+stands_so : (a b : About) (k : Kept) (pid : ℕ) (stop : Stop) → StandsAt (world_of a k) pid stop → StandsAt (world_of b k) pid stop
+unfolding world_of
+stands_so a b k pid stop s = record { process = s.process; space = s.space; lives = s.lives; has = s.has; means = s.means }
+
+pub halts_all : (w : World) (pid most done : ℕ) (stop : Stop) → stop ≡ Next → Halts w pid most done stop → done ≡ most
+halts_all w pid most done stop is h = let P : Stop → Type 0 = Halts w pid most done in subst P is h
+
+halts_at : (w : World) (pid most done : ℕ) (stop : Stop) → stop ≢ Next → Halts w pid most done stop → (done < most) × StandsAt w pid stop
+halts_at w pid most done Next other h = absurd (other refl)
+halts_at w pid most done Call other h = h
+halts_at w pid most done (Trap signal) other h = h
+halts_at w pid most done (Refused access) other h = h
+
+-- after instructions of which the last step was none that is carried out
+module _ (now : Kept) (pid most done : ℕ) (stop : Stop) (other : stop ≢ Next) (halts : (a : About) → Halts (world_of (later done a) now) pid most done stop) where
+  pub halts_less : done < most
+  halts_less = (halts_at (world_of (later done some_about) now) pid most done stop other (halts some_about)).0
+
+  pub halts_stands : (a : About) → StandsAt (world_of a now) pid stop
+  halts_stands a = stands_so (later done a) a now pid stop (halts_at (world_of (later done a) now) pid most done stop other (halts a)).1
+
+still : (w : World) (pid : ℕ) (stop : Stop) → StandsAt w pid stop → StandsStill w pid
+still w pid Next s = absurd s.means
+still w pid Call s = record { process = s.process; space = s.space; lives = s.lives; has = s.has; still = λ regs bytes is. let e = sym s.means ∙ is in cc }
+still w pid (Trap signal) s = record { process = s.process; space = s.space; lives = s.lives; has = s.has; still = λ regs bytes is. let e = sym s.means ∙ is in cc }
+still w pid (Refused access) s = record { process = s.process; space = s.space; lives = s.lives; has = s.has; still = λ regs bytes is. let e = sym s.means ∙ is in cc }
+
+-- ---- the event behind them
+
+-- the process goes on
+module _ (now new : Kept) (pid : ℕ) where
+  one_on : (a : About) (o : Outcome) → event (world_of a now) pid ≡ o → Carried a o now new pid (Ok after.GoesOn) → Leads pid (world_of a now) 1 (world_of (later 1 a) new)
+  one_on a (went v t) is x =
+      subst (λ (w : World). Leads pid (world_of a now) 1 w) x.0 (leads_event pid (world_of a now) v t is x.1)
+  one_on a (strays access) is x = absurd x
+  one_on a full is x = absurd x
+  one_on a idle is x = absurd x
+
+  lives_on : (a : About) (o : Outcome) → Carried a o now new pid (Ok after.GoesOn) → Lives new.procs pid
+  lives_on a (went v t) x = x.2
+  lives_on a (strays access) x = absurd x
+  lives_on a full x = absurd x
+  lives_on a idle x = absurd x
+
+  pub event_on : ((a : About) → Carried a (event (world_of a now) pid) now new pid (Ok after.GoesOn)) → Reached pid now 1 new
+  event_on x a = one_on a (event (world_of a now) pid) refl (x a)
+
+  pub event_lives : ((a : About) → Carried a (event (world_of a now) pid) now new pid (Ok after.GoesOn)) → Lives new.procs pid
+  event_lives x = lives_on some_about (event (world_of some_about now) pid) (x some_about)
+
+-- ---- the end of a turn
+
+module _ (pid count : ℕ) (old now : Kept) (n : ℕ) (reached : Reached pid old n now) where
+  pub turn_all : n ≡ count → (a : About) → TurnLeaves pid count (world_of a old) n (world_of (later n a) now) (Ok None)
+  turn_all all a =
+      let used = turn_used pid (world_of a old) (world_of (later n a) now) n (reached a) in
+      let P : ℕ → Type 0 = λ m. TurnLeaves pid m (world_of a old) n (world_of (later n a) now) (Ok None) in
+      subst P all (ap (λ (v : Walk). v.world) used, ap (λ (v : Walk). v.end) used)
+
+  module _ (less : n < count) (new : Kept) where
+    whole : (a : About) (walk : Walk) → ((m : ℕ) → 0 < m → turn m pid (world_of (later n a) now) ≡ walk) → turn count pid (world_of a old) ≡ walked (reached a).traces walk
+    whole a walk is = turn_from pid (world_of a old) (world_of (later n a) now) n (reached a) count walk less is
+
+    ends_with : (a : About) (o : Outcome) → event (world_of (later n a) now) pid ≡ o → Carried (later n a) o now new pid (Ok after.TurnEnds)
+        → TurnLeaves pid count (world_of a old) (n + 1) (world_of (later (n + 1) a) new) (Ok None)
+    ends_with a (went v t) is x =
+        let same = whole a (record { world = v; traces = t ∷ []; end = None }) (turn_over pid (world_of (later n a) now) v t is x.1) in
+        (ap (λ (z : Walk). z.world) same ∙ x.0 ∙ ap (λ (b : About). world_of b new) (later_on n 1 a), ap (λ (z : Walk). z.end) same)
+    ends_with a (strays access) is x = absurd x
+    ends_with a full is x = absurd x
+    ends_with a idle is x = absurd x
+
+    pub turn_ends : ((a : About) → Carried a (event (world_of a now) pid) now new pid (Ok after.TurnEnds))
+        → (a : About) → TurnLeaves pid count (world_of a old) (n + 1) (world_of (later (n + 1) a) new) (Ok None)
+    turn_ends x a = ends_with a (event (world_of (later n a) now) pid) refl (x (later n a))
+
+    stops_with : (a : About) (o : Outcome) (end : Told) → event (world_of (later n a) now) pid ≡ o → Carried (later n a) o now new pid (Ok (after.RunEnds end))
+        → TurnLeaves pid count (world_of a old) n (world_of (later n a) new) (Ok (Some end))
+    stops_with a (strays access) (told.Stray seen) is x =
+        let w : World = noted (stray_note pid (seen_of access)) (world_of (later n a) now) in
+        let same = whole a (stays_at w (Some (stray_at pid access))) (turn_strays pid (world_of (later n a) now) access is) in
+        (ap (λ (z : Walk). z.world) same ∙ sym x.1, rw same x.0)
+    stops_with a full told.LogFull is x =
+        let same = whole a (stays_at (world_of (later n a) now) (Some log_full)) (turn_full pid (world_of (later n a) now) is) in
+        (ap (λ (z : Walk). z.world) same ∙ ap (world_of (later n a)) (sym x), rw same tt)
+    stops_with a (went v t) told.AllEnded is x = absurd x
+    stops_with a (went v t) (told.Stray seen) is x = absurd x
+    stops_with a (went v t) told.OutOfQuanta is x = absurd x
+    stops_with a (went v t) told.LogFull is x = absurd x
+    stops_with a (strays access) told.AllEnded is x = absurd x
+    stops_with a (strays access) told.OutOfQuanta is x = absurd x
+    stops_with a (strays access) told.LogFull is x = absurd x
+    stops_with a full told.AllEnded is x = absurd x
+    stops_with a full (told.Stray seen) is x = absurd x
+    stops_with a full told.OutOfQuanta is x = absurd x
+    stops_with a idle told.AllEnded is x = absurd x
+    stops_with a idle (told.Stray seen) is x = absurd x
+    stops_with a idle told.OutOfQuanta is x = absurd x
+    stops_with a idle told.LogFull is x = absurd x
+
+    pub turn_stops : (end : Told) → ((a : About) → Carried a (event (world_of a now) pid) now new pid (Ok (after.RunEnds end)))
+        → (a : About) → TurnLeaves pid count (world_of a old) n (world_of (later n a) new) (Ok (Some end))
+    turn_stops end x a = stops_with a (event (world_of (later n a) now) pid) end refl (x (later n a))
+
+    pub turn_fails : (stop : Stop) → ((a : About) → StandsAt (world_of a now) pid stop) → new ≡ now → (error : AllocError)
+        → (a : About) → TurnLeaves pid count (world_of a old) n (world_of (later n a) new) (Err error)
+    turn_fails stop stands same error a =
+        let used = turn_used pid (world_of a old) (world_of (later n a) now) n (reached a) in
+        let P : Kept → Type 0 = λ k. TurnStops pid count (world_of a old) n (world_of (later n a) k) in
+        subst P (sym same) (record {
+          less = less;
+          walked = ap (λ (v : Walk). v.world) used;
+          goes_on = ap (λ (v : Walk). v.end) used;
+          still = still (world_of (later n a) now) pid stop (stands (later n a));
+        })
+
+-- an event that fails leaves the parts
+pub failed : (a : About) (o : Outcome) (old new : Kept) (pid : ℕ) (error : AllocError) → Carried a o old new pid (Err error) → new ≡ old
+failed a o old new pid error x = x

@@ -1,0 +1,21 @@
+-- The window is the block's own range, or empty.
+use Rattle.std.proofs.Common.{◌+◌, refl, sym, ◌∙◌}
+use Rattle.mmap_rules.specs.Space.{may_use}
+use Rattle.flat_machine.proofs.Windows.{block_used, fits_of}
+use Rattle.flat_machine.proofs.advance.window.Goals as goal
+
+pub returns-then-is_some : goal.returns-then-is_some
+returns-then-is_some c =
+    let m = c.in-Some.block.now in
+    let v = c.maps.ensures in
+    let first = rw v at c.in-Some.ensures.value in
+    block_used c.args.space.now.maps m (sym first) c.if-range.true
+    (fits_of (m.range.from + m.range.size) (m.range.from + m.range.size) c.checked_add.result c.checked_add.ensures (sym c.is_some.ensures ∙ c.if-is_some.true))
+
+pub returns-else-range : goal.returns-else-range
+unfolding may_use
+returns-else-range c = refl
+
+pub returns-in_default : goal.returns-in_default
+unfolding may_use
+returns-in_default c = refl

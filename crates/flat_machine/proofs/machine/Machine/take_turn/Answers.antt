@@ -1,0 +1,19 @@
+-- The process of the quantum has its turn.
+use Rattle.std.proofs.Common.{sym}
+use Rattle.flat_machine.specs.State.{about_of, world}
+use Rattle.flat_machine.specs.Inside.{state_of}
+use Rattle.flat_machine.proofs.Rounds.{quantum_none, machine_leaves}
+use Rattle.flat_machine.proofs.machine.Machine.take_turn.Goals as goal
+
+pub returns-in_default-clause-leaves : goal.returns-in_default-clause-leaves
+returns-in_default-clause-leaves c =
+    let v = c.self.view_is in
+    rw (← v) (quantum_none c.args.quantum (world (state_of c.self.inside)) (sym (c.in_default.ensures.picked (about_of (state_of c.self.inside)))))
+
+pub returns-clause-leaves : goal.returns-clause-leaves
+returns-clause-leaves c =
+    let v = c.self.view_is in
+    let s = state_of c.self.inside in
+    rw (← v)
+    (machine_leaves s c.args.quantum c.in-Some.pid c.turn-events.result.events c.from.result c.turn-events.new.parts c.turn-events.result.end (c.in-Some.ensures.picked (about_of s))
+    (c.turn-events.ensures.leaves (about_of s)) c.from.ensures)
