@@ -53,7 +53,7 @@ module _ (k : Kept) (regular : Regular k) where
       let names = regular.names i p h m is there in
       let names_too = regular.names j q g n it here in
       let same : m.first ≡ n.first = regular.regions.apart m.first n.first names.region names_too.region page names.there names_too.there
-          (has_held i p h m page is there names has) (has_held j q g n page it here names_too has_too) in
+      (has_held i p h m page is there names has) (has_held j q g n page it here names_too has_too) in
       let one = regular.one_use m.first names.region names.there (names.own writes) in
       let both = counted_both m.first k.spaces i j h g other is it in
       omega (arith, one, both, regular.uses m.first names.region names.there, named m.first h.maps p m there refl, named m.first g.maps q n here (sym same)))
@@ -67,8 +67,8 @@ apart k regular i j h g is it other a may = is_false (own_in g.maps a) (λ own.
     let n = any_at (λ (m : Mapping). in_range m.range a) g.maps own in
     let parts = both m.item.range.writes (in_range m.item.range a) m.passes in
     let never = shared k regular i j h g m.place n.place m.item n.item (page_of a) other is it m.there n.there
-        (page_there k.regions m.item a (regular.names i m.place h m.item is m.there) parts.1)
-        (page_there k.regions n.item a (regular.names j n.place g n.item it n.there) n.passes) in
+    (page_there k.regions m.item a (regular.names i m.place h m.item is m.there) parts.1)
+    (page_there k.regions n.item a (regular.names j n.place g n.item it n.there) n.passes) in
     let e = sym parts.0 ∙ never in cc)
   where
     both : (x y : Bool) → (x && y) ≡ true → (x ≡ true) × (y ≡ true)

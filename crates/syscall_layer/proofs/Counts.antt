@@ -1,5 +1,5 @@
 -- Places of lists, and how many mappings name a region.
-use Rattle.std.proofs.Common.{◌≡◌, ◌≢◌, ℕ, zero, suc, ◌+◌, ◌<◌, ◌≤◌, ◌⊎◌, inl, inr, Bool, true, false, cond, List, [], ◌∷◌, length, arith, refl, sym, ap, ◌∙◌}
+use Rattle.std.proofs.Common.{◌≡◌, ◌≢◌, ℕ, zero, suc, ◌+◌, ◌<◌, ◌≤◌, ◌⊎◌, inl, inr, Bool, true, false, cond, List, [], ◌∷◌, ◌++◌, length, arith, refl, sym, ap, ◌∙◌}
 use Rattle.std.specs.Prelude.{Option, Some, None, slice_get, slice_set, ◌==◌, ◌||◌}
 use Rattle.std.specs.List.{list_any}
 use Rattle.std.proofs.lemmas.Option.{same_Some, none-some}
@@ -73,6 +73,26 @@ module _ {A : Type 0} where
       or_true true = refl
       or_true false = refl
 
+  -- one more at the end
+
+  pub get_pushed : (xs : List A) (y : A) → slice_get (xs ++ y ∷ []) (length xs) ≡ Some y
+  get_pushed [] y = refl
+  get_pushed (x ∷ xs) y = get_pushed xs y
+
+  pub get_before : (xs : List A) (y : A) (i : ℕ) (x : A) → slice_get xs i ≡ Some x → slice_get (xs ++ y ∷ []) i ≡ Some x
+  get_before [] y i x is = absurd (none-some x is)
+  get_before (z ∷ xs) y zero x is = is
+  get_before (z ∷ xs) y (suc i) x is = get_before xs y i x is
+
+  pub pushed_cases : (xs : List A) (y : A) (i : ℕ) (x : A) → slice_get (xs ++ y ∷ []) i ≡ Some x → ((i ≡ length xs) × (x ≡ y)) ⊎ (slice_get xs i ≡ Some x)
+  pushed_cases [] y zero x is = inl (refl, sym (same_Some _ _ is))
+  pushed_cases [] y (suc i) x is = absurd (none-some x is)
+  pushed_cases (z ∷ xs) y zero x is = inr is
+  pushed_cases (z ∷ xs) y (suc i) x is = elim (pushed_cases xs y i x is) [
+    | inl last ↦ inl (ap suc last.0, last.1)
+    | inr before ↦ inr before
+  ]
+
 -- ---- how many name a region
 
 pub eqb_is : (n k : ℕ) → (n == k) ≡ true → n ≡ k
@@ -136,6 +156,12 @@ counted_both id (Some x ∷ spaces) (suc i) zero h g other is it =
 counted_both id (None ∷ spaces) (suc i) (suc j) h g other is it = counted_both id spaces i j h g (λ e. other (ap suc e)) is it
 counted_both id (Some x ∷ spaces) (suc i) (suc j) h g other is it =
     omega (arith, counted_both id spaces i j h g (λ e. other (ap suc e)) is it)
+
+-- a space more
+pub uses_pushed : (id : ℕ) (spaces : List (Option Held)) (h : Held) → uses_in id (spaces ++ Some h ∷ []) ≡ uses_in id spaces + named_in id h.maps
+uses_pushed id [] h = omega arith
+uses_pushed id (None ∷ spaces) h = uses_pushed id spaces h
+uses_pushed id (Some g ∷ spaces) h = omega (arith, uses_pushed id spaces h)
 
 -- a live space that names the region
 pub record Using (id : ℕ) (spaces : List (Option Held)) : Type 0 where

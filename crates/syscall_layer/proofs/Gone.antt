@@ -140,8 +140,7 @@ uses_without id (None ∷ spaces) (suc i) h is = uses_without id spaces i h is
 uses_without id (Some g ∷ spaces) (suc i) h is = omega (arith, uses_without id spaces i h is)
 
 module _ (k : Kept) (pid : ℕ) (e : Entry Task) (h : Held) (regular : Regular k) (lives : process k.procs pid ≡ Some e)
-  (space : slice_get k.spaces e.value.space ≡ Some (Some h)) where
-
+    (space : slice_get k.spaces e.value.space ≡ Some (Some h)) where
   enough : (id : ℕ) → named_in id h.maps ≤ uses_of k.regions id
   enough id = by_count (named_in id h.maps) refl
     where

@@ -1,22 +1,26 @@
--- Worlds    the world of the parts, where one space or one process is found, changed or taken out
--- CallRows  the row of each call, and the effect that the code gives it
--- Runs      a process that runs in its space, and the call at which it stands
--- Stays     what holds of the parts stays so where one process and its space change
--- Settled   small facts of a call's reply
--- Moves     the world after one process went on, and after one is gone
--- Outcomes  what comes of a call and of an end, in the world and in the parts
+-- Begins      the parts before the first program
+-- Counts      places of lists, and how many mappings name a region
+-- Apart       what one space may write no other one has
+-- Gone        the parts without a process and its space
+-- FreePages   the free pages of the world are those of the regions
+-- Worlds      the world of the parts, where one space or one process is found, changed or taken out
+-- Started     the parts with one program more are regular
+-- Boots       they stand for the world that starts it
+-- CallRows    the row of each call, and the effect that the code gives it
+-- Runs        a process that runs in its space, and the call at which it stands
+-- Stays       what holds of the parts stays so where one process and its space change
+-- Settled     small facts of a call's reply
+-- Moves       the world after one process went on, and after one is gone
+-- Outcomes    what comes of a call and of an end, in the world and in the parts
 -- ReadRanges  what a call reads in one memory, range by range
--- Begins     the parts before the first program
--- Counts     places of lists, and how many mappings name a region
--- Apart      what one space may write no other one has
--- Gone       the parts without a process and its space
--- FreePages  the free pages of the world are those of the regions
 mod Begins
 pub mod Counts
 pub mod Apart
 pub mod Gone
 pub mod FreePages
 pub mod Worlds
+mod Started
+mod Boots
 pub mod CallRows
 pub mod Runs
 pub mod Stays

@@ -130,7 +130,7 @@ module _ (mem now : List ℕ) where
   live_same i None same = refl
   live_same i (Some h) same = ap (λ m. record { id = i; space = record { maps = h.maps; brk = h.brk; brk_low = h.brk_low; brk_high = h.brk_high; bytes = m } } ∷ []) (sym (same h refl))
 
-  others_same : (ss : List (Option Held)) (i : ℕ) → ((j : ℕ) (o : Held) → slice_get ss j ≡ Some (Some o) → private_bytes now o ≡ private_bytes mem o) → live_from mem i ss ≡ live_from now i ss
+  pub others_same : (ss : List (Option Held)) (i : ℕ) → ((j : ℕ) (o : Held) → slice_get ss j ≡ Some (Some o) → private_bytes now o ≡ private_bytes mem o) → live_from mem i ss ≡ live_from now i ss
   others_same [] i same = refl
   others_same (s ∷ ss) i same =
       ap (λ zs. zs ++ live_at mem i s) (others_same ss (i + 1) (λ j. same (suc j)))

@@ -1,12 +1,13 @@
--- Kept     what is kept of all programs
--- Regular  what holds of it at every moment: the parts of 'stands' that speak of regions, use counts, own bytes and runners
--- Stands   the world that it stands for: the parts 'same state' and 'same bytes'
--- Serves   what a system call, a signal and a stray access leave
--- Starts   what the start of a program leaves
--- Inside   the fields of `Parts` as what is kept
--- Reading  what the reading of a call's bytes answers
--- Gone     the parts without a process and its space
--- Calls    a system call by its parts, and what is kept after it
+-- Kept      what is kept of all programs
+-- Regular   what holds of it at every moment: the parts of 'stands' that speak of regions, use counts, own bytes and runners
+-- Stands    the world that it stands for: the parts 'same state' and 'same bytes'
+-- Serves    what a system call, a signal and a stray access leave
+-- Starts    what the start of a program leaves
+-- Inside    the fields of `Parts` as what is kept
+-- Reading   what the reading of a call's bytes answers
+-- Gone      the parts without a process and its space
+-- Refusals  why a program doesn't start, by the loader's reason
+-- Calls     a system call by its parts, and what is kept after it
 pub mod Kept
 pub mod Regular
 pub mod Stands
@@ -15,4 +16,5 @@ pub mod Starts
 pub mod Inside
 pub mod Reading
 pub mod Gone
+pub mod Refusals
 pub mod Calls

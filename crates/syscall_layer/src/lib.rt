@@ -21,3 +21,6 @@ pub use answer::{Served, serve};
 pub use parts::Parts;
 pub use start::StartRefusal;
 pub use task::Task;
+
+#[cfg(test)]
+mod tests;
