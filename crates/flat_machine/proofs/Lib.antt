@@ -4,9 +4,11 @@
 -- Turned    a turn, by its events
 -- Picks     the process of a turn
 -- Rounds    runs by quanta
+-- Readers: what the fields of a machine say of its world.
 pub mod Advanced
 pub mod Windows
 pub mod Events
 pub mod Turned
 pub mod Picks
 pub mod Rounds
+pub mod Readers

@@ -4,9 +4,11 @@
 -- RunLaws   runs, quantum by quantum
 -- Steps     instructions of one process, one after the other
 -- Signals   the signals of instructions
+-- Loads     the programs that load notes name
 mod Samples
 pub mod States
 pub mod TurnLaws
 pub mod RunLaws
 pub mod Steps
 pub mod Signals
+pub mod Loads

@@ -1,3 +1,5 @@
 pub mod Cutting
 pub mod Spelling
 pub mod Drafts
+pub mod SaidBounds
+pub mod Bounds

@@ -5,6 +5,7 @@
 -- Lines     what a line says by itself, or its first fault
 -- Manifest  what a text says as a manifest, or its first fault
 -- Reading   what the code's reading says in these words
+-- Laws      what holds of every manifest that is read
 pub mod Pieces
 pub mod Numbers
 pub mod Paths
@@ -12,3 +13,4 @@ pub mod Values
 pub mod Lines
 pub mod Manifest
 pub mod Reading
+pub mod Laws

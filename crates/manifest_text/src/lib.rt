@@ -5,6 +5,7 @@
 mod draft;
 mod fault;
 mod keyword;
+mod laws;
 mod line;
 mod manifest;
 mod numbers;
@@ -13,6 +14,7 @@ mod pieces;
 mod reading;
 
 pub use fault::{ManifestFault, ManifestRefusal};
+pub use laws::reasonable_law;
 pub use manifest::{Dump, Item, ItemKind, Manifest, Start};
 pub use reading::read;
 

@@ -1,4 +1,30 @@
--- Worlds  the world of the parts, where one space or one process is found, changed or taken out
 -- Begins  the parts before the first program
-pub mod Worlds
+-- Worlds  the world of the parts, where one space or one process is found, changed or taken out
+-- ReadRanges  what a call reads in one memory, range by range
+-- CallRows  the row of each call, and the effect that the code gives it
+-- Runs      a process that runs in its space, and the call at which it stands
+-- Stays     what holds of the parts stays so where one process and its space change
+-- Settled   small facts of a call's reply
+-- Moves     the world after one process went on, and after one is gone
+-- Outcomes  what comes of a call and of an end, in the world and in the parts
+-- Counts     places of lists, and how many mappings name a region
+-- Apart      what one space may write no other one has
+-- Gone       the parts without a process and its space
+-- FreePages  the free pages of the world are those of the regions
+-- Started    the parts after the start of a program are regular
+-- Boots      they stand for the world that starts it
 mod Begins
+pub mod Worlds
+pub mod Counts
+pub mod Apart
+pub mod Gone
+pub mod FreePages
+pub mod CallRows
+pub mod Runs
+pub mod Stays
+pub mod Settled
+pub mod Moves
+pub mod Outcomes
+pub mod ReadRanges
+mod Started
+mod Boots

@@ -1,5 +1,5 @@
 -- The world of the parts, where one space or one process is found, changed or taken out.
-use Rattle.std.proofs.Common.{◌≡◌, ◌≢◌, ℕ, zero, suc, ◌+◌, ◌<◌, ◌≤◌, Bool, true, false, not, cond, ◌⊎◌, inl, inr, List, [], ◌∷◌, ◌++◌, map, Option, Some, None, refl, sym, ap, ◌∙◌, arith}
+use Rattle.std.proofs.Common.{◌≡◌, ◌≢◌, ℕ, zero, suc, ◌+◌, ◌<◌, Bool, true, false, not, cond, ◌⊎◌, inl, inr, List, [], ◌∷◌, ◌++◌, map, Option, Some, None, refl, sym, ap, ◌∙◌, arith}
 use Rattle.std.specs.Prelude.{◌==◌, filter, slice_get, slice_set, option_map}
 use Rattle.mmap_rules.specs.Held.{Held}
 use Rattle.vfork_exec.specs.declared.entry.Entry.{Entry}
@@ -130,7 +130,7 @@ module _ (mem now : List ℕ) where
   live_same i None same = refl
   live_same i (Some h) same = ap (λ m. record { id = i; space = record { maps = h.maps; brk = h.brk; brk_low = h.brk_low; brk_high = h.brk_high; bytes = m } } ∷ []) (sym (same h refl))
 
-  others_same : (ss : List (Option Held)) (i : ℕ) → ((j : ℕ) (o : Held) → slice_get ss j ≡ Some (Some o) → private_bytes now o ≡ private_bytes mem o) → live_from mem i ss ≡ live_from now i ss
+  pub others_same : (ss : List (Option Held)) (i : ℕ) → ((j : ℕ) (o : Held) → slice_get ss j ≡ Some (Some o) → private_bytes now o ≡ private_bytes mem o) → live_from mem i ss ≡ live_from now i ss
   others_same [] i same = refl
   others_same (s ∷ ss) i same =
       ap (λ zs. zs ++ live_at mem i s) (others_same ss (i + 1) (λ j. same (suc j)))

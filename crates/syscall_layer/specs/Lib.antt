@@ -4,9 +4,17 @@
 -- Serves   what a system call, a signal and a stray access leave
 -- Starts   what the start of a program leaves
 -- Inside   the fields of `Parts` as what is kept
+-- Reading  what the reading of a call's bytes answers
+-- Gone     the parts without a process and its space
+-- Calls    a system call by its parts, and what is kept after it
+-- Refusals  why a program doesn't start, by the loader's reason
 pub mod Kept
 pub mod Regular
 pub mod Stands
 pub mod Serves
 pub mod Starts
 pub mod Inside
+pub mod Reading
+pub mod Gone
+pub mod Calls
+pub mod Refusals

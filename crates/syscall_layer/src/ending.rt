@@ -1,19 +1,91 @@
 //! The end of a process.
 
+ghost use Rattle.std.specs.Prelude.{◌≡◌, true, length, None, Some, slice_get, slice_set};
+ghost use Rattle.call_log.specs.Notes.{has_room};
+ghost use Rattle.mmap_rules.specs.Held.{Held};
+ghost use Rattle.vfork_exec.specs.declared.entry.Entry.{Entry as Listed};
 ghost use Rattle.vfork_exec.specs.Procs.{Lives};
 ghost use Rattle.machine_world.specs.Event.{died};
+ghost use Rattle.syscall_layer.specs.declared.task.Task.{Task};
+ghost use Rattle.syscall_layer.specs.Regular.{HasSpace};
 ghost use Rattle.syscall_layer.specs.Stands.{About, world_of};
 ghost use Rattle.syscall_layer.specs.Serves.{Dies};
+ghost use Rattle.syscall_layer.specs.Gone.{gone};
+ghost use Rattle.syscall_layer.specs.Calls.{RunsIn, Exits};
 
+use crate::call::Call;
+use crate::keep::keep;
 use crate::parts::Parts;
+use call_log::{Entry, How, Note};
+use mmap_rules::Space;
 use std::alloc::AllocError;
 
+/// Takes a space that lives from its place.
+fn take_space(spaces: &mut [Option<Space>], number: u32) -> Space
+    requires { HasSpace spaces.old number }
+    ensures space { slice_get spaces.old number ≡ Some (Some result) }
+    ensures gone { spaces.new ≡ slice_set spaces.old number None }
+{
+    match spaces[number as usize].take() {
+        Some(space) => space,
+        None => unreachable!(),
+    }
+}
+
 impl Parts {
+    /// A process goes, and its space with all its mappings.
+    fn depart(&mut self, pid: u32)
+        requires { Lives self.old.procs pid }
+        ensures { (e : Listed Task) → (h : Held) → RunsIn self.old pid e h → self.new ≡ gone self.old pid e.value.space h }
+    {
+        let number = self.procs.get(pid).space;
+        let space = take_space(&mut self.spaces, number);
+        space.release(&mut self.regions);
+        self.procs.end(pid);
+    }
+
+    /// Ends the process that makes this call, exit or exit_group, by the lowest eight bits of its code. The call is noted
+    /// and then the end; there is room for the call's note.
+    pub fn exit(&mut self, call: Call) -> Result<(), AllocError>
+        requires lives { Lives self.old.procs call.pid }
+        requires room { has_room self.old.notes (length call.sent.items) ≡ true }
+        ensures { (e : Listed Task) → (h : Held) → RunsIn self.old call.pid e h → Exits self.old e h call self.new result }
+    {
+        self.log.reserve(2)?;
+        let got = Vec::new(*self.console.allocator());
+        let Call {
+            pid,
+            number,
+            args,
+            sent,
+            ..
+        } = call;
+        let how = How::Exit((args[0] % 256) as u8);
+        keep(
+            &mut self.log,
+            Note::Call(Entry {
+                pid,
+                call: number,
+                args,
+                sent,
+                reply: 0,
+                got,
+            }),
+        );
+        keep(&mut self.log, Note::End { pid, how });
+        self.depart(pid);
+        Ok(())
+    }
+
     /// Ends a process by a signal: its space goes, and a note is kept.
     pub fn end_by_signal(&mut self, pid: u32, signal: u8) -> Result<(), AllocError>
         requires { Lives self.old.procs pid }
         ensures { (a : About) → Dies a (died (world_of a self.old) pid signal) self.old self.new pid result }
     {
-        Err(AllocError)
+        self.log.reserve(1)?;
+        let how = How::Signal(signal);
+        keep(&mut self.log, Note::End { pid, how });
+        self.depart(pid);
+        Ok(())
     }
 }

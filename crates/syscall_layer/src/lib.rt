@@ -6,8 +6,13 @@
 #![tactic(auto)]
 
 mod answer;
+mod call;
+mod effect;
 mod ending;
+mod keep;
 mod parts;
+mod reading;
+mod reply;
 mod start;
 mod stray;
 mod task;

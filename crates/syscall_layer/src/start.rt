@@ -5,10 +5,14 @@ ghost use Rattle.page_runs.specs.Choosers.{IsChooser, kind_of};
 ghost use Rattle.flat_loader.specs.Frame.{texts};
 ghost use Rattle.flat_loader.specs.Original.{flat_original};
 ghost use Rattle.vfork_exec.specs.Procs.{most_entries};
+ghost use Rattle.syscall_layer.specs.Refusals.{refusal_of};
 ghost use Rattle.syscall_layer.specs.Starts.{Starts};
 
 use crate::parts::Parts;
+use crate::task::Task;
 use bflt_format::Flat;
+use call_log::Note;
+use flat_loader::{LoadRefusal, Loaded, load};
 use page_runs::{Chooser, Run};
 
 /// Why a program doesn't start.
@@ -20,6 +24,18 @@ pub enum StartRefusal {
     NoRun,
     /// Out of host memory.
     Memory,
+}
+
+impl From<LoadRefusal> for StartRefusal {
+    ghost from_gives = { λ refusal e. e ≡ refusal_of refusal };
+
+    fn from(refusal: LoadRefusal) -> StartRefusal {
+        match refusal {
+            LoadRefusal::E2big => StartRefusal::E2big,
+            LoadRefusal::NoRun => StartRefusal::NoRun,
+            LoadRefusal::Memory => StartRefusal::Memory,
+        }
+    }
 }
 
 impl Parts {
@@ -37,6 +53,38 @@ impl Parts {
         requires spaces { length self.old.spaces < 2 ^ 32 }
         ensures { Starts (kind_of chooser.now) index (flat_original flat.now) (texts args.now) self.old self.new result }
     {
-        Err(StartRefusal::Memory)
+        if self.spaces.reserve(1).is_err() || self.log.reserve(1).is_err() {
+            return Err(StartRefusal::Memory);
+        }
+        let alloc = *self.spaces.allocator();
+        let Loaded {
+            space,
+            regs,
+            base,
+            pages,
+        } = load(
+            alloc,
+            &mut self.regions,
+            &mut self.mem,
+            flat,
+            args,
+            &[],
+            chooser,
+        )?;
+        let number = self.spaces.len() as u32;
+        self.spaces.push_reserved(Some(space));
+        let task = Task {
+            regs,
+            space: number,
+        };
+        let pid = self.procs.start(task).unwrap();
+        let note = Note::Load {
+            pid,
+            program: index,
+            base,
+            pages,
+        };
+        self.log.push(note).unwrap();
+        Ok(())
     }
 }

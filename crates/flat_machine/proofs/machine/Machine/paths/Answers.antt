@@ -1,7 +1,13 @@
--- What the world of the parts says of it.
-use Rattle.syscall_layer.specs.Stands.{world_of}
+-- As many paths as programs are there.
+use Rattle.std.proofs.Common.{sym, ap, ◌∙◌}
+use Rattle.std.proofs.lemmas.List.{length-map}
+use Rattle.call_log.specs.Programs.{paths_of}
+use Rattle.flat_machine.specs.Inside.{state_of}
+use Rattle.flat_machine.proofs.Readers.{paths_of_world}
 use Rattle.flat_machine.proofs.machine.Machine.paths.Goals as goal
 
 pub returns : goal.returns
-unfolding world_of
-returns c = let v = c.self.view_is in let e = c.deref.ensures.value in rw (← v) ?
+returns c =
+    let m = c.self.inside in
+    let v = c.self.view_is in
+    rw (← v) (ap paths_of c.deref.ensures.value ∙ sym (paths_of_world (state_of m) (length-map m.paths.items (λ path. path.items) ∙ c.self.invariant.paths)))

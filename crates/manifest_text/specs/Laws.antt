@@ -1,0 +1,40 @@
+-- What holds of every manifest that is read: its counts and numbers are bounded, and its names are text.
+use Rattle.std.specs.Prelude.{◌≡◌, ℕ, ◌<◌, ◌≤◌, length, Ok}
+use Rattle.std.specs.List.{AllByRecursion}
+use Rattle.std.specs.Str.{IsAscii}
+use Rattle.quantum_sched.specs.declared.Quantum.{Quantum}
+use Rattle.manifest_text.specs.declared.manifest.ItemKind.{ItemKind}
+use Rattle.manifest_text.specs.declared.manifest.ItemKind.TheVariants.{Elf, Flat}
+use Rattle.manifest_text.specs.Values.{Item, Start, Manifest}
+use Rattle.manifest_text.specs.Pieces.{Text}
+use Rattle.manifest_text.specs.Manifest.{manifest_of}
+
+-- the stack of an ELF file's program
+abbrev pub HasStack : ItemKind → ℕ → Type 0
+HasStack Elf stack = (16 ≤ stack) × (stack ≤ 1048576)
+HasStack Flat stack = stack ≡ 0
+
+pub record IsItem (i : Item) : Type 0 where
+  pub name : IsAscii i.name
+  pub stack : HasStack i.kind i.stack
+
+-- the first argument is the program's path
+abbrev pub HasArgument : Start → Type 0
+HasArgument s = 0 < length s.args
+
+abbrev pub IsShort : Quantum → Type 0
+IsShort q = q.count ≤ 1000000
+
+pub record Reasonable (m : Manifest) : Type 0 where
+  pub some_pages : 1 ≤ m.pages
+  pub most_pages : m.pages ≤ 16384
+  pub items : length m.items ≤ 4096
+  pub each_item : AllByRecursion IsItem m.items
+  pub starts : length m.starts ≤ 64
+  pub each_start : AllByRecursion HasArgument m.starts
+  pub quanta : length m.quanta ≤ 65536
+  pub each_quantum : AllByRecursion IsShort m.quanta
+  pub repeat : m.repeat ≤ 1000000
+
+abbrev pub ManifestsAreReasonable : Type 0
+ManifestsAreReasonable = (text : Text) (m : Manifest) → manifest_of text ≡ Ok m → Reasonable m

@@ -1,0 +1,8 @@
+//! Laws over the definitions. No code runs.
+
+ghost use Rattle.manifest_text.specs.Laws.{ManifestsAreReasonable};
+
+/// The numbers of a manifest that is read are bounded, and its names are text.
+pub fn reasonable_law()
+    ensures { ManifestsAreReasonable }
+{}

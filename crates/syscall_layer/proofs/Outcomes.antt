@@ -1,0 +1,276 @@
+-- What comes of a call and of an end, in the world and in the parts.
+use Rattle.std.proofs.Common.{◌≡◌, ℕ, ◌+◌, Bool, true, false, List, [], ◌∷◌, length, Option, Some, refl, sym, ap, subst, ◌∙◌, add-zero}
+use Rattle.std.specs.Prelude.{◌%◌, option_map, Result, Ok, Err, slice_index}
+use Rattle.std.specs.declared.alloc.AllocError.{AllocError}
+use Rattle.byte_words.specs.ByteMap.{Bytes}
+use Rattle.rv32im_step.specs.declared.access.Access.{Access}
+use Rattle.rv32im_step.specs.declared.access.AccessKind.TheVariants.{Call}
+use Rattle.rv32im_step.specs.Registers.{register}
+use Rattle.call_log.specs.declared.how.How.{How}
+use Rattle.call_log.specs.declared.how.How.TheVariants.{Exit, Signal}
+use Rattle.call_log.specs.Notes.{Note, call_note, end_note, weight_of, has_room}
+use Rattle.call_log.specs.Sent.{Span, sent}
+use Rattle.mmap_rules.specs.Held.{Held}
+use Rattle.mmap_rules.specs.Space.{Space}
+use Rattle.vfork_exec.specs.declared.entry.Entry.{Entry}
+use Rattle.vfork_exec.specs.Keyed.{find}
+use Rattle.vfork_exec.specs.Procs.{Lives, value_at}
+use Rattle.machine_world.specs.World.{Process, LiveSpace, World, pid_of, id_of}
+use Rattle.machine_world.specs.Rows.{Ask, Reply, Row, row, replies}
+use Rattle.machine_world.specs.Event.{Trace, Outcome, went, strays, full, with_state, counted, noted, departed, ended, number_of, args_of, entry_of, call_access, replied, served, answered, exit_code, exited, is_exit, classed, answer, asked, trapped, called, died, at_process, by_process, in_space}
+use Rattle.syscall_layer.specs.declared.task.Task.{Task}
+use Rattle.syscall_layer.specs.declared.call.Call.{Call as Made}
+use Rattle.syscall_layer.specs.declared.effect.Effect.{Effect}
+use Rattle.syscall_layer.specs.declared.effect.Effect.TheVariants.{Answer, Yield, Show, Break}
+use Rattle.syscall_layer.specs.declared.answer.Served.{Served}
+use Rattle.syscall_layer.specs.declared.answer.Served.TheVariants.{Ended, LogFull, Stray}
+use Rattle.syscall_layer.specs.Kept.{Kept}
+use Rattle.syscall_layer.specs.Regular.{Regular}
+use Rattle.syscall_layer.specs.Stands.{About, later, private_bytes, private_of, process_of, world_of}
+use Rattle.syscall_layer.specs.Serves.{Went, Answered, Serves, Died}
+use Rattle.syscall_layer.specs.Gone.{gone}
+use Rattle.syscall_layer.specs.Calls.{RunsIn, IsCall, MadeBy, ends_turn, reply_of, ask_in, served_by, call_value, after_call, after_exit}
+use Rattle.syscall_layer.proofs.Worlds.{find_space, find_process}
+use Rattle.syscall_layer.proofs.Runs.{pid_found, value_found, runs_in}
+use Rattle.syscall_layer.proofs.Moves.{moved_world, moved_lives, gone_world, gone_dead}
+
+-- ---- the process and its space in the world
+
+module _ (a : About) (k : Kept) (pid : ℕ) (e : Entry Task) (h : Held) (runs : RunsIn k pid e h) where
+  process_there : find pid_of pid (world_of a k).procs ≡ Some (process_of e)
+  unfolding world_of
+  process_there = find_process pid k.procs.entries ∙ ap (option_map process_of) runs.lives
+
+  space_there : find id_of e.value.space (world_of a k).spaces ≡ Some (record { id = e.value.space; space = private_of k.mem h })
+  unfolding world_of
+  space_there = find_space k.mem k.spaces e.value.space h runs.home
+
+  pub acts_is : (act : Process → Space → Outcome) → at_process (world_of a k) pid act ≡ act (process_of e) (private_of k.mem h)
+  unfolding at_process
+  acts_is act =
+      ap (λ (o : Option Process). by_process (world_of a k).spaces act o) process_there
+      ∙ ap (λ (o : Option LiveSpace). in_space act (process_of e) o) space_there
+
+  pub called_is : called (world_of a k) pid ≡ answer (world_of a k) (process_of e) (private_of k.mem h)
+  unfolding called
+  called_is = acts_is (answer (world_of a k))
+
+  pub died_is : (signal : ℕ) → died (world_of a k) pid signal ≡ trapped (world_of a k) (process_of e) signal
+  unfolding died
+  died_is signal = acts_is (λ p s. trapped (world_of a k) p signal)
+
+-- the bytes that are read
+answer_is : (w : World) (p : Process) (s : Space) (found : Result (List ℕ) Span) → sent (number_of p.regs) (args_of p.regs) s.bytes ≡ found → answer w p s ≡ asked w p s found
+unfolding answer
+answer_is w p s found is = ap (asked w p s) is
+
+-- the call strays
+stray_serves : (a : About) (k : Kept) (pid : ℕ) (e : Entry Task) (h : Held) → RunsIn k pid e h → (span : Span) →
+    sent (number_of e.value.regs) (args_of e.value.regs) (private_bytes k.mem h) ≡ Err span → called (world_of a k) pid ≡ strays (call_access (process_of e) span)
+stray_serves a k pid e h runs span is = called_is a k pid e h runs ∙ answer_is (world_of a k) (process_of e) (private_of k.mem h) (Err span) is
+
+-- ---- classes
+
+class_exit : (w : World) (a : Ask) → is_exit a.number ≡ true → classed w a ≡ exited w a
+class_exit w a exits = rw exits refl
+
+class_row : (w : World) (a : Ask) (r : Row) → is_exit a.number ≡ false → row a ≡ r → classed w a ≡ answered w a r
+class_row w a r goes is = rw goes (ap (answered w a) is)
+
+-- ---- room in the log
+
+served_when : (w : World) (a : Ask) (r : Reply) (bytes : Bytes) → has_room w.notes (weight_of a.sent r.got) ≡ true →
+    served w a r bytes
+    ≡ went (noted (call_note (entry_of a r.value r.got)) (counted (with_state (record w { rest = r.rest }) a.process (replied a.process.regs r.value) bytes r.brk)))
+    (record { space = a.process.space; events = 1; entries = entry_of a r.value r.got ∷ []; over = r.over })
+unfolding served
+served_when w a r bytes room = rw room refl
+
+served_full : (w : World) (a : Ask) (r : Reply) (bytes : Bytes) → has_room w.notes (weight_of a.sent r.got) ≡ false → served w a r bytes ≡ full
+unfolding served
+served_full w a r bytes room = rw room refl
+
+exited_when : (w : World) (a : Ask) → has_room w.notes (weight_of a.sent []) ≡ true →
+    exited w a
+    ≡ went (ended (noted (call_note (entry_of a 0 [])) (counted w)) a.process (Exit (exit_code a)))
+    (record { space = a.process.space; events = 1; entries = entry_of a 0 [] ∷ []; over = true })
+unfolding exited
+exited_when w a room = rw room refl
+
+exited_full : (w : World) (a : Ask) → has_room w.notes (weight_of a.sent []) ≡ false → exited w a ≡ full
+unfolding exited
+exited_full w a room = rw room refl
+
+room_in : (a : About) (k : Kept) (bytes : List ℕ) (b : Bool) → has_room k.notes (length bytes) ≡ b → has_room (world_of a k).notes (weight_of bytes []) ≡ b
+unfolding world_of
+room_in a k bytes b room = ap (has_room k.notes) (add-zero (length bytes)) ∙ room
+
+-- ---- what the parts are after it
+
+-- it went, and the parts stand for the world that it gives
+it_went : (a : About) (o : Outcome) (w : World) (t : Trace) (old new : Kept) (pid : ℕ) (s : Served) → o ≡ went w t → world_of (later 1 a) new ≡ w → Went t new pid s → Answered a o old new pid s
+it_went a o w t old new pid s is now done = subst (λ (x : Outcome). Answered a x old new pid s) (sym is) (sym now, done)
+
+went_by : (f : Effect) (t : Trace) (new : Kept) (pid : ℕ) → t.over ≡ ends_turn f → Lives new.procs pid → Went t new pid (served_by f)
+went_by (Answer value) t new pid over lives = (over, lives)
+went_by Yield t new pid over lives = (over, lives)
+went_by (Show from) t new pid over lives = (over, lives)
+went_by (Break to) t new pid over lives = (over, lives)
+
+same_entry : (p q n m : ℕ) (xs ys : List ℕ) (bytes : List ℕ) (value : ℕ) → p ≡ q → n ≡ m → xs ≡ ys →
+    call_note (record { pid = p; call = n; args = xs; sent = bytes; reply = value; got = [] }) ≡ call_note (record { pid = q; call = m; args = ys; sent = bytes; reply = value; got = [] })
+same_entry p q n m xs ys bytes value e f g = cc
+
+module _ (a : About) (k : Kept) (e : Entry Task) (h : Held) (call : Made) (runs : RunsIn k call.pid e h) (is : IsCall k.mem e h call) where
+  note_is : (value : ℕ) →
+      call_note (record { pid = call.pid; call = call.number; args = call.args; sent = call.sent.items; reply = value; got = [] })
+      ≡ call_note (entry_of (ask_in a k e h call) value [])
+  note_is value = same_entry call.pid e.pid call.number (number_of e.value.regs) call.args (args_of e.value.regs) call.sent.items value is.pid is.number is.args
+
+  pub call_answer : called (world_of a k) call.pid ≡ classed (world_of a k) (ask_in a k e h call)
+  call_answer = called_is a k call.pid e h runs ∙ answer_is (world_of a k) (process_of e) (private_of k.mem h) (Ok call.sent.items) is.sent
+
+  -- ---- a reply
+
+  module _ (f : Effect) where
+    abbrev ask : Ask
+    ask = ask_in a k e h call
+
+    abbrev reply : Reply
+    reply = reply_of ask f
+
+    abbrev value : ℕ
+    value = call_value h call f
+
+    abbrev then_state : World
+    then_state = with_state (record (world_of a k) { rest = reply.rest }) (process_of e) (replied e.value.regs value) (private_bytes k.mem h) reply.brk
+
+    after_call_world : world_of (later 1 a) (after_call k e h call f) ≡ noted (call_note (entry_of ask value [])) (counted then_state)
+    unfolding world_of
+    after_call_world =
+        moved_world k call.pid e h runs (replied e.value.regs value) reply.brk k.mem (λ j o other there. refl) a 1
+        (call_note (record { pid = call.pid; call = call.number; args = call.args; sent = call.sent.items; reply = value; got = [] }) ∷ k.notes) reply.rest.console
+        ∙ ap (λ (note : Note). record then_state { notes = note ∷ k.notes; events = a.events + 1 }) (note_is value)
+
+    pub reply_serves : has_room k.notes (length call.sent.items) ≡ true →
+        Answered a (answered (world_of a k) ask (replies reply)) k (after_call k e h call f) call.pid (served_by f)
+    reply_serves room =
+        let t : Trace = record { space = e.value.space; events = 1; entries = entry_of ask value [] ∷ []; over = ends_turn f } in
+        it_went a (answered (world_of a k) ask (replies reply)) (noted (call_note (entry_of ask value [])) (counted then_state)) t k (after_call k e h call f) call.pid (served_by f)
+        (served_when (world_of a k) ask reply (private_bytes k.mem h) (room_in a k call.sent.items true room))
+        after_call_world
+        (went_by f t (after_call k e h call f) call.pid refl (moved_lives k call.pid e h runs (replied e.value.regs value) 0 k.mem))
+
+    pub reply_full : has_room k.notes (length call.sent.items) ≡ false → Answered a (answered (world_of a k) ask (replies reply)) k k call.pid LogFull
+    reply_full room = subst (λ (o : Outcome). Answered a o k k call.pid LogFull)
+        (sym (served_full (world_of a k) ask reply (private_bytes k.mem h) (room_in a k call.sent.items false room))) refl
+
+  -- ---- an exit
+
+  abbrev exit_how : How
+  exit_how = Exit (slice_index call.args 0 % 256)
+
+  exit_how_is : exit_how ≡ Exit (exit_code (ask_in a k e h call))
+  unfolding register
+  exit_how_is = ap (λ (xs : List ℕ). Exit (slice_index xs 0 % 256)) is.args
+
+  after_exit_world : world_of (later 1 a) (after_exit k e h call)
+      ≡ ended (noted (call_note (entry_of (ask_in a k e h call) 0 [])) (counted (world_of a k))) (process_of e) (Exit (exit_code (ask_in a k e h call)))
+  unfolding world_of ended
+  after_exit_world =
+      gone_world k call.pid e h runs a 1 (end_note call.pid exit_how ∷ call_note (record { pid = call.pid; call = call.number; args = call.args; sent = call.sent.items; reply = 0; got = [] }) ∷ k.notes)
+      ∙ ap (λ (note : Note). record (departed (world_of a k) (process_of e)) { notes = end_note call.pid exit_how ∷ note ∷ k.notes; events = a.events + 1 }) (note_is 0)
+      ∙ ap (λ (pid : ℕ). record (departed (world_of a k) (process_of e)) { notes = end_note pid exit_how ∷ call_note (entry_of (ask_in a k e h call) 0 []) ∷ k.notes; events = a.events + 1 }) is.pid
+      ∙ ap (λ (how : How). record (departed (world_of a k) (process_of e)) { notes = end_note e.pid how ∷ call_note (entry_of (ask_in a k e h call) 0 []) ∷ k.notes; events = a.events + 1 }) exit_how_is
+
+  pub exit_serves : has_room k.notes (length call.sent.items) ≡ true → Answered a (exited (world_of a k) (ask_in a k e h call)) k (after_exit k e h call) call.pid Ended
+  exit_serves room =
+      it_went a (exited (world_of a k) (ask_in a k e h call)) _
+      (record { space = e.value.space; events = 1; entries = entry_of (ask_in a k e h call) 0 [] ∷ []; over = true })
+      k (after_exit k e h call) call.pid Ended
+      (exited_when (world_of a k) (ask_in a k e h call) (room_in a k call.sent.items true room))
+      after_exit_world
+      (refl, gone_dead k call.pid e h runs)
+
+  pub exit_full : has_room k.notes (length call.sent.items) ≡ false → Answered a (exited (world_of a k) (ask_in a k e h call)) k k call.pid LogFull
+  exit_full room = subst (λ (o : Outcome). Answered a o k k call.pid LogFull) (sym (exited_full (world_of a k) (ask_in a k e h call) (room_in a k call.sent.items false room))) refl
+
+  -- ---- either
+
+  made_by : MadeBy call (ask_in a k e h call)
+  made_by = record { pid = sym is.pid; parent = sym is.parent; number = sym is.number; args = sym is.args; sent = refl }
+
+  module _ (new : Kept) (result : Result Served AllocError) where
+    by_outcome : (o : Outcome) → classed (world_of a k) (ask_in a k e h call) ≡ o → Serves a o k new call.pid result → Serves a (classed (world_of a k) (ask_in a k e h call)) k new call.pid result
+    by_outcome o same serves = subst (λ (x : Outcome). Serves a x k new call.pid result) (sym same) serves
+
+    pub exit_classed : is_exit call.number ≡ true → Serves a (exited (world_of a k) (ask_in a k e h call)) k new call.pid result → Serves a (classed (world_of a k) (ask_in a k e h call)) k new call.pid result
+    exit_classed exits = by_outcome (exited (world_of a k) (ask_in a k e h call)) (class_exit (world_of a k) (ask_in a k e h call) (ap is_exit (sym is.number) ∙ exits))
+
+    pub effect_classed : (f : Effect) → is_exit call.number ≡ false → ((b : Ask) → MadeBy call b → row b ≡ replies (reply_of b f)) →
+        Serves a (answered (world_of a k) (ask_in a k e h call) (replies (reply_of (ask_in a k e h call) f))) k new call.pid result → Serves a (classed (world_of a k) (ask_in a k e h call)) k new call.pid result
+    effect_classed f goes rows = by_outcome (answered (world_of a k) (ask_in a k e h call) (replies (reply_of (ask_in a k e h call) f)))
+        (class_row (world_of a k) (ask_in a k e h call) (replies (reply_of (ask_in a k e h call) f)) (ap is_exit (sym is.number) ∙ goes) (rows (ask_in a k e h call) made_by))
+
+-- ---- the whole call
+
+module _ (a : About) (k : Kept) (pid : ℕ) (regular : Regular k) (lives : Lives k.procs pid) where
+  pub serve_call : (call : Made) → call.pid ≡ pid → ((e : Entry Task) → (h : Held) → RunsIn k pid e h → IsCall k.mem e h call) → (new : Kept) (result : Result Served AllocError) →
+      ((b : About) → (e : Entry Task) → (h : Held) → RunsIn k call.pid e h → IsCall k.mem e h call → Serves b (classed (world_of b k) (ask_in b k e h call)) k new call.pid result) →
+      Serves a (called (world_of a k) pid) k new pid result
+  serve_call call same made new result serves =
+      let r = runs_in k pid regular lives in
+      let e : Entry Task = r.0 in
+      let h : Held = r.1.0 in
+      let is : IsCall k.mem e h call = made e h r.1.1 in
+      let runs : RunsIn k call.pid e h = subst (λ (p : ℕ). RunsIn k p e h) (sym same) r.1.1 in
+      let done = subst (λ (o : Outcome). Serves a o k new call.pid result) (sym (call_answer a k e h call runs is)) (serves a e h runs is) in
+      subst (λ (p : ℕ). Serves a (called (world_of a k) p) k new p result) same done
+
+  pub serve_stray : (t : Task) → value_at k.procs pid ≡ Some t → (span : Span) →
+      ((e : Entry Task) → (h : Held) → RunsIn k pid e h → sent (number_of e.value.regs) (args_of e.value.regs) (private_bytes k.mem h) ≡ Err span) →
+      Answered a (called (world_of a k) pid) k k pid (Stray (record { pc = t.regs.pc; addr = span.addr; len = span.len; kind = Call }))
+  serve_stray t kept span unread =
+      let r = runs_in k pid regular lives in
+      let e : Entry Task = r.0 in
+      let h : Held = r.1.0 in
+      let seen : Access = record { pc = t.regs.pc; addr = span.addr; len = span.len; kind = Call } in
+      let at : seen ≡ call_access (process_of e) span =
+      ap (λ (x : Task). record { pc = x.regs.pc; addr = span.addr; len = span.len; kind = Call }) (value_found k.procs pid e r.1.1.lives t kept) in
+      subst (λ (o : Outcome). Answered a o k k pid (Stray seen)) (sym (stray_serves a k pid e h r.1.1 span (unread e h r.1.1))) (at, refl)
+
+-- ---- an end by a signal
+
+module _ (a : About) (k : Kept) (pid : ℕ) (e : Entry Task) (h : Held) (runs : RunsIn k pid e h) (signal : ℕ) where
+  abbrev after_end : Kept
+  after_end = record (gone k pid e.value.space h) { notes = end_note pid (Signal signal) ∷ k.notes }
+
+  after_end_world : world_of (later 1 a) after_end ≡ counted (ended (world_of a k) (process_of e) (Signal signal))
+  unfolding world_of ended
+  after_end_world =
+      gone_world k pid e h runs a 1 (end_note pid (Signal signal) ∷ k.notes)
+      ∙ ap (λ (n : ℕ). record (departed (world_of a k) (process_of e)) { notes = end_note n (Signal signal) ∷ k.notes; events = a.events + 1 }) (pid_found k.procs pid e runs.lives)
+
+  trapped_is : trapped (world_of a k) (process_of e) signal ≡ went (counted (ended (world_of a k) (process_of e) (Signal signal))) (record { space = e.value.space; events = 1; entries = []; over = true })
+  unfolding trapped
+  trapped_is = refl
+
+  pub end_serves : Died a (died (world_of a k) pid signal) after_end pid
+  end_serves = subst (λ (o : Outcome). Died a o after_end pid) (sym (died_is a k pid e h runs signal ∙ trapped_is)) (sym after_end_world, refl, gone_dead k pid e h runs)
+
+-- the same of the parts that are left, where the end was noted before the process went
+pub end_done : (a : About) (k : Kept) (pid signal : ℕ) → Regular k → Lives k.procs pid → (new : Kept) (notes : List Note) → notes ≡ end_note pid (Signal signal) ∷ k.notes →
+    ((e : Entry Task) → (h : Held) → RunsIn (record k { notes = notes }) pid e h → new ≡ gone (record k { notes = notes }) pid e.value.space h) → Died a (died (world_of a k) pid signal) new pid
+end_done a k pid signal regular lives new notes is_noted departs =
+    let r = runs_in k pid regular lives in
+    let e : Entry Task = r.0 in
+    let h : Held = r.1.0 in
+    let runs : RunsIn k pid e h = r.1.1 in
+    let is = departs e h (record { lives = runs.lives; home = runs.home }) ∙ ap (λ (ns : List Note). record (gone k pid e.value.space h) { notes = ns }) is_noted in
+    subst (λ (now : Kept). Died a (died (world_of a k) pid signal) now pid) (sym is) (end_serves a k pid e h runs signal)
+
+-- ---- a note alone
+
+pub noted_world : (a : About) (k : Kept) (note : Note) (notes : List Note) → notes ≡ note ∷ k.notes → world_of a (record k { notes = notes }) ≡ noted note (world_of a k)
+unfolding world_of
+noted_world a k note notes is = ap (λ (ns : List Note). record (world_of a k) { notes = ns }) is

@@ -1,0 +1,98 @@
+-- A process that runs in its space, and the call at which it stands.
+use Rattle.std.proofs.Common.{◌≡◌, ℕ, List, [], ◌∷◌, true, false, inl, inr, Some, Global, sym, ap, ◌∙◌}
+use Rattle.std.specs.Prelude.{◌==◌, ◌*◌, length, Vec, Ok, Err, option_map, slice_get, slice_index}
+use Rattle.std.proofs.lemmas.Option.{same_Some}
+use Rattle.byte_words.specs.ByteMap.{Bytes}
+use Rattle.call_log.specs.Sent.{sent}
+use Rattle.mmap_rules.specs.Held.{Held}
+use Rattle.rv32im_step.specs.Registers.{register}
+use Rattle.vfork_exec.specs.declared.entry.Entry.{Entry}
+use Rattle.vfork_exec.specs.Keyed.{find}
+use Rattle.vfork_exec.specs.Procs.{Listed, process, value_at, parent_at, pid_of, Lives}
+use Rattle.vfork_exec.proofs.Keyed.{find_head}
+use Rattle.vfork_exec.proofs.Places.{found}
+use Rattle.machine_world.specs.Event.{number_of, args_of}
+use Rattle.syscall_layer.specs.declared.task.Task.{Task}
+use Rattle.syscall_layer.specs.Kept.{Kept}
+use Rattle.syscall_layer.specs.Regular.{Regular, HasSpace}
+use Rattle.syscall_layer.specs.Stands.{private_bytes}
+use Rattle.syscall_layer.specs.Calls.{RunsIn, IsCall, Made}
+use Rattle.syscall_layer.specs.Reading.{Reads}
+use Rattle.syscall_layer.specs.declared.reading.Unread.{Unread}
+use Rattle.syscall_layer.specs.declared.reading.Unread.TheVariants.{Stray, Memory}
+use Rattle.syscall_layer.proofs.Counts.{decide, eqb_is}
+
+-- what is found has the number
+pub found_key : {A : Type 0} (key : A → ℕ) (k : ℕ) (xs : List A) (x : A) → find key k xs ≡ Some x → key x ≡ k
+unfolding find
+found_key key k [] x h = absurd cc
+found_key key k (y ∷ ys) x h = elim (decide (key y == k)) [
+  | inl is ↦ let same : y ≡ x = let e = sym (find_head key k y ys true is) ∙ h in cc in sym (ap key same) ∙ eqb_is (key y) k is
+  | inr is ↦ found_key key k ys x (sym (find_head key k y ys false is) ∙ h)
+]
+
+module _ (s : Listed Task) (pid : ℕ) (e : Entry Task) (lives : process s pid ≡ Some e) where
+  pub value_found : (t : Task) → value_at s pid ≡ Some t → t ≡ e.value
+  value_found t is = same_Some t e.value (sym is ∙ ap (option_map (λ (x : Entry Task). x.value)) lives)
+
+  pub parent_found : (parent : ℕ) → parent_at s pid ≡ Some parent → parent ≡ e.parent
+  parent_found parent is = same_Some parent e.parent (sym is ∙ ap (option_map (λ (x : Entry Task). x.parent)) lives)
+
+  pub pid_found : pid ≡ e.pid
+  pid_found = sym (found_key pid_of pid s.entries e lives)
+
+-- a process that lives has a live space
+pub runs_in : (k : Kept) (pid : ℕ) → Regular k → Lives k.procs pid → (e : Entry Task) × ((h : Held) × RunsIn k pid e h)
+runs_in k pid regular lives =
+    let f = found pid_of pid k.procs.entries lives in
+    let home = regular.runs pid f.0 f.1 in
+    (f.0, (home.held, record { lives = f.1; home = home.there }))
+
+-- the same of what is kept of it
+pub has_space : (k : Kept) (pid : ℕ) (t : Task) → Regular k → Lives k.procs pid → value_at k.procs pid ≡ Some t → HasSpace k.spaces t.space
+has_space k pid t regular lives is =
+    let f = found pid_of pid k.procs.entries lives in
+    let home = regular.runs pid f.0 f.1 in
+    record { held = home.held; there = ap (λ (x : Task). slice_get k.spaces x.space) (value_found k.procs pid f.0 f.1 t is) ∙ home.there }
+
+pub memory_fits : (k : Kept) (i : ℕ) (h : Held) → Regular k → slice_get k.spaces i ≡ Some (Some h) → length k.mem ≡ 4096 * h.pages
+memory_fits k i h regular there = regular.memory ∙ ap (λ n. 4096 * n) (sym (regular.pages i h there))
+
+-- ---- the call
+
+sent_same : (n m : ℕ) (xs ys : List ℕ) (b c : Bytes) → n ≡ m → xs ≡ ys → b ≡ c → sent n xs b ≡ sent m ys c
+sent_same n m xs ys b c p q r = cc
+
+module _ (k : Kept) (pid : ℕ) (e : Entry Task) (h : Held) (runs : RunsIn k pid e h) (t : Task) (kept : value_at k.procs pid ≡ Some t) (g : Held)
+    (home : slice_get k.spaces t.space ≡ Some (Some g)) (args : List ℕ) (made : args ≡ args_of t.regs) where
+  same_task : t ≡ e.value
+  same_task = value_found k.procs pid e runs.lives t kept
+
+  same_space : g ≡ h
+  same_space =
+      let both : Some (Some g) ≡ Some (Some h) = sym home ∙ ap (λ (x : Task). slice_get k.spaces x.space) same_task ∙ runs.home in
+      same_Some g h (same_Some (Some g) (Some h) both)
+
+  same_number : slice_index t.regs.x 17 ≡ number_of e.value.regs
+  unfolding register
+  same_number = ap (λ (x : Task). slice_index x.regs.x 17) same_task
+
+  same_args : args ≡ args_of e.value.regs
+  same_args = made ∙ ap (λ (x : Task). args_of x.regs) same_task
+
+  pub sent_is : sent (number_of e.value.regs) (args_of e.value.regs) (private_bytes k.mem h) ≡ sent (slice_index t.regs.x 17) args (private_bytes k.mem g)
+  sent_is = sent_same _ _ _ _ _ _ (sym same_number) (sym same_args) (ap (private_bytes k.mem) (sym same_space))
+
+  pub call_is : (parent : ℕ) → parent_at k.procs pid ≡ Some parent → (bytes : Vec ℕ _) → sent (slice_index t.regs.x 17) args (private_bytes k.mem g) ≡ Ok bytes.items →
+      IsCall k.mem e h (record { pid = pid; parent = parent; number = slice_index t.regs.x 17; args = args; sent = bytes })
+  call_is parent is bytes reads = record {
+    pid = pid_found k.procs pid e runs.lives;
+    parent = parent_found k.procs pid e runs.lives parent is;
+    number = same_number;
+    args = same_args;
+    sent = sent_is ∙ reads;
+  }
+
+  pub unread_is : (unread : Unread) → Reads {Y = Global} (sent (slice_index t.regs.x 17) args (private_bytes k.mem g)) (Err unread) → Made k.mem e h (Err unread)
+  unread_is (Stray addr len) reads = sent_is ∙ reads
+  unread_is Memory reads = tt

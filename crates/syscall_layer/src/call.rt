@@ -1,0 +1,69 @@
+//! A system call, as a process makes it.
+
+ghost use Rattle.std.specs.Prelude.{◌≡◌, IfOk, slice_get, Some};
+ghost use Rattle.mmap_rules.specs.Held.{Held};
+ghost use Rattle.vfork_exec.specs.declared.entry.Entry.{Entry};
+ghost use Rattle.vfork_exec.specs.Procs.{Lives};
+ghost use Rattle.machine_world.specs.Event.{args_of};
+ghost use Rattle.syscall_layer.specs.declared.task.Task.{Task};
+ghost use Rattle.syscall_layer.specs.Calls.{RunsIn, Made};
+ghost use Rattle.syscall_layer.specs.Regular.{HasSpace};
+
+use crate::parts::Parts;
+use crate::reading::{Unread, read_sent};
+use mmap_rules::Space;
+use rv32im_step::Regs;
+
+/// Who calls, with which number and arguments, and the bytes that the call read.
+#[derive(Drop)]
+pub struct Call {
+    pub pid: u32,
+    /// The pid of its parent, or 0.
+    pub parent: u32,
+    pub number: u32,
+    pub args: [u32; 6],
+    pub sent: Vec<u8>,
+}
+
+/// The arguments of the call at which these registers stand.
+#[tactic(auto, unfolding(rv32im_step::specs::Registers::register))]
+fn args_of(regs: &Regs) -> [u32; 6]
+    ensures { result ≡ args_of regs.now }
+{
+    let x = &regs.x;
+    [x[10], x[11], x[12], x[13], x[14], x[15]]
+}
+
+/// The space of a number, which lives.
+fn home(spaces: &[Option<Space>], number: u32) -> &Space
+    requires { HasSpace spaces.now number }
+    ensures { slice_get spaces.now number ≡ Some (Some result.now) }
+{
+    match &spaces[number as usize] {
+        Some(space) => space,
+        None => unreachable!(),
+    }
+}
+
+/// The call at which a process stands, with the bytes that it reads.
+pub fn call_of(parts: &Parts, pid: u32) -> Result<Call, Unread>
+    requires { Lives parts.now.procs pid }
+    ensures made { (e : Entry Task) → (h : Held) → RunsIn parts.now pid e h → Made parts.now.mem e h result }
+    ensures pid { IfOk result (λ call. call.pid ≡ pid) }
+{
+    let task = parts.procs.get(pid);
+    let number = task.regs.x[17];
+    let args = args_of(&task.regs);
+    let alloc = *parts.console.allocator();
+    let space = home(&parts.spaces, task.space);
+    match read_sent(alloc, &parts.mem, space, number, &args) {
+        Ok(sent) => Ok(Call {
+            pid,
+            parent: parts.procs.parent(pid),
+            number,
+            args,
+            sent,
+        }),
+        Err(unread) => Err(unread),
+    }
+}
