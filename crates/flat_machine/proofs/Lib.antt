@@ -4,7 +4,7 @@
 -- Turned    a turn, by its events
 -- Picks     the process of a turn
 -- Rounds    runs by quanta
--- Readers: what the fields of a machine say of its world.
+-- Readers   what the fields of a machine say of its world
 pub mod Advanced
 pub mod Windows
 pub mod Events

@@ -19,5 +19,6 @@ mod task;
 
 pub use answer::{Served, serve};
 pub use parts::Parts;
+pub use reading::{Unread, read_range};
 pub use start::StartRefusal;
 pub use task::Task;
