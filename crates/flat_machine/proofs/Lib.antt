@@ -5,6 +5,9 @@
 -- Picks     the process of a turn
 -- Rounds    runs by quanta
 -- Readers   what the fields of a machine say of its world
+-- Copies    the own bytes of a process, in the one memory
+-- Found     the program of a path, and the start of a start line
+-- Booted    the start lines one after the other
 pub mod Advanced
 pub mod Windows
 pub mod Events
@@ -12,3 +15,6 @@ pub mod Turned
 pub mod Picks
 pub mod Rounds
 pub mod Readers
+pub mod Copies
+pub mod Found
+pub mod Booted

@@ -1,7 +1,6 @@
 //! The start of a machine.
 
 ghost use Rattle.std.specs.Prelude.{◌≡◌, ◌^◌, ◌<◌, ◌≤◌, ℕ, Some, bytes_eq, position, slice_get, length};
-ghost use Rattle.call_log.specs.Programs.{paths_of};
 ghost use Rattle.vfork_exec.specs.Procs.{most_entries};
 ghost use Rattle.syscall_layer.specs.Stands.{world_of};
 ghost use Rattle.page_runs.specs.Choosers.{IsChooser, kind_of};
@@ -55,7 +54,7 @@ impl From<AllocError> for BootRefusal {
 
 /// The number of the first program of a path.
 fn program_at(paths: &[Vec<u8>], path: &[u8]) -> Option<usize>
-    ensures { result ≡ position (λ p. bytes_eq p path.now) (paths_of paths.now) }
+    ensures { result ≡ position (λ p. bytes_eq p.items path.now) paths.now }
 {
     paths.iter().position(|p| p.as_slice() == path)
 }
