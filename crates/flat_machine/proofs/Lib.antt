@@ -5,6 +5,10 @@
 -- Turned    a turn, by its events
 -- Picks     the process of a turn
 -- Rounds    runs by quanta
+-- Readers   what the fields of a machine say of its world
+-- Copies    the own bytes of a process, in the one memory
+-- Found     the program of a path, and the start of a start line
+-- Booted    the start lines one after the other
 pub mod Readers
 pub mod Advanced
 pub mod Windows
@@ -12,3 +16,6 @@ pub mod Events
 pub mod Turned
 pub mod Picks
 pub mod Rounds
+pub mod Copies
+pub mod Found
+pub mod Booted

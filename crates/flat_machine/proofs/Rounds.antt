@@ -11,6 +11,8 @@ use Rattle.quantum_sched.specs.Picked.{picked}
 use Rattle.machine_world.specs.World.{World, pid_of}
 use Rattle.machine_world.specs.Event.{Trace}
 use Rattle.machine_world.specs.Turns.{End, all_ended, out_of_quanta, stray_at, log_full, Walk, stays_at, turn, turns, walked}
+use Rattle.machine_world.specs.Programs.{AreLoaded}
+use Rattle.machine_world.proofs.Loads.{turn_loads_nothing}
 use Rattle.machine_world.specs.Courses.{Comes}
 use Rattle.machine_world.proofs.RunLaws.{comes_none, comes_on, none_chosen, turn_stops, turn_comes, none_left}
 use Rattle.flat_machine.specs.declared.run.End.{End as Told}
@@ -18,7 +20,7 @@ use Rattle.flat_machine.specs.declared.run.End.TheVariants as told
 use Rattle.flat_machine.specs.Runs.{repeated, Ends, Stops, Runs}
 use Rattle.flat_machine.specs.State.{State, about_of, world}
 use Rattle.syscall_layer.specs.Kept.{Kept}
-use Rattle.syscall_layer.specs.Stands.{later, world_of}
+use Rattle.syscall_layer.specs.Stands.{About, later, world_of}
 use Rattle.flat_machine.specs.Leaves.{TurnStops, TurnLeaves, Leaves}
 
 -- an end that is told is there
@@ -62,6 +64,14 @@ pub machine_leaves : (s : State) (q : Quantum) (pid done events : ℕ) (k : Kept
     → TurnLeaves pid q.count (world s) done (world_of (later done (about_of s)) k) r → events ≡ done → Leaves (q ∷ []) (world s) (world (record s { kept = k; events = s.events + events })) r
 machine_leaves s q pid done events k r chosen leaves all =
     rw all (quantum_leaves q (world s) pid (sym chosen) done (world_of (later done (about_of s)) k) r leaves)
+
+-- no turn loads a program
+pub turn_loads : (a b : About) (n pid count done : ℕ) (old new : Kept) (r : Result (Option Told) AllocError) → TurnLeaves pid count (world_of a old) done (world_of b new) r
+    → AreLoaded n old.notes → AreLoaded n new.notes
+unfolding world_of
+turn_loads a b n pid count done old new (Ok None) x are = subst (λ (w : World). AreLoaded n w.notes) x.0 (turn_loads_nothing n count pid (world_of a old) are)
+turn_loads a b n pid count done old new (Ok (Some end)) x are = subst (λ (w : World). AreLoaded n w.notes) x.0 (turn_loads_nothing n count pid (world_of a old) are)
+turn_loads a b n pid count done old new (Err error) x are = subst (λ (w : World). AreLoaded n w.notes) x.walked (turn_loads_nothing n done pid (world_of a old) are)
 
 -- ---- one after the other
 

@@ -1,9 +1,11 @@
 -- What a boot gives.
-use Rattle.std.specs.Prelude.{◌≡◌, Result, Ok, Err}
+use Rattle.std.specs.Prelude.{◌≡◌, Result, Ok, Err, ⊤}
 use Rattle.machine_world.specs.World.{World}
 use Rattle.machine_world.specs.Boot.{BootFault, bad_start, args_too_big, no_run}
 use Rattle.flat_machine.specs.declared.boot.BootRefusal.{BootRefusal}
 use Rattle.flat_machine.specs.declared.boot.BootRefusal.TheVariants as refusal
+use Rattle.syscall_layer.specs.Kept.{Kept}
+use Rattle.syscall_layer.specs.Stands.{About, world_of}
 use Rattle.flat_machine.specs.State.{State, world}
 
 -- the fault of a start line, or out of memory
@@ -21,3 +23,11 @@ Boots (Ok w) (Err refusal.Memory) = Unit {0}
 Boots (Ok w) (Err other) = ⊥
 Boots (Err fault) (Ok machine) = ⊥
 Boots (Err fault) (Err refusal) = IsFault fault refusal
+
+-- one start line: the parts stand for the world with its process, or its fault is told
+abbrev pub Begins : About → Result World BootFault → Kept → Result ⊤ BootRefusal → Type 0
+Begins a (Ok now) new (Ok done) = now ≡ world_of a new
+Begins a (Ok now) new (Err refusal.Memory) = Unit {0}
+Begins a (Ok now) new (Err other) = ⊥
+Begins a (Err fault) new (Ok done) = ⊥
+Begins a (Err fault) new (Err refusal) = IsFault fault refusal

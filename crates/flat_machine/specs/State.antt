@@ -39,3 +39,7 @@ line_of s = record { line = s.line; args = vec_texts s.args.items }
 
 abbrev pub lines_of : List StartItem → List StartLine
 lines_of starts = map line_of starts
+
+-- what is known of a run that begins
+abbrev pub about_boot : {Y : Type 0} → Kind → List (Vec ℕ Y) → List Values → About
+about_boot kind paths programs = record { kind = kind; programs = programs_of (paths_of paths) programs; events = 0 }

@@ -19,6 +19,7 @@ mod task;
 
 pub use answer::{Served, serve};
 pub use parts::Parts;
+pub use reading::{Unread, read_range};
 pub use start::StartRefusal;
 pub use task::Task;
 

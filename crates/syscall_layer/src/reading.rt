@@ -37,7 +37,7 @@ impl From<AllocError> for Unread {
 }
 
 /// Adds the bytes of a range, with one copy.
-fn read_range(
+pub fn read_range(
     mem: &PhysMem,
     space: &Space,
     addr: u32,

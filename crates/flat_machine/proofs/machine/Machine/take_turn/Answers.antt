@@ -1,9 +1,9 @@
 -- The process of the quantum has its turn.
-use Rattle.std.proofs.Common.{sym, length}
+use Rattle.std.proofs.Common.{length, sym}
+use Rattle.syscall_layer.specs.Stands.{later}
 use Rattle.flat_machine.specs.State.{about_of, world}
 use Rattle.flat_machine.specs.Inside.{state_of}
-use Rattle.flat_machine.proofs.Readers.{turn_keeps_loads}
-use Rattle.flat_machine.proofs.Rounds.{quantum_none, machine_leaves}
+use Rattle.flat_machine.proofs.Rounds.{quantum_none, machine_leaves, turn_loads}
 use Rattle.flat_machine.proofs.machine.Machine.take_turn.Goals as goal
 
 pub returns-in_default-clause-leaves : goal.returns-in_default-clause-leaves
@@ -21,9 +21,9 @@ returns-clause-leaves c =
 
 pub invariant_of-self : goal.invariant_of-self
 invariant_of-self c =
-    let s = state_of c.self.inside in
+    let a = about_of (state_of c.self.inside) in
     record {
       paths = c.self.invariant.paths;
-      loads = turn_keeps_loads (about_of s) (length c.self.inside.programs.items) c.in-Some.pid c.args.quantum.count c.turn-events.result.events c.self.inside.parts c.turn-events.new.parts
-          c.turn-events.result.end (c.turn-events.ensures.leaves (about_of s)) c.self.invariant.loads;
+      loads = turn_loads a (later c.turn-events.result.events a) (length c.self.inside.programs.items) c.in-Some.pid c.args.quantum.count c.turn-events.result.events c.self.inside.parts
+          c.turn-events.new.parts c.turn-events.result.end (c.turn-events.ensures.leaves a) c.self.invariant.loads;
     }

@@ -1,8 +1,0 @@
--- What the world of the parts says of it.
-use Rattle.std.proofs.Common.{refl}
-use Rattle.syscall_layer.specs.Stands.{world_of}
-use Rattle.flat_machine.proofs.machine.Machine.events.Goals as goal
-
-pub returns : goal.returns
-unfolding world_of
-returns c = let v = c.self.view_is in rw (← v) refl
