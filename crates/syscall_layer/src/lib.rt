@@ -24,4 +24,6 @@ pub use start::StartRefusal;
 pub use task::Task;
 
 #[cfg(test)]
+mod call_tests;
+#[cfg(test)]
 mod tests;

@@ -1,0 +1,115 @@
+//! One process makes calls.
+
+ghost use Rattle.vfork_exec.specs.Procs.{Lives};
+
+use super::*;
+use bflt_format::Flat;
+use page_runs::{Chooser, Kind, Run, first_fit};
+use rv32im_step::{Access, AccessKind};
+use std::test::*;
+
+/// A flat file with a text of 32 bytes that begins with `hi`, a stack of 4096 bytes, and no records.
+const HI: [u8; 96] = [
+    0x62, 0x46, 0x4c, 0x54, 0x00, 0x00, 0x00, 0x04, 0x00, 0x00, 0x00, 0x40, 0x00, 0x00, 0x00, 0x60,
+    0x00, 0x00, 0x00, 0x60, 0x00, 0x00, 0x00, 0x60, 0x00, 0x00, 0x10, 0x00, 0x00, 0x00, 0x00, 0x60,
+    0x00, 0x00, 0x00, 0x00, 0x00, 0x00, 0x00, 0x01, 0x00, 0x00, 0x00, 0x00, 0x00, 0x00, 0x00, 0x00,
+    0x00, 0x00, 0x00, 0x00, 0x00, 0x00, 0x00, 0x00, 0x00, 0x00, 0x00, 0x00, 0x00, 0x00, 0x00, 0x00,
+    0x68, 0x69, 0x00, 0x00, 0x00, 0x00, 0x00, 0x00, 0x00, 0x00, 0x00, 0x00, 0x00, 0x00, 0x00, 0x00,
+    0x00, 0x00, 0x00, 0x00, 0x00, 0x00, 0x00, 0x00, 0x00, 0x00, 0x00, 0x00, 0x00, 0x00, 0x00, 0x00,
+];
+
+/// The address of the text.
+const TEXT: u32 = 0x8000_0040;
+
+/// A memory of two pages in which process 1 has started.
+fn begun(rt: HostRuntime) -> Result<Parts, Fail> {
+    let flat = Flat::read(rt.alloc(), &HI)?;
+    let args = vec![in rt.alloc(); Vec::from_slice(rt.alloc(), b"/a")?]?;
+    let chooser = Chooser::new(Kind::First, |runs: &[Run], need: u32| {
+        first_fit(runs, need)
+    });
+    let mut parts = Parts::new(rt.alloc(), 2)?;
+    if parts.start(0, &flat, &args, &chooser).is_err() {
+        return Err(Fail::from("not started"));
+    }
+    Ok(parts)
+}
+
+/// Lets a process stand at a call.
+fn set_call(parts: &mut Parts, pid: u32, number: u32, args: [u32; 3])
+    requires { Lives parts.old.procs pid }
+{
+    let task = parts.procs.get_mut(pid);
+    task.regs.x[17] = number;
+    task.regs.x[10] = args[0];
+    task.regs.x[11] = args[1];
+    task.regs.x[12] = args[2];
+}
+
+/// What comes of a call of process 1, and what a0 is then; None where it doesn't live.
+fn call(
+    parts: &mut Parts,
+    number: u32,
+    args: [u32; 3],
+) -> Result<(Option<Served>, Option<u32>), Fail> {
+    if !parts.procs.lives(1) {
+        return Ok((None, None));
+    }
+    set_call(parts, 1, number, args);
+    if !parts.procs.lives(1) {
+        return Ok((None, None));
+    }
+    let served = serve(parts, 1)?;
+    if !parts.procs.lives(1) {
+        return Ok((Some(served), None));
+    }
+    Ok((Some(served), Some(parts.procs.get(1).regs.x[10])))
+}
+
+#[test]
+fn calls_are_answered(rt: HostRuntime) -> Result<(), Fail> {
+    let mut parts = begun(rt)?;
+    let stray = Access {
+        pc: TEXT,
+        addr: 64,
+        len: 2,
+        kind: AccessKind::Call,
+    };
+    for (number, args, served, value) in [
+        (64, [1, 64, 2], Served::Stray(stray), Some(1)),
+        (64, [1, TEXT, 2], Served::Replied, Some(2)),
+        (64, [3, TEXT, 2], Served::Replied, Some(0xffff_fff7)),
+        (66, [1, TEXT, 1025], Served::Replied, Some(0xffff_ffea)),
+        (124, [0, 0, 0], Served::TurnEnds, Some(0)),
+        (172, [0, 0, 0], Served::Replied, Some(1)),
+        (1000, [0, 0, 0], Served::Replied, Some(0xffff_ffda)),
+        (94, [7, 0, 0], Served::Ended, None),
+    ] {
+        assert_eq!(rt;
+            call(&mut parts, number, args)?,
+            (Some(served), value),
+            "{number}"
+        );
+    }
+    assert_eq!(rt; parts.console.as_slice(), b"hi".as_slice());
+    assert_eq!(rt; parts.log.notes().len(), 9);
+    Ok(())
+}
+
+#[test]
+fn a_signal_ends_a_process(rt: HostRuntime) -> Result<(), Fail> {
+    let mut parts = begun(rt)?;
+    let stray = Access {
+        pc: TEXT,
+        addr: 0,
+        len: 4,
+        kind: AccessKind::Load,
+    };
+    parts.note_stray(1, stray)?;
+    if parts.procs.lives(1) {
+        parts.end_by_signal(1, 4)?;
+    }
+    assert_eq!(rt; parts.procs.live(), 0);
+    assert_eq!(rt; parts.log.notes().len(), 3);
+    Ok(())
+}
