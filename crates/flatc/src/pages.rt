@@ -21,6 +21,9 @@ exit status:
   1   wrong arguments
   2   a file can't be read
   3   a file is refused
+  4   a program used memory that isn't its own
+  5   the quanta of a run are used up
+  6   the log of a run is full
   7   standard output or error can't be written
   8   out of memory
   9   a file can't be written

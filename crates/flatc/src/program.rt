@@ -42,7 +42,7 @@ pub fn run<H: Host, O: Sink, R: Sink>(
         (observed R.told R.faults report.old) (observed R.told R.faults report.new) result }
 {
     match page_of(arguments) {
-        Some(page) => deliver(alloc, Status::Done, page, "", out, report),
+        Some(page) => deliver(alloc, Status::Done, page.as_bytes(), b"", out, report),
         None => suite(alloc, arguments, host, out, report),
     }
 }
@@ -63,7 +63,14 @@ pub fn run_read<H: Host, O: Sink, R: Sink>(
     match arguments {
         Ok(arguments) => run(alloc, &arguments, host, out, report),
         Err(error) if error.kind() == io::ErrorKind::OutOfMemory => {
-            deliver(alloc, Status::Memory, "", MEMORY_LINE, out, report)
+            deliver(
+                alloc,
+                Status::Memory,
+                b"",
+                MEMORY_LINE.as_bytes(),
+                out,
+                report,
+            )
         }
         Err(_) => suite(alloc, &[], host, out, report),
     }

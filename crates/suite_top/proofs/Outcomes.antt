@@ -20,7 +20,7 @@ use Rattle.suite_top.specs.Convert.{judged_outcome, converted_outcome}
 use Rattle.suite_top.specs.Check.{verdict, checked_outcome, check_outcome}
 use Rattle.suite_top.specs.List.{judged_ending, listed_outcome, list_outcome}
 use Rattle.suite_top.specs.Result.{command_outcome, result_of}
-use Rattle.suite_top.specs.StatusLaws.{UsageIsExact}
+use Rattle.suite_top.specs.StatusLaws.{IsOneText, TextsAreApart, UsageIsExact}
 
 -- what holds of a refusal and of `rest` holds of what was found
 pub found_by : (P : Outcome → Type 0) (name : List ℕ) (rest : List ℕ → Outcome) (e : List ℕ) → P (record { requests = []; ending = refused_ending too_long_tail }) → P (rest e) → P (with_found name (Some e) rest)
@@ -60,13 +60,9 @@ pub never : (s : Status) → (HostRead ≡ s → ⊥) → (Refused ≡ s → ⊥
 never s read refused done usage arguments inputs =
     result_by (λ t. t.status ≡ s → ⊥) (λ name. read) (λ tail. refused) (λ text. done) usage (command_of arguments) inputs
 
--- an ending has a text for `out` only with Done, and then none for `report`
-abbrev pub IsEarlyOrDone : Ending → Type 0
-IsEarlyOrDone ending = (ending.out ≡ []) ⊎ ((ending.status ≡ Done) × (ending.report ≡ []))
-
-pub early_or_done : (arguments : List (List ℕ)) (inputs : Inputs) → IsEarlyOrDone (result_of arguments inputs).ending
-early_or_done arguments inputs =
-    result_by IsEarlyOrDone (λ name. inl refl) (λ tail. inl refl) (λ text. inr (refl, refl)) (inl refl) (command_of arguments) inputs
+pub texts_are_apart : TextsAreApart
+texts_are_apart arguments inputs =
+    result_by IsOneText (λ name. inl refl) (λ tail. inl refl) (λ text. inr (refl, refl)) (inl refl) (command_of arguments) inputs
 
 no_command : (o : Option Invocation) (inputs : Inputs) → (command_outcome o inputs).ending.status ≡ Usage → o ≡ None
 no_command None inputs is = refl

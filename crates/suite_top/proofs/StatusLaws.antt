@@ -5,14 +5,14 @@ use Rattle.host_io.specs.Faults.{Rose}
 use Rattle.host_io.specs.Host.{Told}
 use Rattle.host_io.specs.Sink.{TakesPrefix}
 use Rattle.suite_top.specs.declared.status.Status.{Status}
-use Rattle.suite_top.specs.declared.status.Status.TheVariants.{Done, HostRead, SinkWrite, Memory, HostWrite}
+use Rattle.suite_top.specs.declared.status.Status.TheVariants.{HostRead, SinkWrite, Memory, HostWrite}
 use Rattle.suite_top.specs.Ending.{Ending, memory_ending, OrMemory}
 use Rattle.suite_top.specs.Outcome.{Request, load, store, failure_ending}
 use Rattle.suite_top.specs.HostCourse.{HostCourse, complete, failed, out_of_memory, IsCourseOf, after_answers, told_after, FaultsAfter, EndsAfter, Performs}
 use Rattle.suite_top.specs.Delivery.{SinkStop, sink_failed, sink_memory, status_at, TookAll, CutShort, Delivery, whole, stopped_at_out, stopped_at_report, Delivered}
 use Rattle.suite_top.specs.Call.{Call, outcome_of}
 use Rattle.suite_top.specs.StatusLaws.{IsAnswer, IsWhole, AnswersAreWhole, Completes, FailsAt, ReadsFail, WritesFail, CutAtOut, CutAtReport, SinksFail, IsMemoryTold, MemoryIsTold}
-use Rattle.suite_top.proofs.Outcomes.{never, early_or_done}
+use Rattle.suite_top.proofs.Outcomes.{never}
 use Rattle.suite_top.proofs.HostLaws.{told_is, loads_keep}
 
 -- the texts of the ending were taken whole
@@ -123,16 +123,9 @@ failure_is_early : (last : Request) → (failure_ending last).out ≡ []
 failure_is_early (load name) = refl
 failure_is_early (store name bytes) = refl
 
--- an ending has no text for `out`; or the command was carried out, and there is none for `report`
-abbrev IsCarriedOut : Call → HostCourse → Ending → Type 0
-IsCarriedOut c k ending = (k ≡ complete) × (ending ≡ (outcome_of c).ending) × (ending.status ≡ Done) × (ending.report ≡ [])
-
-early_at : (c : Call) (ending : Ending) (k : HostCourse) → EndsAfter (outcome_of c).ending k ending → (ending.out ≡ []) ⊎ IsCarriedOut c k ending
-early_at c ending complete ends =
-    elim (early_or_done c.arguments c.inputs) [
-      | inl early ↦ inl (ap (λ (s : Ending). s.out) ends.0 ∙ early)
-      | inr done ↦ inr (refl, ends.0, ap (λ (s : Ending). s.status) ends.0 ∙ done.0, ap (λ (s : Ending). s.report) ends.0 ∙ done.1)
-    ]
+-- an ending has no text for `out`, or it is the outcome's
+early_at : (c : Call) (ending : Ending) (k : HostCourse) → EndsAfter (outcome_of c).ending k ending → (ending.out ≡ []) ⊎ ((k ≡ complete) × (ending ≡ (outcome_of c).ending))
+early_at c ending complete ends = inr (refl, ends.0)
 early_at c ending (failed done last) (inl is) = inl (ap (λ (s : Ending). s.out) is ∙ failure_is_early last)
 early_at c ending (failed done last) (inr is) = inl (ap (λ (s : Ending). s.out) is)
 early_at c ending (out_of_memory done) is = inl (ap (λ (s : Ending). s.out) is)
@@ -142,8 +135,7 @@ module _ (c : Call) (ending : Ending) (performs : Performs c.host c.host_after (
   cut_at_out cut untouched =
       elim (early_at c ending performs.course performs.ends) [
         | inl early ↦ absurd (not_empty _ _ _ cut.0 early)
-        | inr (is_complete, is, done, none) ↦ record {
-          done = sym (ap (λ (s : Ending). s.status) is) ∙ done;
+        | inr (is_complete, is) ↦ record {
           performed = record {
             told = subst (λ (k : HostCourse). c.host_after.told ≡ option_map (told_after (outcome_of c).requests k) c.host.told) is_complete performs.told;
             faults = subst (λ (k : HostCourse). FaultsAfter k c.host.faults c.host_after.faults) is_complete performs.faults;
@@ -154,11 +146,7 @@ module _ (c : Call) (ending : Ending) (performs : Performs c.host c.host_after (
       ]
 
   cut_at_report : TookAll c.out c.out_after ending.out → CutShort stop c.report c.report_after ending.report → CutAtReport stop c
-  cut_at_report took cut =
-      elim (early_at c ending performs.course performs.ends) [
-        | inl early ↦ record { ending = ending; performs = performs; out = subst (TookAll c.out c.out_after) early took; report = cut }
-        | inr (is_complete, is, done, none) ↦ absurd (not_empty _ _ _ cut.0 none)
-      ]
+  cut_at_report took cut = record { ending = ending; performs = performs; out = took; report = cut }
 
 -- ---- the laws
 

@@ -7,7 +7,7 @@ use Rattle.suite_top.specs.declared.answer.Answer.{Answer}
 use Rattle.suite_top.specs.Ending.{Ending, early_ending, memory_ending}
 
 abbrev pub ending_in : Answer → Ending
-ending_in answer = record { status = answer.status; out = string_bytes answer.out; report = string_bytes answer.report }
+ending_in answer = record { status = answer.status; out = answer.out.items; report = answer.report.items }
 
 -- no answer is out of memory
 abbrev pub ending_of : Result Answer AllocError → Ending

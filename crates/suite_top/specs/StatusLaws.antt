@@ -3,7 +3,7 @@ use Rattle.std.specs.Prelude.{◌≡◌, ◌⊎◌, ◌++◌, ◌↔◌, ℕ, �
 use Rattle.host_io.specs.Faults.{Rose}
 use Rattle.host_io.specs.Host.{Told}
 use Rattle.suite_top.specs.declared.status.Status.{Status}
-use Rattle.suite_top.specs.declared.status.Status.TheVariants.{Done, Usage, HostRead, Refused, SinkWrite, Memory, HostWrite}
+use Rattle.suite_top.specs.declared.status.Status.TheVariants.{Done, Usage, HostRead, Refused, Stray, OutOfQuanta, LogFull, SinkWrite, Memory, HostWrite}
 use Rattle.suite_top.specs.Texts.{memory_line}
 use Rattle.suite_top.specs.Ending.{Ending, memory_ending}
 use Rattle.suite_top.specs.Outcome.{Request, load, store, failure_ending, Inputs}
@@ -18,6 +18,9 @@ abbrev pub IsAnswer : Status → Type 0
 IsAnswer Done = Unit {0}
 IsAnswer Usage = Unit {0}
 IsAnswer Refused = Unit {0}
+IsAnswer Stray = Unit {0}
+IsAnswer OutOfQuanta = Unit {0}
+IsAnswer LogFull = Unit {0}
 IsAnswer HostRead = ⊥
 IsAnswer HostWrite = ⊥
 IsAnswer SinkWrite = ⊥
@@ -35,7 +38,7 @@ pub record IsWhole (c : Call) : Type 0 where
   pub out : TookAll c.out c.out_after (outcome_of c).ending.out
   pub report : TookAll c.report c.report_after (outcome_of c).ending.report
 
--- Done, Usage and Refused come only where they are the outcome's status
+-- these statuses come only where they are the outcome's
 abbrev pub AnswersAreWhole : Type 0
 AnswersAreWhole = (c : Call) → MeetsOutcome c → IsAnswer c.status → IsWhole c
 
@@ -65,19 +68,25 @@ ReadsFail = (c : Call) → MeetsOutcome c → c.status ≡ HostRead → (name : 
 abbrev pub WritesFail : Type 0
 WritesFail = (c : Call) → MeetsOutcome c → c.status ≡ HostWrite → (name : List ℕ) × (bytes : List ℕ) × FailsAt c (store name bytes)
 
--- the command was carried out; `out` stopped behind a prefix of its text, and `report` took nothing
+-- the host answered every request; `out` stopped behind a prefix of its text, and `report` took nothing
 pub record CutAtOut (stop : SinkStop) (c : Call) : Type 0 where
-  pub done : (outcome_of c).ending.status ≡ Done
   pub performed : IsPerformed c
   pub out : CutShort stop c.out c.out_after (outcome_of c).ending.out
   pub report : c.report_after ≡ c.report
 
--- the call ended early; `out` took nothing, and `report` stopped behind a prefix of the line
+-- `out` took its whole text, and `report` stopped behind a prefix of its own
 pub record CutAtReport (stop : SinkStop) (c : Call) : Type 0 where
   pub ending : Ending
   pub performs : Performs c.host c.host_after (outcome_of c) ending
-  pub out : TookAll c.out c.out_after []
+  pub out : TookAll c.out c.out_after ending.out
   pub report : CutShort stop c.report c.report_after ending.report
+
+-- a text stands in one sink alone: with Done in `out`, and else in `report`
+abbrev pub IsOneText : Ending → Type 0
+IsOneText ending = (ending.out ≡ []) ⊎ ((ending.status ≡ Done) × (ending.report ≡ []))
+
+abbrev pub TextsAreApart : Type 0
+TextsAreApart = (arguments : List (List ℕ)) (inputs : Inputs) → IsOneText (result_of arguments inputs).ending
 
 -- a sink failed, and no other text was written behind its prefix
 abbrev pub SinksFail : Type 0

@@ -4,12 +4,12 @@ ghost use Rattle.std.specs.Prelude.{◌≡◌, string_bytes};
 use crate::status::Status;
 use std::alloc::{AllocError, Global};
 
-/// The status of a command, and its texts for the two sinks.
+/// The status of a command, and its texts for the two sinks: any bytes, since a console holds any.
 #[derive(Debug, Drop)]
 pub struct Answer {
     pub status: Status,
-    pub out: String,
-    pub report: String,
+    pub out: Vec<u8>,
+    pub report: Vec<u8>,
 }
 
 impl Answer {
@@ -17,14 +17,13 @@ impl Answer {
     ghost use Rattle.suite_top.specs.Answer.{ending_in, ending_of, EndsWithLine};
 
     /// The command was carried out, and `out` takes this text.
-    pub fn done(alloc: Global, out: String) -> Answer
-        ensures { ending_in result ≡ done_ending (string_bytes out) }
+    pub fn done(alloc: Global, text: String) -> Answer
+        ensures { ending_in result ≡ done_ending (string_bytes text) }
     {
-        let report = String::new(alloc);
         Answer {
             status: Status::Done,
-            out,
-            report,
+            out: text.into_bytes(),
+            report: Vec::new(alloc),
         }
     }
 
@@ -37,12 +36,12 @@ impl Answer {
         ensures { EndsWithLine status line (ending_of result) }
     {
         match line {
-            Ok(report) => {
-                let out = String::new(alloc);
+            Ok(line) => {
+                let out = Vec::new(alloc);
                 Ok(Answer {
                     status,
                     out,
-                    report,
+                    report: line.into_bytes(),
                 })
             }
             Err(error) => Err(error),

@@ -9,10 +9,10 @@ use host_io::{Sink, SinkError, write_whole};
 use std::alloc::Global;
 
 /// Writes a whole text. The error is the status that the call then ends with.
-fn write_text<S: Sink>(alloc: Global, sink: &mut S, text: &str) -> Result<(), Status>
+fn write_text<S: Sink>(alloc: Global, sink: &mut S, text: &[u8]) -> Result<(), Status>
     ensures { WroteText (observed S.told S.faults sink.old) (observed S.told S.faults sink.new) text.now result }
 {
-    match write_whole(alloc, sink, text.as_bytes()) {
+    match write_whole(alloc, sink, text) {
         Ok(()) => Ok(()),
         Err(SinkError::Failed) => Err(Status::SinkWrite),
         Err(SinkError::Memory) => Err(Status::Memory),
@@ -23,8 +23,8 @@ fn write_text<S: Sink>(alloc: Global, sink: &mut S, text: &str) -> Result<(), St
 pub fn deliver<O: Sink, R: Sink>(
     alloc: Global,
     status: Status,
-    out_text: &str,
-    report_text: &str,
+    out_text: &[u8],
+    report_text: &[u8],
     out: &mut O,
     report: &mut R,
 ) -> Status

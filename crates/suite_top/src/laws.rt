@@ -1,12 +1,13 @@
 //! Laws over every call of `suite`, by what its clause says. No code runs. Those of one command stand
 //! with the command.
-ghost use Rattle.suite_top.specs.StatusLaws.{AnswersAreWhole, Completes, ReadsFail, WritesFail, SinksFail, MemoryIsTold, UsageIsExact, StackIsSpelled};
+ghost use Rattle.suite_top.specs.StatusLaws.{AnswersAreWhole, Completes, TextsAreApart, ReadsFail, WritesFail, SinksFail, MemoryIsTold, UsageIsExact, StackIsSpelled};
 ghost use Rattle.suite_top.specs.HostLaws.{NamesAreAPrefix, NothingIsAsked, OthersChangeNoFile};
 
 /// When each status comes, and what was written then.
 pub fn status_law()
     ensures answers { AnswersAreWhole }
     ensures complete { Completes }
+    ensures texts { TextsAreApart }
     ensures usage { UsageIsExact }
     ensures stack { StackIsSpelled }
     ensures host_read { ReadsFail }

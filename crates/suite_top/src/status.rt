@@ -13,6 +13,12 @@ pub enum Status {
     HostRead,
     /// The input has a fault.
     Refused,
+    /// A program made an access outside of its own bytes.
+    Stray,
+    /// The quanta of a run are used up, and a process lives.
+    OutOfQuanta,
+    /// The log of a run has no room for the next call.
+    LogFull,
     /// A sink failed.
     SinkWrite,
     /// Out of memory.
@@ -31,6 +37,9 @@ impl Status {
             Status::Usage => 1,
             Status::HostRead => 2,
             Status::Refused => 3,
+            Status::Stray => 4,
+            Status::OutOfQuanta => 5,
+            Status::LogFull => 6,
             Status::SinkWrite => 7,
             Status::Memory => 8,
             Status::HostWrite => 9,

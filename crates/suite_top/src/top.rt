@@ -55,6 +55,13 @@ pub fn suite<H: Host, O: Sink, R: Sink>(
             out,
             report,
         ),
-        Err(_) => deliver(alloc, Status::Memory, "", texts::MEMORY_LINE, out, report),
+        Err(_) => deliver(
+            alloc,
+            Status::Memory,
+            b"",
+            texts::MEMORY_LINE.as_bytes(),
+            out,
+            report,
+        ),
     }
 }

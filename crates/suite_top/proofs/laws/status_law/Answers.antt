@@ -1,5 +1,5 @@
 -- Each law by its proof over plain values.
-use Rattle.suite_top.proofs.Outcomes.{usage_is_exact}
+use Rattle.suite_top.proofs.Outcomes.{texts_are_apart, usage_is_exact}
 use Rattle.suite_top.proofs.Stacks.{stack_is_spelled}
 use Rattle.suite_top.proofs.StatusLaws.{answers_are_whole, completes, reads_fail, writes_fail, sinks_fail, memory_is_told}
 use Rattle.suite_top.proofs.laws.status_law.Goals as goal
@@ -8,6 +8,7 @@ pub returns : goal.returns
 returns c = record {
   answers = answers_are_whole;
   complete = completes;
+  texts = texts_are_apart;
   usage = usage_is_exact;
   stack = stack_is_spelled;
   host_read = reads_fail;
