@@ -4,9 +4,12 @@
 -- Outcomes: what an outcome can be.
 -- StatusLaws, HostLaws: the laws over every call.
 -- OneFileLaws, ConvertLaws, CheckLaws, ListLaws, SizesLaw: the laws of the commands.
+-- OneFileSteps: a command that goes on with one file.
+-- LoadedItems, OriginalsSame, MadePrograms: the loads of a manifest's lines, and the programs that they make.
 -- Samples, ListSamples: the definitions on the worked example.
 pub mod HostCourses
 pub mod HostSteps
+pub mod OneFileSteps
 pub mod Stops
 pub mod Lines
 pub mod Usage
@@ -22,5 +25,8 @@ pub mod ConvertLaws
 pub mod CheckLaws
 pub mod ListLaws
 pub mod SizesLaw
+pub mod LoadedItems
+pub mod OriginalsSame
+pub mod MadePrograms
 pub mod Samples
 pub mod ListSamples
