@@ -11,7 +11,7 @@ use phys_mem::PAGE;
 pub const HEADER_LEN: u32 = 64;
 
 /// The bytes of the image: text, data and bss.
-fn image_len(flat: &Flat) -> u32
+pub fn image_len(flat: &Flat) -> u32
     ensures value { result ≡ (flat_original flat.now).size }
     ensures small { result ≤ 16777216 }
 {

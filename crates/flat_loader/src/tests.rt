@@ -1,5 +1,7 @@
 use super::*;
 use bflt_format::Flat;
+use nommu_regions::Regions;
+use page_runs::{Chooser, Kind, Run, first_fit};
 use phys_mem::PhysMem;
 use rv32im_step::Regs;
 use std::alloc::{AllocError, Global};
@@ -158,6 +160,70 @@ fn sizes_of_stacks(rt: HostRuntime) -> Result<(), Fail> {
         assert_eq!(rt; block_pages(&flat), pages, "pages of {stack}");
         assert_eq!(rt; stack_len(&flat) % 16, 0, "stack of {stack}");
         assert_eq!(rt; frame_fits(&flat, &args, &[]), fits, "fits {stack}");
+    }
+    Ok(())
+}
+
+/// Loads with the argument /hi into the lowest run that fits.
+fn load_first(
+    alloc: Global,
+    regions: &mut Regions,
+    mem: &mut PhysMem,
+    flat: &Flat,
+) -> Result<Result<Loaded, LoadRefusal>, Fail> {
+    let args = strings(alloc, &["/hi"])?;
+    let chooser = Chooser::new(Kind::First, |runs: &[Run], need: u32| {
+        first_fit(runs, need)
+    });
+    if mem.pages() != regions.pages() {
+        return Err(Fail::from("another number of pages"));
+    }
+    Ok(load(alloc, regions, mem, flat, &args, &[], &chooser))
+}
+
+/// In 4 pages: a block of 2, and behind the first one no room for a third.
+#[test]
+fn programs_in_the_lowest_run(rt: HostRuntime) -> Result<(), Fail> {
+    let mut mem = PhysMem::new(rt.alloc(), 4)?;
+    let mut regions = Regions::new(rt.alloc(), 4)?;
+    let flat = Flat::read(rt.alloc(), &HI)?;
+    let mut program = load_first(rt.alloc(), &mut regions, &mut mem, &flat)?.map_err(
+        |_| "is not loaded",
+    )?;
+    assert_eq!(rt; program.base, 0x8000_0000);
+    assert_eq!(rt; program.pages, 2);
+    assert_eq!(rt; program.regs.pc, 0x8000_0080);
+    assert_eq!(rt; program.regs.x[2], 0x8000_1fe0);
+    assert_eq!(rt; program.space.brk(0), 0x8000_00ac);
+    assert_eq!(rt; program.space.brk(0x8000_1000), 0x8000_1000);
+    assert_eq!(rt; program.space.brk(0x8000_1001), 0x8000_1000);
+    assert!(rt; program.space.own(0x8000_0040, 0x1fc0, true));
+    assert!(rt; !program.space.own(0x8000_003f, 1, false));
+    assert_eq!(rt; word(&mem, 0x8000_00a8), Some(0x8000_00a4));
+    let second = load_first(rt.alloc(), &mut regions, &mut mem, &flat)?.map_err(
+        |_| "is not loaded",
+    )?;
+    assert_eq!(rt; second.base, 0x8000_2000);
+    assert_eq!(rt; regions.free().len(), 0);
+    let third = load_first(rt.alloc(), &mut regions, &mut mem, &flat)?;
+    assert_eq!(rt; third.err(), Some(LoadRefusal::NoRun));
+    Ok(())
+}
+
+/// A stack of 16 bytes is too small for a frame of 20, and then nothing is taken.
+#[test]
+fn refusals(rt: HostRuntime) -> Result<(), Fail> {
+    let mut mem = PhysMem::new(rt.alloc(), 1)?;
+    let mut regions = Regions::new(rt.alloc(), 1)?;
+    for (stack, refusal) in [(4096, LoadRefusal::NoRun), (16, LoadRefusal::E2big)] {
+        let file = changed(rt.alloc(), &[(24, stack)])?;
+        let flat = Flat::read(rt.alloc(), &file)?;
+        let program = load_first(rt.alloc(), &mut regions, &mut mem, &flat)?;
+        assert_eq!(rt; program.err(), Some(refusal));
+        assert_eq!(rt;
+            regions.free().first().copied(),
+            Some(Run { first: 0, count: 1 })
+        );
     }
     Ok(())
 }

@@ -1,2 +1,12 @@
--- Samples  the definitions, computed on whole runs
+-- Samples   the definitions, computed on whole runs
+-- States    a world in which one process has other registers and other bytes
+-- TurnLaws  turns, event by event
+-- RunLaws   runs, quantum by quantum
+-- Steps     instructions of one process, one after the other
+-- Loads     the programs that load notes name
 mod Samples
+pub mod States
+pub mod TurnLaws
+pub mod RunLaws
+pub mod Steps
+pub mod Loads

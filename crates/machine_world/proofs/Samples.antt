@@ -1,6 +1,6 @@
 -- Whole runs, computed from the definitions.
-use Rattle.std.proofs.Common.{◌≡◌, ℕ, ◌+◌, ◌^◌, List, [], ◌∷◌, ◌++◌, Option, Some, None, refl}
-use Rattle.std.specs.Prelude.{Result, Ok, Err, replicate, flat_map, map, reverse, slice_index, codes}
+use Rattle.std.proofs.Common.{◌≡◌, ℕ, ◌+◌, List, [], ◌∷◌, ◌++◌, Option, Some, None, refl}
+use Rattle.std.specs.Prelude.{Result, Ok, Err, replicate, flat_map, reverse, slice_index, codes}
 use Rattle.byteorder.specs.Endian.{little_bytes}
 use Rattle.byte_words.specs.Patches.{from_base}
 use Rattle.byte_words.specs.Numbers.{number_at, byte_at}
@@ -10,7 +10,6 @@ use Rattle.rv32im_table.specs.Table.{decoded}
 use Rattle.rv32im_step.specs.Memory.{loaded, stored}
 use Rattle.rv32im_step.specs.Meaning.{effect, meaning}
 use Rattle.rv32im_step.specs.Registers.{register, with_register}
-use Rattle.rv32im_step.specs.declared.access.Access.{Access}
 use Rattle.rv32im_step.specs.declared.access.AccessKind.TheVariants.{Store}
 use Rattle.page_runs.specs.declared.place.Kind.TheVariants.{First}
 use Rattle.page_runs.specs.Free.{free_runs}

@@ -1,5 +1,5 @@
 -- The opening world: the start lines' programs, loaded in order.
-use Rattle.std.specs.Prelude.{ℕ, ◌+◌, ◌*◌, List, [], ◌∷◌, Option, Some, None, Result, Ok, Err, Bool, bytes_eq, slice_index, if◌then◌else◌}
+use Rattle.std.specs.Prelude.{ℕ, ◌+◌, ◌*◌, List, [], ◌∷◌, Option, Some, None, Result, Ok, Err, Bool, bytes_eq, if◌then◌else◌}
 use Rattle.std.specs.List.{slice_index_or}
 use Rattle.page_runs.specs.declared.run.Run.{Run}
 use Rattle.page_runs.specs.Place.{place, first_of}

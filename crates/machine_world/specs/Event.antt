@@ -1,11 +1,11 @@
 -- One event: one instruction or one system call of one process. An event changes the world and leaves a trace, or the
 -- process's next access strays, or the log has no room, or there is no such process.
-use Rattle.std.specs.Prelude.{ℕ, ◌+◌, ◌%◌, ◌^◌, ◌==◌, Bool, true, false, ◌||◌, nat_le, ◌&&◌, if◌then◌else◌, List, [], ◌∷◌, ◌++◌, map, length, Option, Some, None, Result, Ok, Err}
+use Rattle.std.specs.Prelude.{ℕ, ◌+◌, ◌%◌, ◌==◌, Bool, true, false, ◌||◌, if◌then◌else◌, List, [], ◌∷◌, map, length, Option, Some, None, Result, Ok, Err}
 use Rattle.byte_words.specs.ByteMap.{Bytes, with_bytes}
 use Rattle.rv32im_step.specs.declared.regs.Regs.{Regs}
 use Rattle.rv32im_step.specs.declared.access.Access.{Access}
 use Rattle.rv32im_step.specs.declared.access.AccessKind.TheVariants.{Call}
-use Rattle.rv32im_step.specs.Registers.{register, with_register, setting}
+use Rattle.rv32im_step.specs.Registers.{register, setting}
 use Rattle.rv32im_step.specs.Meaning.{Meaning, next, call, trap, refused, meaning}
 use Rattle.call_log.specs.declared.how.How.{How}
 use Rattle.call_log.specs.declared.how.How.TheVariants.{Exit, Signal}
@@ -13,7 +13,7 @@ use Rattle.call_log.specs.Notes.{Written, CallEntry, Note, call_note, end_note, 
 use Rattle.call_log.specs.Sent.{Span, sent}
 use Rattle.vfork_exec.specs.Keyed.{find, change, without}
 use Rattle.mmap_rules.specs.Space.{Space, writable_in, may_use}
-use Rattle.machine_world.specs.World.{Process, LiveSpace, Rest, World, pid_of, id_of}
+use Rattle.machine_world.specs.World.{Process, LiveSpace, World, pid_of, id_of}
 use Rattle.machine_world.specs.Rows.{Ask, Reply, Row, replies, waits, row}
 
 -- what an event leaves for those who follow one space: the space, whether the event counts there, the calls made in it,

@@ -4,9 +4,15 @@
 -- Event    one instruction or one system call of one process
 -- Turns    a list of quanta
 -- Boot     the opening world
+-- Programs the programs that load notes name
+-- Courses  how far a turn or a run came
+-- Laws     instructions are events
 pub mod World
 pub mod Free
 pub mod Rows
 pub mod Event
 pub mod Turns
 pub mod Boot
+pub mod Programs
+pub mod Courses
+pub mod Laws

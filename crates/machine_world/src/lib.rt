@@ -4,3 +4,7 @@
 //! What may stand here: worlds, events, turns, the opening world, and laws over these. What may not: any
 //! code that runs a program, and physical memory.
 #![tactic(auto)]
+
+mod laws;
+
+pub use laws::{instructions_law, programs_law};

@@ -8,6 +8,7 @@
 mod answer;
 mod ending;
 mod parts;
+mod reading;
 mod start;
 mod stray;
 mod task;

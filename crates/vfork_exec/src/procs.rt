@@ -1,6 +1,6 @@
 //! The list of processes.
 
-ghost use Rattle.std.specs.Prelude.{◌≡◌, ◌<◌, ◌≤◌, ◌^◌, length, map, reverse, slice_get, is_some, Some, IfOk};
+ghost use Rattle.std.specs.Prelude.{◌≡◌, ℕ, ◌<◌, ◌≤◌, ◌^◌, length, map, reverse, slice_get, is_some, Some, IfOk};
 ghost use Rattle.std.specs.Borrow.{sem};
 ghost use Rattle.vfork_exec.specs.Procs.{most_entries, none_yet, Starts, with_end, Lives, process, value_at, parent_at, pid_of, pids};
 ghost use Rattle.vfork_exec.specs.Keyed.{place_of, Falls};
@@ -151,14 +151,22 @@ impl<P> Procs<P> {
     }
 }
 
-/// The place of the first entry with this pid, or the number of entries.
+/// The place of the entry with this pid, or the number of entries: the pids fall, so that half of them is left each time.
 fn first_place<P>(entries: &[Entry<P>], pid: u32) -> usize
+    requires { (bound : ℕ) × Falls pid_of bound entries.now }
     ensures { result ≡ place_of pid_of pid entries.now }
 {
-    for (place, entry) in entries.iter().enumerate() {
-        if entry.pid == pid {
-            return place;
+    let (mut low, mut high) = (0, entries.len());
+    while low < high {
+        let middle = low + (high - low) / 2;
+        if entries[middle].pid > pid {
+            low = middle + 1;
+        } else {
+            high = middle;
         }
+    }
+    if low < entries.len() && entries[low].pid == pid {
+        return low;
     }
     entries.len()
 }

@@ -1,8 +1,11 @@
--- Not yet found.
-use Rattle.std.proofs.Common.{◌≡◌, ◌+◌, drop}
+-- The entry lies between two places, if it is there.
+use Rattle.std.proofs.Common.{◌-◌}
 use Rattle.vfork_exec.specs.Procs.{pid_of}
-use Rattle.vfork_exec.specs.Keyed.{place_of}
+use Rattle.vfork_exec.proofs.Places.{Between}
 use Rattle.vfork_exec.proofs.procs.first_place.Given as goal
 
-abbrev pub invariant-loop-place : goal.invariant-loop-place
-invariant-loop-place g l = place_of pid_of l.pid l.entries ≡ l.place + place_of pid_of l.pid (drop l.place l.entries)
+abbrev pub invariant-loop-low : goal.invariant-loop-low
+invariant-loop-low g l = Between pid_of l.pid l.low l.high l.entries
+
+abbrev pub decreases-loop-low : goal.decreases-loop-low
+decreases-loop-low g l = l.high - l.low

@@ -1,9 +1,9 @@
 -- What stands at the place is the process, and a write there changes just it.
-use Rattle.std.proofs.Common.{◌≡◌, ℕ, ◌+◌, ◌<◌, List, length, set, get_or, Option, Some, refl, sym, ap, subst, ◌∙◌, arith}
+use Rattle.std.proofs.Common.{◌≡◌, ℕ, ◌+◌, ◌<◌, List, length, set, get_or, Some, refl, sym, ap, subst, ◌∙◌, arith}
 use Rattle.std.specs.Prelude.{option_map}
 use Rattle.vfork_exec.specs.declared.entry.Entry.{Entry}
 use Rattle.vfork_exec.specs.Procs.{Listed, pid_of, with_value, with_value_at, value_at}
-use Rattle.vfork_exec.specs.Keyed.{find, change, place_of, Falls}
+use Rattle.vfork_exec.specs.Keyed.{change, place_of, Falls}
 use Rattle.vfork_exec.proofs.Keyed.{change_at, falls_change, length_change}
 use Rattle.vfork_exec.proofs.Places.{item_at}
 use Rattle.vfork_exec.proofs.procs.Procs.get_mut.Goals as goal

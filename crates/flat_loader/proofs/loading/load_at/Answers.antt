@@ -5,8 +5,8 @@ use Rattle.flat_loader.specs.Original.{flat_original, block_len}
 use Rattle.flat_loader.specs.Frame.{texts, frame_len, frame_start}
 use Rattle.flat_loader.specs.Begin.{begin_regs}
 use Rattle.flat_loader.proofs.Blocks.{frame_short, is_placed}
-use Rattle.flat_loader.proofs.Loaded.{IsLoaded, is_loaded, others_kept, header_there, own_there}
-use Rattle.flat_loader.proofs.load.load_at.Goals as goal
+use Rattle.flat_loader.proofs.Written.{IsWritten, is_written, others_kept, header_there, own_there}
+use Rattle.flat_loader.proofs.loading.load_at.Goals as goal
 
 pub overflow_cast-frame_len : goal.overflow_cast-frame_len
 overflow_cast-frame_len c =
@@ -35,15 +35,15 @@ write_frame-requires-clause-within c =
     let inside = placed.inside in
     (omega arith, omega arith)
 
-loaded : (c : goal.After-start_regs) → IsLoaded c.args.flat.now c.args.block c.frame_start-sp.result (texts c.args.args.now) (texts c.args.env.now) c.args.mem.now c.write_frame.new.mem
-loaded c =
+written : (c : goal.After-start_regs) → IsWritten c.args.flat.now c.args.block c.frame_start-sp.result (texts c.args.args.now) (texts c.args.env.now) c.args.mem.now c.write_frame.new.mem
+written c =
     let f = c.args.flat.now in
     let args = texts c.args.args.now in
     let env = texts c.args.env.now in
     let short = frame_short (flat_original f) args env c.requires.fits in
     let sp = same_start c.args.block (block_len (flat_original f)) c.block_len.result (frame_len args env) c.frame_len.result c.frame_start-sp.result
     c.frame_start-sp.ensures.value c.block_len.ensures.value (omega arith) in
-    is_loaded f c.args.block c.frame_start-sp.result args env c.args.mem.now c.write_image.new.mem c.write_frame.new.mem
+    is_written f c.args.block c.frame_start-sp.result args env c.args.mem.now c.write_image.new.mem c.write_frame.new.mem
     c.entry.ensures.spells (omega arith) (omega arith) c.requires.page c.requires.fits sp
     c.write_image.ensures.length c.write_image.ensures.bytes c.write_frame.ensures.mem
 
@@ -60,10 +60,10 @@ returns-clause-regs c =
     c.start_regs.ensures ∙ ap (λ e. regs e c.frame_start-sp.result) c.entry.ensures.value ∙ ap (regs f.entry) sp
 
 pub returns-clause-own : goal.returns-clause-own
-returns-clause-own c = own_there _ _ _ _ _ _ _ (loaded c)
+returns-clause-own c = own_there _ _ _ _ _ _ _ (written c)
 
 pub returns-clause-header : goal.returns-clause-header
-returns-clause-header c = header_there _ _ _ _ _ _ _ (loaded c)
+returns-clause-header c = header_there _ _ _ _ _ _ _ (written c)
 
 pub returns-clause-others : goal.returns-clause-others
-returns-clause-others c = others_kept _ _ _ _ _ _ _ (loaded c)
+returns-clause-others c = others_kept _ _ _ _ _ _ _ (written c)

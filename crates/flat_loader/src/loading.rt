@@ -1,23 +1,50 @@
-//! Loading.
+//! Loading: a program into a block that is there, and a program with a block and a space of its own.
 
-ghost use Rattle.std.specs.Prelude.{◌≡◌, ◌+◌, ◌%◌, ◌^◌, ◌<◌, ◌≤◌, ℕ, List, length, replicate, take, true, false, slice_index, slice_range, slice_set};
+ghost use Rattle.std.specs.Prelude.{◌≡◌, ◌+◌, ◌*◌, ◌%◌, ◌^◌, ◌<◌, ◌≤◌, ℕ, List, length, replicate, take, true, false, slice_index, slice_range, slice_set};
 ghost use Rattle.byte_words.specs.ByteMap.{byte_of};
 ghost use Rattle.byte_words.specs.Patches.{painted};
 ghost use Rattle.phys_mem.specs.Memory.{Within, place};
+ghost use Rattle.page_runs.specs.Choosers.{IsChooser, kind_of};
 ghost use Rattle.bflt_format.specs.Spelling.{spell, words_text, header_words};
 ghost use Rattle.mmap_rules.specs.Space.{memory_base, page_size, in_range};
 ghost use Rattle.flat_loader.specs.Original.{flat_original, header_len, block_len as block_len_of};
 ghost use Rattle.flat_loader.specs.Frame.{texts, frame_fits};
 ghost use Rattle.flat_loader.specs.Placed.{image_patches};
 ghost use Rattle.flat_loader.specs.Begin.{flat_loading, own_range, in_block, begin_bytes, begin_regs};
+ghost use Rattle.flat_loader.specs.Loads.{Loads};
 
-use crate::block::{HEADER_LEN, block_len};
-use crate::frame::{frame_len, frame_start, write_frame};
+use crate::block::{HEADER_LEN, block_len, block_pages, image_len, stack_len};
+use crate::frame::{frame_fits, frame_len, frame_start, write_frame};
 use crate::image::link_words;
 use bflt_format::Flat;
 use byteorder::{BigEndian, ByteOrder};
-use phys_mem::PhysMem;
+use mmap_rules::{Space, SpaceRoom};
+use nommu_regions::{Regions, Source};
+use page_runs::{Chooser, Run};
+use phys_mem::{BASE, PAGE, PhysMem};
 use rv32im_step::Regs;
+use std::alloc::Global;
+
+/// A program that was loaded: its space, its first registers, and its block, which begins at address `base`
+/// and has `pages` pages.
+#[derive(Drop)]
+pub struct Loaded {
+    pub space: Space,
+    pub regs: Regs,
+    pub base: u32,
+    pub pages: u32,
+}
+
+/// Why a program is not loaded.
+#[derive(Clone, Copy, Debug, PartialEq, Eq, Drop)]
+pub enum LoadRefusal {
+    /// The start frame does not fit in the stack.
+    E2big,
+    /// No free run of pages holds the block.
+    NoRun,
+    /// The host has no memory for the table of the program's own bytes.
+    Memory,
+}
 
 /// The 64 bytes of the header that is written for a flat file.
 fn header_bytes(flat: &Flat) -> [u8; 64]
@@ -79,4 +106,41 @@ pub fn load_at(
     let sp = frame_start(block + block_len(flat), frame_len(args, env) as u32);
     write_frame(mem, sp, args, env);
     start_regs(block + flat.entry(), sp)
+}
+
+/// Loads a flat program: its block goes into the free run that the chooser picks, and becomes a region with
+/// one use. A refusal changes neither regions nor memory.
+pub fn load<F: Fn(&[Run], u32) -> Option<usize>>(
+    alloc: Global,
+    regions: &mut Regions,
+    mem: &mut PhysMem,
+    flat: &Flat,
+    args: &[Vec<u8>],
+    env: &[Vec<u8>],
+    chooser: &Chooser<F>,
+) -> Result<Loaded, LoadRefusal>
+    requires chooser { IsChooser F.pre F.post chooser.now }
+    requires memory { length mem.old ≡ 4096 * length regions.old }
+    ensures { Loads (kind_of chooser.now) flat.now (texts args.now) (texts env.now) regions.old mem.old regions.new mem.new result }
+{
+    if !frame_fits(flat, args, env) {
+        return Err(LoadRefusal::E2big);
+    }
+    let Ok(room) = SpaceRoom::new(alloc, regions.pages()) else {
+        return Err(LoadRefusal::Memory);
+    };
+    let pages = block_pages(flat);
+    let Some(first) = regions.fresh(mem, pages, Source::Own, chooser) else {
+        return Err(LoadRefusal::NoRun);
+    };
+    let base = BASE + PAGE * first;
+    let regs = load_at(mem, base, flat, args, env);
+    let end = HEADER_LEN + image_len(flat);
+    let space = Space::new(room, regions, first, end, stack_len(flat));
+    Ok(Loaded {
+        space,
+        regs,
+        base,
+        pages,
+    })
 }

@@ -4,7 +4,7 @@ use Rattle.phys_mem.specs.Memory.{place}
 use Rattle.flat_loader.specs.Original.{flat_original, block_len}
 use Rattle.flat_loader.specs.Placed.{links}
 use Rattle.flat_loader.proofs.Blocks.{is_laid, block_holds, body_inside, length-cleared, length-copied}
-use Rattle.flat_loader.proofs.load.write_image.Goals as goal
+use Rattle.flat_loader.proofs.loading.write_image.Goals as goal
 
 pub copy_in-requires : goal.copy_in-requires
 copy_in-requires c =

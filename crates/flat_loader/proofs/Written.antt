@@ -29,7 +29,7 @@ slice_get_same xs ys i len same = elim (cases_lt i (length ys)) [
   | inr past ↦ slice_get_past xs i (omega arith) ∙ sym (slice_get_past ys i past)
 ]
 
-byte_of_same : (xs ys : List ℕ) (a : ℕ) → length xs ≡ length ys → (2 ^ 31 ≤ a → get_or xs (place a) 0 ≡ get_or ys (place a) 0) → byte_of (2 ^ 31) xs a ≡ byte_of (2 ^ 31) ys a
+pub byte_of_same : (xs ys : List ℕ) (a : ℕ) → length xs ≡ length ys → (2 ^ 31 ≤ a → get_or xs (place a) 0 ≡ get_or ys (place a) 0) → byte_of (2 ^ 31) xs a ≡ byte_of (2 ^ 31) ys a
 byte_of_same xs ys a len same = elim (cases_lt a (2 ^ 31)) [
   | inl below ↦ rw (lt-leb (2 ^ 31) a below) refl
   | inr above ↦ rw (le-leb (2 ^ 31) a above) (slice_get_same xs ys (place a) len (same above))
@@ -40,7 +40,7 @@ byte_of_at xs a above inside = rw (le-leb (2 ^ 31) a above) (slice_get-get_or xs
 
 -- ---- what is known of memory before and after loading
 
-pub record IsLoaded (f : Values) (block sp : ℕ) (args env : List (List ℕ)) (old now : List ℕ) : Type 0 where
+pub record IsWritten (f : Values) (block sp : ℕ) (args env : List (List ℕ)) (old now : List ℕ) : Type 0 where
   pub spells : Spells f
   pub above : 2 ^ 31 ≤ block
   pub inside : place block + block_len (flat_original f) ≤ length old
@@ -50,12 +50,12 @@ pub record IsLoaded (f : Values) (block sp : ℕ) (args env : List (List ℕ)) (
   pub picture : slice_index now ≡ patched (record { at = place sp; bytes = frame sp args env }) (painted (image_patches f block) (slice_index old))
 
 -- the image is written, then the frame over it
-pub is_loaded :
+pub is_written :
     (f : Values) (block sp : ℕ) (args env : List (List ℕ)) (old mid now : List ℕ) → Spells f → 2 ^ 31 ≤ block → place block + block_len (flat_original f) ≤ length old →
     block % 4096 ≡ 0 → frame_fits (flat_original f) args env ≡ true → sp ≡ stack_pointer (flat_loading f block args env) →
     length mid ≡ length old → slice_index mid ≡ painted (image_patches f block) (slice_index old) → now ≡ laid mid (place sp) (frame sp args env) →
-    IsLoaded f block sp args env old now
-is_loaded f block sp args env old mid now spells above inside page fits pointer len image frame_is =
+    IsWritten f block sp args env old now
+is_written f block sp args env old mid now spells above inside page fits pointer len image frame_is =
     let there = is_placed f block args env page fits in
     let frame_above = there.above in
     let frame_inside = there.inside in
@@ -77,7 +77,7 @@ frame_patch sp args env = record { at = place sp; bytes = frame sp args env }
 -- ---- outside the block
 
 outside_byte :
-    (f : Values) (block sp : ℕ) (args env : List (List ℕ)) (old now : List ℕ) (i : ℕ) → IsLoaded f block sp args env old now →
+    (f : Values) (block sp : ℕ) (args env : List (List ℕ)) (old now : List ℕ) (i : ℕ) → IsWritten f block sp args env old now →
     (i < place block) ⊎ (place block + block_len (flat_original f) ≤ i) → get_or now i 0 ≡ get_or old i 0
 outside_byte f block sp args env old now i h outside =
     let p = frame_patch sp args env in
@@ -92,7 +92,7 @@ outside_byte f block sp args env old now i h outside =
     ap (λ m. m i) h.picture ∙ patched_off p (painted (image_patches f block) (slice_index old)) i off
     ∙ image_outside f block (slice_index old) i h.spells h.above outside
 
-outside_cases : (block n a : ℕ) → (leb block a && ltb a (block + n)) ≡ false → (a < block) ⊎ (block + n ≤ a)
+pub outside_cases : (block n a : ℕ) → (leb block a && ltb a (block + n)) ≡ false → (a < block) ⊎ (block + n ≤ a)
 outside_cases block n a out = elim (cases_lt a block) [
   | inl below ↦ inl below
   | inr from ↦ elim (cases_lt a (block + n)) [
@@ -102,7 +102,7 @@ outside_cases block n a out = elim (cases_lt a block) [
 ]
 
 pub others_kept :
-    (f : Values) (block sp : ℕ) (args env : List (List ℕ)) (old now : List ℕ) → IsLoaded f block sp args env old now →
+    (f : Values) (block sp : ℕ) (args env : List (List ℕ)) (old now : List ℕ) → IsWritten f block sp args env old now →
     (a : ℕ) → in_block (flat_loading f block args env) a ≡ false → byte_of (2 ^ 31) now a ≡ byte_of (2 ^ 31) old a
 others_kept f block sp args env old now h a out =
     let above = h.above in
@@ -114,7 +114,7 @@ others_kept f block sp args env old now h a out =
 -- ---- the header
 
 pub header_there :
-    (f : Values) (block sp : ℕ) (args env : List (List ℕ)) (old now : List ℕ) → IsLoaded f block sp args env old now →
+    (f : Values) (block sp : ℕ) (args env : List (List ℕ)) (old now : List ℕ) → IsWritten f block sp args env old now →
     slice_range now (place block) (place block + 64) ≡ take 64 (spell f)
 unfolding spell
 header_there f block sp args env old now h =
@@ -142,7 +142,7 @@ header_there f block sp args env old now h =
 -- ---- the program's own bytes
 
 own_byte :
-    (f : Values) (block sp : ℕ) (args env : List (List ℕ)) (old now : List ℕ) (a : ℕ) → IsLoaded f block sp args env old now →
+    (f : Values) (block sp : ℕ) (args env : List (List ℕ)) (old now : List ℕ) (a : ℕ) → IsWritten f block sp args env old now →
     block + 64 ≤ a → a < block + block_len (flat_original f) →
     slice_index now (place a) ≡ (if leb sp a && ltb a (sp + frame_len args env) then slice_index (frame sp args env) (a - sp) else unwrap_or (flat_image f (block + 64) a) 0)
 own_byte f block sp args env old now a h from to =
@@ -174,7 +174,7 @@ own_byte f block sp args env old now a h from to =
     ]
 
 pub own_there :
-    (f : Values) (block sp : ℕ) (args env : List (List ℕ)) (old now : List ℕ) → IsLoaded f block sp args env old now →
+    (f : Values) (block sp : ℕ) (args env : List (List ℕ)) (old now : List ℕ) → IsWritten f block sp args env old now →
     (a : ℕ) → in_range (own_range (flat_loading f block args env)) a ≡ true → byte_of (2 ^ 31) now a ≡ begin_bytes (flat_loading f block args env) a
 own_there f block sp args env old now h a own =
     let l = flat_loading f block args env in

@@ -1,0 +1,162 @@
+-- The programs that load notes name.
+use Rattle.std.proofs.Common.{◌≡◌, ℕ, zero, suc, ◌+◌, ◌<◌, Bool, true, false, List, [], ◌∷◌, length, Some, None, refl, sym, ap, subst, map, arith}
+use Rattle.std.specs.Prelude.{Option, Result, Ok, Err, bytes_eq, if◌then◌else◌}
+use Rattle.std.proofs.lemmas.Option.{same_Some}
+use Rattle.byte_words.specs.ByteMap.{Bytes}
+use Rattle.rv32im_step.specs.Meaning.{Meaning, next, call, trap, refused, meaning}
+use Rattle.mmap_rules.specs.Space.{Space, writable_in}
+use Rattle.quantum_sched.specs.Picked.{picked}
+use Rattle.vfork_exec.specs.Keyed.{find}
+use Rattle.call_log.specs.Notes.{has_room, weight_of}
+use Rattle.call_log.specs.Sent.{Span, sent}
+use Rattle.flat_loader.specs.Original.{block_pages}
+use Rattle.flat_loader.specs.Frame.{frame_fits}
+use Rattle.machine_world.specs.World.{Program, Process, LiveSpace, Rest, World, pid_of, id_of}
+use Rattle.machine_world.specs.Free.{free}
+use Rattle.machine_world.specs.Rows.{Ask, Reply, Row, replies, waits, row}
+use Rattle.machine_world.specs.Event.{Outcome, went, strays, full, idle, number_of, args_of, put_got, stepped, trapped, ended, served, put, waited, answered, exited, is_exit, asked, ask_of, answer, effect, in_space, by_process, at_process, event}
+use Rattle.machine_world.specs.Turns.{Walk, End, stays_at, traced, turned, turn, going_on, quantum_turn, turns}
+use Rattle.machine_world.specs.Boot.{StartLine, BootFault, Found, found_from, path_of, taken, placed, fitting, located, started, all_started, then_started, empty_world, boot}
+use Rattle.machine_world.specs.Programs.{AreLoaded, BootsLoadPrograms, TurnsLoadNothing, RunsLoadNothing}
+
+-- ---- an event
+
+abbrev Stays : ℕ → Outcome → Type 0
+Stays n (went now t) = AreLoaded n now.notes
+Stays n (strays access) = Unit {0}
+Stays n full = Unit {0}
+Stays n idle = Unit {0}
+
+stays_if : (n : ℕ) (b : Bool) (x y : Outcome) → Stays n x → Stays n y → Stays n (if b then x else y)
+stays_if n true x y hx hy = hx
+stays_if n false x y hx hy = hy
+
+module _ (n : ℕ) (w : World) (are : AreLoaded n w.notes) where
+  stays_served : (a : Ask) (r : Reply) (bytes : Bytes) → Stays n (served w a r bytes)
+  unfolding served
+  stays_served a r bytes = stays_if n (has_room w.notes (weight_of a.sent r.got)) (went _ _) full (tt, are) tt
+
+  stays_put : (a : Ask) (r : Reply) (found : Result Bytes Span) → Stays n (put w a r found)
+  stays_put a r (Ok bytes) = stays_served a r bytes
+  stays_put a r (Err span) = tt
+
+  stays_answered : (a : Ask) (r : Row) → Stays n (answered w a r)
+  unfolding waited
+  stays_answered a (replies r) = stays_put a r (put_got a.space.bytes (writable_in a.space.maps) r.got)
+  stays_answered a waits = are
+
+  stays_exited : (a : Ask) → Stays n (exited w a)
+  unfolding exited ended
+  stays_exited a = stays_if n (has_room w.notes (weight_of a.sent [])) (went _ _) full (tt, (tt, are)) tt
+
+  stays_asked : (p : Process) (s : Space) (found : Result (List ℕ) Span) → Stays n (asked w p s found)
+  stays_asked p s (Ok bytes) =
+      stays_if n (is_exit (number_of p.regs)) (exited w (ask_of w p s bytes)) (answered w (ask_of w p s bytes) (row (ask_of w p s bytes)))
+      (stays_exited (ask_of w p s bytes)) (stays_answered (ask_of w p s bytes) (row (ask_of w p s bytes)))
+  stays_asked p s (Err span) = tt
+
+  stays_effect : (p : Process) (s : Space) (m : Meaning) → Stays n (effect w p s m)
+  unfolding stepped trapped ended answer
+  stays_effect p s (next regs bytes) = are
+  stays_effect p s (trap signal) = (tt, are)
+  stays_effect p s (refused access) = tt
+  stays_effect p s call = stays_asked p s (sent (number_of p.regs) (args_of p.regs) s.bytes)
+
+  stays_in : (p : Process) (found : Option LiveSpace) → Stays n (in_space (λ q s. effect w q s (meaning q.regs s.bytes (writable_in s.maps))) p found)
+  stays_in p None = tt
+  stays_in p (Some s) = stays_effect p s.space (meaning p.regs s.space.bytes (writable_in s.space.maps))
+
+  stays_by : (found : Option Process) → Stays n (by_process w.spaces (λ q s. effect w q s (meaning q.regs s.bytes (writable_in s.maps))) found)
+  stays_by None = tt
+  stays_by (Some p) = stays_in p (find id_of p.space w.spaces)
+
+  stays_event : (pid : ℕ) → Stays n (event w pid)
+  unfolding event at_process
+  stays_event pid = stays_by (find pid_of pid w.procs)
+
+-- ---- turns
+
+turned_stays : (n : ℕ) (more : World → Walk) (w : World) (pid : ℕ) (o : Outcome) → AreLoaded n w.notes → Stays n o
+    → ((v : World) → AreLoaded n v.notes → AreLoaded n (more v).world.notes) → AreLoaded n (turned more w pid o).world.notes
+turned_stays n more w pid (went now t) are stays on = over t.over
+  where
+    over : (b : Bool) → AreLoaded n (traced t (if b then stays_at now None else more now)).world.notes
+    over true = stays
+    over false = on now stays
+turned_stays n more w pid (strays access) are stays on = (tt, are)
+turned_stays n more w pid full are stays on = are
+turned_stays n more w pid idle are stays on = are
+
+pub turn_loads_nothing : TurnsLoadNothing
+unfolding turn
+turn_loads_nothing n zero pid w are = are
+turn_loads_nothing n (suc count) pid w are =
+    turned_stays n (turn count pid) w pid (event w pid) are (stays_event n w are pid) (λ v h. turn_loads_nothing n count pid v h)
+
+quantum_stays : (n : ℕ) (more : World → Walk) (w : World) (count : ℕ) (chosen : Option ℕ) → AreLoaded n w.notes
+    → ((v : World) → AreLoaded n v.notes → AreLoaded n (more v).world.notes) → AreLoaded n (quantum_turn more w count chosen).world.notes
+quantum_stays n more w count None are on = are
+quantum_stays n more w count (Some pid) are on = goes (turn count pid w) (turn_loads_nothing n count pid w are)
+  where
+    goes : (walk : Walk) → AreLoaded n walk.world.notes → AreLoaded n (going_on more walk).world.notes
+    goes walk h = at walk.end
+      where
+        at : (end : Option End) → AreLoaded n (going_on more (record walk { end = end })).world.notes
+        at (Some end) = h
+        at None = on walk.world h
+
+pub run_loads_nothing : RunsLoadNothing
+unfolding turns
+run_loads_nothing n [] w are = are
+run_loads_nothing n (q ∷ qs) w are = quantum_stays n (turns qs) w q.count (picked q.pick (map pid_of w.procs)) are (λ v h. run_loads_nothing n qs v h)
+
+-- ---- the start lines
+
+-- a program that is found is there
+found_below : (i : ℕ) (path : List ℕ) (ps : List Program) (f : Found) → found_from i path ps ≡ Some f → f.index < i + length ps
+found_below i path [] f is = absurd cc
+found_below i path (p ∷ ps) f is = first (bytes_eq p.path path) is (λ h. found_below (i + 1) path ps f h)
+  where
+    first : (b : Bool) → (if b then Some (record { index = i; original = p.original }) else found_from (i + 1) path ps) ≡ Some f
+        → (found_from (i + 1) path ps ≡ Some f → f.index < i + 1 + length ps) → f.index < i + length (p ∷ ps)
+    first true is later = let e : i ≡ f.index = ap (λ (g : Found). g.index) (same_Some _ _ is) in omega (arith, e)
+    first false is later = omega (arith, later is)
+
+-- what a start line gives has its load note, of a program that is there, and the same programs
+abbrev Began : Rest → Result World BootFault → Type 0
+Began rest (Ok now) = AreLoaded (length rest.programs) now.notes × (now.rest ≡ rest)
+Began rest (Err fault) = Unit {0}
+
+module _ (w : World) (are : AreLoaded (length w.rest.programs) w.notes) (s : StartLine) where
+  began_placed : (f : Found) → f.index < length w.rest.programs → (page : Option ℕ) → Began w.rest (placed w s f page)
+  began_placed f below None = tt
+  began_placed f below (Some page) = ((below, are), refl)
+
+  began_fitting : (f : Found) → f.index < length w.rest.programs → (fits : Bool) → Began w.rest (fitting w s f fits)
+  began_fitting f below true = began_placed f below (taken w (block_pages f.original) (free w))
+  began_fitting f below false = tt
+
+  began_located : (found : Option Found) → ((f : Found) → found ≡ Some f → f.index < length w.rest.programs) → Began w.rest (located w s found)
+  began_located None below = tt
+  began_located (Some f) below = began_fitting f (below f refl) (frame_fits f.original s.args [])
+
+  began_started : Began w.rest (started w s)
+  unfolding started
+  began_started = began_located (found_from 0 (path_of s) w.rest.programs) (λ f is.
+      let zero_first : 0 + length w.rest.programs ≡ length w.rest.programs = omega arith in
+      subst (λ n. f.index < n) zero_first (found_below 0 (path_of s) w.rest.programs f is))
+
+began_all : (rest : Rest) (ss : List StartLine) (w : World) → w.rest ≡ rest → AreLoaded (length rest.programs) w.notes → Began rest (all_started w ss)
+unfolding all_started
+began_all rest [] w same are = (are, same)
+began_all rest (s ∷ ss) w same are = on (started w s) (subst (λ r. Began r (started w s)) same (began_started w (subst (λ r. AreLoaded (length r.programs) w.notes) (sym same) are) s))
+    (λ v h is. began_all rest ss v h is)
+  where
+    on : (r : Result World BootFault) → Began rest r → ((v : World) → v.rest ≡ rest → AreLoaded (length rest.programs) v.notes → Began rest (all_started v ss))
+        → Began rest (then_started r (λ now. all_started now ss))
+    on (Ok now) h more = more now h.1 h.0
+    on (Err fault) h more = tt
+
+pub boot_loads_programs : BootsLoadPrograms
+unfolding boot
+boot_loads_programs rest starts w is = (subst (Began rest) is (began_all rest starts (empty_world rest) refl tt)).0

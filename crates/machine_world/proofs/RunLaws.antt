@@ -1,0 +1,54 @@
+-- Runs, quantum by quantum.
+use Rattle.std.proofs.Common.{◌≡◌, ℕ, List, [], ◌∷◌, ◌++◌, map, length, Option, Some, None, refl, sym, ap, ◌∙◌, append_assoc}
+use Rattle.std.specs.Prelude.{◌==◌, if◌then◌else◌}
+use Rattle.quantum_sched.specs.declared.Quantum.{Quantum}
+use Rattle.quantum_sched.specs.Picked.{picked}
+use Rattle.machine_world.specs.World.{World, pid_of}
+use Rattle.machine_world.specs.Turns.{End, all_ended, out_of_quanta, Walk, stays_at, turn, turns, walked, going_on, quantum_turn}
+use Rattle.machine_world.specs.Courses.{Comes}
+use Rattle.machine_world.proofs.TurnLaws.{walked_more}
+
+pub comes_none : (w : World) → Comes [] w w
+comes_none w = record { traces = []; on = λ back. refl }
+
+pub comes_on : (front more : List Quantum) (old mid new : World) → Comes front old mid → Comes more mid new → Comes (front ++ more) old new
+comes_on front more old mid new x y = record {
+  traces = x.traces ++ y.traces;
+  on = λ back.
+      ap (λ qs. turns qs old) (append_assoc front more back) ∙ x.on (more ++ back) ∙ ap (walked x.traces) (y.on back)
+      ∙ sym (walked_more x.traces y.traces (turns back new));
+}
+
+-- ---- one quantum
+
+module _ (q : Quantum) (w : World) where
+  turns_next : (qs : List Quantum) (pid : Option ℕ) → picked q.pick (map pid_of w.procs) ≡ pid → turns (q ∷ qs) w ≡ quantum_turn (turns qs) w q.count pid
+  unfolding turns
+  turns_next qs pid is = ap (quantum_turn (turns qs) w q.count) is
+
+  -- no process lives
+  pub none_chosen : picked q.pick (map pid_of w.procs) ≡ None → (qs : List Quantum) → turns (q ∷ qs) w ≡ stays_at w (Some all_ended)
+  none_chosen is qs = turns_next qs None is
+
+  module _ (pid : ℕ) (chosen : picked q.pick (map pid_of w.procs) ≡ Some pid) (walk : Walk) (is : turn q.count pid w ≡ walk) where
+    -- the turn stops the run
+    pub turn_stops : (end : End) → walk.end ≡ Some end → (qs : List Quantum) → turns (q ∷ qs) w ≡ walk
+    turn_stops end stops qs = turns_next qs (Some pid) chosen ∙ ap (going_on (turns qs)) is ∙ goes walk stops
+      where
+        goes : (v : Walk) → v.end ≡ Some end → going_on (turns qs) v ≡ v
+        goes v e = rw e refl
+
+    -- or the run goes on
+    pub turn_comes : walk.end ≡ None → Comes (q ∷ []) w walk.world
+    turn_comes goes_on = record { traces = walk.traces; on = λ back. turns_next back (Some pid) chosen ∙ ap (going_on (turns back)) is ∙ (rw goes_on refl) }
+
+-- ---- no quantum is left
+
+pub none_left : (w : World) → turns [] w ≡ stays_at w (Some (if length w.procs == 0 then all_ended else out_of_quanta))
+unfolding turns
+none_left w = refl
+
+-- where no process lives, the first quantum tells it
+pub none_lives : (q : Quantum) (w : World) → w.procs ≡ [] → picked q.pick (map pid_of w.procs) ≡ None
+unfolding picked
+none_lives q w is = rw is refl

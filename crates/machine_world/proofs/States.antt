@@ -1,0 +1,123 @@
+-- A world in which one process has other registers and other bytes.
+use Rattle.std.proofs.Common.{◌≡◌, ℕ, ◌+◌, Bool, true, false, cond, ◌⊎◌, inl, inr, List, [], ◌∷◌, Some, refl, sym, ap, ◌∙◌, arith}
+use Rattle.std.specs.Prelude.{◌==◌, option_map}
+use Rattle.std.proofs.lemmas.Bool.Decides.{nat_tests}
+use Rattle.byte_words.specs.ByteMap.{Bytes}
+use Rattle.rv32im_step.specs.declared.regs.Regs.{Regs}
+use Rattle.rv32im_step.specs.declared.access.Access.{Access}
+use Rattle.rv32im_step.specs.Meaning.{call, trap, refused, meaning}
+use Rattle.mmap_rules.specs.Space.{Space, writable_in}
+use Rattle.vfork_exec.specs.Keyed.{find, change}
+use Rattle.vfork_exec.proofs.Keyed.{find_head, find_changed}
+use Rattle.machine_world.specs.World.{World, Process, LiveSpace, pid_of, id_of}
+use Rattle.machine_world.specs.Event.{Outcome, strays, effect, at_process, event, called, died, answer, trapped}
+use Rattle.machine_world.specs.Courses.{moved}
+
+decide : (b : Bool) → (b ≡ true) ⊎ (b ≡ false)
+decide true = inl refl
+decide false = inr refl
+
+eqb_is : (n k : ℕ) → (n == k) ≡ true → n ≡ k
+eqb_is n k h = grind (arith, nat_tests)
+
+-- ---- one item of a list
+
+module _ {A : Type 0} (key : A → ℕ) (k : ℕ) where
+  change_head : (f : A → A) (x : A) (xs : List A) (b : Bool) → (key x == k) ≡ b → change key k f (x ∷ xs) ≡ cond b (f x ∷ xs) (x ∷ change key k f xs)
+  unfolding change
+  change_head f x xs b is = ap (λ (t : Bool). cond t (f x ∷ xs) (x ∷ change key k f xs)) is
+
+  -- what is found has the number
+  pub find_has : (xs : List A) (x : A) → find key k xs ≡ Some x → key x ≡ k
+  unfolding find
+  find_has [] x h = absurd cc
+  find_has (y ∷ ys) x h = elim (decide (key y == k)) [
+    | inl is ↦ let same : y ≡ x = let e = sym (find_head key k y ys true is) ∙ h in cc in ap key (sym same) ∙ eqb_is (key y) k is
+    | inr is ↦ find_has ys x (sym (find_head key k y ys false is) ∙ h)
+  ]
+
+  -- changed to what it is
+  pub change_same : (f : A → A) (xs : List A) (x : A) → find key k xs ≡ Some x → f x ≡ x → change key k f xs ≡ xs
+  unfolding find change
+  change_same f [] x h goes = refl
+  change_same f (y ∷ ys) x h goes = elim (decide (key y == k)) [
+    | inl is ↦
+        let same : y ≡ x = let e = sym (find_head key k y ys true is) ∙ h in cc in
+        change_head f y ys true is ∙ ap (λ z. f z ∷ ys) same ∙ ap (λ z. z ∷ ys) (goes ∙ sym same)
+    | inr is ↦ change_head f y ys false is ∙ ap (λ zs. y ∷ zs) (change_same f ys x (sym (find_head key k y ys false is) ∙ h) goes)
+  ]
+
+  -- changed twice
+  pub change_twice : (f g h : A → A) → ((x : A) → key (f x) ≡ key x) → ((x : A) → g (f x) ≡ h x) → (xs : List A) → change key k g (change key k f xs) ≡ change key k h xs
+  unfolding change
+  change_twice f g h same goes [] = refl
+  change_twice f g h same goes (x ∷ xs) = elim (decide (key x == k)) [
+    | inl is ↦
+        ap (change key k g) (change_head f x xs true is) ∙ change_head g (f x) xs true (ap (λ n. n == k) (same x) ∙ is)
+        ∙ ap (λ z. z ∷ xs) (goes x) ∙ sym (change_head h x xs true is)
+    | inr is ↦
+        ap (change key k g) (change_head f x xs false is) ∙ change_head g x (change key k f xs) false is
+        ∙ ap (λ zs. x ∷ zs) (change_twice f g h same goes xs) ∙ sym (change_head h x xs false is)
+  ]
+
+-- ---- one process in its space
+
+abbrev pub with_regs : Process → Regs → Process
+with_regs p regs = record p { regs = regs }
+
+abbrev pub with_held : LiveSpace → Bytes → ℕ → LiveSpace
+with_held s bytes brk = record s { space = record s.space { bytes = bytes; brk = brk } }
+
+module _ (w : World) (pid : ℕ) (p : Process) (s : LiveSpace) (lives : find pid_of pid w.procs ≡ Some p) (has : find id_of p.space w.spaces ≡ Some s) where
+  pub lives_moved : (regs : Regs) (bytes : Bytes) (brk done : ℕ) → find pid_of pid (moved w p regs bytes brk done).procs ≡ Some (with_regs p regs)
+  lives_moved regs bytes brk done =
+      let same : p.pid ≡ pid = find_has pid_of pid w.procs p lives in
+      ap (λ (n : ℕ). find pid_of pid (change pid_of n (λ q. with_regs q regs) w.procs)) same
+      ∙ find_changed pid_of pid (λ q. with_regs q regs) (λ q. refl) w.procs
+      ∙ ap (option_map (λ q. with_regs q regs)) lives
+
+  pub has_moved : (regs : Regs) (bytes : Bytes) (brk done : ℕ) → find id_of p.space (moved w p regs bytes brk done).spaces ≡ Some (with_held s bytes brk)
+  has_moved regs bytes brk done =
+      find_changed id_of p.space (λ l. with_held l bytes brk) (λ l. refl) w.spaces ∙ ap (option_map (λ l. with_held l bytes brk)) has
+
+  -- not at all
+  pub not_moved : moved w p p.regs s.space.bytes s.space.brk 0 ≡ w
+  not_moved =
+      let same : p.pid ≡ pid = find_has pid_of pid w.procs p lives in
+      let procs : change pid_of p.pid (λ q. with_regs q p.regs) w.procs ≡ w.procs =
+      ap (λ (n : ℕ). change pid_of n (λ q. with_regs q p.regs) w.procs) same ∙ change_same pid_of pid (λ q. with_regs q p.regs) w.procs p lives refl in
+      let spaces : change id_of p.space (λ l. with_held l s.space.bytes s.space.brk) w.spaces ≡ w.spaces =
+      change_same id_of p.space (λ l. with_held l s.space.bytes s.space.brk) w.spaces s has refl in
+      let events : w.events + 0 ≡ w.events = omega arith in
+      rw (procs, spaces, events) refl
+
+  -- what comes of an act, and of the next event
+  pub acts : (act : Process → Space → Outcome) → at_process w pid act ≡ act p s.space
+  unfolding at_process
+  acts act = rw (lives, has) refl
+
+  pub event_is : event w pid ≡ effect w p s.space (meaning p.regs s.space.bytes (writable_in s.space.maps))
+  unfolding event
+  event_is = acts (λ q l. effect w q l (meaning q.regs l.bytes (writable_in l.maps)))
+
+  pub is_called : meaning p.regs s.space.bytes (writable_in s.space.maps) ≡ call → event w pid ≡ called w pid
+  unfolding called
+  is_called is = event_is ∙ ap (effect w p s.space) is ∙ sym (acts (answer w))
+
+  pub is_died : (signal : ℕ) → meaning p.regs s.space.bytes (writable_in s.space.maps) ≡ trap signal → event w pid ≡ died w pid signal
+  unfolding died
+  is_died signal is = event_is ∙ ap (effect w p s.space) is ∙ sym (acts (λ q l. trapped w q signal))
+
+  pub is_stray : (access : Access) → meaning p.regs s.space.bytes (writable_in s.space.maps) ≡ refused access → event w pid ≡ strays access
+  is_stray access is = event_is ∙ ap (effect w p s.space) is
+
+-- twice
+pub moved_twice : (w : World) (p : Process) (regs after : Regs) (bytes now : Bytes) (brk next i j : ℕ) →
+    moved (moved w p regs bytes brk i) (with_regs p regs) after now next j ≡ moved w p after now next (i + j)
+moved_twice w p regs after bytes now brk next i j =
+    let procs : change pid_of p.pid (λ q. with_regs q after) (change pid_of p.pid (λ q. with_regs q regs) w.procs) ≡ change pid_of p.pid (λ q. with_regs q after) w.procs =
+    change_twice pid_of p.pid (λ q. with_regs q regs) (λ q. with_regs q after) (λ q. with_regs q after) (λ q. refl) (λ q. refl) w.procs in
+    let spaces : change id_of p.space (λ l. with_held l now next) (change id_of p.space (λ l. with_held l bytes brk) w.spaces) ≡ change id_of p.space (λ l. with_held l now next) w.spaces =
+    change_twice id_of p.space (λ l. with_held l bytes brk) (λ l. with_held l now next) (λ l. with_held l now next) (λ l. refl) (λ l. refl) w.spaces in
+    let events : w.events + i + j ≡ w.events + (i + j) = omega arith in
+    rw (procs, spaces, events) refl

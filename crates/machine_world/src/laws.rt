@@ -1,0 +1,16 @@
+//! Laws over the definitions. They hold for all worlds, and no code runs.
+
+ghost use Rattle.machine_world.specs.Laws.{InstructionsAreEvents};
+ghost use Rattle.machine_world.specs.Programs.{BootsLoadPrograms, TurnsLoadNothing, RunsLoadNothing};
+
+/// Instructions of one process, one after the other, are events.
+pub fn instructions_law()
+    ensures { InstructionsAreEvents }
+{}
+
+/// Each load note names a program that is there.
+pub fn programs_law()
+    ensures boot { BootsLoadPrograms }
+    ensures turns { TurnsLoadNothing }
+    ensures runs { RunsLoadNothing }
+{}

@@ -1,0 +1,22 @@
+-- What the reading of a call's bytes answers.
+use Rattle.std.specs.Prelude.{◌≡◌, ℕ, List, ◌++◌, Vec, Result, Ok, Err, ⊤}
+use Rattle.call_log.specs.Sent.{Span}
+use Rattle.syscall_layer.specs.declared.reading.Unread.{Unread}
+use Rattle.syscall_layer.specs.declared.reading.Unread.TheVariants.{Stray, Memory}
+
+-- what was read, or the range that strays; out of memory says nothing
+abbrev pub Reads : {Y : Type 0} → Result (List ℕ) Span → Result (Vec ℕ Y) Unread → Type 0
+Reads found (Ok bytes) = found ≡ Ok bytes.items
+Reads found (Err (Stray addr len)) = found ≡ Err (record { addr = addr; len = len })
+Reads found (Err Memory) = Unit {0}
+
+-- what is read, behind what was read before
+abbrev pub appended : List ℕ → Result (List ℕ) Span → Result (List ℕ) Span
+appended front (Ok back) = Ok (front ++ back)
+appended front (Err span) = Err span
+
+-- the same where the bytes are added to a list
+abbrev pub Appends : Result (List ℕ) Span → List ℕ → List ℕ → Result ⊤ Unread → Type 0
+Appends found old new (Ok done) = appended old found ≡ Ok new
+Appends found old new (Err (Stray addr len)) = found ≡ Err (record { addr = addr; len = len })
+Appends found old new (Err Memory) = Unit {0}

@@ -1,0 +1,158 @@
+//! The bytes that a system call reads.
+
+ghost use Rattle.std.specs.Prelude.{◌≡◌, ◌*◌, ◌≤◌, IfOk, length};
+ghost use Rattle.call_log.specs.Sent.{read_span, read_spans, piece_spans, data_spans, write_sent, writev_sent, sent};
+ghost use Rattle.syscall_layer.specs.Stands.{private_bytes};
+ghost use Rattle.syscall_layer.specs.Reading.{Reads, Appends};
+
+use byte_words::word;
+use mmap_rules::Space;
+use phys_mem::{BASE, PhysMem};
+use std::alloc::{AllocError, Global};
+
+/// The most bytes that one call moves.
+const MOST_MOVED: u32 = 16_777_216;
+
+/// The most pieces of one call, Linux's UIO_MAXIOV.
+const MOST_PIECES: u32 = 1024;
+
+/// Why the bytes of a call are not read.
+#[derive(Clone, Copy, Debug, PartialEq, Eq)]
+pub enum Unread {
+    /// This range isn't the program's own: its first address, and its bytes.
+    Stray { addr: u32, len: u32 },
+    /// Out of host memory.
+    Memory,
+}
+
+impl From<AllocError> for Unread {
+    ghost use Rattle.std.specs.Prelude.{◌≡◌};
+    ghost use Rattle.syscall_layer.specs.declared.reading.Unread.TheVariants.{Memory};
+
+    ghost from_gives = { λ _ e. e ≡ Memory };
+
+    fn from(_error: AllocError) -> Unread {
+        Unread::Memory
+    }
+}
+
+/// Adds the bytes of a range, with one copy.
+fn read_range(
+    mem: &PhysMem,
+    space: &Space,
+    addr: u32,
+    len: u32,
+    into: &mut Vec<u8>,
+) -> Result<(), Unread>
+    requires memory { length mem.now ≡ 4096 * space.now.pages }
+    ensures { Appends (read_span (private_bytes mem.now space.now) (record { addr = addr; len = len })) into.old.items into.new.items result }
+{
+    if len == 0 {
+        return Ok(());
+    }
+    let owners = space.owners();
+    if !owners.own(addr, len, false) {
+        return Err(Unread::Stray { addr, len });
+    }
+    let from = (addr - BASE) as usize;
+    into.extend_from_slice(&mem.as_slice()[from..from + len as usize])?;
+    Ok(())
+}
+
+/// What a write reads.
+fn read_write(
+    alloc: Global,
+    mem: &PhysMem,
+    space: &Space,
+    at: u32,
+    len: u32,
+) -> Result<Vec<u8>, Unread>
+    requires memory { length mem.now ≡ 4096 * space.now.pages }
+    ensures { Reads (write_sent (private_bytes mem.now space.now) at len) result }
+{
+    let mut bytes = Vec::new(alloc);
+    read_range(mem, space, at, len.min(MOST_MOVED), &mut bytes)?;
+    Ok(bytes)
+}
+
+/// The structs that say where a writev's data stands. Each is an access of its own.
+fn read_pieces(
+    alloc: Global,
+    mem: &PhysMem,
+    space: &Space,
+    at: u32,
+    count: u32,
+) -> Result<Vec<u8>, Unread>
+    requires memory { length mem.now ≡ 4096 * space.now.pages }
+    requires few { count ≤ 1024 }
+    ensures read { Reads (read_spans (private_bytes mem.now space.now) (piece_spans at count)) result }
+    ensures len { IfOk result (λ pieces. length pieces.items ≡ 8 * count) }
+{
+    let mut pieces = Vec::new(alloc);
+    for i in 0..count {
+        read_range(mem, space, at.wrapping_add(8 * i), 8, &mut pieces)?;
+    }
+    Ok(pieces)
+}
+
+/// Adds the data of a writev: its pieces, cut where their sum would pass the most that a call moves.
+fn read_data(
+    mem: &PhysMem,
+    space: &Space,
+    pieces: &[u8],
+    count: u32,
+    into: &mut Vec<u8>,
+) -> Result<(), Unread>
+    requires memory { length mem.now ≡ 4096 * space.now.pages }
+    requires few { count ≤ 1024 }
+    requires pieces { length pieces.now ≡ 8 * count }
+    ensures { Appends (read_spans (private_bytes mem.now space.now) (data_spans count pieces.now)) into.old.items into.new.items result }
+{
+    let mut left = MOST_MOVED;
+    for i in 0..count {
+        let at = 8 * i as usize;
+        let len = word(pieces, at + 4);
+        read_range(mem, space, word(pieces, at), len.min(left), into)?;
+        left = left.saturating_sub(len);
+    }
+    Ok(())
+}
+
+/// What a writev reads: its pieces, and their data.
+fn read_writev(
+    alloc: Global,
+    mem: &PhysMem,
+    space: &Space,
+    at: u32,
+    count: u32,
+) -> Result<Vec<u8>, Unread>
+    requires memory { length mem.now ≡ 4096 * space.now.pages }
+    ensures { Reads (writev_sent (private_bytes mem.now space.now) at count) result }
+{
+    if count > MOST_PIECES {
+        return Ok(Vec::new(alloc));
+    }
+    let pieces = read_pieces(alloc, mem, space, at, count)?;
+    let mut bytes = Vec::from_slice(alloc, &pieces)?;
+    read_data(mem, space, &pieces, count, &mut bytes)?;
+    Ok(bytes)
+}
+
+/// The bytes that the call of this number reads, in the order read.
+#[tactic(auto, unfolding(call_log::specs::Sent::sent))]
+pub fn read_sent(
+    alloc: Global,
+    mem: &PhysMem,
+    space: &Space,
+    number: u32,
+    args: &[u32; 6],
+) -> Result<Vec<u8>, Unread>
+    requires memory { length mem.now ≡ 4096 * space.now.pages }
+    ensures { Reads (sent number args.now (private_bytes mem.now space.now)) result }
+{
+    match number {
+        64 => read_write(alloc, mem, space, args[1], args[2]),
+        66 => read_writev(alloc, mem, space, args[1], args[2]),
+        _ => Ok(Vec::new(alloc)),
+    }
+}
