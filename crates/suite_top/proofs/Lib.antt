@@ -5,7 +5,10 @@
 -- StatusLaws, HostLaws: the laws over every call.
 -- OneFileLaws, ConvertLaws, CheckLaws, ListLaws, SizesLaw: the laws of the commands.
 -- OneFileSteps: a command that goes on with one file.
+-- Opened: a list opened at one place.
+-- PathSets: the set of the paths so far.
 -- LoadedItems, OriginalsSame, MadePrograms: the loads of a manifest's lines, and the programs that they make.
+-- Booted: what a boot of the machine gives.
 -- Samples, ListSamples: the definitions on the worked example.
 pub mod HostCourses
 pub mod HostSteps
@@ -25,8 +28,11 @@ pub mod ConvertLaws
 pub mod CheckLaws
 pub mod ListLaws
 pub mod SizesLaw
+pub mod Opened
+pub mod PathSets
 pub mod LoadedItems
 pub mod OriginalsSame
 pub mod MadePrograms
+pub mod Booted
 pub mod Samples
 pub mod ListSamples
