@@ -5,9 +5,12 @@
 -- StatusLaws, HostLaws: the laws over every call.
 -- OneFileLaws, ConvertLaws, CheckLaws, ListLaws, SizesLaw: the laws of the commands.
 -- Reports: the parts of the report of a run.
+-- OneFileSteps: a command that goes on with one file.
+-- LoadedItems, OriginalsSame, MadePrograms: the loads of a manifest's lines, and the programs that they make.
 -- Samples, ListSamples: the definitions on the worked example.
 pub mod HostCourses
 pub mod HostSteps
+pub mod OneFileSteps
 pub mod Stops
 pub mod Lines
 pub mod Usage
@@ -24,5 +27,8 @@ pub mod CheckLaws
 pub mod ListLaws
 pub mod SizesLaw
 pub mod Reports
+pub mod LoadedItems
+pub mod OriginalsSame
+pub mod MadePrograms
 pub mod Samples
 pub mod ListSamples
