@@ -1,6 +1,6 @@
 //! The start of a machine.
 
-ghost use Rattle.std.specs.Prelude.{◌≡◌, ◌<◌, ◌≤◌, ℕ, Some, slice_get, length, vec_len};
+ghost use Rattle.std.specs.Prelude.{◌≡◌, ◌^◌, ◌<◌, ◌≤◌, ℕ, Some, slice_get, length, vec_len};
 ghost use Rattle.page_runs.specs.Choosers.{IsChooser, kind_of};
 ghost use Rattle.machine_world.specs.Boot.{boot};
 ghost use Rattle.manifest_text.specs.declared.manifest.Start.{Start as StartItem};
@@ -29,17 +29,11 @@ pub struct Setup {
 #[derive(Clone, Copy, Debug, PartialEq, Eq)]
 pub enum BootRefusal {
     /// Its path is that of no program.
-    BadStart {
-        line: u32,
-    },
+    BadStart { line: u32 },
     /// Its start frame doesn't fit into the stack.
-    E2big {
-        line: u32,
-    },
+    E2big { line: u32 },
     /// No free run has the pages of its block.
-    NoRun {
-        line: u32,
-    },
+    NoRun { line: u32 },
     /// Out of host memory.
     Memory,
 }

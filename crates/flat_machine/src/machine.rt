@@ -1,9 +1,10 @@
 //! The machine, and what can be read of it.
 
-ghost use Rattle.std.specs.Prelude.{◌≡◌, map, reverse};
+ghost use Rattle.std.specs.Prelude.{◌≡◌, length, map, reverse};
 ghost use Rattle.call_log.specs.Values.{note_value};
 ghost use Rattle.call_log.specs.Programs.{paths_of};
 ghost use Rattle.machine_world.specs.World.{program_path};
+ghost use Rattle.machine_world.specs.Programs.{AreLoaded};
 ghost use Rattle.flat_machine.specs.State.{world};
 
 use bflt_format::Flat;
@@ -29,13 +30,16 @@ impl Model for Machine {
 
     ghost Value = { State };
 
-    ghost use Rattle.flat_machine.specs.Inside.{state_of};
+    ghost use Rattle.flat_machine.specs.Inside.{state_of, Named};
 
     ghost view = { state_of };
+
+    ghost invariant = { Named };
 }
 
 impl Machine {
     /// How free runs are chosen.
+    #[tactic(auto, unfolding(syscall_layer::specs::Stands::world_of))]
     pub fn kind(&self) -> Kind
         ensures { result ≡ (world self.now).rest.kind }
     {
@@ -43,6 +47,7 @@ impl Machine {
     }
 
     /// How many events were carried out.
+    #[tactic(auto, unfolding(syscall_layer::specs::Stands::world_of))]
     pub fn events(&self) -> u64
         ensures { result ≡ (world self.now).events }
     {
@@ -50,15 +55,17 @@ impl Machine {
     }
 
     /// All that was written to the console.
+    #[tactic(auto, unfolding(syscall_layer::specs::Stands::world_of))]
     pub fn console(&self) -> &[u8]
         ensures { result.now ≡ (world self.now).rest.console }
     {
         &self.parts.console
     }
 
-    /// The notes, oldest first.
+    /// The notes, oldest first. Those of loads name programs that are there.
     pub fn notes(&self) -> &[Note]
-        ensures { (world self.now).notes ≡ reverse (map note_value result.now) }
+        ensures loaded { AreLoaded (length (world self.now).rest.programs) (world self.now).notes }
+        ensures notes { (world self.now).notes ≡ reverse (map note_value result.now) }
     {
         self.parts.log.notes()
     }

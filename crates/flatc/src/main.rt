@@ -8,9 +8,11 @@ mod pages;
 mod program;
 
 use host_io::{ErrSink, FolderHost, OutSink, StreamSink};
+use page_runs::{Chooser, Kind, Run, best_fit, first_fit, last_fit};
 use program::{end, read_arguments};
 use std::process;
 use std::process::ExitCode;
+use suite_top::Placements;
 
 fn main(rt: HostRuntime) -> ExitCode {
     let alloc = rt.alloc();
@@ -19,7 +21,12 @@ fn main(rt: HostRuntime) -> ExitCode {
     let mut report: ErrSink = StreamSink::new(rt.stderr());
     let number = process::id(rt.process());
     let mut host = FolderHost::new(rt, "flatc", number);
-    end(alloc, arguments, &mut host, &mut out, &mut report)
+    let place = Placements {
+        first: Chooser::new(Kind::First, |runs: &[Run], need: u32| first_fit(runs, need)),
+        best: Chooser::new(Kind::Best, |runs: &[Run], need: u32| best_fit(runs, need)),
+        last: Chooser::new(Kind::Last, |runs: &[Run], need: u32| last_fit(runs, need)),
+    };
+    end(alloc, arguments, &mut host, &mut out, &mut report, &place)
 }
 
 #[cfg(test)]

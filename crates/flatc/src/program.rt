@@ -5,15 +5,17 @@ ghost use Rattle.std.specs.Result.{result_ok};
 ghost use Rattle.std.specs.Vec.Iter.{into_iter_items};
 ghost use Rattle.flatc.specs.Pages.{page_of};
 ghost use Rattle.flatc.specs.Program.{Ends, Exits};
+ghost use Rattle.page_runs.specs.Choosers.{IsChooser, kind_of};
 ghost use Rattle.suite_top.specs.Observed.{observed};
 
 use crate::pages::{HELP, VERSION, page_of};
 use host_io::{Host, Sink};
+use page_runs::{Kind, Run};
 use std::alloc::{AllocError, Global};
 use std::process::ExitCode;
 use std::rt::Env;
 use std::{env, io};
-use suite_top::{MEMORY_LINE, Status, deliver, suite};
+use suite_top::{MEMORY_LINE, Placements, Status, deliver, suite};
 
 /// The arguments after the program's name. One that isn't text is an error.
 pub fn read_arguments(rt: &(impl Env + AllocGlobal)) -> io::Result<Vec<String>> {
@@ -29,13 +31,24 @@ fn arguments_after_name(alloc: Global, arguments: env::Args) -> Result<Vec<Strin
 }
 
 /// Writes a page of its own, or carries out the command that the arguments are.
-pub fn run<H: Host, O: Sink, R: Sink>(
+pub fn run<H: Host, O: Sink, R: Sink, A, B, C>(
     alloc: Global,
     arguments: &[String],
     host: &mut H,
     out: &mut O,
     report: &mut R,
+    place: &Placements<A, B, C>,
 ) -> Status
+where
+    A: Fn(&[Run], u32) -> Option<usize>,
+    B: Fn(&[Run], u32) -> Option<usize>,
+    C: Fn(&[Run], u32) -> Option<usize>,
+    requires first { IsChooser A.pre A.post place.now.first }
+    requires first_kind { kind_of place.now.first ≡ Kind.First }
+    requires best { IsChooser B.pre B.post place.now.best }
+    requires best_kind { kind_of place.now.best ≡ Kind.Best }
+    requires last { IsChooser C.pre C.post place.now.last }
+    requires last_kind { kind_of place.now.last ≡ Kind.Last }
     ensures { Ends (page_of HELP.now VERSION.now) (Some (map string_bytes arguments.now))
         (observed H.told H.faults host.old) (observed H.told H.faults host.new)
         (observed O.told O.faults out.old) (observed O.told O.faults out.new)
@@ -43,25 +56,36 @@ pub fn run<H: Host, O: Sink, R: Sink>(
 {
     match page_of(arguments) {
         Some(page) => deliver(alloc, Status::Done, page.as_bytes(), b"", out, report),
-        None => suite(alloc, arguments, host, out, report),
+        None => suite(alloc, arguments, host, out, report, place),
     }
 }
 
 /// Runs with the arguments that were read. Where one isn't text, the arguments are no command.
-pub fn run_read<H: Host, O: Sink, R: Sink>(
+pub fn run_read<H: Host, O: Sink, R: Sink, A, B, C>(
     alloc: Global,
     arguments: io::Result<Vec<String>>,
     host: &mut H,
     out: &mut O,
     report: &mut R,
+    place: &Placements<A, B, C>,
 ) -> Status
+where
+    A: Fn(&[Run], u32) -> Option<usize>,
+    B: Fn(&[Run], u32) -> Option<usize>,
+    C: Fn(&[Run], u32) -> Option<usize>,
+    requires first { IsChooser A.pre A.post place.now.first }
+    requires first_kind { kind_of place.now.first ≡ Kind.First }
+    requires best { IsChooser B.pre B.post place.now.best }
+    requires best_kind { kind_of place.now.best ≡ Kind.Best }
+    requires last { IsChooser C.pre C.post place.now.last }
+    requires last_kind { kind_of place.now.last ≡ Kind.Last }
     ensures { Ends (page_of HELP.now VERSION.now) (option_map (λ read. map string_bytes read.items) (result_ok arguments))
         (observed H.told H.faults host.old) (observed H.told H.faults host.new)
         (observed O.told O.faults out.old) (observed O.told O.faults out.new)
         (observed R.told R.faults report.old) (observed R.told R.faults report.new) result }
 {
     match arguments {
-        Ok(arguments) => run(alloc, &arguments, host, out, report),
+        Ok(arguments) => run(alloc, &arguments, host, out, report, place),
         Err(error) if error.kind() == io::ErrorKind::OutOfMemory => {
             deliver(
                 alloc,
@@ -72,23 +96,34 @@ pub fn run_read<H: Host, O: Sink, R: Sink>(
                 report,
             )
         }
-        Err(_) => suite(alloc, &[], host, out, report),
+        Err(_) => suite(alloc, &[], host, out, report, place),
     }
 }
 
 /// The whole program, from the arguments that were read to its exit status.
-pub fn end<H: Host, O: Sink, R: Sink>(
+pub fn end<H: Host, O: Sink, R: Sink, A, B, C>(
     alloc: Global,
     arguments: io::Result<Vec<String>>,
     host: &mut H,
     out: &mut O,
     report: &mut R,
+    place: &Placements<A, B, C>,
 ) -> ExitCode
+where
+    A: Fn(&[Run], u32) -> Option<usize>,
+    B: Fn(&[Run], u32) -> Option<usize>,
+    C: Fn(&[Run], u32) -> Option<usize>,
+    requires first { IsChooser A.pre A.post place.now.first }
+    requires first_kind { kind_of place.now.first ≡ Kind.First }
+    requires best { IsChooser B.pre B.post place.now.best }
+    requires best_kind { kind_of place.now.best ≡ Kind.Best }
+    requires last { IsChooser C.pre C.post place.now.last }
+    requires last_kind { kind_of place.now.last ≡ Kind.Last }
     ensures { Exits (page_of HELP.now VERSION.now) (option_map (λ read. map string_bytes read.items) (result_ok arguments))
         (observed H.told H.faults host.old) (observed H.told H.faults host.new)
         (observed O.told O.faults out.old) (observed O.told O.faults out.new)
         (observed R.told R.faults report.old) (observed R.told R.faults report.new) (exit_status result) }
 {
-    let status = run_read(alloc, arguments, host, out, report);
+    let status = run_read(alloc, arguments, host, out, report, place);
     ExitCode::from(status.code())
 }

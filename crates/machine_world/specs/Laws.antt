@@ -1,9 +1,14 @@
 -- Laws of events.
-use Rattle.std.specs.Prelude.{◌≡◌, ℕ, Some}
+use Rattle.std.specs.Prelude.{◌≡◌, ℕ, false, if◌then◌else◌, [], ◌∷◌, Some}
 use Rattle.mmap_rules.specs.Space.{writable_in}
 use Rattle.region_watch.specs.Instructions.{Ran, instructions}
 use Rattle.vfork_exec.specs.Keyed.{find}
+use Rattle.call_log.specs.declared.errno.Errno.{Errno}
+use Rattle.call_log.specs.Errno.{refusal}
+use Rattle.call_log.specs.Notes.{call_note, weight_of, has_room}
 use Rattle.machine_world.specs.World.{World, Process, LiveSpace, pid_of, id_of}
+use Rattle.machine_world.specs.Rows.{Ask, row, refuses}
+use Rattle.machine_world.specs.Event.{Outcome, went, full, with_state, counted, noted, entry_of, replied, answered}
 use Rattle.machine_world.specs.Courses.{Leads, Halts, moved}
 
 -- up to n instructions of a process over the bytes of its space are as many events: a turn goes on behind them, and where one
@@ -13,3 +18,15 @@ InstructionsAreEvents =
     (n pid : ℕ) (w : World) (p : Process) (s : LiveSpace) (r : Ran) → find pid_of pid w.procs ≡ Some p → find id_of p.space w.spaces ≡ Some s →
     r ≡ instructions n (writable_in s.space.maps) p.regs s.space.bytes →
     Leads pid w r.done (moved w p r.regs r.bytes s.space.brk r.done) × Halts (moved w p r.regs r.bytes s.space.brk r.done) pid n r.done r.stop
+
+-- a refused call changes the reply's register, the next instruction, the notes and the count of events, and nothing else
+abbrev pub refused_outcome : World → Ask → Errno → Outcome
+refused_outcome w a e =
+    if has_room w.notes (weight_of a.sent []) then
+    went
+    (noted (call_note (entry_of a (refusal e) [])) (counted (with_state w a.process (replied a.process.regs (refusal e)) a.space.bytes a.space.brk)))
+    (record { space = a.process.space; events = 1; entries = entry_of a (refusal e) [] ∷ []; over = false })
+    else full
+
+abbrev pub RefusalsChangeNothingElse : Type 0
+RefusalsChangeNothingElse = (w : World) (a : Ask) (e : Errno) → a.rest ≡ w.rest → row a ≡ refuses a e → answered w a (row a) ≡ refused_outcome w a e

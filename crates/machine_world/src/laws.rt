@@ -1,6 +1,6 @@
 //! Laws over the definitions. They hold for all worlds, and no code runs.
 
-ghost use Rattle.machine_world.specs.Laws.{InstructionsAreEvents};
+ghost use Rattle.machine_world.specs.Laws.{InstructionsAreEvents, RefusalsChangeNothingElse};
 ghost use Rattle.machine_world.specs.Programs.{BootsLoadPrograms, TurnsLoadNothing, RunsLoadNothing};
 
 /// Instructions of one process, one after the other, are events.
@@ -13,4 +13,9 @@ pub fn programs_law()
     ensures boot { BootsLoadPrograms }
     ensures turns { TurnsLoadNothing }
     ensures runs { RunsLoadNothing }
+{}
+
+/// A system call that is refused changes nothing but the reply, the next instruction, the notes and the count of events.
+pub fn refused_calls_law()
+    ensures { RefusalsChangeNothingElse }
 {}

@@ -4,6 +4,7 @@
 -- Outcomes: what an outcome can be.
 -- StatusLaws, HostLaws: the laws over every call.
 -- OneFileLaws, ConvertLaws, CheckLaws, ListLaws, SizesLaw: the laws of the commands.
+-- Reports: the parts of the report of a run.
 -- OneFileSteps: a command that goes on with one file.
 -- Opened: a list opened at one place.
 -- PathSets: the set of the paths so far.
@@ -30,6 +31,7 @@ pub mod ListLaws
 pub mod SizesLaw
 pub mod Opened
 pub mod PathSets
+pub mod Reports
 pub mod LoadedItems
 pub mod OriginalsSame
 pub mod MadePrograms

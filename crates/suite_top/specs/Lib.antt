@@ -10,6 +10,7 @@
 -- Load        a command that goes on with the file of a load
 -- OneFile     a command that begins with the load of a file
 -- Convert, Check, List   the commands
+-- Report      the report of a run, and the status that it ends with
 -- Originals   the program of an ELF file
 -- Programs    the programs that the item lines of a manifest bring in
 -- Run         the command `run`
@@ -33,6 +34,7 @@ pub mod OneFile
 pub mod Convert
 pub mod Check
 pub mod List
+pub mod Report
 pub mod Originals
 pub mod Programs
 pub mod Run

@@ -72,7 +72,7 @@ reloc_fault_words reloc.LoneLow = codes "8 LoneLow"
 reloc_fault_words reloc.Unpaired = codes "9 Unpaired"
 reloc_fault_words reloc.FieldMismatch = codes "10 FieldMismatch"
 
--- a linked address: lower case hexadecimal digits, with zeros in front up to eight of them
+-- an address: lower case hexadecimal digits, with zeros in front up to eight of them
 abbrev pub address_words : ℕ → List ℕ
 address_words n = codes "0x" ++ replicate (8 - length (digits 16 false n)) 48 ++ digits 16 false n
 

@@ -3,6 +3,7 @@ ghost use Rattle.std.specs.Prelude.{◌+◌, ◌≤◌};
 
 use super::*;
 use host_io::{MemHost, MemSink};
+use page_runs::{Chooser, Kind, Run, best_fit, first_fit, last_fit};
 use std::alloc::{AllocError, Global};
 use std::test::Fail;
 
@@ -116,12 +117,18 @@ fn owned(alloc: Global, arguments: &[&str]) -> Result<Vec<String>, AllocError> {
 
 fn call(alloc: Global, arguments: &[&str], outside: &mut Outside) -> Result<Status, AllocError> {
     let arguments = owned(alloc, arguments)?;
+    let place = Placements {
+        first: Chooser::new(Kind::First, |runs: &[Run], need: u32| first_fit(runs, need)),
+        best: Chooser::new(Kind::Best, |runs: &[Run], need: u32| best_fit(runs, need)),
+        last: Chooser::new(Kind::Last, |runs: &[Run], need: u32| last_fit(runs, need)),
+    };
     Ok(suite(
         alloc,
         &arguments,
         &mut outside.host,
         &mut outside.out,
         &mut outside.report,
+        &place,
     ))
 }
 

@@ -105,7 +105,8 @@ fn reloc_tail(
     format!(in alloc; "reloc section {section} entry {index} {words}")
 }
 
-fn address_words(alloc: Global, address: u32) -> Result<String, AllocError>
+/// An address in eight digits.
+pub fn address_words(alloc: Global, address: u32) -> Result<String, AllocError>
     ensures { IfOk result (λ words. string_bytes words ≡ address_words address) }
 {
     format!(in alloc; "0x{address:08x}")

@@ -1,6 +1,7 @@
 //! The top call.
 ghost use Rattle.std.specs.Prelude.{◌≡◌, ◌⊎◌, map, string_bytes};
 ghost use Rattle.host_io.specs.Faults.{Rose};
+ghost use Rattle.page_runs.specs.Choosers.{IsChooser, kind_of};
 ghost use Rattle.suite_top.specs.Observed.{observed};
 ghost use Rattle.suite_top.specs.Answer.{ending_of};
 ghost use Rattle.suite_top.specs.Result.{result_of};
@@ -13,12 +14,19 @@ use crate::check::check_file;
 use crate::convert::convert_file;
 use crate::delivery::deliver;
 use crate::list::list_file;
+use crate::placements::Placements;
 use crate::status::Status;
 use crate::texts;
 use host_io::{Host, Sink};
+use page_runs::{Kind, Run};
 use std::alloc::{AllocError, Global};
 
-fn answer<H: Host>(alloc: Global, arguments: &[String], host: &mut H) -> Result<Answer, AllocError>
+fn answer<H: Host, A, B, C>(
+    alloc: Global,
+    arguments: &[String],
+    host: &mut H,
+    _place: &Placements<A, B, C>,
+) -> Result<Answer, AllocError>
     ensures { PerformsCommand (observed H.told H.faults host.old) (observed H.told H.faults host.new) (result_of (map string_bytes arguments.now)) (ending_of result) }
 {
     match read_arguments(arguments) {
@@ -31,13 +39,24 @@ fn answer<H: Host>(alloc: Global, arguments: &[String], host: &mut H) -> Result<
 
 /// Carries out the command that the arguments are: those after the program's name. All that it
 /// writes to the sinks is known before the first byte of it is written.
-pub fn suite<H: Host, O: Sink, R: Sink>(
+pub fn suite<H: Host, O: Sink, R: Sink, A, B, C>(
     alloc: Global,
     arguments: &[String],
     host: &mut H,
     out: &mut O,
     report: &mut R,
+    place: &Placements<A, B, C>,
 ) -> Status
+where
+    A: Fn(&[Run], u32) -> Option<usize>,
+    B: Fn(&[Run], u32) -> Option<usize>,
+    C: Fn(&[Run], u32) -> Option<usize>,
+    requires first { IsChooser A.pre A.post place.now.first }
+    requires first_kind { kind_of place.now.first ≡ Kind.First }
+    requires best { IsChooser B.pre B.post place.now.best }
+    requires best_kind { kind_of place.now.best ≡ Kind.Best }
+    requires last { IsChooser C.pre C.post place.now.last }
+    requires last_kind { kind_of place.now.last ≡ Kind.Last }
     ensures all { MeetsResult (map string_bytes arguments.now)
         (observed H.told H.faults host.old) (observed H.told H.faults host.new)
         (observed O.told O.faults out.old) (observed O.told O.faults out.new)
@@ -46,7 +65,7 @@ pub fn suite<H: Host, O: Sink, R: Sink>(
     ensures host_write { result ≡ Status.HostWrite → Rose (H.faults host.old) (H.faults host.new) }
     ensures sink_write { result ≡ Status.SinkWrite → Rose (O.faults out.old) (O.faults out.new) ⊎ Rose (R.faults report.old) (R.faults report.new) }
 {
-    match answer(alloc, arguments, host) {
+    match answer(alloc, arguments, host, place) {
         Ok(answer) => deliver(
             alloc,
             answer.status,

@@ -2,11 +2,13 @@
 
 use crate::program::{end, read_arguments};
 use host_io::{MemHost, MemSink};
+use page_runs::{Chooser, Kind, Run, best_fit, first_fit, last_fit};
 use std::env::FillError;
 use std::io;
 use std::process::ExitCode;
 use std::rt::Env;
 use std::test::Fail;
+use suite_top::Placements;
 
 /// A process with these arguments, the first of which is its name.
 #[derive(Drop)]
@@ -63,7 +65,12 @@ fn arguments_that_are_no_text_are_no_command(rt: HostRuntime) -> Result<(), Fail
     let mut out = MemSink::new(alloc)?;
     let mut report = MemSink::new(alloc)?;
     let words = Err(io::Error::from(io::ErrorKind::InvalidData));
-    let code = end(alloc, words, &mut host, &mut out, &mut report);
+    let place = Placements {
+        first: Chooser::new(Kind::First, |runs: &[Run], need: u32| first_fit(runs, need)),
+        best: Chooser::new(Kind::Best, |runs: &[Run], need: u32| best_fit(runs, need)),
+        last: Chooser::new(Kind::Last, |runs: &[Run], need: u32| last_fit(runs, need)),
+    };
+    let code = end(alloc, words, &mut host, &mut out, &mut report, &place);
     assert_eq!(rt; code == ExitCode::from(1), true);
     assert_eq!(rt; out.bytes(), b"".as_slice());
     assert_eq!(rt; report.bytes(), b"usage: flatc COMMAND WORDS\n".as_slice());

@@ -2,10 +2,12 @@
 
 use crate::program::end;
 use host_io::{FolderHost, MemSink};
+use page_runs::{Chooser, Kind, Run, best_fit, first_fit, last_fit};
 use std::process::{Abort, ExitCode};
 use std::rt::Files;
 use std::test::Fail;
 use std::{env, fs, process};
+use suite_top::Placements;
 
 /// An ELF file: .text at 0x10000, .data behind it, and in .data one pointer with its relocation.
 const ELF: [u8; 448] = [
@@ -66,7 +68,12 @@ fn check_run<R: Abort + Files + AllocGlobal + Clone + Drop>(
     let mut host = FolderHost::new(rt.clone()?, "flatc", 7);
     let mut out = MemSink::new(alloc)?;
     let mut report = MemSink::new(alloc)?;
-    let code = end(alloc, Ok(read), &mut host, &mut out, &mut report);
+    let place = Placements {
+        first: Chooser::new(Kind::First, |runs: &[Run], need: u32| first_fit(runs, need)),
+        best: Chooser::new(Kind::Best, |runs: &[Run], need: u32| best_fit(runs, need)),
+        last: Chooser::new(Kind::Last, |runs: &[Run], need: u32| last_fit(runs, need)),
+    };
+    let code = end(alloc, Ok(read), &mut host, &mut out, &mut report, &place);
     assert_eq!(rt; code == ExitCode::from(want.0), true);
     assert_eq!(rt; str::from_utf8(out.bytes())?, want.1);
     assert_eq!(rt; str::from_utf8(report.bytes())?, want.2);

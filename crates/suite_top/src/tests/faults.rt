@@ -44,7 +44,12 @@ fn report_at(alloc: Global, size: u32) -> Result<MemSink, AllocError> {
     let mut out = MemSink::new(alloc)?;
     let mut report = MemSink::new(alloc)?;
     let arguments = owned(alloc, &CONVERT)?;
-    let _ = suite(alloc, &arguments, &mut host, &mut out, &mut report);
+    let place = Placements {
+        first: Chooser::new(Kind::First, |runs: &[Run], need: u32| first_fit(runs, need)),
+        best: Chooser::new(Kind::Best, |runs: &[Run], need: u32| best_fit(runs, need)),
+        last: Chooser::new(Kind::Last, |runs: &[Run], need: u32| last_fit(runs, need)),
+    };
+    let _ = suite(alloc, &arguments, &mut host, &mut out, &mut report, &place);
     Ok(report)
 }
 

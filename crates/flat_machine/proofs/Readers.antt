@@ -1,0 +1,28 @@
+-- What the fields of a machine say of its world.
+use Rattle.std.proofs.Common.{◌≡◌, ℕ, suc, List, [], ◌∷◌, length, map, refl, sym, ap, subst, arith}
+use Rattle.bflt_format.specs.Values.{Values}
+use Rattle.syscall_layer.specs.Stands.{world_of}
+use Rattle.machine_world.specs.World.{program_path}
+use Rattle.machine_world.specs.Programs.{AreLoaded}
+use Rattle.flat_machine.specs.State.{State, programs_of, world}
+
+-- as many paths as programs
+pub paths_are : (paths : List (List ℕ)) (flats : List Values) → length paths ≡ length flats → map program_path (programs_of paths flats) ≡ paths
+paths_are [] [] same = refl
+paths_are (path ∷ paths) (flat ∷ flats) same = ap (λ (rest : List (List ℕ)). path ∷ rest) (paths_are paths flats (grind arith))
+paths_are [] (flat ∷ flats) same = absurd (grind arith)
+paths_are (path ∷ paths) [] same = absurd (grind arith)
+
+pub programs_count : (paths : List (List ℕ)) (flats : List Values) → length paths ≡ length flats → length (programs_of paths flats) ≡ length flats
+programs_count [] [] same = refl
+programs_count (path ∷ paths) (flat ∷ flats) same = ap suc (programs_count paths flats (grind arith))
+programs_count [] (flat ∷ flats) same = absurd (grind arith)
+programs_count (path ∷ paths) [] same = absurd (grind arith)
+
+pub paths_of_world : (s : State) → length s.paths ≡ length s.programs → map program_path (world s).rest.programs ≡ s.paths
+unfolding world_of
+paths_of_world s same = paths_are s.paths s.programs same
+
+pub loads_of_world : (s : State) → length s.paths ≡ length s.programs → AreLoaded (length s.programs) s.kept.notes → AreLoaded (length (world s).rest.programs) (world s).notes
+unfolding world_of
+loads_of_world s same are = subst (λ (n : ℕ). AreLoaded n s.kept.notes) (sym (programs_count s.paths s.programs same)) are

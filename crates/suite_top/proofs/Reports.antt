@@ -1,0 +1,53 @@
+-- The parts of a report, by what a machine tells of its world.
+use Rattle.std.proofs.Common.{◌≡◌, ℕ, ◌<◌, suc, zero, List, [], ◌∷◌, ◌++◌, length, map, reverse, Bool, Option, Some, refl, sym, ap, subst, ◌∙◌, get_or, arith}
+use Rattle.std.specs.Prelude.{Vec}
+use Rattle.std.specs.List.{flat_map}
+use Rattle.std.proofs.lemmas.List.{length-map, reverse-append, reverse-reverse}
+use Rattle.call_log.specs.declared.note.Note.{Note as Stored}
+use Rattle.call_log.specs.Notes.{Note}
+use Rattle.call_log.specs.Values.{note_value}
+use Rattle.call_log.specs.Programs.{IsProgramBelow, paths_of}
+use Rattle.manifest_text.specs.declared.manifest.Dump.{Dump}
+use Rattle.machine_world.specs.World.{Program, World, program_path}
+use Rattle.machine_world.specs.Turns.{End}
+use Rattle.machine_world.specs.Programs.{AreLoaded}
+use Rattle.flat_machine.specs.declared.run.End.{End as Told}
+use Rattle.flat_machine.specs.Runs.{Ends}
+use Rattle.suite_top.specs.Report.{note_text, dump_line, stop_line, stop_word, report_text, IsStopWord, IsReport}
+
+loaded_append : (n : ℕ) (xs ys : List Note) → AreLoaded n xs → AreLoaded n ys → AreLoaded n (xs ++ ys)
+loaded_append n [] ys hx hy = hy
+loaded_append n (x ∷ xs) ys hx hy = (hx.0, loaded_append n xs ys hx.1 hy)
+
+loaded_reverse : (n : ℕ) (xs : List Note) → AreLoaded n xs → AreLoaded n (reverse xs)
+loaded_reverse n [] h = tt
+loaded_reverse n (x ∷ xs) h = subst (AreLoaded n) (sym (reverse-append (x ∷ []) xs)) (loaded_append n (reverse xs) (x ∷ []) (loaded_reverse n xs h.1) (h.0, tt))
+
+-- the note at a place
+pub loaded_at : (n : ℕ) (notes : List Stored) (i : ℕ) (d : Stored) → AreLoaded n (map note_value notes) → i < length notes → IsProgramBelow n (note_value (get_or notes i d))
+loaded_at n [] i d are less = absurd (grind arith)
+loaded_at n (x ∷ xs) zero d are less = are.0
+loaded_at n (x ∷ xs) (suc i) d are less = loaded_at n xs i d are.1 (grind arith)
+
+module _ {Y : Type 0} (w : World) (notes : List Stored) (paths : List (Vec ℕ Y)) (are : w.notes ≡ reverse (map note_value notes)) (named : paths_of paths ≡ map program_path w.rest.programs) where
+  in_order : reverse w.notes ≡ map note_value notes
+  in_order = ap reverse are ∙ reverse-reverse (map note_value notes)
+
+  pub loads_below : AreLoaded (length w.rest.programs) w.notes → AreLoaded (length paths) (map note_value notes)
+  loads_below loaded =
+      let count : length w.rest.programs ≡ length paths = sym (length-map w.rest.programs program_path) ∙ sym (ap length named) ∙ length-map paths (λ path. path.items) in
+      subst (λ (n : ℕ). AreLoaded n (map note_value notes)) count (subst (AreLoaded (length w.rest.programs)) in_order (loaded_reverse (length w.rest.programs) w.notes loaded))
+
+  pub is_report : (log : Bool) (dumps : List Dump) (t : Told) (word text : List ℕ) → IsStopWord t word
+      → text ≡ (flat_map (note_text log (paths_of paths)) (map note_value notes) ++ flat_map (dump_line w) dumps) ++ stop_line word w.events
+      → IsReport log dumps w t text
+  unfolding report_text
+  is_report log dumps t word text stops is end ends =
+      let dumped = flat_map (dump_line w) dumps in
+      let programs = map program_path w.rest.programs in
+      let lines = flat_map (note_text log (paths_of paths)) (map note_value notes) in
+      let by_paths : lines ≡ flat_map (note_text log programs) (map note_value notes) = ap (λ (ps : List (List ℕ)). flat_map (note_text log ps) (map note_value notes)) named in
+      let by_order : flat_map (note_text log programs) (map note_value notes) ≡ flat_map (note_text log programs) (reverse w.notes) = ap (flat_map (note_text log programs)) (sym in_order) in
+      is
+      ∙ ap (λ (front : List ℕ). front ++ dumped ++ stop_line word w.events) (by_paths ∙ by_order)
+      ∙ ap (λ (said : List ℕ). flat_map (note_text log programs) (reverse w.notes) ++ dumped ++ stop_line said w.events) (stops end ends)

@@ -1,0 +1,72 @@
+-- The report of a run, which standard error takes, and the status that the run ends with.
+use Rattle.std.specs.Prelude.{◌≡◌, ℕ, Bool, true, if◌then◌else◌, List, [], ◌∷◌, ◌++◌, map, reverse, codes, decimal, Option, Some, None}
+use Rattle.std.specs.List.{flat_map}
+use Rattle.hex.specs.Hex.{encode_lower}
+use Rattle.call_log.specs.Notes.{Note, call_note}
+use Rattle.call_log.specs.Lines.{line}
+use Rattle.manifest_text.specs.declared.manifest.Dump.{Dump}
+use Rattle.machine_world.specs.World.{World, program_path}
+use Rattle.machine_world.specs.Turns.{End, all_ended, out_of_quanta, stray_at, log_full}
+use Rattle.flat_machine.specs.declared.run.End.{End as Told}
+use Rattle.flat_machine.specs.Runs.{Ends}
+use Rattle.flat_machine.specs.OwnBytes.{own_bytes}
+use Rattle.suite_top.specs.declared.status.Status.{Status}
+use Rattle.suite_top.specs.declared.status.Status.TheVariants as status
+use Rattle.suite_top.specs.Texts.{joined, address_words}
+
+-- calls are told only with `--log`, and all other notes always
+abbrev pub is_told : Bool → Note → Bool
+is_told log (call_note e) = log
+is_told log note = true
+
+-- where the programs have these paths
+abbrev pub note_text : Bool → List (List ℕ) → Note → List ℕ
+note_text log paths note = if is_told log note then line paths note else []
+
+-- two digits a byte, or `none` where not all of them are the process's own
+abbrev pub bytes_text : Option (List ℕ) → List ℕ
+bytes_text (Some bytes) = encode_lower bytes
+bytes_text None = codes "none"
+
+-- `dump PID 0xADDR LEN HEX`, with the bytes behind the run
+abbrev pub dump_line : World → Dump → List ℕ
+dump_line w d = joined
+    (codes "dump " ∷ decimal d.pid ∷ codes " " ∷ address_words d.addr ∷ codes " " ∷ decimal d.len ∷ codes " "
+    ∷ bytes_text (own_bytes w d.pid d.addr d.len) ∷ codes "\n" ∷ [])
+
+-- why a run stopped. One that has no end yet is out of quanta
+abbrev pub stop_word : Option End → List ℕ
+stop_word (Some all_ended) = codes "done"
+stop_word (Some (stray_at pid access)) = codes "stray"
+stop_word (Some out_of_quanta) = codes "quanta"
+stop_word (Some log_full) = codes "log"
+stop_word None = codes "quanta"
+
+-- `stop WORD events N`
+abbrev pub stop_line : List ℕ → ℕ → List ℕ
+stop_line word events = joined (codes "stop " ∷ word ∷ codes " events " ∷ decimal events ∷ codes "\n" ∷ [])
+
+-- the notes, oldest first
+abbrev pub notes_text : Bool → World → List ℕ
+notes_text log w = flat_map (note_text log (map program_path w.rest.programs)) (reverse w.notes)
+
+-- the notes, the dumps, and why the run stopped
+unfoldable pub report_text : Bool → List Dump → World → Option End → List ℕ
+report_text log dumps w end = notes_text log w ++ flat_map (dump_line w) dumps ++ stop_line (stop_word end) w.events
+
+abbrev pub status_of_end : Option End → Status
+status_of_end (Some all_ended) = status.Done
+status_of_end (Some (stray_at pid access)) = status.Stray
+status_of_end (Some out_of_quanta) = status.OutOfQuanta
+status_of_end (Some log_full) = status.LogFull
+status_of_end None = status.OutOfQuanta
+
+-- of each end that the code's end says
+abbrev pub IsStopWord : Told → List ℕ → Type 0
+IsStopWord told word = (end : Option End) → Ends end told → word ≡ stop_word end
+
+abbrev pub IsReport : Bool → List Dump → World → Told → List ℕ → Type 0
+IsReport log dumps w told text = (end : Option End) → Ends end told → text ≡ report_text log dumps w end
+
+abbrev pub IsStatus : Told → Status → Type 0
+IsStatus told s = (end : Option End) → Ends end told → s ≡ status_of_end end

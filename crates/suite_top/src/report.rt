@@ -1,0 +1,138 @@
+//! The report of a run.
+ghost use Rattle.std.specs.Prelude.{◌≡◌, ◌++◌, map, length, IfOk, string_bytes};
+ghost use Rattle.std.specs.List.{flat_map};
+ghost use Rattle.call_log.specs.Values.{note_value};
+ghost use Rattle.call_log.specs.Programs.{IsProgramBelow, paths_of};
+ghost use Rattle.machine_world.specs.Programs.{AreLoaded};
+ghost use Rattle.flat_machine.specs.State.{world};
+ghost use Rattle.flat_machine.specs.OwnBytes.{own_bytes};
+ghost use Rattle.suite_top.specs.Report.{is_told, note_text, bytes_text, dump_line, stop_line, IsStopWord, IsReport, IsStatus};
+
+use crate::status::Status;
+use crate::texts::address_words;
+use call_log::{Note, line};
+use flat_machine::{End, Machine};
+use manifest_text::Dump;
+use std::alloc::{AllocError, Global};
+
+/// The notes of a run with its calls if they are asked for, the dumps, and why it stopped.
+pub fn report(
+    alloc: Global,
+    machine: &Machine,
+    log: bool,
+    dumps: &[Dump],
+    end: End,
+) -> Result<Vec<u8>, AllocError>
+    ensures { IfOk result (λ text. IsReport log dumps.now (world machine.now) end text.items) }
+{
+    let mut text = notes_text(alloc, log, machine.notes(), machine.paths())?;
+    let dumped = dumps_text(alloc, machine, dumps)?;
+    let stopped = stop_line(alloc, stop_word(end), machine.events())?;
+    text.extend_from_slice(dumped.as_bytes())?;
+    text.extend_from_slice(stopped.as_bytes())?;
+    Ok(text)
+}
+
+/// The status of a run that stopped so.
+pub fn status_of(end: End) -> Status
+    ensures { IsStatus end result }
+{
+    match end {
+        End::AllEnded => Status::Done,
+        End::Stray(_) => Status::Stray,
+        End::OutOfQuanta => Status::OutOfQuanta,
+        End::LogFull => Status::LogFull,
+    }
+}
+
+fn is_told(log: bool, note: &Note) -> bool
+    ensures { result ≡ is_told log (note_value note.now) }
+{
+    match note {
+        Note::Call(_) => log,
+        _ => true,
+    }
+}
+
+fn push_note(
+    alloc: Global,
+    text: &mut Vec<u8>,
+    log: bool,
+    note: &Note,
+    paths: &[Vec<u8>],
+) -> Result<(), AllocError>
+    requires { IsProgramBelow (length paths.now) (note_value note.now) }
+    ensures { IfOk result (λ _. text.new.items ≡ text.old.items ++ note_text log (paths_of paths.now) (note_value note.now)) }
+{
+    if is_told(log, note) {
+        let line = line(alloc, note, paths)?;
+        text.extend_from_slice(&line)?;
+    }
+    Ok(())
+}
+
+fn notes_text(
+    alloc: Global,
+    log: bool,
+    notes: &[Note],
+    paths: &[Vec<u8>],
+) -> Result<Vec<u8>, AllocError>
+    requires { AreLoaded (length paths.now) (map note_value notes.now) }
+    ensures { IfOk result (λ text. text.items ≡ flat_map (note_text log (paths_of paths.now)) (map note_value notes.now)) }
+{
+    let mut text = Vec::new(alloc);
+    for note in notes {
+        push_note(alloc, &mut text, log, note, paths)?;
+    }
+    Ok(text)
+}
+
+/// Two digits a byte, or `none`.
+fn bytes_text(alloc: Global, machine: &Machine, dump: Dump) -> Result<String, AllocError>
+    ensures { IfOk result (λ text. string_bytes text ≡ bytes_text (own_bytes (world machine.now) dump.pid dump.addr dump.len)) }
+{
+    match machine.bytes(alloc, dump.pid, dump.addr, dump.len)? {
+        Some(bytes) => hex::encode(alloc, &bytes),
+        None => String::from_str(alloc, "none"),
+    }
+}
+
+/// `dump PID 0xADDR LEN HEX`
+fn dump_line(alloc: Global, machine: &Machine, dump: Dump) -> Result<String, AllocError>
+    ensures { IfOk result (λ line. string_bytes line ≡ dump_line (world machine.now) dump) }
+{
+    let pid = dump.pid;
+    let address = address_words(alloc, dump.addr)?;
+    let len = dump.len;
+    let bytes = bytes_text(alloc, machine, dump)?;
+    format!(in alloc; "dump {pid} {address} {len} {bytes}\n")
+}
+
+fn dumps_text(alloc: Global, machine: &Machine, dumps: &[Dump]) -> Result<String, AllocError>
+    ensures { IfOk result (λ text. string_bytes text ≡ flat_map (dump_line (world machine.now)) dumps.now) }
+{
+    let mut text = String::new(alloc);
+    for dump in dumps {
+        let line = dump_line(alloc, machine, *dump)?;
+        text.push_str(&line)?;
+    }
+    Ok(text)
+}
+
+fn stop_word(end: End) -> &'static str
+    ensures { IsStopWord end result.now }
+{
+    match end {
+        End::AllEnded => "done",
+        End::Stray(_) => "stray",
+        End::OutOfQuanta => "quanta",
+        End::LogFull => "log",
+    }
+}
+
+/// `stop WORD events N`
+fn stop_line(alloc: Global, word: &str, events: u64) -> Result<String, AllocError>
+    ensures { IfOk result (λ line. string_bytes line ≡ stop_line word.now events) }
+{
+    format!(in alloc; "stop {word} events {events}\n")
+}
