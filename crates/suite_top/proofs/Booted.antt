@@ -25,9 +25,14 @@ use Rattle.suite_top.specs.Run.{start_line, boot_fault, fault_ending, booted_end
 
 -- ---- no event before the first
 
+world_or : Result World BootFault → World → World
+world_or (Ok w) other = w
+world_or (Err fault) other = other
+
 no_event_placed : (w : World) (s : StartLine) (f : Found) (o : Option ℕ) (now : World) → placed w s f o ≡ Ok now → now.events ≡ w.events
+unfolding world_or
 no_event_placed w s f None now is = absurd cc
-no_event_placed w s f (Some page) now is = let h : begun w f.index _ ≡ now = cc in sym (ap (λ (v : World). v.events) h)
+no_event_placed w s f (Some page) now is = sym (ap (λ (r : Result World BootFault). (world_or r w).events) is)
 
 no_event_fitting : (w : World) (s : StartLine) (f : Found) (fits : Bool) (now : World) → fitting w s f fits ≡ Ok now → now.events ≡ w.events
 no_event_fitting w s f true now is = no_event_placed w s f _ now is
@@ -37,14 +42,16 @@ no_event_located : (w : World) (s : StartLine) (o : Option Found) (now : World) 
 no_event_located w s None now is = absurd cc
 no_event_located w s (Some f) now is = no_event_fitting w s f _ now is
 
+no_event_then : (r : Result World BootFault) (w : World) (more : World → Result World BootFault) (now : World) → ((v : World) → r ≡ Ok v → v.events ≡ w.events)
+    → ((v : World) → more v ≡ Ok now → now.events ≡ v.events) → then_started r more ≡ Ok now → now.events ≡ w.events
+no_event_then (Ok v) w more now first rest is = rest v is ∙ first v refl
+no_event_then (Err fault) w more now first rest is = absurd cc
+
 no_event_all : (starts : List StartLine) (w now : World) → all_started w starts ≡ Ok now → now.events ≡ w.events
 unfolding all_started started
 no_event_all [] w now is = let h : w ≡ now = cc in sym (ap (λ (v : World). v.events) h)
-no_event_all (s ∷ ss) w now is = by_first (started w s) refl is
-  where
-    by_first : (r : Result World BootFault) → started w s ≡ r → then_started r (λ v. all_started v ss) ≡ Ok now → now.events ≡ w.events
-    by_first (Ok v) first more = ?
-    by_first (Err fault) first more = absurd cc
+no_event_all (s ∷ ss) w now is =
+    no_event_then (started w s) w (λ v. all_started v ss) now (λ v first. no_event_located w s (found_from 0 (path_of s) w.rest.programs) v first) (λ v. no_event_all ss v now) is
 
 pub no_event_yet : (rest : Rest) (starts : List StartLine) (w : World) → boot rest starts ≡ Ok w → w.events ≡ 0
 unfolding boot
@@ -73,6 +80,13 @@ pub booted : (r : Result World BootFault) (machine : State) → Boots r (Ok mach
 booted (Ok w) machine is = ap Ok (sym is)
 booted (Err fault) machine is = absurd is
 
+-- what the machine was started with, as the definition has it
+pub boots_as : (rest : Rest) (starts : List StoredStart) (machine : State) (log : Bool) (m : Manifest) (ending : Ending) → m.starts ≡ map start_value starts
+    → Boots (boot rest (lines_of starts)) (Ok machine) → OrMemory (booted_ending log m (Ok (world machine))) ending → OrMemory (booted_ending log m (boot rest (map start_line m.starts))) ending
+boots_as rest starts machine log m ending are boots ends =
+    let same : boot rest (map start_line m.starts) ≡ Ok (world machine) = ap (λ ss. boot rest (map start_line ss)) are ∙ ap (boot rest) (sym (lines_are starts)) ∙ booted _ _ boots in
+    subst (λ (r : Result World BootFault). OrMemory (booted_ending log m r) ending) (sym same) ends
+
 pub machine_events : (machine : State) → (world machine).events ≡ machine.events
 unfolding world_of
 machine_events machine = refl
@@ -81,9 +95,9 @@ machine_events machine = refl
 refused_by : (fault : BootFault) (r : BootRefusal) (log : Bool) (m : Manifest) (ending : Ending) → Boots (Err fault) (Err r)
     → OrMemory (fault_ending (told_fault r)) ending → (IsMemory (told_fault r).fault → ending ≡ memory_ending) → OrMemory (booted_ending log m (Err fault)) ending
 refused_by fault refusal.Memory log m ending is ends memory = inr (memory tt)
-refused_by (bad_start number) (refusal.BadStart at) log m ending is ends memory = ?
-refused_by (args_too_big number) (refusal.E2big at) log m ending is ends memory = ?
-refused_by (no_run number) (refusal.NoRun at) log m ending is ends memory = ?
+refused_by (bad_start number) (refusal.BadStart at) log m ending is ends memory = subst (λ n. OrMemory (fault_ending (boot_fault (bad_start n))) ending) is ends
+refused_by (args_too_big number) (refusal.E2big at) log m ending is ends memory = subst (λ n. OrMemory (fault_ending (boot_fault (args_too_big n))) ending) is ends
+refused_by (no_run number) (refusal.NoRun at) log m ending is ends memory = subst (λ n. OrMemory (fault_ending (boot_fault (no_run n))) ending) is ends
 refused_by fault r log m ending is ends memory = absurd is
 
 pub boot_refused : (b : Result World BootFault) (r : BootRefusal) (log : Bool) (m : Manifest) (ending : Ending) → Boots b (Err r)
@@ -91,3 +105,10 @@ pub boot_refused : (b : Result World BootFault) (r : BootRefusal) (log : Bool) (
 boot_refused (Ok w) refusal.Memory log m ending is ends memory = inr (memory tt)
 boot_refused (Ok w) r log m ending is ends memory = absurd is
 boot_refused (Err fault) r log m ending is ends memory = refused_by fault r log m ending is ends memory
+
+pub refused_as : (rest : Rest) (starts : List StoredStart) (r : BootRefusal) (log : Bool) (m : Manifest) (ending : Ending) → m.starts ≡ map start_value starts
+    → Boots (boot rest (lines_of starts)) (Err r) → OrMemory (fault_ending (told_fault r)) ending → (IsMemory (told_fault r).fault → ending ≡ memory_ending)
+    → OrMemory (booted_ending log m (boot rest (map start_line m.starts))) ending
+refused_as rest starts r log m ending are boots ends memory =
+    let same : boot rest (map start_line m.starts) ≡ boot rest (lines_of starts) = ap (λ ss. boot rest (map start_line ss)) are ∙ ap (boot rest) (sym (lines_are starts)) in
+    subst (λ (b : Result World BootFault). OrMemory (booted_ending log m b) ending) (sym same) (boot_refused (boot rest (lines_of starts)) r log m ending boots ends memory)

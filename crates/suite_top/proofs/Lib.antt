@@ -9,7 +9,7 @@
 -- Opened: a list opened at one place.
 -- PathSets: the set of the paths so far.
 -- LoadedItems, OriginalsSame, MadePrograms: the loads of a manifest's lines, and the programs that they make.
--- Booted: what a boot of the machine gives.
+-- Booted, RunEndings: what a boot of the machine gives, and how a run ends.
 -- Samples, ListSamples: the definitions on the worked example.
 pub mod HostCourses
 pub mod HostSteps
@@ -36,5 +36,6 @@ pub mod LoadedItems
 pub mod OriginalsSame
 pub mod MadePrograms
 pub mod Booted
+pub mod RunEndings
 pub mod Samples
 pub mod ListSamples

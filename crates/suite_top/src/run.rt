@@ -18,6 +18,7 @@ use crate::file_load::{FileLoad, load_limited};
 use crate::items::{ItemsLoad, load_items};
 use crate::line_fault::{FaultAt, LineFault};
 use crate::programs::{Programs, make_programs};
+use crate::report::{report, status_of};
 use crate::status::Status;
 use crate::texts::refusals::{refused_line, refused_manifest};
 use flat_machine::{BootRefusal, Machine, Setup};
@@ -174,7 +175,14 @@ fn run_machine(
     requires { machine.events + repeat * sum_by (λ q. q.count) quanta.now < 2 ^ 64 }
     ensures { OrMemory (world_ending log (repeated repeat quanta.now) dumps.now (world machine)) (ending_of result) }
 {
-    Err(AllocError)
+    let end = machine.run_repeated(quanta, repeat)?;
+    let report = report(alloc, &machine, log, dumps, end)?;
+    let out = Vec::from_slice(alloc, machine.console())?;
+    Ok(Answer {
+        status: status_of(end),
+        out,
+        report,
+    })
 }
 
 /// The answer for a line with a fault.

@@ -30,7 +30,7 @@ loop-item-preserved g c =
     let given = rw (c.load_limit-limit.ensures, c.name_of.ensures) at c.in-Whole.ensures in
     let pushed = rw c.if-is_err.ensures.negation at c.push.ensures.items in
     let more = loads_more _ _ _ _ _ _ so_far (item_value c.item-item.result) (opened item_value _ _ _ c.loop-item-test.true c.item-item.is) _ _ given in
-    rw (pushed, map-append, c.len.ensures) more
+    rw (pushed, map-append, c.len.ensures, c.in-Whole.bytes.ok.0) more
 
 pub returns : goal.returns
 returns g c = all_loaded _ _ _ _ _ _ c.loop-item.invariant (rw (length-map c.args.items.now item_value) c.loop-item-test.false) (rw (length-map c.args.items.now item_value) c.loop-item.auto.item-index-end)
