@@ -10,15 +10,14 @@ use Rattle.manifest_text.specs.Manifest.{Fault}
 use Rattle.machine_world.specs.World.{Program, World}
 use Rattle.machine_world.specs.Boot.{BootFault, boot}
 use Rattle.machine_world.specs.Turns.{End, all_ended, out_of_quanta, stray_at, log_full, turns}
-use Rattle.flat_machine.specs.Runs.{Ends}
-use Rattle.flat_machine.specs.declared.run.End.{End as ToldEnd}
+use Rattle.flat_machine.specs.Runs.{repeated}
 use Rattle.suite_top.specs.declared.status.Status.{Status}
 use Rattle.suite_top.specs.declared.status.Status.TheVariants as status
 use Rattle.suite_top.specs.Ending.{Ending, refused_ending, memory_ending, OrMemory}
 use Rattle.suite_top.specs.Texts.Refusals.{manifest_tail}
 use Rattle.suite_top.specs.Observed.{Observed}
 use Rattle.suite_top.specs.HostCourse.{PerformsCommand}
-use Rattle.suite_top.specs.Report.{report_text, status_of_end, IsReport, IsStatus}
+use Rattle.suite_top.specs.Report.{status_of_end}
 use Rattle.suite_top.specs.Programs.{FaultAt, programs_from, nothing_taken}
 use Rattle.suite_top.specs.Making.{IsMemory}
 use Rattle.suite_top.specs.ItemLoads.{GaveFiles}
@@ -35,8 +34,9 @@ end_is_told (Some (stray_at pid access)) = λ h. cc
 end_is_told (Some log_full) = λ h. cc
 
 booted_is_told : (log : Bool) (m : Manifest) (b : Result World BootFault) → (booted_ending log m b).status ≢ status.HostRead
+unfolding world_ending
 booted_is_told log m (Err fault) = λ h. cc
-booted_is_told log m (Ok w) = end_is_told _
+booted_is_told log m (Ok w) = end_is_told (turns (repeated m.repeat m.quanta) w).end
 
 programs_are_told : (log : Bool) (kind : Kind) (m : Manifest) (r : Result (List Program) FaultAt) → (programs_ending log kind m r).status ≢ status.HostRead
 programs_are_told log kind m (Err at) = λ h. cc
@@ -69,13 +69,3 @@ module _ (log : Bool) (kind : Kind) (m : Manifest) (files : List (List ℕ)) (en
     | inl is ↦ inr (memory is)
     | inr is ↦ subst (λ (r : Result (List Program) FaultAt). OrMemory (programs_ending log kind m r) ending) (sym is) ends
   ]
-
--- the texts of a machine that ran
-pub runs_world : (log : Bool) (quanta : List Quantum) (dumps : List Dump) (w now : World) (end : ToldEnd) (s : Status) (report : List ℕ)
-    → now ≡ (turns quanta w).world → Ends (turns quanta w).end end → IsStatus end s → IsReport log dumps now end report
-    → record { status = s; out = now.rest.console; report = report } ≡ world_ending log quanta dumps w
-runs_world log quanta dumps w now end s report is ends status text =
-    ap (λ (v : World). record { status = s; out = v.rest.console; report = report }) is
-    ∙ ap (λ x. record { status = x; out = (turns quanta w).world.rest.console; report = report }) (status _ ends)
-    ∙ ap (λ r. record { status = status_of_end (turns quanta w).end; out = (turns quanta w).world.rest.console; report = r })
-    (text _ ends ∙ ap (λ (v : World). report_text log dumps v (turns quanta w).end) is)

@@ -164,6 +164,7 @@ fn boot_fault(refusal: BootRefusal) -> FaultAt
 }
 
 /// Runs the machine, and writes what it did.
+#[tactic(auto, unfolding(crate::specs::Run::world_ending))]
 fn run_machine(
     alloc: Global,
     mut machine: Machine,
