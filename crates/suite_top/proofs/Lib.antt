@@ -9,7 +9,7 @@
 -- Opened: a list opened at one place.
 -- PathSets: the set of the paths so far.
 -- LoadedItems, OriginalsSame, MadePrograms: the loads of a manifest's lines, and the programs that they make.
--- Booted, RunEndings: what a boot of the machine gives, and how a run ends.
+-- Booted, RunEndings, RunLaws: what a boot of the machine gives, how a run ends, and when it reaches its machine.
 -- Samples, ListSamples: the definitions on the worked example.
 pub mod HostCourses
 pub mod HostSteps
@@ -37,5 +37,6 @@ pub mod OriginalsSame
 pub mod MadePrograms
 pub mod Booted
 pub mod RunEndings
+pub mod RunLaws
 pub mod Samples
 pub mod ListSamples

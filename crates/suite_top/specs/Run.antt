@@ -1,4 +1,6 @@
 -- The command `run MANIFEST`: the programs of a manifest run by turns in one memory.
+-- Laws: when a run reaches its machine.
+pub mod Laws
 use Rattle.std.specs.Prelude.{ℕ, ◌-◌, min, Bool, List, [], ◌∷◌, map, length, Option, Some, None, Result, Ok, Err}
 use Rattle.page_runs.specs.declared.place.Kind.{Kind}
 use Rattle.quantum_sched.specs.declared.Quantum.{Quantum}

@@ -27,6 +27,7 @@ pub use convert::laws::convert_law;
 pub use delivery::deliver;
 pub use laws::{host_law, status_law};
 pub use list::laws::list_law;
+pub use run::laws::run_law;
 pub use placements::Placements;
 pub use status::Status;
 pub use texts::MEMORY_LINE;

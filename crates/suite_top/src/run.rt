@@ -28,6 +28,8 @@ use page_runs::{Chooser, Run};
 use quantum_sched::Quantum;
 use std::alloc::{AllocError, Global};
 
+pub mod laws;
+
 /// The most bytes of a manifest.
 const MANIFEST_LIMIT: u32 = 1_048_576;
 
