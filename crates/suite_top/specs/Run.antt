@@ -9,13 +9,12 @@ use Rattle.manifest_text.specs.Values.{Item, Start, Manifest}
 use Rattle.manifest_text.specs.Manifest.{Fault, manifest_of}
 use Rattle.machine_world.specs.World.{Program, Rest, World}
 use Rattle.machine_world.specs.Boot.{StartLine, BootFault, bad_start, args_too_big, no_run, boot}
-use Rattle.machine_world.specs.Turns.{End, all_ended, out_of_quanta, stray_at, log_full, Walk, turns}
+use Rattle.machine_world.specs.Turns.{turns}
 use Rattle.flat_machine.specs.Runs.{repeated}
-use Rattle.suite_top.specs.declared.status.Status.{Status}
-use Rattle.suite_top.specs.declared.status.Status.TheVariants as status
 use Rattle.suite_top.specs.declared.line_fault.LineFault.TheVariants as line
 use Rattle.suite_top.specs.Texts.Refusals.{manifest_tail, line_tail}
 use Rattle.suite_top.specs.Ending.{Ending, refused_ending}
+use Rattle.suite_top.specs.Report.{stopped_ending}
 use Rattle.suite_top.specs.Outcome.{Outcome, Inputs}
 use Rattle.suite_top.specs.Load.{at_once, with_load}
 use Rattle.suite_top.specs.Programs.{FaultAt, programs_from, nothing_taken}
@@ -64,7 +63,7 @@ fault_ending at = refused_ending (line_tail at.line at.fault)
 
 -- the end of a run from an opening world
 unfoldable pub world_ending : (log : Bool) → List Quantum → List Dump → World → Ending
-world_ending log quanta dumps w = record { status = status.Done; out = (turns quanta w).world.rest.console; report = [] }
+world_ending log quanta dumps w = stopped_ending log dumps (turns quanta w).world (turns quanta w).end
 
 -- ---- all in order
 

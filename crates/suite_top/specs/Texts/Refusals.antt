@@ -24,7 +24,7 @@ manifest_fault_words fault.NoStart = codes "9 NoStart"
 abbrev pub manifest_tail : (number : ℕ) → ManifestFault → List ℕ
 manifest_tail number first = joined (codes "manifest line " ∷ decimal number ∷ codes " " ∷ manifest_fault_words first ∷ [])
 
--- a fault of what a line of a manifest brings in or starts
+-- a fault of what a line of a manifest brings in or starts; out of memory is none
 abbrev pub line_fault_words : LineFault → List ℕ
 line_fault_words line.TooLong = too_long_tail
 line_fault_words (line.Elf refusal) = refusal_tail refusal
@@ -33,6 +33,7 @@ line_fault_words (line.Place errno) = codes "errno " ++ decimal (errno_number er
 line_fault_words line.BadStart = codes "start"
 line_fault_words line.E2big = codes "args"
 line_fault_words line.NoRun = codes "no run"
+line_fault_words line.Memory = []
 
 abbrev pub line_tail : (number : ℕ) → LineFault → List ℕ
 line_tail number first = joined (codes "line " ∷ decimal number ∷ codes " " ∷ line_fault_words first ∷ [])
