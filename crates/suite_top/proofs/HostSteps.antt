@@ -113,6 +113,7 @@ module _ (limit : ℕ) (line : Option ℕ) (name : List ℕ) (rest : List ℕ �
   -- the rest of a command goes on with the file
   pub performs_rest : (old mid new : Observed Told) (bytes : List ℕ) (ending : Ending)
       → GaveFile limit old mid name bytes → PerformsCommand mid new (rest bytes) ending → PerformsCommand old new wanted ending
+  unfolding first_input
   performs_rest old mid new bytes ending given performs = by_told old.told refl
     where
       fits : nat_lt limit (length bytes) ≡ false
@@ -122,7 +123,6 @@ module _ (limit : ℕ) (line : Option ℕ) (name : List ℕ) (rest : List ℕ �
       goes_on inputs p = rw fits p
 
       by_told : (o : Option Told) → old.told ≡ o → PerformsOver o old new wanted ending
-      unfolding first_input
       by_told None is =
           let told : mid.told ≡ None = given.told ∙ ap (option_map (λ t. after_answer t (load name))) is in
           let p = subst (λ (o : Option Told). PerformsOver o mid new (rest bytes) ending) told performs in
@@ -138,6 +138,7 @@ module _ (limit : ℕ) (line : Option ℕ) (name : List ℕ) (rest : List ℕ �
   pub loads_too_long : (old mid : Observed Told) (into : List ℕ) (ending : Ending)
       → LoadTold old.told mid.told name limit into (Ok loaded.TooLong) → HasCause error.Failed old.faults mid.faults (Ok loaded.TooLong)
       → OrMemory (refused_ending (too_long_at line)) ending → PerformsCommand old mid wanted ending
+  unfolding first_input
   loads_too_long old mid into ending told cause ends = by_told old.told refl
     where
       faults : mid.faults ≡ old.faults
@@ -154,7 +155,6 @@ module _ (limit : ℕ) (line : Option ℕ) (name : List ℕ) (rest : List ℕ �
       found (Some e) inputs shown = refuses e inputs (showing_long (nat_lt limit (length e)) e into cc)
 
       by_told : (o : Option Told) → old.told ≡ o → PerformsOver o old mid wanted ending
-      unfolding first_input
       by_told None is =
           let long = longer limit in
           (first_input (Some long.0) (λ i n. None), courses.loads old mid mid name (with_limited limit line name (Some long.0) (λ e. rest e (λ i n. None))) ending answered faults (refuses long.0 (λ i n. None) long.1))

@@ -6,7 +6,10 @@
 -- OneFileLaws, ConvertLaws, CheckLaws, ListLaws, SizesLaw: the laws of the commands.
 -- Reports: the parts of the report of a run.
 -- OneFileSteps: a command that goes on with one file.
+-- Opened: a list opened at one place.
+-- PathSets: the set of the paths so far.
 -- LoadedItems, OriginalsSame, MadePrograms: the loads of a manifest's lines, and the programs that they make.
+-- Booted, RunEndings: what a boot of the machine gives, and how a run ends.
 -- Samples, ListSamples: the definitions on the worked example.
 pub mod HostCourses
 pub mod HostSteps
@@ -27,9 +30,13 @@ pub mod ConvertLaws
 pub mod CheckLaws
 pub mod ListLaws
 pub mod SizesLaw
+pub mod Opened
+pub mod PathSets
 pub mod Reports
 pub mod LoadedItems
 pub mod OriginalsSame
 pub mod MadePrograms
+pub mod Booted
+pub mod RunEndings
 pub mod Samples
 pub mod ListSamples

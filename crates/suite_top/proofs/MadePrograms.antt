@@ -1,14 +1,15 @@
 -- The programs of the item lines, one after the other.
-use Rattle.std.proofs.Common.{◌≡◌, ℕ, ◌+◌, ◌*◌, ◌≤◌, Bool, true, false, cond, List, [], ◌∷◌, ◌++◌, length, drop, Option, Some, None, Result, Ok, Err, refl, sym, ap, subst, ◌∙◌, arith, inl, inr, length-append}
+use Rattle.std.proofs.Common.{◌≡◌, ℕ, ◌+◌, ◌*◌, ◌≤◌, Vec, Fits, w8, get_or, List, [], ◌∷◌, ◌++◌, length, drop, Option, Some, None, Result, Ok, Err, refl, sym, ap, subst, ◌∙◌, arith, inl, inr, length-append}
 use Rattle.std.specs.Prelude.{◌⊎◌}
-use Rattle.std.proofs.lemmas.List.{drop_all, length-map}
+use Rattle.std.proofs.lemmas.List.{drop_all, length-map, map-append}
 use Rattle.byte_words.specs.Numbers.{IsBytes}
 use Rattle.bflt_format.specs.declared.fault.FlatFault.{FlatFault}
 use Rattle.bflt_format.specs.declared.fault.FlatFault.TheVariants as flat_fault
 use Rattle.bflt_format.specs.Values.{Values}
 use Rattle.bflt_format.specs.Header.{flat_values}
 use Rattle.bflt_format.specs.Fault.{flat_fault as fault_of}
-use Rattle.bflt_format.specs.Spelling.{spell}
+use Rattle.bflt_format.specs.Spelling.{words_text, header_words, spell}
+use Rattle.bflt_format.proofs.BigWords.{length-words_text}
 use Rattle.elf2flt_tool.specs.declared.refusal.Refusal.{Refusal}
 use Rattle.elf2flt_tool.specs.declared.refusal.Refusal.TheVariants as refusal
 use Rattle.elf2flt_tool.specs.Fault.{fault}
@@ -29,6 +30,14 @@ use Rattle.suite_top.specs.Making.{IsMemory, Knows, Added, programs_value, AreSo
 use Rattle.suite_top.proofs.OriginalsSame.{converted_original}
 
 -- ---- the program of a file
+
+pub length_spell : (f : Values) → length (spell f) ≡ 64 + length f.body + 4 * length f.records
+unfolding spell
+length_spell f =
+    omega (arith, length-append (words_text (header_words f)) (f.body ++ words_text f.records), length-words_text (header_words f), length-append f.body (words_text f.records), length-words_text f.records)
+
+pub bytes_of : (e : List ℕ) → ((i : ℕ) → Fits w8 (get_or e i 0)) → IsBytes e
+bytes_of e fits i = omega (arith, fits i)
 
 pub makes_elf : (e : List ℕ) (stack : ℕ) (f : Values) (bytes : ℕ) → IsBytes e → stack ≤ 1048576 → fault e ≡ None → f ≡ converted e stack → bytes ≡ length (spell f)
     → elf_made_of e stack ≡ Ok (record { original = flat_original f; bytes = bytes })
@@ -56,6 +65,9 @@ refuses_flat y first why = elim why [
 ]
 
 -- ---- programs one after the other
+
+pub paths_more : {Y : Type 0} (olds news : List (Vec ℕ Y)) (v : Vec ℕ Y) (path : List ℕ) → news ≡ olds ++ v ∷ [] → v.items ≡ path → paths_of news ≡ paths_of olds ++ path ∷ []
+paths_more olds news v path are is = ap paths_of are ∙ map-append (λ p. p.items) olds (v ∷ []) ∙ ap (λ p. paths_of olds ++ p ∷ []) is
 
 all_more : (ps : List Program) (p : Program) (r : Result (List Program) FaultAt) → with_all (ps ++ p ∷ []) r ≡ with_all ps (with_first p r)
 all_more [] p r = refl
@@ -87,6 +99,15 @@ module _ (more : Taken → Result (List Program) FaultAt) (t : Taken) (i : Item)
 
   pub unmade : (r : Result Made LineFault) (first : LineFault) → r ≡ Err first → taken more t i r ≡ Err (record { line = i.line; fault = first })
   unmade r first why = ap (taken more t i) why
+
+-- a file that can't take its place
+pub unplaced_at : (t : Taken) (i : Item) (r : Result Made LineFault) (m : Made) → r ≡ Ok m → (first : LineFault)
+    → IsMemory first ⊎ ((errno : Errno) × (place_fault t i.path m.bytes ≡ Some errno) × (first ≡ line.Place errno))
+    → IsMemory first ⊎ ((more : Taken → Result (List Program) FaultAt) → taken more t i r ≡ Err (record { line = i.line; fault = first }))
+unplaced_at t i r m made first why = elim why [
+  | inl is ↦ inl is
+  | inr (errno, fault, is) ↦ inr (λ more. unplaced more t i r m errno made fault ∙ ap (λ (f : LineFault). Err (record { line = i.line; fault = f })) (sym is))
+]
 
 module _ (items : List Item) (files : List (List ℕ)) (programs : Programs) (places : Places) (k : ℕ) (so_far : MadeSoFar items files programs places k) where
   module _ (item : Item) (file : List ℕ) (opened : drop k items ≡ item ∷ drop (k + 1) items) (opened_files : drop k files ≡ file ∷ drop (k + 1) files) where

@@ -21,10 +21,8 @@ use Rattle.suite_top.specs.Check.{verdict, checked_outcome, check_outcome}
 use Rattle.suite_top.specs.List.{judged_ending, listed_outcome, list_outcome}
 use Rattle.page_runs.specs.declared.place.Kind.{Kind}
 use Rattle.manifest_text.specs.declared.manifest.Dump.{Dump}
-use Rattle.machine_world.specs.World.{World}
-use Rattle.machine_world.specs.Turns.{End}
-use Rattle.suite_top.specs.Report.{stopped_ending}
-use Rattle.suite_top.specs.Run.{run_outcome}
+use Rattle.machine_world.specs.Turns.{Walk}
+use Rattle.suite_top.specs.Run.{walked_ending, run_outcome}
 use Rattle.suite_top.specs.Result.{command_outcome, result_of}
 use Rattle.suite_top.specs.StatusLaws.{IsOneText, TextsAreApart, UsageIsExact}
 use Rattle.suite_top.specs.HostCourse.{AreLoads}
@@ -59,9 +57,9 @@ module _ (P : Ending → Type 0) (read : (name : List ℕ) → P (failure_ending
   other_than_run (list flt) inputs other = found_ending flt listed_outcome (λ y. list_judged y (flat_fault y)) (inputs 0 flt)
   other_than_run (run manifest log kind) inputs other = absurd other
 
-  module _ (stopped : (log : Bool) (dumps : List Dump) (w : World) (end : Option End) → P (stopped_ending log dumps w end)) where
+  module _ (walked : (log : Bool) (dumps : List Dump) (walk : Walk) → P (walked_ending log dumps walk)) where
     pub invoked : (k : Invocation) (inputs : Inputs) → P (command_outcome (Some k) inputs).ending
-    invoked (run manifest log kind) inputs = run_by (λ (o : Outcome). P o.ending) (λ name o p. p) read refused stopped manifest log kind inputs
+    invoked (run manifest log kind) inputs = run_by (λ (o : Outcome). P o.ending) (λ name o p. p) read refused walked manifest log kind inputs
     invoked (convert elf flt stack) inputs = other_than_run (convert elf flt stack) inputs tt
     invoked (check elf) inputs = other_than_run (check elf) inputs tt
     invoked (list flt) inputs = other_than_run (list flt) inputs tt
@@ -75,7 +73,7 @@ pub never : (s : Status) → (HostRead ≡ s → ⊥) → (Refused ≡ s → ⊥
     → (arguments : List (List ℕ)) (inputs : Inputs) → (result_of arguments inputs).ending.status ≡ s → ⊥
 never s read refused done usage stray quanta full arguments inputs =
     result_by (λ t. t.status ≡ s → ⊥) (λ name. read) (λ tail. refused) (λ text. done)
-    (λ log dumps w end. other_status (λ t. t ≡ s → ⊥) done stray quanta full end)
+    (λ log dumps walk. other_status (λ t. t ≡ s → ⊥) done stray quanta full walk.end)
     usage (command_of arguments) inputs
 
 one_text : (o : Option Invocation) (inputs : Inputs) → IsNoRun o → IsOneText (command_outcome o inputs).ending
@@ -88,7 +86,7 @@ texts_are_apart arguments inputs = one_text (command_of arguments) inputs
 no_command : (o : Option Invocation) (inputs : Inputs) → (command_outcome o inputs).ending.status ≡ Usage → o ≡ None
 no_command None inputs is = refl
 no_command (Some k) inputs is =
-    absurd (invoked (λ t. t.status ≡ Usage → ⊥) (λ name e. cc) (λ tail e. cc) (λ text e. cc) (λ log dumps w end. other_status (λ t. t ≡ Usage → ⊥) (λ e. cc) (λ e. cc) (λ e. cc) (λ e. cc) end) k inputs is)
+    absurd (invoked (λ t. t.status ≡ Usage → ⊥) (λ name e. cc) (λ tail e. cc) (λ text e. cc) (λ log dumps walk. other_status (λ t. t ≡ Usage → ⊥) (λ e. cc) (λ e. cc) (λ e. cc) (λ e. cc) walk.end) k inputs is)
 
 pub usage_is_exact : UsageIsExact
 usage_is_exact arguments inputs = (
@@ -121,4 +119,4 @@ pub check_requests : (elf : List ℕ) (inputs : Inputs) → (check_outcome elf i
 check_requests elf inputs = one_load elf checked_outcome (λ e. refl) (inputs 0 elf)
 
 pub run_requests : (manifest : List ℕ) (log : Bool) (kind : Kind) (inputs : Inputs) → AreLoads (run_outcome manifest log kind inputs).requests
-run_requests = run_by (λ (o : Outcome). AreLoads o.requests) (λ name o are. are) (λ name. tt) (λ tail. tt) (λ log dumps w end. tt)
+run_requests = run_by (λ (o : Outcome). AreLoads o.requests) (λ name o are. are) (λ name. tt) (λ tail. tt) (λ log dumps walk. tt)

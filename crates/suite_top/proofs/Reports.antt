@@ -1,5 +1,5 @@
 -- The parts of a report, by what a machine tells of its world.
-use Rattle.std.proofs.Common.{◌≡◌, ℕ, ◌<◌, suc, zero, List, [], ◌∷◌, ◌++◌, length, map, reverse, Bool, Option, Some, Result, Ok, Err, IfOk, refl, sym, ap, subst, ◌∙◌, get_or, arith, inl, inr}
+use Rattle.std.proofs.Common.{◌≡◌, ℕ, ◌<◌, suc, zero, List, [], ◌∷◌, ◌++◌, length, map, reverse, Bool, Option, Some, refl, sym, ap, subst, ◌∙◌, get_or, arith}
 use Rattle.std.specs.Prelude.{Vec}
 use Rattle.std.specs.List.{flat_map}
 use Rattle.std.proofs.lemmas.List.{length-map, reverse-append, reverse-reverse}
@@ -9,17 +9,11 @@ use Rattle.call_log.specs.Values.{note_value}
 use Rattle.call_log.specs.Programs.{IsProgramBelow, paths_of}
 use Rattle.manifest_text.specs.declared.manifest.Dump.{Dump}
 use Rattle.machine_world.specs.World.{Program, World, program_path}
-use Rattle.machine_world.specs.Turns.{End, turns}
-use Rattle.quantum_sched.specs.declared.Quantum.{Quantum}
-use Rattle.std.specs.declared.alloc.AllocError.{AllocError}
+use Rattle.machine_world.specs.Turns.{End}
 use Rattle.machine_world.specs.Programs.{AreLoaded}
 use Rattle.flat_machine.specs.declared.run.End.{End as Told}
 use Rattle.flat_machine.specs.Runs.{Ends}
-use Rattle.suite_top.specs.Report.{note_text, dump_line, stop_line, stop_word, report_text, IsStopWord, IsReport, stopped_ending, IsStopped}
-use Rattle.suite_top.specs.Run.{world_ending}
-use Rattle.suite_top.specs.Ending.{OrMemory}
-use Rattle.suite_top.specs.declared.answer.Answer.{Answer}
-use Rattle.suite_top.specs.Answer.{ending_in, ending_of}
+use Rattle.suite_top.specs.Report.{note_text, dump_line, stop_line, stop_word, report_text, IsStopWord, IsReport}
 
 loaded_append : (n : ℕ) (xs ys : List Note) → AreLoaded n xs → AreLoaded n ys → AreLoaded n (xs ++ ys)
 loaded_append n [] ys hx hy = hy
@@ -57,11 +51,3 @@ module _ {Y : Type 0} (w : World) (notes : List Stored) (paths : List (Vec ℕ Y
       is
       ∙ ap (λ (front : List ℕ). front ++ dumped ++ stop_line word w.events) (by_paths ∙ by_order)
       ∙ ap (λ (said : List ℕ). flat_map (note_text log programs) (reverse w.notes) ++ dumped ++ stop_line said w.events) (stops end ends)
-
--- the answer of a run, by what the machine's run ensures
-pub ends_stopped : (log : Bool) (dumps : List Dump) (quanta : List Quantum) (old new : World) (t : Told) (r : Result Answer AllocError)
-    → new ≡ (turns quanta old).world → Ends (turns quanta old).end t → IfOk r (λ answer. IsStopped log dumps new t (ending_in answer)) → OrMemory (world_ending log quanta dumps old) (ending_of r)
-unfolding world_ending
-ends_stopped log dumps quanta old new t (Ok answer) is ends stopped =
-    inl (stopped (turns quanta old).end ends ∙ ap (λ (w : World). stopped_ending log dumps w (turns quanta old).end) is)
-ends_stopped log dumps quanta old new t (Err error) is ends stopped = inr refl

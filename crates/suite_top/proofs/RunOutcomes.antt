@@ -6,7 +6,7 @@ use Rattle.manifest_text.specs.declared.manifest.Dump.{Dump}
 use Rattle.manifest_text.specs.Values.{Item, Manifest}
 use Rattle.manifest_text.specs.Manifest.{Fault, manifest_of}
 use Rattle.machine_world.specs.World.{Program, World}
-use Rattle.machine_world.specs.Turns.{End, all_ended, out_of_quanta, stray_at, log_full, turns}
+use Rattle.machine_world.specs.Turns.{End, all_ended, out_of_quanta, stray_at, log_full, Walk, turns}
 use Rattle.machine_world.specs.Boot.{BootFault, boot}
 use Rattle.flat_machine.specs.Runs.{repeated}
 use Rattle.suite_top.specs.declared.status.Status.{Status}
@@ -16,11 +16,11 @@ use Rattle.suite_top.specs.Ending.{Ending, refused_ending}
 use Rattle.suite_top.specs.Outcome.{load, failure_ending, Outcome, Inputs, after}
 use Rattle.suite_top.specs.Load.{at_once, behind, with_limited}
 use Rattle.suite_top.specs.Programs.{FaultAt, programs_from, nothing_taken}
-use Rattle.suite_top.specs.Report.{status_of_end, stopped_ending}
-use Rattle.suite_top.specs.Run.{manifest_limit, files_limit, load_limit, with_items, start_line, opening, boot_fault, world_ending, booted_ending, programs_ending, files_ending, items_outcome, manifest_outcome, run_outcome}
+use Rattle.suite_top.specs.Report.{status_of_end}
+use Rattle.suite_top.specs.Run.{manifest_limit, files_limit, load_limit, with_items, start_line, opening, boot_fault, walked_ending, booted_ending, programs_ending, files_ending, items_outcome, manifest_outcome, run_outcome}
 
 -- what holds of each end, and of a load in front of an outcome of which it holds
-module _ (P : Outcome → Type 0) (step : (name : List ℕ) (o : Outcome) → P o → P (after (load name) o)) (read : (name : List ℕ) → P (at_once (failure_ending (load name)))) (refused : (tail : List ℕ) → P (at_once (refused_ending tail))) (stopped : (log : Bool) (dumps : List Dump) (w : World) (end : Option End) → P (at_once (stopped_ending log dumps w end))) where
+module _ (P : Outcome → Type 0) (step : (name : List ℕ) (o : Outcome) → P o → P (after (load name) o)) (read : (name : List ℕ) → P (at_once (failure_ending (load name)))) (refused : (tail : List ℕ) → P (at_once (refused_ending tail))) (walked : (log : Bool) (dumps : List Dump) (walk : Walk) → P (at_once (walked_ending log dumps walk))) where
   limited : (limit : ℕ) (line : Option ℕ) (name : List ℕ) (rest : List ℕ → Outcome) → ((bytes : List ℕ) → P (rest bytes)) → (found : Option (List ℕ)) → P (with_limited limit line name found rest)
   limited limit line name rest each None = read name
   limited limit line name rest each (Some bytes) =
@@ -37,9 +37,8 @@ module _ (P : Outcome → Type 0) (step : (name : List ℕ) (o : Outcome) → P 
       (inputs 0 item.name))
 
   booted : (log : Bool) (m : Manifest) (r : Result World BootFault) → P (at_once (booted_ending log m r))
-  unfolding world_ending
   booted log m (Err first) = refused (line_tail (boot_fault first).line (boot_fault first).fault)
-  booted log m (Ok w) = stopped log m.dumps (turns (repeated m.repeat m.quanta) w).world (turns (repeated m.repeat m.quanta) w).end
+  booted log m (Ok w) = walked log m.dumps (turns (repeated m.repeat m.quanta) w)
 
   made : (log : Bool) (kind : Kind) (m : Manifest) (r : Result (List Program) FaultAt) → P (at_once (programs_ending log kind m r))
   made log kind m (Err at) = refused (line_tail at.line at.fault)

@@ -13,7 +13,6 @@ use Rattle.flat_machine.specs.OwnBytes.{own_bytes}
 use Rattle.suite_top.specs.declared.status.Status.{Status}
 use Rattle.suite_top.specs.declared.status.Status.TheVariants as status
 use Rattle.suite_top.specs.Texts.{joined, address_words}
-use Rattle.suite_top.specs.Ending.{Ending}
 
 -- calls are told only with `--log`, and all other notes always
 abbrev pub is_told : Bool → Note → Bool
@@ -62,19 +61,12 @@ status_of_end (Some out_of_quanta) = status.OutOfQuanta
 status_of_end (Some log_full) = status.LogFull
 status_of_end None = status.OutOfQuanta
 
--- `out` takes the console, and `report` the report
-abbrev pub stopped_ending : Bool → List Dump → World → Option End → Ending
-stopped_ending log dumps w end = record { status = status_of_end end; out = w.rest.console; report = report_text log dumps w end }
-
 -- of each end that the code's end says
 abbrev pub IsStopWord : Told → List ℕ → Type 0
 IsStopWord told word = (end : Option End) → Ends end told → word ≡ stop_word end
 
 abbrev pub IsReport : Bool → List Dump → World → Told → List ℕ → Type 0
 IsReport log dumps w told text = (end : Option End) → Ends end told → text ≡ report_text log dumps w end
-
-abbrev pub IsStopped : Bool → List Dump → World → Told → Ending → Type 0
-IsStopped log dumps w told ending = (end : Option End) → Ends end told → ending ≡ stopped_ending log dumps w end
 
 abbrev pub IsStatus : Told → Status → Type 0
 IsStatus told s = (end : Option End) → Ends end told → s ≡ status_of_end end

@@ -68,7 +68,10 @@ fn add_program<'a>(
     ensures { (t : Taken) → Knows places.old t → AddsProgram t (item_value item.now) file.now programs.old programs.new places.new result }
 {
     let made = make(alloc, item.kind, item.stack, file)?;
-    places.take(&item.path, made.bytes)?;
+    match places.take(&item.path, made.bytes) {
+        Ok(()) => {}
+        Err(fault) => return Err(fault),
+    }
     let path = Vec::from_slice(alloc, &item.path)?;
     programs.paths.push(path)?;
     programs.flats.push(made.flat)?;

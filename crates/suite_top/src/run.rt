@@ -1,5 +1,5 @@
 //! The command `run MANIFEST`.
-ghost use Rattle.std.specs.Prelude.{◌≡◌, ◌+◌, ◌*◌, ◌^◌, ◌<◌, ◌≤◌, length, Ok, IfOk, sum_by};
+ghost use Rattle.std.specs.Prelude.{◌≡◌, ◌+◌, ◌*◌, ◌^◌, ◌<◌, ◌≤◌, length, Ok, sum_by};
 ghost use Rattle.page_runs.specs.Choosers.{IsChooser, kind_of};
 ghost use Rattle.manifest_text.specs.Manifest.{manifest_of};
 ghost use Rattle.manifest_text.specs.Values.{manifest_value, vec_texts};
@@ -8,8 +8,7 @@ ghost use Rattle.flat_machine.specs.State.{world};
 ghost use Rattle.flat_machine.specs.Runs.{repeated};
 ghost use Rattle.suite_top.specs.Ending.{memory_ending, OrMemory};
 ghost use Rattle.suite_top.specs.Observed.{observed};
-ghost use Rattle.suite_top.specs.Answer.{ending_in, ending_of};
-ghost use Rattle.suite_top.specs.Report.{IsStopped};
+ghost use Rattle.suite_top.specs.Answer.{ending_of};
 ghost use Rattle.suite_top.specs.Making.{IsMemory, fault_value, AreSoMany, programs_value, told_fault};
 ghost use Rattle.suite_top.specs.Run.{manifest_limit, fault_ending, world_ending, programs_ending, files_ending, items_outcome, manifest_outcome, run_outcome};
 ghost use Rattle.suite_top.specs.HostCourse.{PerformsCommand};
@@ -22,7 +21,7 @@ use crate::programs::{Programs, make_programs};
 use crate::report::{report, status_of};
 use crate::status::Status;
 use crate::texts::refusals::{refused_line, refused_manifest};
-use flat_machine::{BootRefusal, End, Machine, Setup};
+use flat_machine::{BootRefusal, Machine, Setup};
 use host_io::Host;
 use manifest_text::{Dump, Manifest, ManifestRefusal};
 use page_runs::{Chooser, Run};
@@ -176,23 +175,8 @@ fn run_machine(
     requires { machine.events + repeat * sum_by (λ q. q.count) quanta.now < 2 ^ 64 }
     ensures { OrMemory (world_ending log (repeated repeat quanta.now) dumps.now (world machine)) (ending_of result) }
 {
-    match machine.run_repeated(quanta, repeat) {
-        Ok(end) => told(alloc, &machine, log, dumps, end),
-        Err(error) => Err(error),
-    }
-}
-
-/// The answer of a run that stopped.
-fn told(
-    alloc: Global,
-    machine: &Machine,
-    log: bool,
-    dumps: &[Dump],
-    end: End,
-) -> Result<Answer, AllocError>
-    ensures { IfOk result (λ answer. IsStopped log dumps.now (world machine.now) end (ending_in answer)) }
-{
-    let report = report(alloc, machine, log, dumps, end)?;
+    let end = machine.run_repeated(quanta, repeat)?;
+    let report = report(alloc, &machine, log, dumps, end)?;
     let out = Vec::from_slice(alloc, machine.console())?;
     Ok(Answer {
         status: status_of(end),

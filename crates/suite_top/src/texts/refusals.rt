@@ -5,8 +5,8 @@ ghost use Rattle.suite_top.specs.Texts.Refusals.{manifest_fault_words, manifest_
 ghost use Rattle.suite_top.specs.Making.{IsMemory};
 
 use crate::line_fault::LineFault;
-use crate::texts::conversion_tail;
 use crate::texts::listing::flat_tail;
+use crate::texts::{conversion_tail, refused};
 use manifest_text::ManifestFault;
 use std::alloc::{AllocError, Global};
 
@@ -26,6 +26,17 @@ fn manifest_fault_words(fault: ManifestFault) -> &'static str
     }
 }
 
+fn manifest_tail(
+    alloc: Global,
+    number: u32,
+    fault: ManifestFault,
+) -> Result<String, AllocError>
+    ensures { IfOk result (λ tail. string_bytes tail ≡ manifest_tail number fault) }
+{
+    let words = manifest_fault_words(fault);
+    format!(in alloc; "manifest line {number} {words}")
+}
+
 /// The line for a manifest with a fault.
 pub fn refused_manifest(
     alloc: Global,
@@ -34,8 +45,8 @@ pub fn refused_manifest(
 ) -> Result<String, AllocError>
     ensures { IfOk result (λ line. string_bytes line ≡ refused_line (manifest_tail number fault)) }
 {
-    let words = manifest_fault_words(fault);
-    format!(in alloc; "refused: manifest line {number} {words}\n")
+    let tail = manifest_tail(alloc, number, fault)?;
+    refused(alloc, &tail)
 }
 
 fn line_fault_words(alloc: Global, fault: &LineFault) -> Result<String, AllocError>
@@ -57,11 +68,19 @@ fn line_fault_words(alloc: Global, fault: &LineFault) -> Result<String, AllocErr
     }
 }
 
+fn line_tail(alloc: Global, number: u32, fault: &LineFault) -> Result<String, AllocError>
+    ensures tail { IfOk result (λ tail. string_bytes tail ≡ line_tail number fault.now) }
+    ensures no_tail { IsMemory fault.now → IsErr result }
+{
+    let words = line_fault_words(alloc, fault)?;
+    format!(in alloc; "line {number} {words}")
+}
+
 /// The line for a manifest's line of this number. Out of memory has no such line.
 pub fn refused_line(alloc: Global, number: u32, fault: &LineFault) -> Result<String, AllocError>
     ensures line { IfOk result (λ line. string_bytes line ≡ refused_line (line_tail number fault.now)) }
     ensures no_line { IsMemory fault.now → IsErr result }
 {
-    let words = line_fault_words(alloc, fault)?;
-    format!(in alloc; "refused: line {number} {words}\n")
+    let tail = line_tail(alloc, number, fault)?;
+    refused(alloc, &tail)
 }

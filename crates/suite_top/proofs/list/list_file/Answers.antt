@@ -8,3 +8,6 @@ pub returns-in-Whole : goal.returns-in-Whole
 returns-in-Whole g c =
     let ends = rw c.deref.ensures.value at c.list_bytes.ensures in
     performs_file c.args.flt.now listed_outcome _ _ _ _ _ c.in-Whole.ensures (lists _ _ _ ends)
+
+pub returns-in-Ended : goal.returns-in-Ended
+returns-in-Ended g c = c.in-Ended.ensures (λ e inputs. listed_outcome e)
