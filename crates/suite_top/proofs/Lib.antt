@@ -1,7 +1,7 @@
 -- HostCourses, HostSteps, Stops: a course of the host, step by step.
 -- Lines, Usage, Stacks, Addresses: the ends and texts of private functions.
 -- Conversions, Listed: what the commands do behind their load.
--- Outcomes: what an outcome can be.
+-- Outcomes, RunOutcomes: what an outcome can be.
 -- StatusLaws, HostLaws: the laws over every call.
 -- OneFileLaws, ConvertLaws, CheckLaws, ListLaws, SizesLaw: the laws of the commands.
 -- Reports: the parts of the report of a run.
@@ -21,6 +21,7 @@ pub mod Stacks
 pub mod Addresses
 pub mod Conversions
 pub mod Listed
+pub mod RunOutcomes
 pub mod Outcomes
 pub mod StatusLaws
 pub mod HostLaws
