@@ -4,12 +4,12 @@ use Rattle.std.specs.Prelude.{option_map}
 use Rattle.std.proofs.lemmas.List.{append-nil}
 use Rattle.host_io.specs.Host.{Told}
 use Rattle.suite_top.specs.Outcome.{Request, load, store, Inputs, name_of}
-use Rattle.suite_top.specs.Arguments.{Invocation, convert, list, check, command_of}
+use Rattle.suite_top.specs.Arguments.{Invocation, convert, list, check, run, command_of}
 use Rattle.suite_top.specs.Result.{command_outcome}
 use Rattle.suite_top.specs.HostCourse.{HostCourse, complete, failed, out_of_memory, AreLoads, IsCourseOf, FaultsAfter, after_answer, after_answers, told_after}
 use Rattle.suite_top.specs.Call.{outcome_of}
 use Rattle.suite_top.specs.HostLaws.{NamesAreAPrefix, NothingIsAsked, OthersChangeNoFile}
-use Rattle.suite_top.proofs.Outcomes.{usage_is_exact, list_requests, check_requests}
+use Rattle.suite_top.proofs.Outcomes.{usage_is_exact, list_requests, check_requests, run_requests}
 
 -- what a host tells in the end is what its course gives
 pub told_is : (k : Told → Told) (old new : Option Told) (t t_after : Told) → new ≡ option_map k old → old ≡ Some t → new ≡ Some t_after → t_after ≡ k t
@@ -70,6 +70,7 @@ others_load None inputs other = tt
 others_load (Some (convert elf flt stack)) inputs other = absurd (other elf flt stack refl)
 others_load (Some (list flt)) inputs other = subst AreLoads (sym (list_requests flt inputs)) tt
 others_load (Some (check elf)) inputs other = subst AreLoads (sym (check_requests elf inputs)) tt
+others_load (Some (run manifest log kind)) inputs other = run_requests manifest log kind inputs
 
 files_stay : (requests : List Request) (k : HostCourse) (t : Told) → IsCourseOf requests k → AreLoads requests → (told_after requests k t).files ≡ t.files
 files_stay requests complete t is are = loads_keep requests t are

@@ -1,13 +1,19 @@
 -- HostCourses, HostSteps, Stops: a course of the host, step by step.
 -- Lines, Usage, Stacks, Addresses: the ends and texts of private functions.
 -- Conversions, Listed: what the commands do behind their load.
--- Outcomes: what an outcome can be.
+-- Outcomes, RunOutcomes: what an outcome can be.
 -- StatusLaws, HostLaws: the laws over every call.
 -- OneFileLaws, ConvertLaws, CheckLaws, ListLaws, SizesLaw: the laws of the commands.
 -- Reports: the parts of the report of a run.
+-- OneFileSteps: a command that goes on with one file.
+-- Opened: a list opened at one place.
+-- PathSets: the set of the paths so far.
+-- LoadedItems, OriginalsSame, MadePrograms: the loads of a manifest's lines, and the programs that they make.
+-- Booted, RunEndings, RunLaws: what a boot of the machine gives, how a run ends, and when it reaches its machine.
 -- Samples, ListSamples: the definitions on the worked example.
 pub mod HostCourses
 pub mod HostSteps
+pub mod OneFileSteps
 pub mod Stops
 pub mod Lines
 pub mod Usage
@@ -15,6 +21,7 @@ pub mod Stacks
 pub mod Addresses
 pub mod Conversions
 pub mod Listed
+pub mod RunOutcomes
 pub mod Outcomes
 pub mod StatusLaws
 pub mod HostLaws
@@ -23,6 +30,14 @@ pub mod ConvertLaws
 pub mod CheckLaws
 pub mod ListLaws
 pub mod SizesLaw
+pub mod Opened
+pub mod PathSets
 pub mod Reports
+pub mod LoadedItems
+pub mod OriginalsSame
+pub mod MadePrograms
+pub mod Booted
+pub mod RunEndings
+pub mod RunLaws
 pub mod Samples
 pub mod ListSamples

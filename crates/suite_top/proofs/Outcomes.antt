@@ -7,20 +7,26 @@ use Rattle.bflt_format.specs.Fault.{flat_fault}
 use Rattle.elf2flt_tool.specs.Fault.{fault}
 use Rattle.elf2flt_tool.specs.Converted.{flat}
 use Rattle.suite_top.specs.declared.status.Status.{Status}
-use Rattle.suite_top.specs.declared.status.Status.TheVariants.{Done, Usage, HostRead, Refused}
+use Rattle.suite_top.specs.declared.status.Status.TheVariants.{Done, Usage, HostRead, Refused, Stray, OutOfQuanta, LogFull}
 use Rattle.suite_top.specs.Sizes.{sizes}
 use Rattle.suite_top.specs.Texts.{refusal_tail, convert_line, check_line, too_long_tail}
 use Rattle.suite_top.specs.Texts.Listing.{listing, flat_tail}
 use Rattle.bflt_format.specs.Header.{flat_values}
 use Rattle.suite_top.specs.Ending.{Ending, done_ending, usage_ending, refused_ending}
 use Rattle.suite_top.specs.Outcome.{Request, load, store, failure_ending, Outcome, Inputs, after}
-use Rattle.suite_top.specs.Arguments.{Invocation, convert, list, check, default_stack, command_of}
+use Rattle.suite_top.specs.Arguments.{Invocation, convert, list, check, run, IsNoRun, default_stack, command_of}
 use Rattle.suite_top.specs.OneFile.{file_limit, with_found, with_file}
 use Rattle.suite_top.specs.Convert.{judged_outcome, converted_outcome}
 use Rattle.suite_top.specs.Check.{verdict, checked_outcome, check_outcome}
 use Rattle.suite_top.specs.List.{judged_ending, listed_outcome, list_outcome}
+use Rattle.page_runs.specs.declared.place.Kind.{Kind}
+use Rattle.manifest_text.specs.declared.manifest.Dump.{Dump}
+use Rattle.machine_world.specs.Turns.{Walk}
+use Rattle.suite_top.specs.Run.{walked_ending, run_outcome}
 use Rattle.suite_top.specs.Result.{command_outcome, result_of}
 use Rattle.suite_top.specs.StatusLaws.{IsOneText, TextsAreApart, UsageIsExact}
+use Rattle.suite_top.specs.HostCourse.{AreLoads}
+use Rattle.suite_top.proofs.RunOutcomes.{run_by, other_status}
 
 -- what holds of a refusal and of `rest` holds of what was found
 pub found_by : (P : Outcome → Type 0) (name : List ℕ) (rest : List ℕ → Outcome) (e : List ℕ) → P (record { requests = []; ending = refused_ending too_long_tail }) → P (rest e) → P (with_found name (Some e) rest)
@@ -45,28 +51,42 @@ module _ (P : Ending → Type 0) (read : (name : List ℕ) → P (failure_ending
   list_judged y None = done (listing (flat_values y))
   list_judged y (Some first) = refused (flat_tail first)
 
-  pub invoked : (k : Invocation) (inputs : Inputs) → P (command_outcome (Some k) inputs).ending
-  invoked (convert elf flt stack) inputs = found_ending elf (converted_outcome flt stack) (λ e. convert_judged flt stack e (fault e)) (inputs 0 elf)
-  invoked (check elf) inputs = found_ending elf checked_outcome (λ e. check_judged e (fault e)) (inputs 0 elf)
-  invoked (list flt) inputs = found_ending flt listed_outcome (λ y. list_judged y (flat_fault y)) (inputs 0 flt)
+  pub other_than_run : (k : Invocation) (inputs : Inputs) → IsNoRun (Some k) → P (command_outcome (Some k) inputs).ending
+  other_than_run (convert elf flt stack) inputs other = found_ending elf (converted_outcome flt stack) (λ e. convert_judged flt stack e (fault e)) (inputs 0 elf)
+  other_than_run (check elf) inputs other = found_ending elf checked_outcome (λ e. check_judged e (fault e)) (inputs 0 elf)
+  other_than_run (list flt) inputs other = found_ending flt listed_outcome (λ y. list_judged y (flat_fault y)) (inputs 0 flt)
+  other_than_run (run manifest log kind) inputs other = absurd other
 
-pub result_by : (P : Ending → Type 0) → ((name : List ℕ) → P (failure_ending (load name))) → ((tail : List ℕ) → P (refused_ending tail)) → ((text : List ℕ) → P (done_ending text)) → P usage_ending
-    → (o : Option Invocation) (inputs : Inputs) → P (command_outcome o inputs).ending
-result_by P read refused done usage None inputs = usage
-result_by P read refused done usage (Some k) inputs = invoked P read refused done k inputs
+  module _ (walked : (log : Bool) (dumps : List Dump) (walk : Walk) → P (walked_ending log dumps walk)) where
+    pub invoked : (k : Invocation) (inputs : Inputs) → P (command_outcome (Some k) inputs).ending
+    invoked (run manifest log kind) inputs = run_by (λ (o : Outcome). P o.ending) (λ name o p. p) read refused walked manifest log kind inputs
+    invoked (convert elf flt stack) inputs = other_than_run (convert elf flt stack) inputs tt
+    invoked (check elf) inputs = other_than_run (check elf) inputs tt
+    invoked (list flt) inputs = other_than_run (list flt) inputs tt
+
+    pub result_by : P usage_ending → (o : Option Invocation) (inputs : Inputs) → P (command_outcome o inputs).ending
+    result_by usage None inputs = usage
+    result_by usage (Some k) inputs = invoked k inputs
 
 -- a status that no outcome has
-pub never : (s : Status) → (HostRead ≡ s → ⊥) → (Refused ≡ s → ⊥) → (Done ≡ s → ⊥) → (Usage ≡ s → ⊥) → (arguments : List (List ℕ)) (inputs : Inputs) → (result_of arguments inputs).ending.status ≡ s → ⊥
-never s read refused done usage arguments inputs =
-    result_by (λ t. t.status ≡ s → ⊥) (λ name. read) (λ tail. refused) (λ text. done) usage (command_of arguments) inputs
+pub never : (s : Status) → (HostRead ≡ s → ⊥) → (Refused ≡ s → ⊥) → (Done ≡ s → ⊥) → (Usage ≡ s → ⊥) → (Stray ≡ s → ⊥) → (OutOfQuanta ≡ s → ⊥) → (LogFull ≡ s → ⊥)
+    → (arguments : List (List ℕ)) (inputs : Inputs) → (result_of arguments inputs).ending.status ≡ s → ⊥
+never s read refused done usage stray quanta full arguments inputs =
+    result_by (λ t. t.status ≡ s → ⊥) (λ name. read) (λ tail. refused) (λ text. done)
+    (λ log dumps walk. other_status (λ t. t ≡ s → ⊥) done stray quanta full walk.end)
+    usage (command_of arguments) inputs
+
+one_text : (o : Option Invocation) (inputs : Inputs) → IsNoRun o → IsOneText (command_outcome o inputs).ending
+one_text None inputs other = inl refl
+one_text (Some k) inputs other = other_than_run IsOneText (λ name. inl refl) (λ tail. inl refl) (λ text. inr (refl, refl)) k inputs other
 
 pub texts_are_apart : TextsAreApart
-texts_are_apart arguments inputs =
-    result_by IsOneText (λ name. inl refl) (λ tail. inl refl) (λ text. inr (refl, refl)) (inl refl) (command_of arguments) inputs
+texts_are_apart arguments inputs = one_text (command_of arguments) inputs
 
 no_command : (o : Option Invocation) (inputs : Inputs) → (command_outcome o inputs).ending.status ≡ Usage → o ≡ None
 no_command None inputs is = refl
-no_command (Some k) inputs is = absurd (invoked (λ t. t.status ≡ Usage → ⊥) (λ name e. cc) (λ tail e. cc) (λ text e. cc) k inputs is)
+no_command (Some k) inputs is =
+    absurd (invoked (λ t. t.status ≡ Usage → ⊥) (λ name e. cc) (λ tail e. cc) (λ text e. cc) (λ log dumps walk. other_status (λ t. t ≡ Usage → ⊥) (λ e. cc) (λ e. cc) (λ e. cc) (λ e. cc) walk.end) k inputs is)
 
 pub usage_is_exact : UsageIsExact
 usage_is_exact arguments inputs = (
@@ -97,3 +117,6 @@ list_requests flt inputs = one_load flt listed_outcome (λ y. refl) (inputs 0 fl
 
 pub check_requests : (elf : List ℕ) (inputs : Inputs) → (check_outcome elf inputs).requests ≡ load elf ∷ []
 check_requests elf inputs = one_load elf checked_outcome (λ e. refl) (inputs 0 elf)
+
+pub run_requests : (manifest : List ℕ) (log : Bool) (kind : Kind) (inputs : Inputs) → AreLoads (run_outcome manifest log kind inputs).requests
+run_requests = run_by (λ (o : Outcome). AreLoads o.requests) (λ name o are. are) (λ name. tt) (λ tail. tt) (λ log dumps walk. tt)

@@ -1,11 +1,12 @@
 -- The definitions on the worked example: an ELF file of two instructions and one relocated word.
-use Rattle.std.proofs.Common.{◌≡◌, ℕ, List, [], ◌∷◌, Some, None, refl}
+use Rattle.std.proofs.Common.{◌≡◌, ℕ, true, false, List, [], ◌∷◌, Some, None, refl}
 use Rattle.std.specs.Prelude.{codes}
 use Rattle.std.specs.Fmt.{digits}
 use Rattle.suite_top.specs.Sizes.{Sizes, header_sizes}
 use Rattle.suite_top.specs.Texts.{refusal_tail, convert_line, check_line}
-use Rattle.suite_top.specs.Arguments.{convert, check, command_of}
+use Rattle.suite_top.specs.Arguments.{convert, check, run, command_of}
 use Rattle.elf2flt_tool.specs.declared.refusal.Refusal.TheVariants as refusal
+use Rattle.page_runs.specs.declared.place.Kind.TheVariants.{First, Best, Last}
 use Rattle.psabi_relocs.specs.declared.fault.RelocFault.TheVariants.{AbsoluteCode}
 use Rattle.byte_words.specs.Numbers.{number_at}
 
@@ -53,6 +54,24 @@ zero_in_front = refl
 
 check_is_read : command_of (codes "check" ∷ codes "a.elf" ∷ []) ≡ Some (check (codes "a.elf"))
 check_is_read = refl
+
+run_is_read : command_of (codes "run" ∷ codes "a" ∷ []) ≡ Some (run (codes "a") false First)
+run_is_read = refl
+
+log_is_read : command_of (codes "run" ∷ codes "a" ∷ codes "--log" ∷ []) ≡ Some (run (codes "a") true First)
+log_is_read = refl
+
+placement_is_read : command_of (codes "run" ∷ codes "a" ∷ codes "--place" ∷ codes "best" ∷ []) ≡ Some (run (codes "a") false Best)
+placement_is_read = refl
+
+both_are_read : command_of (codes "run" ∷ codes "a" ∷ codes "--log" ∷ codes "--place" ∷ codes "last" ∷ []) ≡ Some (run (codes "a") true Last)
+both_are_read = refl
+
+placement_in_front : command_of (codes "run" ∷ codes "a" ∷ codes "--place" ∷ codes "best" ∷ codes "--log" ∷ []) ≡ None
+placement_in_front = refl
+
+unknown_placement : command_of (codes "run" ∷ codes "a" ∷ codes "--place" ∷ codes "worst" ∷ []) ≡ None
+unknown_placement = refl
 
 -- the line of `check`, and the tails of refused relocations and places
 check_is_told : check_line numbers ≡ codes "accepted text 64 data 12 bss 0 records 1\n"

@@ -1,7 +1,9 @@
 -- The table of commands. The arguments are those after the program's name; a name is any text.
-use Rattle.std.specs.Prelude.{ℕ, Bool, ◌&&◌, nat_le, List, [], ◌∷◌, codes, slice_index, bytes_eq, decimal, Option, Some, None, option_map, if◌then◌else◌}
+use Rattle.std.specs.Prelude.{ℕ, Bool, true, false, ◌&&◌, nat_le, List, [], ◌∷◌, codes, slice_index, bytes_eq, decimal, Option, Some, None, option_map, if◌then◌else◌}
 use Rattle.std.specs.Int.{IsInRange}
 use Rattle.std.specs.Str.Parse.{digits_value}
+use Rattle.page_runs.specs.declared.place.Kind.{Kind}
+use Rattle.page_runs.specs.declared.place.Kind.TheVariants.{First, Best, Last}
 use Rattle.suite_top.specs.declared.arguments.Command.{Command}
 use Rattle.suite_top.specs.declared.arguments.Command.TheVariants as command
 
@@ -10,6 +12,7 @@ pub data Invocation : Type 0 where
   convert : (elf flt : List ℕ) (stack : ℕ) → Invocation
   list : (flt : List ℕ) → Invocation
   check : (elf : List ℕ) → Invocation
+  run : (manifest : List ℕ) (log : Bool) (kind : Kind) → Invocation
 
 -- the bytes of stack that a program gets where no argument says it
 abbrev pub default_stack : ℕ
@@ -40,19 +43,57 @@ stack_of text = spelled_stack text (digits_value 10 text)
 abbrev pub StartsWell : List ℕ → Type 0
 StartsWell text = IsInRange 49 57 (slice_index text 0)
 
--- `convert ELF FLT`, `convert ELF FLT --stack N`, `list FLT` and `check ELF`; any other arguments are no command
-abbrev pub command_of : List (List ℕ) → Option Invocation
-command_of (first ∷ elf ∷ flt ∷ option ∷ number ∷ []) =
-    if bytes_eq first (codes "convert") && bytes_eq option (codes "--stack") then option_map (convert elf flt) (stack_of number) else None
-command_of (first ∷ elf ∷ flt ∷ []) = if bytes_eq first (codes "convert") then Some (convert elf flt default_stack) else None
-command_of (first ∷ name ∷ []) =
-    if bytes_eq first (codes "list") then Some (list name)
-    else if bytes_eq first (codes "check") then Some (check name)
+-- the placement that a word names
+abbrev pub kind_of_word : List ℕ → Option Kind
+kind_of_word word =
+    if bytes_eq word (codes "first") then Some First
+    else if bytes_eq word (codes "best") then Some Best
+    else if bytes_eq word (codes "last") then Some Last
     else None
-command_of _ = None
+
+-- the one word, if there is just one
+abbrev pub only : List (List ℕ) → Option (List ℕ)
+only (word ∷ []) = Some word
+only words = None
+
+-- `ELF FLT` and `ELF FLT --stack N`
+abbrev pub convert_of : List (List ℕ) → Option Invocation
+convert_of (elf ∷ flt ∷ []) = Some (convert elf flt default_stack)
+convert_of (elf ∷ flt ∷ option ∷ number ∷ []) = if bytes_eq option (codes "--stack") then option_map (convert elf flt) (stack_of number) else None
+convert_of words = None
+
+-- `--place K`, or nothing for the first fit
+abbrev pub placement_of : List (List ℕ) → Option Kind
+placement_of [] = Some First
+placement_of (option ∷ word ∷ []) = if bytes_eq option (codes "--place") then kind_of_word word else None
+placement_of words = None
+
+-- `MANIFEST`, with `--log` behind it or not, and then with a placement or not
+abbrev pub run_of : List (List ℕ) → Option Invocation
+run_of [] = None
+run_of (manifest ∷ []) = Some (run manifest false First)
+run_of (manifest ∷ option ∷ words) =
+    if bytes_eq option (codes "--log") then option_map (run manifest true) (placement_of words)
+    else option_map (run manifest false) (placement_of (option ∷ words))
+
+-- `convert` with its words, `list FLT`, `check ELF`, and `run` with its words; any other arguments are no command
+abbrev pub command_of : List (List ℕ) → Option Invocation
+command_of [] = None
+command_of (first ∷ words) =
+    if bytes_eq first (codes "convert") then convert_of words
+    else if bytes_eq first (codes "list") then option_map list (only words)
+    else if bytes_eq first (codes "check") then option_map check (only words)
+    else if bytes_eq first (codes "run") then run_of words
+    else None
+
+-- no command, or another one than `run`
+abbrev pub IsNoRun : Option Invocation → Type 0
+IsNoRun (Some (run manifest log kind)) = ⊥
+IsNoRun other = Unit {0}
 
 -- the command that the program read
 abbrev pub invocation : Command → Invocation
 invocation (command.Convert elf flt stack) = convert elf.now flt.now stack
 invocation (command.List flt) = list flt.now
 invocation (command.Check elf) = check elf.now
+invocation (command.Run manifest log kind) = run manifest.now log kind

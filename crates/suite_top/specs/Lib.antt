@@ -7,9 +7,13 @@
 -- Ending      what a call ends with: a status, and a text for each of the two sinks
 -- Outcome     what a command requests of the host, in order, and its ending; Inputs: the files that its loads give
 -- Arguments   the table of commands; Invocation: a command with its arguments
+-- Load        a command that goes on with the file of a load
 -- OneFile     a command that begins with the load of a file
 -- Convert, Check, List   the commands
 -- Report      the report of a run, and the status that it ends with
+-- Originals   the program of an ELF file
+-- Programs    the programs that the item lines of a manifest bring in
+-- Run         the command `run`
 -- Result      result_of: the outcome of each command line
 --
 -- Observed    what a host or a sink tells at one moment, and its count of faults
@@ -18,17 +22,22 @@
 -- Call        MeetsResult, the clause of `suite`: a course of the outcome, and a delivery of its ending
 -- StatusLaws, HostLaws   what holds of every call
 --
--- Answer, FileLoad       for private functions only: the ending of a value of the code, and what a load gives
+-- Answer, FileLoad, ItemLoads, Making       for private functions only: the ending of a value of the code, what loads give, and what programs are made
 pub mod Status
 pub mod Texts
 pub mod Sizes
 pub mod Ending
 pub mod Outcome
 pub mod Arguments
+pub mod Load
 pub mod OneFile
 pub mod Convert
 pub mod Check
 pub mod List
+pub mod Report
+pub mod Originals
+pub mod Programs
+pub mod Run
 pub mod Result
 pub mod Observed
 pub mod HostCourse
@@ -38,4 +47,5 @@ pub mod StatusLaws
 pub mod HostLaws
 pub mod Answer
 pub mod FileLoad
-pub mod Report
+pub mod ItemLoads
+pub mod Making

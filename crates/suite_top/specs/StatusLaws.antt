@@ -7,7 +7,7 @@ use Rattle.suite_top.specs.declared.status.Status.TheVariants.{Done, Usage, Host
 use Rattle.suite_top.specs.Texts.{memory_line}
 use Rattle.suite_top.specs.Ending.{Ending, memory_ending}
 use Rattle.suite_top.specs.Outcome.{Request, load, store, failure_ending, Inputs}
-use Rattle.suite_top.specs.Arguments.{least_stack, most_stack, stack_of, command_of}
+use Rattle.suite_top.specs.Arguments.{IsNoRun, least_stack, most_stack, stack_of, command_of}
 use Rattle.suite_top.specs.Result.{result_of}
 use Rattle.suite_top.specs.HostCourse.{after_failure, after_answers, Performs}
 use Rattle.suite_top.specs.Delivery.{SinkStop, sink_failed, sink_memory, TookAll, CutShort}
@@ -81,12 +81,12 @@ pub record CutAtReport (stop : SinkStop) (c : Call) : Type 0 where
   pub out : TookAll c.out c.out_after ending.out
   pub report : CutShort stop c.report c.report_after ending.report
 
--- a text stands in one sink alone: with Done in `out`, and else in `report`
+-- a text stands in one sink alone: with Done in `out`, and else in `report`. `run` alone has a text for each
 abbrev pub IsOneText : Ending → Type 0
 IsOneText ending = (ending.out ≡ []) ⊎ ((ending.status ≡ Done) × (ending.report ≡ []))
 
 abbrev pub TextsAreApart : Type 0
-TextsAreApart = (arguments : List (List ℕ)) (inputs : Inputs) → IsOneText (result_of arguments inputs).ending
+TextsAreApart = (arguments : List (List ℕ)) (inputs : Inputs) → IsNoRun (command_of arguments) → IsOneText (result_of arguments inputs).ending
 
 -- a sink failed, and no other text was written behind its prefix
 abbrev pub SinksFail : Type 0

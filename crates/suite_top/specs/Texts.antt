@@ -1,6 +1,8 @@
 -- The texts that users see, each line with its newline. Numbers are decimal.
 -- Listing: the listing of a flat file, and the faults of one.
+-- Refusals: the faults of a manifest, and of what its lines bring in.
 pub mod Listing
+pub mod Refusals
 use Rattle.std.specs.Prelude.{ℕ, ◌-◌, false, List, [], ◌∷◌, ◌++◌, length, replicate, codes, decimal}
 use Rattle.std.specs.Fmt.{digits}
 use Rattle.elf32_reader.specs.declared.fault.ElfFault.{ElfFault}

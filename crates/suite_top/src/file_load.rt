@@ -1,14 +1,20 @@
-//! The load of the file that a command begins with.
+//! The load of a file that a command goes on with.
+ghost use Rattle.std.specs.Prelude.{◌≡◌, IfOk, None, string_bytes};
+ghost use Rattle.suite_top.specs.Texts.{refused_line};
+ghost use Rattle.suite_top.specs.Texts.Refusals.{too_long_at};
+ghost use Rattle.suite_top.specs.OneFile.{file_limit};
 ghost use Rattle.suite_top.specs.Observed.{observed};
 ghost use Rattle.suite_top.specs.FileLoad.{LoadsFile};
 
 use crate::answer::Answer;
+use crate::line_fault::LineFault;
 use crate::status::Status;
 use crate::texts;
+use crate::texts::refusals;
 use host_io::{Host, HostError, Loaded};
 use std::alloc::{AllocError, Global};
 
-/// The most bytes of a file that is loaded.
+/// The most bytes of an ELF or flat file that is loaded.
 const FILE_LIMIT: u32 = 67_108_864;
 
 /// What the load of a file gives.
@@ -22,19 +28,41 @@ pub enum FileLoad {
 
 /// Loads a file of at most 64 MiB.
 pub fn load_file<H: Host>(alloc: Global, name: &str, host: &mut H) -> FileLoad
-    ensures { LoadsFile (observed H.told H.faults host.old) (observed H.told H.faults host.new) name.now result }
+    ensures { LoadsFile file_limit None (observed H.told H.faults host.old) (observed H.told H.faults host.new) name.now result }
+{
+    load_limited(alloc, name, FILE_LIMIT, None, host)
+}
+
+/// Loads a file of at most `limit` bytes. The line is that of a manifest, if one brings the file in.
+pub fn load_limited<H: Host>(
+    alloc: Global,
+    name: &str,
+    limit: u32,
+    line: Option<u32>,
+    host: &mut H,
+) -> FileLoad
+    ensures { LoadsFile limit line (observed H.told H.faults host.old) (observed H.told H.faults host.new) name.now result }
 {
     let mut bytes = Vec::new(alloc);
-    match host.load(alloc, name, FILE_LIMIT, &mut bytes) {
+    match host.load(alloc, name, limit, &mut bytes) {
         Ok(Loaded::All) => FileLoad::Whole(bytes),
         Ok(Loaded::TooLong) => {
-            let line = texts::refused(alloc, "too long");
-            FileLoad::Ended(Answer::early(alloc, Status::Refused, line))
+            let text = refused_too_long(alloc, line);
+            FileLoad::Ended(Answer::early(alloc, Status::Refused, text))
         }
         Err(HostError::Failed) => {
-            let line = texts::cannot_read(alloc, name);
-            FileLoad::Ended(Answer::early(alloc, Status::HostRead, line))
+            let text = texts::cannot_read(alloc, name);
+            FileLoad::Ended(Answer::early(alloc, Status::HostRead, text))
         }
         Err(HostError::Memory) => FileLoad::Ended(Err(AllocError)),
+    }
+}
+
+fn refused_too_long(alloc: Global, line: Option<u32>) -> Result<String, AllocError>
+    ensures { IfOk result (λ text. string_bytes text ≡ refused_line (too_long_at line)) }
+{
+    match line {
+        Some(number) => refusals::refused_line(alloc, number, &LineFault::TooLong),
+        None => texts::refused(alloc, "too long"),
     }
 }

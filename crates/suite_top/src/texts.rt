@@ -11,6 +11,7 @@ use psabi_relocs::RelocFault;
 use std::alloc::{AllocError, Global};
 
 pub mod listing;
+pub mod refusals;
 
 /// The line of a call that is out of memory. It takes no memory itself.
 pub const MEMORY_LINE: &str = "memory\n";
@@ -111,38 +112,44 @@ pub fn address_words(alloc: Global, address: u32) -> Result<String, AllocError>
     format!(in alloc; "0x{address:08x}")
 }
 
-/// The line for an ELF file that isn't converted. Out of memory has no such line.
-pub fn refused_conversion(alloc: Global, refusal: &Refusal) -> Result<String, AllocError>
-    ensures line { IfOk result (λ line. string_bytes line ≡ refused_line (refusal_tail refusal.now)) }
-    ensures no_line { refusal.now ≡ Refusal.Memory → IsErr result }
+/// What is wrong with an ELF file that isn't converted. Out of memory has no such words.
+pub fn conversion_tail(alloc: Global, refusal: &Refusal) -> Result<String, AllocError>
+    ensures tail { IfOk result (λ tail. string_bytes tail ≡ refusal_tail refusal.now) }
+    ensures no_tail { refusal.now ≡ Refusal.Memory → IsErr result }
 {
     match refusal {
         Refusal::Elf(fault) => {
             let words = elf_fault_words(*fault);
-            format!(in alloc; "refused: elf {words}\n")
+            format!(in alloc; "elf {words}")
         }
         Refusal::Layout(fault) => {
             let words = layout_fault_words(*fault);
-            format!(in alloc; "refused: layout {words}\n")
+            format!(in alloc; "layout {words}")
         }
         Refusal::Reloc {
             section,
             index,
             fault,
-        } => {
-            let tail = reloc_tail(alloc, *section, *index, *fault)?;
-            refused(alloc, &tail)
-        }
+        } => reloc_tail(alloc, *section, *index, *fault),
         Refusal::TargetOutside { place } => {
             let address = address_words(alloc, *place)?;
-            format!(in alloc; "refused: target {address}\n")
+            format!(in alloc; "target {address}")
         }
         Refusal::WordOverlap { place } => {
             let address = address_words(alloc, *place)?;
-            format!(in alloc; "refused: overlap {address}\n")
+            format!(in alloc; "overlap {address}")
         }
         Refusal::Memory => Err(AllocError),
     }
+}
+
+/// The line for an ELF file that isn't converted. Out of memory has no such line.
+pub fn refused_conversion(alloc: Global, refusal: &Refusal) -> Result<String, AllocError>
+    ensures line { IfOk result (λ line. string_bytes line ≡ refused_line (refusal_tail refusal.now)) }
+    ensures no_line { refusal.now ≡ Refusal.Memory → IsErr result }
+{
+    let tail = conversion_tail(alloc, refusal)?;
+    refused(alloc, &tail)
 }
 
 /// The sizes of text, data and bss.

@@ -5,6 +5,7 @@ ghost use Rattle.page_runs.specs.Choosers.{IsChooser, kind_of};
 ghost use Rattle.suite_top.specs.Observed.{observed};
 ghost use Rattle.suite_top.specs.Answer.{ending_of};
 ghost use Rattle.suite_top.specs.Result.{result_of};
+ghost use Rattle.suite_top.specs.Run.{run_outcome};
 ghost use Rattle.suite_top.specs.HostCourse.{PerformsCommand};
 ghost use Rattle.suite_top.specs.Call.{MeetsResult};
 
@@ -15,24 +16,68 @@ use crate::convert::convert_file;
 use crate::delivery::deliver;
 use crate::list::list_file;
 use crate::placements::Placements;
+use crate::run::run_file;
 use crate::status::Status;
 use crate::texts;
 use host_io::{Host, Sink};
 use page_runs::{Kind, Run};
 use std::alloc::{AllocError, Global};
 
+/// Runs a manifest with the chooser of a placement.
+fn run_placed<H: Host, A, B, C>(
+    alloc: Global,
+    manifest: &str,
+    log: bool,
+    kind: Kind,
+    host: &mut H,
+    place: &Placements<A, B, C>,
+) -> Result<Answer, AllocError>
+where
+    A: Fn(&[Run], u32) -> Option<usize>,
+    B: Fn(&[Run], u32) -> Option<usize>,
+    C: Fn(&[Run], u32) -> Option<usize>,
+    requires first { IsChooser A.pre A.post place.now.first }
+    requires first_kind { kind_of place.now.first ≡ Kind.First }
+    requires best { IsChooser B.pre B.post place.now.best }
+    requires best_kind { kind_of place.now.best ≡ Kind.Best }
+    requires last { IsChooser C.pre C.post place.now.last }
+    requires last_kind { kind_of place.now.last ≡ Kind.Last }
+    ensures { PerformsCommand (observed H.told H.faults host.old) (observed H.told H.faults host.new) (run_outcome manifest.now log kind) (ending_of result) }
+{
+    match kind {
+        Kind::First => run_file(alloc, manifest, log, &place.first, host),
+        Kind::Best => run_file(alloc, manifest, log, &place.best, host),
+        Kind::Last => run_file(alloc, manifest, log, &place.last, host),
+    }
+}
+
 fn answer<H: Host, A, B, C>(
     alloc: Global,
     arguments: &[String],
     host: &mut H,
-    _place: &Placements<A, B, C>,
+    place: &Placements<A, B, C>,
 ) -> Result<Answer, AllocError>
+where
+    A: Fn(&[Run], u32) -> Option<usize>,
+    B: Fn(&[Run], u32) -> Option<usize>,
+    C: Fn(&[Run], u32) -> Option<usize>,
+    requires first { IsChooser A.pre A.post place.now.first }
+    requires first_kind { kind_of place.now.first ≡ Kind.First }
+    requires best { IsChooser B.pre B.post place.now.best }
+    requires best_kind { kind_of place.now.best ≡ Kind.Best }
+    requires last { IsChooser C.pre C.post place.now.last }
+    requires last_kind { kind_of place.now.last ≡ Kind.Last }
     ensures { PerformsCommand (observed H.told H.faults host.old) (observed H.told H.faults host.new) (result_of (map string_bytes arguments.now)) (ending_of result) }
 {
     match read_arguments(arguments) {
         Some(Command::Convert { elf, flt, stack }) => convert_file(alloc, elf, flt, stack, host),
         Some(Command::List { flt }) => list_file(alloc, flt, host),
         Some(Command::Check { elf }) => check_file(alloc, elf, host),
+        Some(Command::Run {
+            manifest,
+            log,
+            kind,
+        }) => run_placed(alloc, manifest, log, kind, host, place),
         None => Answer::early(alloc, Status::Usage, texts::usage(alloc)),
     }
 }

@@ -3,6 +3,7 @@ ghost use Rattle.std.specs.Prelude.{◌≡◌, ◌++◌, IfOk, IsErr, string_byt
 ghost use Rattle.suite_top.specs.Texts.{refused_line};
 ghost use Rattle.suite_top.specs.Texts.Listing.{part_lines, header_lines, record_line, listing, flat_fault_words, flat_tail};
 
+use crate::texts::refused;
 use bflt_format::{Flat, FlatFault};
 use std::alloc::{AllocError, Global};
 
@@ -73,16 +74,25 @@ fn flat_fault_words(fault: FlatFault) -> &'static str
     }
 }
 
-/// The line for a flat file with a fault. Out of memory has no such line.
-pub fn refused_flat(alloc: Global, fault: FlatFault) -> Result<String, AllocError>
-    ensures line { IfOk result (λ line. string_bytes line ≡ refused_line (flat_tail fault)) }
-    ensures no_line { fault ≡ FlatFault.Memory → IsErr result }
+/// What is wrong with a flat file. Out of memory has no such words.
+pub fn flat_tail(alloc: Global, fault: FlatFault) -> Result<String, AllocError>
+    ensures tail { IfOk result (λ tail. string_bytes tail ≡ flat_tail fault) }
+    ensures no_tail { fault ≡ FlatFault.Memory → IsErr result }
 {
     match fault {
         FlatFault::Memory => Err(AllocError),
         _ => {
             let words = flat_fault_words(fault);
-            format!(in alloc; "refused: flat {words}\n")
+            format!(in alloc; "flat {words}")
         }
     }
+}
+
+/// The line for a flat file with a fault. Out of memory has no such line.
+pub fn refused_flat(alloc: Global, fault: FlatFault) -> Result<String, AllocError>
+    ensures line { IfOk result (λ line. string_bytes line ≡ refused_line (flat_tail fault)) }
+    ensures no_line { fault ≡ FlatFault.Memory → IsErr result }
+{
+    let tail = flat_tail(alloc, fault)?;
+    refused(alloc, &tail)
 }

@@ -1,10 +1,13 @@
 -- A file that was loaded is listed.
 use Rattle.suite_top.specs.List.{listed_outcome}
-use Rattle.suite_top.proofs.HostSteps.{performs_rest}
+use Rattle.suite_top.proofs.OneFileSteps.{performs_file}
 use Rattle.suite_top.proofs.Listed.{lists}
 use Rattle.suite_top.proofs.list.list_file.Goals as goal
 
 pub returns-in-Whole : goal.returns-in-Whole
 returns-in-Whole g c =
     let ends = rw c.deref.ensures.value at c.list_bytes.ensures in
-    performs_rest _ _ _ c.args.flt.now _ listed_outcome _ c.in-Whole.ensures (lists _ _ _ ends)
+    performs_file c.args.flt.now listed_outcome _ _ _ _ _ c.in-Whole.ensures (lists _ _ _ ends)
+
+pub returns-in-Ended : goal.returns-in-Ended
+returns-in-Ended g c = c.in-Ended.ensures (λ e inputs. listed_outcome e)

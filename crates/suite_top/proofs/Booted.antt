@@ -1,0 +1,114 @@
+-- What a boot of the machine gives, as the opening world of the definition.
+use Rattle.std.proofs.Common.{◌≡◌, ℕ, ◌+◌, ◌*◌, ◌^◌, ◌<◌, ◌≤◌, Bool, true, false, cond, List, [], ◌∷◌, length, map, Option, Some, None, Result, Ok, Err, refl, sym, ap, subst, ◌∙◌, arith, inl, inr}
+use Rattle.std.specs.Prelude.{◌⊎◌, sum_by}
+use Rattle.std.specs.List.{AllByRecursion}
+use Rattle.std.proofs.lemmas.Simd.{map-map}
+use Rattle.std.proofs.lemmas.List.Sums.{sum_by-cons}
+use Rattle.std.proofs.Math.Nat.{mul-le-mul_left}
+use Rattle.page_runs.specs.declared.place.Kind.{Kind}
+use Rattle.quantum_sched.specs.declared.Quantum.{Quantum}
+use Rattle.manifest_text.specs.declared.manifest.Start.{Start as StoredStart}
+use Rattle.manifest_text.specs.Values.{Manifest, start_value}
+use Rattle.manifest_text.specs.Laws.{IsShort, Reasonable}
+use Rattle.machine_world.specs.World.{Program, Rest, World}
+use Rattle.machine_world.specs.Boot.{StartLine, BootFault, bad_start, args_too_big, no_run, Found, found_from, path_of, begun, placed, fitting, located, started, then_started, all_started, empty_world, boot}
+use Rattle.machine_world.specs.Event.{noted}
+use Rattle.syscall_layer.specs.Stands.{world_of}
+use Rattle.flat_machine.specs.declared.boot.BootRefusal.{BootRefusal}
+use Rattle.flat_machine.specs.declared.boot.BootRefusal.TheVariants as refusal
+use Rattle.flat_machine.specs.State.{State, world, line_of, lines_of}
+use Rattle.flat_machine.specs.Boots.{Boots}
+use Rattle.suite_top.specs.Ending.{Ending, memory_ending, OrMemory}
+use Rattle.suite_top.specs.Programs.{FaultAt}
+use Rattle.suite_top.specs.Making.{IsMemory, told_fault}
+use Rattle.suite_top.specs.Run.{start_line, boot_fault, fault_ending, booted_ending}
+
+-- ---- no event before the first
+
+world_or : Result World BootFault → World → World
+world_or (Ok w) other = w
+world_or (Err fault) other = other
+
+no_event_placed : (w : World) (s : StartLine) (f : Found) (o : Option ℕ) (now : World) → placed w s f o ≡ Ok now → now.events ≡ w.events
+unfolding world_or
+no_event_placed w s f None now is = absurd cc
+no_event_placed w s f (Some page) now is = sym (ap (λ (r : Result World BootFault). (world_or r w).events) is)
+
+no_event_fitting : (w : World) (s : StartLine) (f : Found) (fits : Bool) (now : World) → fitting w s f fits ≡ Ok now → now.events ≡ w.events
+no_event_fitting w s f true now is = no_event_placed w s f _ now is
+no_event_fitting w s f false now is = absurd cc
+
+no_event_located : (w : World) (s : StartLine) (o : Option Found) (now : World) → located w s o ≡ Ok now → now.events ≡ w.events
+no_event_located w s None now is = absurd cc
+no_event_located w s (Some f) now is = no_event_fitting w s f _ now is
+
+no_event_then : (r : Result World BootFault) (w : World) (more : World → Result World BootFault) (now : World) → ((v : World) → r ≡ Ok v → v.events ≡ w.events)
+    → ((v : World) → more v ≡ Ok now → now.events ≡ v.events) → then_started r more ≡ Ok now → now.events ≡ w.events
+no_event_then (Ok v) w more now first rest is = rest v is ∙ first v refl
+no_event_then (Err fault) w more now first rest is = absurd cc
+
+no_event_all : (starts : List StartLine) (w now : World) → all_started w starts ≡ Ok now → now.events ≡ w.events
+unfolding all_started started
+no_event_all [] w now is = let h : w ≡ now = cc in sym (ap (λ (v : World). v.events) h)
+no_event_all (s ∷ ss) w now is =
+    no_event_then (started w s) w (λ v. all_started v ss) now (λ v first. no_event_located w s (found_from 0 (path_of s) w.rest.programs) v first) (λ v. no_event_all ss v now) is
+
+pub no_event_yet : (rest : Rest) (starts : List StartLine) (w : World) → boot rest starts ≡ Ok w → w.events ≡ 0
+unfolding boot
+no_event_yet rest starts w is = no_event_all starts (empty_world rest) w is
+
+-- ---- the events of a run are counted by a word of 64 bits
+
+sum_short : (qs : List Quantum) → AllByRecursion IsShort qs → sum_by (λ q. q.count) qs ≤ length qs * 1000000
+sum_short [] all = omega arith
+sum_short (q ∷ qs) all = omega (arith, sum_by-cons (λ (x : Quantum). x.count) q qs, all.0, sum_short qs all.1)
+
+pub events_fit : (m : Manifest) → Reasonable m → (events : ℕ) → events ≡ 0 → events + m.repeat * sum_by (λ q. q.count) m.quanta < 2 ^ 64
+events_fit m is events none =
+    let quanta : length m.quanta ≤ 65536 = is.quanta in
+    let sum = sum_short m.quanta is.each_quantum in
+    let repeat : m.repeat ≤ 1000000 = is.repeat in
+    let bound : sum_by (λ (q : Quantum). q.count) m.quanta ≤ 65536000000 = omega (arith, quanta, sum) in
+    omega (arith, none, mul-le-mul_left m.repeat bound, repeat)
+
+-- ---- the machine's boot
+
+pub lines_are : (starts : List StoredStart) → lines_of starts ≡ map start_line (map start_value starts)
+lines_are starts = sym (map-map start_line start_value starts)
+
+pub booted : (r : Result World BootFault) (machine : State) → Boots r (Ok machine) → r ≡ Ok (world machine)
+booted (Ok w) machine is = ap Ok (sym is)
+booted (Err fault) machine is = absurd is
+
+-- what the machine was started with, as the definition has it
+pub boots_as : (rest : Rest) (starts : List StoredStart) (machine : State) (log : Bool) (m : Manifest) (ending : Ending) → m.starts ≡ map start_value starts
+    → Boots (boot rest (lines_of starts)) (Ok machine) → OrMemory (booted_ending log m (Ok (world machine))) ending → OrMemory (booted_ending log m (boot rest (map start_line m.starts))) ending
+boots_as rest starts machine log m ending are boots ends =
+    let same : boot rest (map start_line m.starts) ≡ Ok (world machine) = ap (λ ss. boot rest (map start_line ss)) are ∙ ap (boot rest) (sym (lines_are starts)) ∙ booted _ _ boots in
+    subst (λ (r : Result World BootFault). OrMemory (booted_ending log m r) ending) (sym same) ends
+
+pub machine_events : (machine : State) → (world machine).events ≡ machine.events
+unfolding world_of
+machine_events machine = refl
+
+-- a machine that doesn't start
+refused_by : (fault : BootFault) (r : BootRefusal) (log : Bool) (m : Manifest) (ending : Ending) → Boots (Err fault) (Err r)
+    → OrMemory (fault_ending (told_fault r)) ending → (IsMemory (told_fault r).fault → ending ≡ memory_ending) → OrMemory (booted_ending log m (Err fault)) ending
+refused_by fault refusal.Memory log m ending is ends memory = inr (memory tt)
+refused_by (bad_start number) (refusal.BadStart at) log m ending is ends memory = subst (λ n. OrMemory (fault_ending (boot_fault (bad_start n))) ending) is ends
+refused_by (args_too_big number) (refusal.E2big at) log m ending is ends memory = subst (λ n. OrMemory (fault_ending (boot_fault (args_too_big n))) ending) is ends
+refused_by (no_run number) (refusal.NoRun at) log m ending is ends memory = subst (λ n. OrMemory (fault_ending (boot_fault (no_run n))) ending) is ends
+refused_by fault r log m ending is ends memory = absurd is
+
+pub boot_refused : (b : Result World BootFault) (r : BootRefusal) (log : Bool) (m : Manifest) (ending : Ending) → Boots b (Err r)
+    → OrMemory (fault_ending (told_fault r)) ending → (IsMemory (told_fault r).fault → ending ≡ memory_ending) → OrMemory (booted_ending log m b) ending
+boot_refused (Ok w) refusal.Memory log m ending is ends memory = inr (memory tt)
+boot_refused (Ok w) r log m ending is ends memory = absurd is
+boot_refused (Err fault) r log m ending is ends memory = refused_by fault r log m ending is ends memory
+
+pub refused_as : (rest : Rest) (starts : List StoredStart) (r : BootRefusal) (log : Bool) (m : Manifest) (ending : Ending) → m.starts ≡ map start_value starts
+    → Boots (boot rest (lines_of starts)) (Err r) → OrMemory (fault_ending (told_fault r)) ending → (IsMemory (told_fault r).fault → ending ≡ memory_ending)
+    → OrMemory (booted_ending log m (boot rest (map start_line m.starts))) ending
+refused_as rest starts r log m ending are boots ends memory =
+    let same : boot rest (map start_line m.starts) ≡ boot rest (lines_of starts) = ap (λ ss. boot rest (map start_line ss)) are ∙ ap (boot rest) (sym (lines_are starts)) in
+    subst (λ (b : Result World BootFault). OrMemory (booted_ending log m b) ending) (sym same) (boot_refused (boot rest (lines_of starts)) r log m ending boots ends memory)

@@ -1,0 +1,71 @@
+-- How a run ends behind its loads.
+use Rattle.std.proofs.Common.{◌≡◌, ◌≢◌, ℕ, Bool, List, map, Option, Some, None, Result, Ok, Err, refl, sym, ap, subst, ◌∙◌, inl, inr}
+use Rattle.std.specs.Prelude.{◌⊎◌}
+use Rattle.host_io.specs.Host.{Told}
+use Rattle.page_runs.specs.declared.place.Kind.{Kind}
+use Rattle.quantum_sched.specs.declared.Quantum.{Quantum}
+use Rattle.manifest_text.specs.declared.manifest.Dump.{Dump}
+use Rattle.manifest_text.specs.Values.{Manifest}
+use Rattle.manifest_text.specs.Manifest.{Fault}
+use Rattle.machine_world.specs.World.{Program, World}
+use Rattle.machine_world.specs.Boot.{BootFault, boot}
+use Rattle.machine_world.specs.Turns.{End, all_ended, out_of_quanta, stray_at, log_full, turns}
+use Rattle.flat_machine.specs.Runs.{repeated}
+use Rattle.suite_top.specs.declared.status.Status.{Status}
+use Rattle.suite_top.specs.declared.status.Status.TheVariants as status
+use Rattle.suite_top.specs.Ending.{Ending, refused_ending, memory_ending, OrMemory}
+use Rattle.suite_top.specs.Texts.Refusals.{manifest_tail}
+use Rattle.suite_top.specs.Observed.{Observed}
+use Rattle.suite_top.specs.HostCourse.{PerformsCommand}
+use Rattle.suite_top.specs.Report.{status_of_end}
+use Rattle.suite_top.specs.Programs.{FaultAt, programs_from, nothing_taken}
+use Rattle.suite_top.specs.Making.{IsMemory}
+use Rattle.suite_top.specs.ItemLoads.{GaveFiles}
+use Rattle.suite_top.specs.Load.{at_once}
+use Rattle.suite_top.specs.Run.{fault_ending, booted_ending, programs_ending, files_ending, files_limit, with_items, items_outcome, manifest_outcome, world_ending, start_line, opening}
+use Rattle.suite_top.proofs.HostSteps.{asks_nothing}
+
+-- no end is that of a failed load
+end_is_told : (o : Option End) → status_of_end o ≢ status.HostRead
+end_is_told None = λ h. cc
+end_is_told (Some all_ended) = λ h. cc
+end_is_told (Some out_of_quanta) = λ h. cc
+end_is_told (Some (stray_at pid access)) = λ h. cc
+end_is_told (Some log_full) = λ h. cc
+
+booted_is_told : (log : Bool) (m : Manifest) (b : Result World BootFault) → (booted_ending log m b).status ≢ status.HostRead
+unfolding world_ending
+booted_is_told log m (Err fault) = λ h. cc
+booted_is_told log m (Ok w) = end_is_told (turns (repeated m.repeat m.quanta) w).end
+
+programs_are_told : (log : Bool) (kind : Kind) (m : Manifest) (r : Result (List Program) FaultAt) → (programs_ending log kind m r).status ≢ status.HostRead
+programs_are_told log kind m (Err at) = λ h. cc
+programs_are_told log kind m (Ok ps) = booted_is_told log m (boot (opening kind m ps) (map start_line m.starts))
+
+files_are_told : (log : Bool) (kind : Kind) (m : Manifest) (files : List (List ℕ)) → (files_ending log kind m files).status ≢ status.HostRead
+unfolding files_ending
+files_are_told log kind m files = programs_are_told log kind m (programs_from nothing_taken m.items files)
+
+-- a manifest with a fault
+pub refuses_manifest : (old : Observed Told) (log : Bool) (kind : Kind) (r : Result Manifest Fault) (first : Fault) (ending : Ending)
+    → r ≡ Err first → OrMemory (refused_ending (manifest_tail first.line first.fault)) ending → PerformsCommand old old (manifest_outcome log kind r) ending
+refuses_manifest old log kind r first ending is ends =
+    subst (λ (x : Result Manifest Fault). PerformsCommand old old (manifest_outcome log kind x) ending) (sym is) (asks_nothing old (refused_ending (manifest_tail first.line first.fault)) ending (λ h. cc) ends)
+
+-- behind all loads nothing more is asked
+pub runs_files : (old now : Observed Told) (log : Bool) (kind : Kind) (m : Manifest) (files : List (List ℕ)) (ending : Ending)
+    → GaveFiles old now m.items files → OrMemory (files_ending log kind m files) ending → PerformsCommand old now (items_outcome log kind m) ending
+runs_files old now log kind m files ending gave ends =
+    gave.goes_on (λ fs. at_once (files_ending log kind m fs)) now ending (asks_nothing now (files_ending log kind m files) ending (files_are_told log kind m files) ends)
+
+module _ (log : Bool) (kind : Kind) (m : Manifest) (files : List (List ℕ)) (ending : Ending) where
+  pub makes_programs : (ps : List Program) → programs_from nothing_taken m.items files ≡ Ok ps → OrMemory (programs_ending log kind m (Ok ps)) ending → OrMemory (files_ending log kind m files) ending
+  unfolding files_ending
+  makes_programs ps made ends = subst (λ (r : Result (List Program) FaultAt). OrMemory (programs_ending log kind m r) ending) (sym made) ends
+
+  pub refuses_line : (at : FaultAt) → IsMemory at.fault ⊎ (programs_from nothing_taken m.items files ≡ Err at) → OrMemory (fault_ending at) ending → (IsMemory at.fault → ending ≡ memory_ending) → OrMemory (files_ending log kind m files) ending
+  unfolding files_ending
+  refuses_line at why ends memory = elim why [
+    | inl is ↦ inr (memory is)
+    | inr is ↦ subst (λ (r : Result (List Program) FaultAt). OrMemory (programs_ending log kind m r) ending) (sym is) ends
+  ]

@@ -1,0 +1,99 @@
+-- When a run reaches its machine.
+use Rattle.std.proofs.Common.{◌≡◌, ℕ, ◌-◌, ◌≤◌, Bool, true, false, cond, List, [], ◌∷◌, ◌++◌, map, length, nat_lt, Option, Some, None, Result, Ok, Err, refl, sym, ap, subst, ◌∙◌, arith}
+use Rattle.std.specs.FinMap.{get}
+use Rattle.std.proofs.lemmas.Bool.Decides.{nat_tests}
+use Rattle.std.proofs.lemmas.List.{append-nil}
+use Rattle.host_io.specs.Host.{Files}
+use Rattle.page_runs.specs.declared.place.Kind.{Kind}
+use Rattle.manifest_text.specs.Values.{Item, Manifest}
+use Rattle.manifest_text.specs.Manifest.{Fault, manifest_of}
+use Rattle.machine_world.specs.World.{Program, World}
+use Rattle.machine_world.specs.Boot.{BootFault, boot}
+use Rattle.suite_top.specs.Texts.Refusals.{too_long_at}
+use Rattle.suite_top.specs.Ending.{Ending, refused_ending}
+use Rattle.suite_top.specs.Outcome.{Request, load, Outcome, Inputs, after}
+use Rattle.suite_top.specs.HostCourse.{inputs_in}
+use Rattle.suite_top.specs.Load.{at_once, with_limited}
+use Rattle.suite_top.specs.Programs.{FaultAt, programs_from, nothing_taken}
+use Rattle.suite_top.specs.Run.{manifest_limit, load_limit, files_limit, with_items, start_line, opening, booted_ending, programs_ending, files_ending, items_outcome, manifest_outcome, run_outcome}
+use Rattle.suite_top.specs.Run.Laws.{AreThere, Opens, opened_outcome, IsStop, RunsWhereItOpens, OpensWhereItStops}
+
+-- ---- from what is there to the outcome
+
+is_within : (limit : ℕ) (line : Option ℕ) (name : List ℕ) (o : Option (List ℕ)) (bytes : List ℕ) (rest : List ℕ → Outcome) → o ≡ Some bytes → length bytes ≤ limit → with_limited limit line name o rest ≡ rest bytes
+is_within limit line name o bytes rest found short =
+    let fits : nat_lt limit (length bytes) ≡ false = grind (arith, nat_tests) in
+    ap (λ (x : Option (List ℕ)). with_limited limit line name x rest) found
+    ∙ ap (λ (b : Bool). cond b (at_once (refused_ending (too_long_at line))) (rest bytes)) fits
+
+abbrev loads_of : List Item → List Request
+loads_of items = map (λ i. load i.name) items
+
+-- behind all loads
+abbrev behind_all : List Item → Outcome → Outcome
+behind_all items x = record { requests = loads_of items ++ x.requests; ending = x.ending }
+
+items_there : (t : Files) (left : ℕ) (items : List Item) (files : List (List ℕ)) (rest : List (List ℕ) → Outcome) → AreThere t left items files → with_items left items rest (inputs_in t) ≡ behind_all items (rest files)
+unfolding with_items
+items_there t left [] [] rest there = refl
+items_there t left [] (file ∷ files) rest there = absurd there
+items_there t left (item ∷ items) [] rest there = absurd there
+items_there t left (item ∷ items) (file ∷ files) rest there =
+    ap (after (load item.name))
+    (is_within (load_limit item.kind left) (Some item.line) item.name (get t item.name) file (λ bytes. with_items (left - length bytes) items (λ more. rest (bytes ∷ more)) (inputs_in t)) there.0 there.1
+    ∙ items_there t (left - length file) items files (λ more. rest (file ∷ more)) there.2)
+
+pub runs_where_it_opens : RunsWhereItOpens
+unfolding run_outcome files_ending
+runs_where_it_opens t name log kind o =
+    ap (after (load name))
+    (is_within manifest_limit None name (get t name) o.text (λ bytes. manifest_outcome log kind (manifest_of bytes) (inputs_in t)) o.found o.fits
+    ∙ ap (λ (r : Result Manifest Fault). manifest_outcome log kind r (inputs_in t)) o.reads
+    ∙ items_there t files_limit o.manifest.items o.files (λ files. at_once (files_ending log kind o.manifest files)) o.there
+    ∙ ap (λ (r : Result (List Program) FaultAt). behind_all o.manifest.items (at_once (programs_ending log kind o.manifest r))) o.made
+    ∙ ap (λ (r : Result World BootFault). behind_all o.manifest.items (at_once (booted_ending log o.manifest r))) o.boots
+    ∙ ap (λ (rs : List Request). record { requests = rs; ending = (opened_outcome log o).ending }) (append-nil (loads_of o.manifest.items)))
+
+-- ---- from the status to what is there
+
+within : (limit : ℕ) (line : Option ℕ) (name : List ℕ) (o : Option (List ℕ)) (rest : List ℕ → Outcome) → IsStop (with_limited limit line name o rest).ending.status
+    → (bytes : List ℕ) × (o ≡ Some bytes) × (length bytes ≤ limit) × IsStop (rest bytes).ending.status
+within limit line name None rest stop = absurd stop
+within limit line name (Some bytes) rest stop = by_test (nat_lt limit (length bytes)) refl stop
+  where
+    by_test : (b : Bool) → nat_lt limit (length bytes) ≡ b → IsStop (cond b (at_once (refused_ending (too_long_at line))) (rest bytes)).ending.status
+        → (e : List ℕ) × (◌≡◌ {A = Option (List ℕ)} (Some bytes) (Some e)) × (length e ≤ limit) × IsStop (rest e).ending.status
+    by_test true is stops = absurd stops
+    by_test false is stops = (bytes, refl, grind (arith, nat_tests), stops)
+
+items_within : (t : Files) (left : ℕ) (items : List Item) (rest : List (List ℕ) → Outcome) → IsStop (with_items left items rest (inputs_in t)).ending.status
+    → (files : List (List ℕ)) × AreThere t left items files × IsStop (rest files).ending.status
+unfolding with_items
+items_within t left [] rest stop = ([], tt, stop)
+items_within t left (item ∷ items) rest stop =
+    let (file, found, fits, more) = within (load_limit item.kind left) (Some item.line) item.name (get t item.name) (λ bytes. with_items (left - length bytes) items (λ files. rest (bytes ∷ files)) (inputs_in t)) stop in
+    let (files, there, last) = items_within t (left - length file) items (λ files. rest (file ∷ files)) more in
+    (file ∷ files, (found, fits, there), last)
+
+ok_manifest : (t : Files) (log : Bool) (kind : Kind) (r : Result Manifest Fault) → IsStop (manifest_outcome log kind r (inputs_in t)).ending.status → (m : Manifest) × (r ≡ Ok m) × IsStop (items_outcome log kind m (inputs_in t)).ending.status
+ok_manifest t log kind (Err fault) stop = absurd stop
+ok_manifest t log kind (Ok m) stop = (m, refl, stop)
+
+ok_programs : (log : Bool) (kind : Kind) (m : Manifest) (r : Result (List Program) FaultAt) → IsStop (programs_ending log kind m r).status
+    → (ps : List Program) × (r ≡ Ok ps) × IsStop (booted_ending log m (boot (opening kind m ps) (map start_line m.starts))).status
+ok_programs log kind m (Err at) stop = absurd stop
+ok_programs log kind m (Ok ps) stop = (ps, refl, stop)
+
+ok_world : (log : Bool) (m : Manifest) (r : Result World BootFault) → IsStop (booted_ending log m r).status → (w : World) × (r ≡ Ok w)
+ok_world log m (Err fault) stop = absurd stop
+ok_world log m (Ok w) stop = (w, refl)
+
+pub opens_where_it_stops : OpensWhereItStops
+unfolding run_outcome files_ending
+opens_where_it_stops t name log kind stop =
+    let (text, found, fits, reads_on) = within manifest_limit None name (get t name) (λ bytes. manifest_outcome log kind (manifest_of bytes) (inputs_in t)) stop in
+    let (m, reads, loads_on) = ok_manifest t log kind (manifest_of text) reads_on in
+    let (files, there, makes_on) = items_within t files_limit m.items (λ fs. at_once (files_ending log kind m fs)) loads_on in
+    let (programs, made, boots_on) = ok_programs log kind m (programs_from nothing_taken m.items files) makes_on in
+    let (world, boots) = ok_world log m (boot (opening kind m programs) (map start_line m.starts)) boots_on in
+    record { text = text; found = found; fits = fits; manifest = m; reads = reads; files = files; there = there; programs = programs; made = made; world = world; boots = boots }

@@ -1,0 +1,17 @@
+-- The manifest is there, or the run ends without it.
+use Rattle.std.proofs.Common.{None}
+use Rattle.page_runs.specs.Choosers.{kind_of}
+use Rattle.manifest_text.specs.Manifest.{manifest_of}
+use Rattle.suite_top.specs.Run.{manifest_limit, manifest_outcome, run_outcome}
+use Rattle.suite_top.proofs.HostSteps.{performs_rest}
+use Rattle.suite_top.proofs.run.run_file.Goals as goal
+
+pub returns-in-Whole : goal.returns-in-Whole
+unfolding run_outcome
+returns-in-Whole g c =
+    let performs = rw c.deref.ensures.value at c.run_manifest.ensures in
+    performs_rest manifest_limit None c.args.manifest.now (λ bytes. manifest_outcome c.args.log (kind_of c.args.chooser.now) (manifest_of bytes)) _ _ _ _ _ c.in-Whole.ensures performs
+
+pub returns-in-Ended : goal.returns-in-Ended
+unfolding run_outcome
+returns-in-Ended g c = c.in-Ended.ensures (λ bytes. manifest_outcome c.args.log (kind_of c.args.chooser.now) (manifest_of bytes))

@@ -1,0 +1,94 @@
+-- The command `run MANIFEST`: the programs of a manifest run by turns in one memory.
+-- Laws: when a run reaches its machine.
+pub mod Laws
+use Rattle.std.specs.Prelude.{ℕ, ◌-◌, min, Bool, List, [], ◌∷◌, map, length, Option, Some, None, Result, Ok, Err}
+use Rattle.page_runs.specs.declared.place.Kind.{Kind}
+use Rattle.quantum_sched.specs.declared.Quantum.{Quantum}
+use Rattle.manifest_text.specs.declared.manifest.ItemKind.{ItemKind}
+use Rattle.manifest_text.specs.declared.manifest.ItemKind.TheVariants.{Elf, Flat}
+use Rattle.manifest_text.specs.declared.manifest.Dump.{Dump}
+use Rattle.manifest_text.specs.Values.{Item, Start, Manifest}
+use Rattle.manifest_text.specs.Manifest.{Fault, manifest_of}
+use Rattle.machine_world.specs.World.{Program, Rest, World}
+use Rattle.machine_world.specs.Boot.{StartLine, BootFault, bad_start, args_too_big, no_run, boot}
+use Rattle.machine_world.specs.Turns.{turns}
+use Rattle.flat_machine.specs.Runs.{repeated}
+use Rattle.suite_top.specs.declared.line_fault.LineFault.TheVariants as line
+use Rattle.suite_top.specs.Texts.Refusals.{manifest_tail, line_tail}
+use Rattle.suite_top.specs.Ending.{Ending, refused_ending}
+use Rattle.suite_top.specs.Report.{stopped_ending}
+use Rattle.suite_top.specs.Outcome.{Outcome, Inputs}
+use Rattle.suite_top.specs.Load.{at_once, with_load}
+use Rattle.suite_top.specs.Programs.{FaultAt, programs_from, nothing_taken}
+
+-- ---- the loads
+
+-- the most bytes of a manifest, of an ELF file, of a flat file, and of all files together
+abbrev pub manifest_limit : ℕ
+manifest_limit = 1048576
+
+abbrev pub kind_limit : ItemKind → ℕ
+kind_limit Elf = 67108864
+kind_limit Flat = 16777216
+
+abbrev pub files_limit : ℕ
+files_limit = 268435456
+
+-- of one load, where so many bytes are left of those of all files
+abbrev pub load_limit : ItemKind → ℕ → ℕ
+load_limit kind left = min (kind_limit kind) left
+
+-- the files of the item lines are loaded in order, and then `rest` goes on with all of them
+unfoldable pub with_items : (left : ℕ) → List Item → (List (List ℕ) → Outcome) → Inputs → Outcome
+with_items left [] rest inputs = rest []
+with_items left (item ∷ items) rest inputs =
+    with_load (load_limit item.kind left) (Some item.line) item.name
+    (λ bytes. with_items (left - length bytes) items (λ files. rest (bytes ∷ files))) inputs
+
+-- ---- the machine
+
+abbrev pub start_line : Start → StartLine
+start_line s = record { line = s.line; args = s.args }
+
+-- what no space holds, before the first program
+abbrev pub opening : Kind → Manifest → List Program → Rest
+opening kind m programs = record { pages = m.pages; kind = kind; programs = programs; console = [] }
+
+-- why a start line is refused
+abbrev pub boot_fault : BootFault → FaultAt
+boot_fault (bad_start number) = record { line = number; fault = line.BadStart }
+boot_fault (args_too_big number) = record { line = number; fault = line.E2big }
+boot_fault (no_run number) = record { line = number; fault = line.NoRun }
+
+abbrev pub fault_ending : FaultAt → Ending
+fault_ending at = refused_ending (line_tail at.line at.fault)
+
+-- the end of a run from an opening world
+unfoldable pub world_ending : (log : Bool) → List Quantum → List Dump → World → Ending
+world_ending log quanta dumps w = stopped_ending log dumps (turns quanta w).world (turns quanta w).end
+
+-- ---- all in order
+
+abbrev pub booted_ending : (log : Bool) → Manifest → Result World BootFault → Ending
+booted_ending log m (Err first) = fault_ending (boot_fault first)
+booted_ending log m (Ok w) = world_ending log (repeated m.repeat m.quanta) m.dumps w
+
+abbrev pub programs_ending : (log : Bool) → Kind → Manifest → Result (List Program) FaultAt → Ending
+programs_ending log kind m (Err at) = fault_ending at
+programs_ending log kind m (Ok programs) = booted_ending log m (boot (opening kind m programs) (map start_line m.starts))
+
+-- where the item lines' files are there
+unfoldable pub files_ending : (log : Bool) → Kind → Manifest → List (List ℕ) → Ending
+files_ending log kind m files = programs_ending log kind m (programs_from nothing_taken m.items files)
+
+-- behind the manifest
+abbrev pub items_outcome : (log : Bool) → Kind → Manifest → Inputs → Outcome
+items_outcome log kind m inputs = with_items files_limit m.items (λ files. at_once (files_ending log kind m files)) inputs
+
+abbrev pub manifest_outcome : (log : Bool) → Kind → Result Manifest Fault → Inputs → Outcome
+manifest_outcome log kind (Err first) inputs = at_once (refused_ending (manifest_tail first.line first.fault))
+manifest_outcome log kind (Ok m) inputs = items_outcome log kind m inputs
+
+-- the manifest is load 0, and the file of its item i, counted from 0, is load i + 1
+unfoldable pub run_outcome : (name : List ℕ) (log : Bool) → Kind → Inputs → Outcome
+run_outcome name log kind inputs = with_load manifest_limit None name (λ bytes. manifest_outcome log kind (manifest_of bytes)) inputs

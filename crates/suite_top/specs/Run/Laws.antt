@@ -1,0 +1,59 @@
+-- When a run reaches its machine, over a host that tells its files.
+use Rattle.std.specs.Prelude.{◌≡◌, ℕ, ◌-◌, ◌≤◌, Bool, List, [], ◌∷◌, map, length, Some, Ok}
+use Rattle.std.specs.FinMap.{get}
+use Rattle.host_io.specs.Host.{Files}
+use Rattle.page_runs.specs.declared.place.Kind.{Kind}
+use Rattle.manifest_text.specs.Values.{Item, Manifest}
+use Rattle.manifest_text.specs.Manifest.{manifest_of}
+use Rattle.machine_world.specs.World.{Program, World}
+use Rattle.machine_world.specs.Boot.{boot}
+use Rattle.flat_machine.specs.Runs.{repeated}
+use Rattle.suite_top.specs.declared.status.Status.{Status}
+use Rattle.suite_top.specs.declared.status.Status.TheVariants.{Done, Stray, OutOfQuanta, LogFull}
+use Rattle.suite_top.specs.Outcome.{Request, load, Outcome}
+use Rattle.suite_top.specs.HostCourse.{inputs_in}
+use Rattle.suite_top.specs.Programs.{programs_from, nothing_taken}
+use Rattle.suite_top.specs.Run.{manifest_limit, load_limit, files_limit, start_line, opening, world_ending, run_outcome}
+
+-- the file of each line is there, and isn't longer than the limit of its load
+abbrev pub AreThere : Files → (left : ℕ) → List Item → List (List ℕ) → Type 0
+AreThere t left [] [] = Unit {0}
+AreThere t left (item ∷ items) (file ∷ files) =
+    (get t item.name ≡ Some file) × (length file ≤ load_limit item.kind left) × AreThere t (left - length file) items files
+AreThere t left items files = ⊥
+
+-- all that a run needs is there and has no fault, and this is its opening world
+pub record Opens (t : Files) (name : List ℕ) (kind : Kind) : Type 0 where
+  pub text : List ℕ
+  pub found : get t name ≡ Some text
+  pub fits : length text ≤ manifest_limit
+  pub manifest : Manifest
+  pub reads : manifest_of text ≡ Ok manifest
+  pub files : List (List ℕ)
+  pub there : AreThere t files_limit manifest.items files
+  pub programs : List Program
+  pub made : programs_from nothing_taken manifest.items files ≡ Ok programs
+  pub world : World
+  pub boots : boot (opening kind manifest programs) (map start_line manifest.starts) ≡ Ok world
+
+-- the manifest is asked for, then the file of each line in order; and the turns from that world give the texts
+abbrev pub opened_outcome : {t : Files} {name : List ℕ} {kind : Kind} → (log : Bool) → Opens t name kind → Outcome
+opened_outcome {name = name} log o = record {
+  requests = load name ∷ map (λ i. load i.name) o.manifest.items;
+  ending = world_ending log (repeated o.manifest.repeat o.manifest.quanta) o.manifest.dumps o.world;
+}
+
+-- the statuses of a machine that stopped
+abbrev pub IsStop : Status → Type 0
+IsStop Done = Unit {0}
+IsStop Stray = Unit {0}
+IsStop OutOfQuanta = Unit {0}
+IsStop LogFull = Unit {0}
+IsStop other = ⊥
+
+abbrev pub RunsWhereItOpens : Type 0
+RunsWhereItOpens = (t : Files) (name : List ℕ) (log : Bool) (kind : Kind) (o : Opens t name kind) → run_outcome name log kind (inputs_in t) ≡ opened_outcome log o
+
+-- and in no other case a run ends with one of these
+abbrev pub OpensWhereItStops : Type 0
+OpensWhereItStops = (t : Files) (name : List ℕ) (log : Bool) (kind : Kind) → IsStop (run_outcome name log kind (inputs_in t)).ending.status → Opens t name kind

@@ -1,0 +1,198 @@
+//! The command `run MANIFEST`.
+ghost use Rattle.std.specs.Prelude.{◌≡◌, ◌+◌, ◌*◌, ◌^◌, ◌<◌, ◌≤◌, length, Ok, sum_by};
+ghost use Rattle.page_runs.specs.Choosers.{IsChooser, kind_of};
+ghost use Rattle.manifest_text.specs.Manifest.{manifest_of};
+ghost use Rattle.manifest_text.specs.Values.{manifest_value, vec_texts};
+ghost use Rattle.manifest_text.specs.Laws.{Reasonable};
+ghost use Rattle.flat_machine.specs.State.{world};
+ghost use Rattle.flat_machine.specs.Runs.{repeated};
+ghost use Rattle.suite_top.specs.Ending.{memory_ending, OrMemory};
+ghost use Rattle.suite_top.specs.Observed.{observed};
+ghost use Rattle.suite_top.specs.Answer.{ending_of};
+ghost use Rattle.suite_top.specs.Making.{IsMemory, fault_value, AreSoMany, programs_value, told_fault};
+ghost use Rattle.suite_top.specs.Run.{manifest_limit, fault_ending, world_ending, programs_ending, files_ending, items_outcome, manifest_outcome, run_outcome};
+ghost use Rattle.suite_top.specs.HostCourse.{PerformsCommand};
+
+use crate::answer::Answer;
+use crate::file_load::{FileLoad, load_limited};
+use crate::items::{ItemsLoad, load_items};
+use crate::line_fault::{FaultAt, LineFault};
+use crate::programs::{Programs, make_programs};
+use crate::report::{report, status_of};
+use crate::status::Status;
+use crate::texts::refusals::{refused_line, refused_manifest};
+use flat_machine::{BootRefusal, Machine, Setup};
+use host_io::Host;
+use manifest_text::{Dump, Manifest, ManifestRefusal};
+use page_runs::{Chooser, Run};
+use quantum_sched::Quantum;
+use std::alloc::{AllocError, Global};
+
+pub mod laws;
+
+/// The most bytes of a manifest.
+const MANIFEST_LIMIT: u32 = 1_048_576;
+
+/// Loads the manifest and the files of its lines, makes their programs, and runs them.
+pub fn run_file<H: Host, F: Fn(&[Run], u32) -> Option<usize>>(
+    alloc: Global,
+    manifest: &str,
+    log: bool,
+    chooser: &Chooser<F>,
+    host: &mut H,
+) -> Result<Answer, AllocError>
+    requires { IsChooser F.pre F.post chooser.now }
+    ensures { PerformsCommand (observed H.told H.faults host.old) (observed H.told H.faults host.new) (run_outcome manifest.now log (kind_of chooser.now)) (ending_of result) }
+{
+    match load_limited(alloc, manifest, MANIFEST_LIMIT, None, host) {
+        FileLoad::Whole(bytes) => run_manifest(alloc, &bytes, log, chooser, host),
+        FileLoad::Ended(ends) => ends,
+    }
+}
+
+/// Goes on with a manifest that was loaded.
+fn run_manifest<H: Host, F: Fn(&[Run], u32) -> Option<usize>>(
+    alloc: Global,
+    bytes: &[u8],
+    log: bool,
+    chooser: &Chooser<F>,
+    host: &mut H,
+) -> Result<Answer, AllocError>
+    requires chooser { IsChooser F.pre F.post chooser.now }
+    requires fits { length bytes.now ≤ manifest_limit }
+    ensures { PerformsCommand (observed H.told H.faults host.old) (observed H.told H.faults host.new) (manifest_outcome log (kind_of chooser.now) (manifest_of bytes.now)) (ending_of result) }
+{
+    match manifest_text::read(alloc, bytes) {
+        Ok(manifest) => run_items(alloc, manifest, log, chooser, host),
+        Err(ManifestRefusal::At { line, fault }) => {
+            let text = refused_manifest(alloc, line, fault);
+            Answer::early(alloc, Status::Refused, text)
+        }
+        Err(ManifestRefusal::Memory) => Err(AllocError),
+    }
+}
+
+/// Loads the files of all lines, and goes on with them.
+fn run_items<H: Host, F: Fn(&[Run], u32) -> Option<usize>>(
+    alloc: Global,
+    manifest: Manifest,
+    log: bool,
+    chooser: &Chooser<F>,
+    host: &mut H,
+) -> Result<Answer, AllocError>
+    requires chooser { IsChooser F.pre F.post chooser.now }
+    requires manifest { Reasonable (manifest_value manifest) }
+    ensures { PerformsCommand (observed H.told H.faults host.old) (observed H.told H.faults host.new) (items_outcome log (kind_of chooser.now) (manifest_value manifest)) (ending_of result) }
+{
+    match load_items(alloc, &manifest.items, host) {
+        ItemsLoad::Whole(files) => run_files(alloc, manifest, &files, log, chooser),
+        ItemsLoad::Ended(ends) => ends,
+    }
+}
+
+/// Makes the programs of all lines, and goes on with them.
+fn run_files<F: Fn(&[Run], u32) -> Option<usize>>(
+    alloc: Global,
+    manifest: Manifest,
+    files: &[Vec<u8>],
+    log: bool,
+    chooser: &Chooser<F>,
+) -> Result<Answer, AllocError>
+    requires chooser { IsChooser F.pre F.post chooser.now }
+    requires manifest { Reasonable (manifest_value manifest) }
+    requires files { length files.now ≡ length manifest.items.items }
+    ensures { OrMemory (files_ending log (kind_of chooser.now) (manifest_value manifest) (vec_texts files.now)) (ending_of result) }
+{
+    match make_programs(alloc, &manifest.items, files) {
+        Ok(programs) => run_programs(alloc, manifest, programs, log, chooser),
+        Err(at) => refuse_line(alloc, &at),
+    }
+}
+
+/// Starts the machine, and goes on with it.
+fn run_programs<F: Fn(&[Run], u32) -> Option<usize>>(
+    alloc: Global,
+    manifest: Manifest,
+    programs: Programs,
+    log: bool,
+    chooser: &Chooser<F>,
+) -> Result<Answer, AllocError>
+    requires chooser { IsChooser F.pre F.post chooser.now }
+    requires manifest { Reasonable (manifest_value manifest) }
+    requires programs { AreSoMany programs (length manifest.items.items) }
+    ensures { OrMemory (programs_ending log (kind_of chooser.now) (manifest_value manifest) (Ok (programs_value programs))) (ending_of result) }
+{
+    let setup = Setup {
+        pages: manifest.pages,
+        paths: programs.paths,
+        programs: programs.flats,
+        starts: manifest.starts,
+    };
+    match Machine::boot(alloc, setup, chooser) {
+        Ok(machine) => run_machine(
+            alloc,
+            machine,
+            &manifest.quanta,
+            manifest.repeat,
+            &manifest.dumps,
+            log,
+        ),
+        Err(refusal) => refuse_line(alloc, &boot_fault(refusal)),
+    }
+}
+
+/// Why the machine doesn't start.
+fn boot_fault(refusal: BootRefusal) -> FaultAt
+    ensures { fault_value result ≡ told_fault refusal }
+{
+    match refusal {
+        BootRefusal::BadStart { line } => FaultAt {
+            line,
+            fault: LineFault::BadStart,
+        },
+        BootRefusal::E2big { line } => FaultAt {
+            line,
+            fault: LineFault::E2big,
+        },
+        BootRefusal::NoRun { line } => FaultAt {
+            line,
+            fault: LineFault::NoRun,
+        },
+        BootRefusal::Memory => FaultAt {
+            line: 0,
+            fault: LineFault::Memory,
+        },
+    }
+}
+
+/// Runs the machine, and writes what it did.
+#[tactic(auto, unfolding(crate::specs::Run::world_ending))]
+fn run_machine(
+    alloc: Global,
+    mut machine: Machine,
+    quanta: &[Quantum],
+    repeat: u32,
+    dumps: &[Dump],
+    log: bool,
+) -> Result<Answer, AllocError>
+    requires { machine.events + repeat * sum_by (λ q. q.count) quanta.now < 2 ^ 64 }
+    ensures { OrMemory (world_ending log (repeated repeat quanta.now) dumps.now (world machine)) (ending_of result) }
+{
+    let end = machine.run_repeated(quanta, repeat)?;
+    let report = report(alloc, &machine, log, dumps, end)?;
+    let out = Vec::from_slice(alloc, machine.console())?;
+    Ok(Answer {
+        status: status_of(end),
+        out,
+        report,
+    })
+}
+
+/// The answer for a line with a fault.
+fn refuse_line(alloc: Global, at: &FaultAt) -> Result<Answer, AllocError>
+    ensures ending { OrMemory (fault_ending (fault_value at.now)) (ending_of result) }
+    ensures memory { IsMemory at.now.fault → ending_of result ≡ memory_ending }
+{
+    let text = refused_line(alloc, at.line, &at.fault);
+    Answer::early(alloc, Status::Refused, text)
+}
