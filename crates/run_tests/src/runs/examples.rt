@@ -1,0 +1,94 @@
+//! Worked examples.
+use super::programs::{HI, HO, ST, ZERO};
+use super::*;
+
+const GREETERS: &[File] = &[("hi.flt", Content::Flat(HI)), ("ho.flt", Content::Flat(HO))];
+
+const CASES: &[Case] = &[
+    Case {
+        name: "run-hi-with-log",
+        files: GREETERS,
+        manifest: "memory 4\nflat /hi hi.flt\nstart /hi\nquanta 0:100\n",
+        options: &["--log"],
+        status: Status::Done,
+        out: "hi\n",
+        report: "load 1 /hi base 0x80000000 pages 2
+call 1 64 00000001 800000a4 00000003 00000000 00000000 00000000 = 00000003 sent 68690a got -
+call 1 93 00000007 800000a4 00000003 00000000 00000000 00000000 = 00000000 sent - got -
+end 1 exit 7
+stop done events 9
+",
+    },
+    Case {
+        name: "two programs, one after the other",
+        files: GREETERS,
+        manifest: "memory 4\nflat /hi hi.flt\nflat /ho ho.flt\nstart /hi\nstart /ho\nquanta 0:100 0:100\n",
+        options: &[],
+        status: Status::Done,
+        out: "hi\nho\n",
+        report: "load 1 /hi base 0x80000000 pages 2
+load 2 /ho base 0x80002000 pages 2
+end 1 exit 7
+end 2 exit 7
+stop done events 18
+",
+    },
+    Case {
+        name: "two programs by turns",
+        files: GREETERS,
+        manifest: "memory 4\nflat /hi hi.flt\nflat /ho ho.flt\nstart /hi\nstart /ho\nquanta 0:5 1:6 0:1\n",
+        options: &[],
+        status: Status::OutOfQuanta,
+        out: "ho\nhi\n",
+        report: "load 1 /hi base 0x80000000 pages 2
+load 2 /ho base 0x80002000 pages 2
+stop quanta events 12
+",
+    },
+    Case {
+        name: "stray-store",
+        files: &[("st.flt", Content::Flat(ST)), ("hi.flt", Content::Flat(HI))],
+        manifest: "memory 4\nflat /st st.flt\nflat /hi hi.flt\nstart /st\nstart /hi\nquanta 0:3\ndump 2 0x80002040 1\ndump 2 0x8000203f 2\ndump 9 0x80002040 1\n",
+        options: &[],
+        status: Status::Stray,
+        out: "",
+        report: "load 1 /st base 0x80000000 pages 2
+load 2 /hi base 0x80002000 pages 2
+stray 1 pc 0x80000088 addr 0x80002040 len 1 store
+dump 2 0x80002040 1 00
+dump 2 0x8000203f 2 none
+dump 9 0x80002040 1 none
+stop stray events 2
+",
+    },
+    Case {
+        name: "stray-store-at-zero",
+        files: &[("a.flt", Content::Flat(ZERO))],
+        manifest: "memory 4\nflat /a a.flt\nstart /a\nquanta 0:9\n",
+        options: &[],
+        status: Status::Stray,
+        out: "",
+        report: "load 1 /a base 0x80000000 pages 2
+stray 1 pc 0x80000080 addr 0x00000000 len 4 store
+stop stray events 0
+",
+    },
+];
+
+#[test]
+fn worked_examples_are_written(rt: HostRuntime) -> Result<(), Fail> {
+    expect_cases(&rt, rt.alloc(), CASES)
+}
+
+/// A sink that fails stops all writing.
+#[test]
+fn failing_sinks_stop_the_texts(rt: HostRuntime) -> Result<(), Fail> {
+    let alloc = rt.alloc();
+    let mut host = host_of(alloc, CASES[0].files, CASES[0].manifest)?;
+    let failed = run_with(alloc, &mut host, &[], true, false)?;
+    assert!(rt; failed.status == Status::SinkWrite && failed.out.bytes().is_empty() && failed.report.bytes().is_empty());
+    let mut host = host_of(alloc, CASES[0].files, CASES[0].manifest)?;
+    let failed = run_with(alloc, &mut host, &[], false, true)?;
+    assert!(rt; failed.status == Status::SinkWrite && failed.out.bytes() == b"hi\n".as_slice() && failed.report.bytes().is_empty());
+    Ok(())
+}

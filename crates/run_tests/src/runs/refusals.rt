@@ -1,0 +1,122 @@
+//! What is refused before anything runs, and in which order.
+use super::programs::{HI, Program};
+use super::*;
+
+const HI_FILE: File = ("hi.flt", Content::Flat(HI));
+
+/// A stack of 16 bytes holds no frame with an argument.
+const NARROW: Program = Program { stack: 16, ..HI };
+
+/// Flags 3 ask for a global offset table that the loader relocates.
+const GOT_FLAGS: Program = Program { flags: 3, ..HI };
+
+/// A run that is refused.
+const REFUSED: Case = Case {
+    name: "",
+    files: &[],
+    manifest: "",
+    options: &[],
+    status: Status::Refused,
+    out: "",
+    report: "",
+};
+
+const CASES: &[Case] = &[
+    Case {
+        name: "an empty manifest",
+        files: &[],
+        manifest: "",
+        report: "refused: manifest line 0 9 NoStart\n",
+        ..REFUSED
+    },
+    Case {
+        name: "a line of files, which there aren't yet",
+        files: &[],
+        manifest: "file /a a\n",
+        report: "refused: manifest line 1 2 UnknownWord\n",
+        ..REFUSED
+    },
+    Case {
+        name: "flags of another loader",
+        files: &[("a", Content::Flat(GOT_FLAGS))],
+        manifest: "memory 4\nflat /a a\nstart /a\nquanta 0:9\n",
+        report: "refused: line 2 flat 4 Flags\n",
+        ..REFUSED
+    },
+    Case {
+        name: "two programs of one path",
+        files: &[HI_FILE],
+        manifest: "flat /a hi.flt\nflat /a hi.flt\nstart /a\nquanta 0:9\n",
+        report: "refused: line 2 errno 17\n",
+        ..REFUSED
+    },
+    Case {
+        name: "a path of no program",
+        files: &[HI_FILE],
+        manifest: "flat /a hi.flt\nstart /b\nquanta 0:9\n",
+        report: "refused: line 2 start\n",
+        ..REFUSED
+    },
+    Case {
+        name: "a frame that doesn't fit",
+        files: &[("a", Content::Flat(NARROW))],
+        manifest: "flat /hi a\nstart /hi\nquanta 0:9\n",
+        report: "refused: line 2 args\n",
+        ..REFUSED
+    },
+    Case {
+        name: "no free run",
+        files: &[HI_FILE],
+        manifest: "memory 3\nflat /a hi.flt\nstart /a\nstart /a\nquanta 0:9\n",
+        report: "refused: line 4 no run\n",
+        ..REFUSED
+    },
+    Case {
+        name: "an ELF file that is none",
+        files: &[HI_FILE],
+        manifest: "elf /a hi.flt\nstart /a\nquanta 0:9\n",
+        report: "refused: line 1 elf 2 Magic\n",
+        ..REFUSED
+    },
+    Case {
+        name: "all files are loaded before the first is looked at",
+        files: &[("bad", Content::Bytes(b"bad"))],
+        manifest: "elf /a bad\nflat /b missing\nstart /a\nquanta 0:9\n",
+        options: &[],
+        status: Status::HostRead,
+        out: "",
+        report: "host: cannot read missing\n",
+    },
+    Case {
+        name: "options in another order",
+        files: &[HI_FILE],
+        manifest: "flat /a hi.flt\nstart /a\nquanta 0:9\n",
+        options: &["--place", "first", "--log"],
+        status: Status::Usage,
+        out: "",
+        report: "usage: flatc COMMAND WORDS\n",
+    },
+    Case {
+        name: "a placement that there isn't",
+        files: &[HI_FILE],
+        manifest: "flat /a hi.flt\nstart /a\nquanta 0:9\n",
+        options: &["--place", "worst"],
+        status: Status::Usage,
+        out: "",
+        report: "usage: flatc COMMAND WORDS\n",
+    },
+];
+
+#[test]
+fn refusals_are_told(rt: HostRuntime) -> Result<(), Fail> {
+    expect_cases(&rt, rt.alloc(), CASES)
+}
+
+#[test]
+fn a_missing_manifest_is_told(rt: HostRuntime) -> Result<(), Fail> {
+    let alloc = rt.alloc();
+    let mut host = MemHost::new(alloc)?;
+    let ran = run_of(alloc, &mut host, &[])?;
+    assert!(rt; ran.status == Status::HostRead && ran.report.bytes() == b"host: cannot read m\n".as_slice());
+    Ok(())
+}
