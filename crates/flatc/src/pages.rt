@@ -4,16 +4,19 @@ ghost use Rattle.flatc.specs.Pages.{page_of};
 
 /// What the program is for, its commands and its statuses.
 pub const HELP: &str = "\
-flatc converts linked RV32IM ELF executables into bFLT version 4 flat files.
+flatc converts linked RV32IM ELF executables into bFLT version 4 flat files, and runs them.
 
 usage: flatc COMMAND WORDS
 
-  convert ELF FLT [--stack N]   convert the file ELF, and store its flat file as FLT,
-                                with N bytes of stack: 16 to 1048576, else 4096
-  check ELF                     say whether ELF can be converted, and store nothing
-  list FLT                      write the listing of the flat file FLT
-  --help                        write this page
-  --version                     write the version
+  convert ELF FLT [--stack N]       convert the file ELF, and store its flat file as FLT,
+                                    with N bytes of stack: 16 to 1048576, else 4096
+  check ELF                         say whether ELF can be converted, and store nothing
+  list FLT                          write the listing of the flat file FLT
+  run MANIFEST [--log] [--place K]  run the programs of MANIFEST by turns in one memory;
+                                    --log tells their system calls too, and K says which
+                                    free run is taken: first, best or last, else first
+  --help                            write this page
+  --version                         write the version
 
 exit status:
 

@@ -3,6 +3,7 @@
 -- Conversions, Listed: what the commands do behind their load.
 -- Outcomes, RunOutcomes: what an outcome can be.
 -- StatusLaws, HostLaws: the laws over every call.
+-- Causes: the counts that rose, by the status of a call.
 -- OneFileLaws, ConvertLaws, CheckLaws, ListLaws, SizesLaw: the laws of the commands.
 -- Reports: the parts of the report of a run.
 -- OneFileSteps: a command that goes on with one file.
@@ -25,6 +26,7 @@ pub mod RunOutcomes
 pub mod Outcomes
 pub mod StatusLaws
 pub mod HostLaws
+pub mod Causes
 pub mod OneFileLaws
 pub mod ConvertLaws
 pub mod CheckLaws

@@ -8,16 +8,19 @@ use suite_top::Status;
 
 /// The help page up to its statuses.
 const BEGINNING: &str = "\
-flatc converts linked RV32IM ELF executables into bFLT version 4 flat files.
+flatc converts linked RV32IM ELF executables into bFLT version 4 flat files, and runs them.
 
 usage: flatc COMMAND WORDS
 
-  convert ELF FLT [--stack N]   convert the file ELF, and store its flat file as FLT,
-                                with N bytes of stack: 16 to 1048576, else 4096
-  check ELF                     say whether ELF can be converted, and store nothing
-  list FLT                      write the listing of the flat file FLT
-  --help                        write this page
-  --version                     write the version
+  convert ELF FLT [--stack N]       convert the file ELF, and store its flat file as FLT,
+                                    with N bytes of stack: 16 to 1048576, else 4096
+  check ELF                         say whether ELF can be converted, and store nothing
+  list FLT                          write the listing of the flat file FLT
+  run MANIFEST [--log] [--place K]  run the programs of MANIFEST by turns in one memory;
+                                    --log tells their system calls too, and K says which
+                                    free run is taken: first, best or last, else first
+  --help                            write this page
+  --version                         write the version
 
 exit status:
 
@@ -84,16 +87,19 @@ fn each_page_is_written_whole(rt: HostRuntime) -> Result<(), Fail> {
 
 /// What stands in a line of the page before the column of meanings.
 fn command_of(line: &str) -> &str {
-    line.get(..32).unwrap_or(line)
+    line.get(..36).unwrap_or(line)
 }
 
-/// The words of a command with its option, and 16 as the option's number.
+/// The words of a command with its options, 16 as the number of `--stack`, and `last` behind `--place`.
 fn with_option(alloc: Global, command: &str) -> Result<String, AllocError> {
     let mut words = String::new(alloc);
     for word in command.split_whitespace() {
         words.push_str(match word {
             "[--stack" => "--stack",
             "N]" => "16",
+            "[--log]" => "--log",
+            "[--place" => "--place",
+            "K]" => "last",
             other => other,
         })?;
         words.push(' ')?;
@@ -116,7 +122,7 @@ fn check_command(
     Ok(())
 }
 
-/// The words of a line of the page are a command, with and without its option.
+/// The words of a line of the page are a command, with and without its options.
 fn check_line(rt: &impl Abort, alloc: Global, command: &str) -> Result<(), AllocError> {
     let want = if command.trim().starts_with("--") {
         Status::Done
@@ -142,6 +148,6 @@ fn each_command_of_the_page_is_one(rt: HostRuntime) -> Result<(), Fail> {
             count = count.saturating_add(1);
         }
     }
-    assert_eq!(rt; count, 5);
+    assert_eq!(rt; count, 6);
     Ok(())
 }
