@@ -40,9 +40,9 @@ module _ (old now : Observed Told) (items : List Item) (files : List (List ℕ))
           some_left = omega (arith, some);
           count = omega (arith, count, len);
           goes_on = λ rest last ending performs.
-          let same = fun_ext (λ (more : List (List ℕ)). ap rest (append_assoc files (bytes ∷ []) more)) in
-          goes_by_load rest last ending (performs_rest (load_limit item.kind left) (Some item.line) item.name (next_load rest) now mid last bytes ending given
-          (subst (λ (f : List (List ℕ) → Outcome). PerformsCommand mid last (with_items (left - length bytes) (drop (i + 1) items) f) ending) same performs));
+              let same = fun_ext (λ (more : List (List ℕ)). ap rest (append_assoc files (bytes ∷ []) more)) in
+              goes_by_load rest last ending (performs_rest (load_limit item.kind left) (Some item.line) item.name (next_load rest) now mid last bytes ending given
+              (subst (λ (f : List (List ℕ) → Outcome). PerformsCommand mid last (with_items (left - length bytes) (drop (i + 1) items) f) ending) same performs));
         }
 
     pub ends_within : (mid : Observed Told) (ending : Ending) → EndsWithout (load_limit item.kind left) (Some item.line) now mid item.name ending
@@ -59,7 +59,7 @@ module _ (old now : Observed Told) (items : List Item) (files : List (List ℕ))
       record {
         count = omega (arith, count, past, within);
         goes_on = λ rest last ending performs.
-        so_far.goes_on rest last ending
-        (subst (λ (is : List Item). PerformsCommand now last (with_items left is (λ more. rest (files ++ more))) ending) (sym (drop_all i items past))
-        (subst (λ (fs : List (List ℕ)). PerformsCommand now last (λ inputs. rest fs) ending) (sym (append-nil files)) performs));
+            so_far.goes_on rest last ending
+            (subst (λ (is : List Item). PerformsCommand now last (with_items left is (λ more. rest (files ++ more))) ending) (sym (drop_all i items past))
+            (subst (λ (fs : List (List ℕ)). PerformsCommand now last (λ inputs. rest fs) ending) (sym (append-nil files)) performs));
       }

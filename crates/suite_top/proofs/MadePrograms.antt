@@ -128,18 +128,18 @@ module _ (items : List Item) (files : List (List ℕ)) (programs : Programs) (pl
         let old_len = length-map programs.paths.items (λ path. path.items) in
         let new_len = length-map new.paths.items (λ path. path.items) in
         let value : programs_value new ≡ programs_value programs ++ p ∷ [] =
-            ap (λ (ps : List (List ℕ)). programs_of ps new.flats.items) added.paths
-            ∙ ap (programs_of (paths_of programs.paths.items ++ item.path ∷ [])) added.flats
-            ∙ programs_more (paths_of programs.paths.items) programs.flats.items item.path added.flat (omega (arith, same_paths, same_flats, old_len)) in
+        ap (λ (ps : List (List ℕ)). programs_of ps new.flats.items) added.paths
+        ∙ ap (programs_of (paths_of programs.paths.items ++ item.path ∷ [])) added.flats
+        ∙ programs_more (paths_of programs.paths.items) programs.flats.items item.path added.flat (omega (arith, same_paths, same_flats, old_len)) in
         record {
           taken = one_more so_far.taken item.path added.bytes;
           knows = added.knows;
           count = record { paths = omega (arith, len_paths, old_len, new_len, same_paths); flats = omega (arith, len_flats, same_flats) };
           goes_on =
-          ap (λ (ps : List Program). with_all ps (go_on (one_more so_far.taken item.path added.bytes))) value
-          ∙ all_more (programs_value programs) p (go_on (one_more so_far.taken item.path added.bytes))
-          ∙ ap (with_all (programs_value programs)) (sym (here ∙ is_taken go_on so_far.taken item (made_of item.kind item.stack file) (record { original = flat_original added.flat; bytes = added.bytes }) added.made added.stands))
-          ∙ so_far.goes_on;
+              ap (λ (ps : List Program). with_all ps (go_on (one_more so_far.taken item.path added.bytes))) value
+              ∙ all_more (programs_value programs) p (go_on (one_more so_far.taken item.path added.bytes))
+              ∙ ap (with_all (programs_value programs)) (sym (here ∙ is_taken go_on so_far.taken item (made_of item.kind item.stack file) (record { original = flat_original added.flat; bytes = added.bytes }) added.made added.stands))
+              ∙ so_far.goes_on;
         }
 
     pub stops_at : (first : LineFault) → IsMemory first ⊎ ((more : Taken → Result (List Program) FaultAt) → taken more so_far.taken item (made_of item.kind item.stack file) ≡ Err (record { line = item.line; fault = first }))

@@ -10,7 +10,6 @@ use Rattle.manifest_text.specs.Manifest.{Fault}
 use Rattle.machine_world.specs.World.{Program, World}
 use Rattle.machine_world.specs.Boot.{BootFault, boot}
 use Rattle.machine_world.specs.Turns.{End, all_ended, out_of_quanta, stray_at, log_full, turns}
-use Rattle.flat_machine.specs.Runs.{repeated}
 use Rattle.suite_top.specs.declared.status.Status.{Status}
 use Rattle.suite_top.specs.declared.status.Status.TheVariants as status
 use Rattle.suite_top.specs.Ending.{Ending, refused_ending, memory_ending, OrMemory}
@@ -34,9 +33,8 @@ end_is_told (Some (stray_at pid access)) = λ h. cc
 end_is_told (Some log_full) = λ h. cc
 
 booted_is_told : (log : Bool) (m : Manifest) (b : Result World BootFault) → (booted_ending log m b).status ≢ status.HostRead
-unfolding world_ending
 booted_is_told log m (Err fault) = λ h. cc
-booted_is_told log m (Ok w) = end_is_told (turns (repeated m.repeat m.quanta) w).end
+booted_is_told log m (Ok w) = end_is_told _
 
 programs_are_told : (log : Bool) (kind : Kind) (m : Manifest) (r : Result (List Program) FaultAt) → (programs_ending log kind m r).status ≢ status.HostRead
 programs_are_told log kind m (Err at) = λ h. cc

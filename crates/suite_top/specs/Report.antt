@@ -13,7 +13,6 @@ use Rattle.flat_machine.specs.OwnBytes.{own_bytes}
 use Rattle.suite_top.specs.declared.status.Status.{Status}
 use Rattle.suite_top.specs.declared.status.Status.TheVariants as status
 use Rattle.suite_top.specs.Texts.{joined, address_words}
-use Rattle.suite_top.specs.Ending.{Ending}
 
 -- calls are told only with `--log`, and all other notes always
 abbrev pub is_told : Bool → Note → Bool
@@ -61,10 +60,6 @@ status_of_end (Some (stray_at pid access)) = status.Stray
 status_of_end (Some out_of_quanta) = status.OutOfQuanta
 status_of_end (Some log_full) = status.LogFull
 status_of_end None = status.OutOfQuanta
-
--- `out` takes the console, and `report` the report
-abbrev pub stopped_ending : Bool → List Dump → World → Option End → Ending
-stopped_ending log dumps w end = record { status = status_of_end end; out = w.rest.console; report = report_text log dumps w end }
 
 -- of each end that the code's end says
 abbrev pub IsStopWord : Told → List ℕ → Type 0

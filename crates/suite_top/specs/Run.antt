@@ -11,14 +11,14 @@ use Rattle.manifest_text.specs.Values.{Item, Start, Manifest}
 use Rattle.manifest_text.specs.Manifest.{Fault, manifest_of}
 use Rattle.machine_world.specs.World.{Program, Rest, World}
 use Rattle.machine_world.specs.Boot.{StartLine, BootFault, bad_start, args_too_big, no_run, boot}
-use Rattle.machine_world.specs.Turns.{turns}
+use Rattle.machine_world.specs.Turns.{Walk, turns}
 use Rattle.flat_machine.specs.Runs.{repeated}
 use Rattle.suite_top.specs.declared.line_fault.LineFault.TheVariants as line
 use Rattle.suite_top.specs.Texts.Refusals.{manifest_tail, line_tail}
 use Rattle.suite_top.specs.Ending.{Ending, refused_ending}
-use Rattle.suite_top.specs.Report.{stopped_ending}
 use Rattle.suite_top.specs.Outcome.{Outcome, Inputs}
 use Rattle.suite_top.specs.Load.{at_once, with_load}
+use Rattle.suite_top.specs.Report.{status_of_end, report_text}
 use Rattle.suite_top.specs.Programs.{FaultAt, programs_from, nothing_taken}
 
 -- ---- the loads
@@ -63,9 +63,17 @@ boot_fault (no_run number) = record { line = number; fault = line.NoRun }
 abbrev pub fault_ending : FaultAt → Ending
 fault_ending at = refused_ending (line_tail at.line at.fault)
 
--- the end of a run from an opening world
-unfoldable pub world_ending : (log : Bool) → List Quantum → List Dump → World → Ending
-world_ending log quanta dumps w = stopped_ending log dumps (turns quanta w).world (turns quanta w).end
+-- the console goes to `out`, and the report to `report`, whatever the end
+abbrev pub walked_ending : (log : Bool) → List Dump → Walk → Ending
+walked_ending log dumps walk = record {
+  status = status_of_end walk.end;
+  out = walk.world.rest.console;
+  report = report_text log dumps walk.world walk.end;
+}
+
+-- a run from the opening world
+abbrev pub world_ending : (log : Bool) → List Quantum → List Dump → World → Ending
+world_ending log quanta dumps w = walked_ending log dumps (turns quanta w)
 
 -- ---- all in order
 

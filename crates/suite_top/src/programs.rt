@@ -29,11 +29,7 @@ pub struct Programs {
 }
 
 /// The program of each line with its file, or the first fault.
-pub fn make_programs(
-    alloc: Global,
-    items: &[Item],
-    files: &[Vec<u8>],
-) -> Result<Programs, FaultAt>
+pub fn make_programs(alloc: Global, items: &[Item], files: &[Vec<u8>]) -> Result<Programs, FaultAt>
     requires items { AllByRecursion IsItem (map item_value items.now) }
     requires files { length files.now ≡ length items.now }
     ensures programs { MakesAll (programs_from nothing_taken (map item_value items.now) (vec_texts files.now)) result }

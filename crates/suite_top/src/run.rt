@@ -166,7 +166,6 @@ fn boot_fault(refusal: BootRefusal) -> FaultAt
 }
 
 /// Runs the machine, and writes what it did.
-#[tactic(auto, unfolding(crate::specs::Run::world_ending))]
 fn run_machine(
     alloc: Global,
     mut machine: Machine,

@@ -73,11 +73,13 @@ where
         Some(Command::Convert { elf, flt, stack }) => convert_file(alloc, elf, flt, stack, host),
         Some(Command::List { flt }) => list_file(alloc, flt, host),
         Some(Command::Check { elf }) => check_file(alloc, elf, host),
-        Some(Command::Run {
-            manifest,
-            log,
-            kind,
-        }) => run_placed(alloc, manifest, log, kind, host, place),
+        Some(
+            Command::Run {
+                manifest,
+                log,
+                kind,
+            },
+        ) => run_placed(alloc, manifest, log, kind, host, place),
         None => Answer::early(alloc, Status::Usage, texts::usage(alloc)),
     }
 }

@@ -92,7 +92,7 @@ fn faults_are_refused(rt: HostRuntime) -> Result<(), Fail> {
 /// Arguments that are no command.
 #[test]
 fn other_arguments_are_no_command(rt: HostRuntime) -> Result<(), Fail> {
-    let faulty: [&[&str]; 12] = [
+    let faulty: [&[&str]; 17] = [
         &[],
         &["--help"],
         &["Convert", "a.elf", "a.flt"],
@@ -105,6 +105,11 @@ fn other_arguments_are_no_command(rt: HostRuntime) -> Result<(), Fail> {
         &["convert", "a.elf", "a.flt", "--stack", "017"],
         &["check", "a.elf", "--stack", "17"],
         &["list"],
+        &["run"],
+        &["run", "a.run", "--place"],
+        &["run", "a.run", "--place", "worst"],
+        &["run", "a.run", "--place", "best", "--log"],
+        &["run", "a.run", "--log", "best"],
     ];
     for arguments in faulty {
         let mut outside = with_file(rt.alloc(), "a.elf", &ELF)?;

@@ -26,11 +26,7 @@ fn manifest_fault_words(fault: ManifestFault) -> &'static str
     }
 }
 
-fn manifest_tail(
-    alloc: Global,
-    number: u32,
-    fault: ManifestFault,
-) -> Result<String, AllocError>
+fn manifest_tail(alloc: Global, number: u32, fault: ManifestFault) -> Result<String, AllocError>
     ensures { IfOk result (λ tail. string_bytes tail ≡ manifest_tail number fault) }
 {
     let words = manifest_fault_words(fault);

@@ -12,6 +12,7 @@ returns-in-Some c t knows =
     inr (c.in-Some.errno, path_is_free c.args.self.now t knows c.args.path c.args.bytes _ c.in_ok-insert.ensures.keys _ c.in_ok-insert.ensures.added c.if-not-branch.false _ c.in-Some.ensures, refl)
 
 pub returns : goal.returns
-returns c t knows =
-    (path_is_free c.args.self.now t knows c.args.path c.args.bytes _ c.in_ok-insert.ensures.keys _ c.in_ok-insert.ensures.added c.if-not-branch.false _ c.in_default.ensures,
-    knows_more c.args.self.now t knows c.args.path c.args.bytes _ c.in_ok-insert.ensures.keys _ refl refl c.in_default.ensures)
+returns c t knows = (
+  path_is_free c.args.self.now t knows c.args.path c.args.bytes _ c.in_ok-insert.ensures.keys _ c.in_ok-insert.ensures.added c.if-not-branch.false _ c.in_default.ensures,
+  knows_more c.args.self.now t knows c.args.path c.args.bytes _ c.in_ok-insert.ensures.keys _ refl refl c.in_default.ensures,
+)
