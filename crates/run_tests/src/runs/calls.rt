@@ -52,7 +52,11 @@ stop done events 13
     },
     Case {
         name: "traps",
-        files: &[("a", Content::Flat(ILLEGAL)), ("b", Content::Flat(BREAK)), ("c", Content::Flat(MISALIGNED))],
+        files: &[
+            ("a", Content::Flat(ILLEGAL)),
+            ("b", Content::Flat(BREAK)),
+            ("c", Content::Flat(MISALIGNED)),
+        ],
         manifest: "flat /a a\nflat /b b\nflat /c c\nstart /a\nstart /b\nstart /c\nquanta 0:9 0:9 0:9\n",
         options: &[],
         status: Status::Done,

@@ -86,9 +86,17 @@ fn failing_sinks_stop_the_texts(rt: HostRuntime) -> Result<(), Fail> {
     let alloc = rt.alloc();
     let mut host = host_of(alloc, CASES[0].files, CASES[0].manifest)?;
     let failed = run_with(alloc, &mut host, &[], true, false)?;
-    assert!(rt; failed.status == Status::SinkWrite && failed.out.bytes().is_empty() && failed.report.bytes().is_empty());
+    assert!(rt;
+        failed.status == Status::SinkWrite
+            && failed.out.bytes().is_empty()
+            && failed.report.bytes().is_empty()
+    );
     let mut host = host_of(alloc, CASES[0].files, CASES[0].manifest)?;
     let failed = run_with(alloc, &mut host, &[], false, true)?;
-    assert!(rt; failed.status == Status::SinkWrite && failed.out.bytes() == b"hi\n".as_slice() && failed.report.bytes().is_empty());
+    assert!(rt;
+        failed.status == Status::SinkWrite
+            && failed.out.bytes() == b"hi\n".as_slice()
+            && failed.report.bytes().is_empty()
+    );
     Ok(())
 }

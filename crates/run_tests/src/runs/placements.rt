@@ -6,7 +6,8 @@ use std::cell::Cell;
 /// A program of three pages.
 const WIDE: Program = Program { stack: 8192, ..HI };
 
-const MANIFEST: &str = "memory 9\nflat /a a\nstart /a\nstart /a\nstart /a\nquanta 0:100 0:100 0:100\n";
+const MANIFEST: &str =
+    "memory 9\nflat /a a\nstart /a\nstart /a\nstart /a\nquanta 0:100 0:100 0:100\n";
 
 const REPORT: &str = "load 1 /a base 0x80000000 pages 3
 load 2 /a base 0x80003000 pages 3

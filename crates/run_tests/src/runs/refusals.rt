@@ -117,6 +117,8 @@ fn a_missing_manifest_is_told(rt: HostRuntime) -> Result<(), Fail> {
     let alloc = rt.alloc();
     let mut host = MemHost::new(alloc)?;
     let ran = run_of(alloc, &mut host, &[])?;
-    assert!(rt; ran.status == Status::HostRead && ran.report.bytes() == b"host: cannot read m\n".as_slice());
+    assert!(rt;
+        ran.status == Status::HostRead && ran.report.bytes() == b"host: cannot read m\n".as_slice()
+    );
     Ok(())
 }
