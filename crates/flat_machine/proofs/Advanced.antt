@@ -1,11 +1,9 @@
 -- The parts after instructions of one process.
-use Rattle.std.proofs.Common.{get_or, ◌*◌, ◌<◌, [], ◌≡◌, ◌≢◌, ℕ, ◌≤◌, true, false, not, List, length, map, Option, Some, None, refl, sym, ap, subst, ◌∙◌, arith}
-use Rattle.std.specs.Prelude.{slice_get, slice_set, option_map, IsSome}
+use Rattle.std.proofs.Common.{get_or, ◌*◌, ◌<◌, [], ◌≡◌, ℕ, ◌≤◌, true, false, not, List, length, map, Option, Some, None, refl, sym, ap, subst, ◌∙◌, arith}
+use Rattle.std.specs.Prelude.{slice_get, option_map, IsSome}
 use Rattle.rv32im_step.specs.declared.regs.Regs.{Regs}
-use Rattle.rv32im_step.specs.declared.access.Access.{Access}
 use Rattle.rv32im_step.specs.declared.stop.Stop.{Stop}
 use Rattle.rv32im_step.specs.declared.stop.Stop.TheVariants.{Next, Call, Trap, Refused}
-use Rattle.byte_words.specs.ByteMap.{Bytes}
 use Rattle.std.proofs.lemmas.Option.{get_or_from_slice_get, slice_get_within}
 use Rattle.page_runs.specs.declared.place.Kind.TheVariants.{First}
 use Rattle.mmap_rules.specs.declared.owners.PageOwner.{PageOwner}
@@ -19,7 +17,7 @@ use Rattle.vfork_exec.specs.Keyed.{find, change}
 use Rattle.vfork_exec.specs.Procs.{Listed, process, value_at, Lives, with_value, with_value_at}
 use Rattle.vfork_exec.specs.Procs.{pid_of as entry_pid}
 use Rattle.vfork_exec.proofs.Keyed.{find_changed}
-use Rattle.machine_world.specs.World.{World, Process, LiveSpace, pid_of, id_of}
+use Rattle.machine_world.specs.World.{World, pid_of, id_of}
 use Rattle.machine_world.specs.Courses.{Leads, Halts, moved}
 use Rattle.machine_world.proofs.States.{find_has, change_alike, with_regs, with_held}
 use Rattle.machine_world.proofs.Steps.{RanOn, run_on}

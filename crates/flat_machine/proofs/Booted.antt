@@ -1,12 +1,11 @@
 -- The start lines one after the other.
-use Rattle.std.proofs.Common.{◌≡◌, ℕ, suc, ◌+◌, ◌<◌, ◌≤◌, Bool, true, false, List, [], ◌∷◌, length, map, drop, get_or, drop-cons, add-one, Option, Some, None, Result, Ok, Err, refl, sym, ap, subst, ◌∙◌, arith}
-use Rattle.std.specs.Prelude.{⊤, replicate, if◌then◌else◌}
+use Rattle.std.proofs.Common.{◌≡◌, ℕ, suc, ◌+◌, ◌<◌, ◌≤◌, Bool, true, false, List, [], ◌∷◌, length, drop, get_or, drop-cons, Option, Some, None, Result, Ok, Err, refl, sym, ap, subst, ◌∙◌, arith}
+use Rattle.std.specs.Prelude.{⊤}
 use Rattle.std.specs.Result.{IsErr, IsErrAnd}
 use Rattle.std.proofs.lemmas.List.{length-replicate, length-map, drop_all}
-use Rattle.page_runs.specs.declared.place.Kind.{Kind}
 use Rattle.flat_loader.specs.Original.{block_pages}
 use Rattle.flat_loader.specs.Frame.{frame_fits}
-use Rattle.machine_world.specs.World.{World, Program, Rest}
+use Rattle.machine_world.specs.World.{World, Rest}
 use Rattle.machine_world.specs.Free.{free}
 use Rattle.machine_world.specs.Boot.{StartLine, BootFault, bad_start, args_too_big, no_run, Found, found_from, path_of, taken, address_of, begun, placed, fitting, located, started, then_started, all_started, empty_world, boot}
 use Rattle.machine_world.specs.Programs.{AreLoaded}

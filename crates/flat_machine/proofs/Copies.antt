@@ -1,16 +1,14 @@
 -- The own bytes of a process, in the one memory.
-use Rattle.std.proofs.Common.{◌≡◌, ℕ, ◌+◌, Bool, true, false, List, [], ◌++◌, Option, Some, None, Result, Ok, Err, refl, sym, ap, subst, ◌∙◌, arith}
+use Rattle.std.proofs.Common.{◌≡◌, ℕ, Bool, false, List, [], Option, Some, None, Result, Ok, Err, refl, sym, ap, ◌∙◌}
 use Rattle.std.specs.Prelude.{slice_get, is_some, option_map}
 use Rattle.mmap_rules.specs.Held.{Held}
 use Rattle.call_log.specs.Sent.{Span, read_span}
 use Rattle.vfork_exec.specs.declared.entry.Entry.{Entry}
-use Rattle.vfork_exec.specs.Keyed.{find}
 use Rattle.vfork_exec.specs.Procs.{process, value_at}
-use Rattle.machine_world.specs.World.{Process, LiveSpace, pid_of, id_of}
 use Rattle.syscall_layer.specs.declared.task.Task.{Task}
 use Rattle.syscall_layer.specs.Kept.{Kept}
 use Rattle.syscall_layer.specs.Reading.{appended}
-use Rattle.syscall_layer.specs.Stands.{About, private_bytes, private_of, process_of, world_of}
+use Rattle.syscall_layer.specs.Stands.{About, private_bytes, process_of, world_of}
 use Rattle.syscall_layer.proofs.Worlds.{find_space, find_process}
 use Rattle.flat_machine.specs.OwnBytes.{read_or_none, bytes_in, bytes_of, own_bytes}
 use Rattle.flat_machine.proofs.Advanced.{entered}

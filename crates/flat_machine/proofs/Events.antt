@@ -1,11 +1,10 @@
 -- The next event of a process, by the step at which it stands.
-use Rattle.std.proofs.Common.{◌⊎◌, inl, inr, ◌≡◌, ℕ, ◌+◌, ◌<◌, ◌^◌, true, false, Option, Some, None, Result, Ok, Err, refl, sym, ap, subst, ◌∙◌, arith}
+use Rattle.std.proofs.Common.{◌⊎◌, inl, inr, ◌≡◌, ℕ, ◌<◌, ◌^◌, Result, Ok, Err, refl, sym, ap, subst, ◌∙◌}
 use Rattle.std.specs.Result.{IsErr}
 use Rattle.std.specs.declared.alloc.AllocError.{AllocError}
 use Rattle.rv32im_step.specs.declared.access.Access.{Access}
 use Rattle.rv32im_step.specs.declared.stop.Stop.{Stop}
-use Rattle.rv32im_step.specs.declared.stop.Stop.TheVariants.{Next, Call, Trap, Refused}
-use Rattle.rv32im_step.specs.Meaning.{Meaning, next, meaning}
+use Rattle.rv32im_step.specs.declared.stop.Stop.TheVariants.{Call, Trap, Refused}
 use Rattle.mmap_rules.specs.Space.{writable_in}
 use Rattle.call_log.specs.Notes.{stray_note}
 use Rattle.machine_world.specs.World.{World}
@@ -17,8 +16,8 @@ use Rattle.machine_world.proofs.Signals.{trap_small}
 use Rattle.syscall_layer.specs.declared.answer.Served.{Served}
 use Rattle.syscall_layer.specs.declared.answer.Served.TheVariants as served
 use Rattle.syscall_layer.specs.Kept.{Kept}
-use Rattle.syscall_layer.specs.Stands.{About, later, world_of}
-use Rattle.syscall_layer.specs.Serves.{Answered, Serves, Died, Dies, NotesStray}
+use Rattle.syscall_layer.specs.Stands.{About, world_of}
+use Rattle.syscall_layer.specs.Serves.{Answered, Died}
 use Rattle.flat_machine.specs.declared.run.End.TheVariants as told
 use Rattle.flat_machine.specs.declared.turn.After.{After}
 use Rattle.flat_machine.specs.declared.turn.After.TheVariants as after

@@ -1,15 +1,14 @@
 -- The program of a path, and the start of a start line.
-use Rattle.std.proofs.Common.{◌≡◌, ℕ, suc, ◌+◌, ◌-◌, ◌≤◌, ◌<◌, ◌⊎◌, inl, inr, Bool, true, false, cond, List, [], ◌∷◌, length, map, get_or, Option, Some, None, Result, Ok, Err, refl, sym, ap, subst, ◌∙◌, arith}
-use Rattle.std.specs.Prelude.{Vec, ⊤, bytes_eq, position, if◌then◌else◌}
+use Rattle.std.proofs.Common.{◌≡◌, ℕ, suc, ◌+◌, ◌-◌, ◌≤◌, ◌<◌, ◌⊎◌, inl, inr, Bool, true, false, List, [], ◌∷◌, length, map, get_or, Option, Some, None, Result, Ok, Err, refl, sym, ap, subst, ◌∙◌, arith}
+use Rattle.std.specs.Prelude.{Vec, ⊤, bytes_eq, position}
 use Rattle.std.specs.List.{position_from, slice_index_or}
 use Rattle.std.proofs.lemmas.Iterator.Adapters.{position_from-zero}
 use Rattle.bflt_format.specs.Values.{Values}
 use Rattle.call_log.specs.Programs.{paths_of}
-use Rattle.flat_loader.specs.Original.{Original, flat_original}
+use Rattle.flat_loader.specs.Original.{flat_original}
 use Rattle.flat_loader.specs.Frame.{frame_fits}
 use Rattle.machine_world.specs.World.{World, Program}
-use Rattle.machine_world.specs.Boot.{StartLine, BootFault, bad_start, args_too_big, no_run, Found, found_from, path_of, fitting, located, started}
-use Rattle.syscall_layer.specs.declared.start.StartRefusal.{StartRefusal}
+use Rattle.machine_world.specs.Boot.{StartLine, BootFault, Found, found_from, path_of, fitting, located, started}
 use Rattle.syscall_layer.specs.declared.start.StartRefusal.TheVariants as start
 use Rattle.syscall_layer.specs.Kept.{Kept}
 use Rattle.syscall_layer.specs.Stands.{About, world_of}

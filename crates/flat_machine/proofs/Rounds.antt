@@ -1,27 +1,26 @@
 -- Runs by quanta.
-use Rattle.std.proofs.Common.{◌≡◌, ◌≢◌, ℕ, zero, suc, ◌+◌, ◌-◌, ◌*◌, ◌<◌, ◌≤◌, true, false, if◌then◌else◌, List, [], ◌∷◌, ◌++◌, map, length, Option, Some, None, Result, Ok, Err, refl, sym, ap, subst, ◌∙◌, arith, append_assoc, append-nil, take, drop, get_or}
+use Rattle.std.proofs.Common.{◌≡◌, ℕ, zero, suc, ◌+◌, ◌-◌, ◌*◌, ◌<◌, ◌≤◌, List, [], ◌∷◌, ◌++◌, map, length, Option, Some, None, Result, Ok, Err, refl, sym, ap, subst, ◌∙◌, arith, append_assoc, append-nil, take, drop, get_or}
 use Rattle.std.specs.Result.{IsErr}
 use Rattle.std.proofs.Math.Nat.{mul-le-mul_left}
 use Rattle.std.proofs.Math.Seq.{take-suc}
 use Rattle.std.proofs.lemmas.List.{take-append-drop}
-use Rattle.std.specs.Prelude.{◌==◌, alloc_error}
+use Rattle.std.specs.Prelude.{alloc_error}
 use Rattle.std.specs.declared.alloc.AllocError.{AllocError}
 use Rattle.quantum_sched.specs.declared.Quantum.{Quantum}
 use Rattle.quantum_sched.specs.Picked.{picked}
 use Rattle.machine_world.specs.World.{World, pid_of}
-use Rattle.machine_world.specs.Event.{Trace}
-use Rattle.machine_world.specs.Turns.{End, all_ended, out_of_quanta, stray_at, log_full, Walk, stays_at, turn, turns, walked}
+use Rattle.machine_world.specs.Turns.{End, Walk, turn, turns, walked}
 use Rattle.machine_world.specs.Programs.{AreLoaded}
 use Rattle.machine_world.proofs.Loads.{turn_loads_nothing}
 use Rattle.machine_world.specs.Courses.{Comes}
-use Rattle.machine_world.proofs.RunLaws.{comes_none, comes_on, none_chosen, turn_stops, turn_comes, none_left}
+use Rattle.machine_world.proofs.RunLaws.{comes_on, none_chosen, turn_stops, turn_comes, none_left}
 use Rattle.flat_machine.specs.declared.run.End.{End as Told}
 use Rattle.flat_machine.specs.declared.run.End.TheVariants as told
 use Rattle.flat_machine.specs.Runs.{repeated, Ends, Stops, Runs}
 use Rattle.flat_machine.specs.State.{State, about_of, world}
 use Rattle.syscall_layer.specs.Kept.{Kept}
 use Rattle.syscall_layer.specs.Stands.{About, later, world_of}
-use Rattle.flat_machine.specs.Leaves.{TurnStops, TurnLeaves, Leaves}
+use Rattle.flat_machine.specs.Leaves.{TurnLeaves, Leaves}
 
 -- an end that is told is there
 ends_is : (o : Option End) (end : Told) → Ends o end → (e : End) × (o ≡ Some e)

@@ -1,11 +1,11 @@
 -- The block's own range may be used whole.
-use Rattle.std.proofs.Common.{◌≡◌, ℕ, ◌+◌, ◌<◌, ◌≤◌, ◌^◌, Bool, true, ◌&&◌, ◌||◌, List, [], ◌∷◌, refl, arith, Option, Some, None}
-use Rattle.std.specs.Prelude.{nat_le, nat_lt, SomeIff, is_some, slice_get}
+use Rattle.std.proofs.Common.{◌≡◌, ℕ, ◌+◌, ◌<◌, ◌≤◌, ◌^◌, Bool, true, ◌&&◌, ◌||◌, List, [], ◌∷◌, arith, Option, Some, None}
+use Rattle.std.specs.Prelude.{SomeIff, is_some, slice_get}
 use Rattle.std.specs.List.{list_any}
 use Rattle.std.proofs.lemmas.Bool.Decides.{nat_tests}
 use Rattle.mmap_rules.specs.declared.mapping.Range.{Range}
 use Rattle.mmap_rules.specs.declared.mapping.Mapping.{Mapping}
-use Rattle.mmap_rules.specs.Space.{in_range, writable_in, all_pass, may_use}
+use Rattle.mmap_rules.specs.Space.{in_range, writable_in, may_use}
 use Rattle.region_watch.proofs.Maps.{all_pass-each}
 use Rattle.region_watch.proofs.Accesses.{range_of}
 

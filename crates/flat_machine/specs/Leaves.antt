@@ -6,7 +6,7 @@ use Rattle.call_log.specs.Notes.{stray_note}
 use Rattle.quantum_sched.specs.declared.Quantum.{Quantum}
 use Rattle.vfork_exec.specs.Procs.{Lives}
 use Rattle.machine_world.specs.World.{World}
-use Rattle.machine_world.specs.Event.{Outcome, went, strays, full, idle, noted}
+use Rattle.machine_world.specs.Event.{Outcome, went, strays, full, noted}
 use Rattle.machine_world.specs.Turns.{seen_of, turn, turns}
 use Rattle.machine_world.specs.Courses.{Comes}
 use Rattle.syscall_layer.specs.Kept.{Kept}

@@ -1,6 +1,5 @@
 -- What instructions of the process leave, at the parts.
 use Rattle.std.proofs.Common.{arith}
-use Rattle.syscall_layer.specs.Kept.{Kept}
 use Rattle.syscall_layer.specs.Inside.{kept_of}
 use Rattle.flat_machine.proofs.Advanced.{advances, has_space, never_none, below, paged}
 use Rattle.flat_machine.proofs.advance.advance.Goals as goal

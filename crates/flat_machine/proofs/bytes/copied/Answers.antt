@@ -1,5 +1,5 @@
 -- What is read of a process's space.
-use Rattle.std.proofs.Common.{sym, refl, arith}
+use Rattle.std.proofs.Common.{refl, arith}
 use Rattle.syscall_layer.specs.Inside.{kept_of}
 use Rattle.flat_machine.proofs.Advanced.{has_space, home_of, never_none, below, paged}
 use Rattle.flat_machine.proofs.Copies.{none_lives, own_read, own_strays}

@@ -1,5 +1,5 @@
 -- The events so far, the instructions behind them, and the event behind these.
-use Rattle.std.proofs.Common.{◌≡◌, ◌≢◌, ◌+◌, ◌-◌, ◌<◌, rules, arith}
+use Rattle.std.proofs.Common.{◌≡◌, ◌≢◌, ◌+◌, ◌-◌, rules, arith}
 use Rattle.rv32im_step.specs.declared.stop.Stop.TheVariants.{Next}
 use Rattle.syscall_layer.specs.Stands.{later, world_of}
 use Rattle.flat_machine.proofs.Advanced.{some_about}
@@ -14,7 +14,7 @@ returns-then-eq-clause-leaves c a =
     let is : c.advance-progress.result.stop ≡ Next = search rules in
     let less = c.loop-events-test.true in
     let all = halts_all (world_of (later c.advance-progress.result.done a) c.advance-progress.new.parts) c.args.pid (c.args.count - c.loop-events.events) c.advance-progress.result.done
-        c.advance-progress.result.stop is (c.advance-progress.ensures.halts a) in
+    c.advance-progress.result.stop is (c.advance-progress.ensures.halts a) in
     turn_all c.args.pid c.args.count c.args.parts.now c.advance-progress.new.parts (c.loop-events.events + c.advance-progress.result.done)
     (reached_on c.args.pid c.args.parts.now c.loop-events.parts c.advance-progress.new.parts c.loop-events.events c.advance-progress.result.done c.loop-events.invariant.leads c.advance-progress.ensures.leads)
     (omega arith) a

@@ -1,5 +1,5 @@
 -- Each start line in order.
-use Rattle.std.proofs.Common.{refl, sym, ap, ◌∙◌, ◌≡◌, ◌+◌, length, subst, arith}
+use Rattle.std.proofs.Common.{refl, ap, ◌∙◌, ◌≡◌, ◌+◌, length, subst}
 use Rattle.std.proofs.lemmas.List.{length-map}
 use Rattle.call_log.specs.Programs.{paths_of}
 use Rattle.machine_world.specs.Programs.{AreLoaded}
@@ -41,7 +41,7 @@ returns-in_err-begin g c =
     let begins = rw (c.deref.ensures.value, c.deref-in-loop-start.ensures.value) at c.in_err-begin.ensures in
     let fails = left_fails c.deref-start-items.result.now c.loop-start.start-index c.start-item.result c.loop-start-test.true c.start-item.is a c.loop-start.parts c.begin.new.parts (all_started (empty_world rest) (lines_of c.deref-start-items.result.now)) c.loop-start.invariant.left c.in_err-begin.field-0.0 begins in
     let told = fails_as (all_started (empty_world rest) (lines_of c.deref-start-items.result.now)) c.from_residual-in_err-begin.result c.in_err-begin.field-0.0
-        c.from_residual-in_err-begin.ensures.0 c.from_residual-in_err-begin.ensures.1 fails in
+    c.from_residual-in_err-begin.ensures.0 c.from_residual-in_err-begin.ensures.1 fails in
     rw (← c.deref-start-items.ensures.value, ← boot_is rest (lines_of c.deref-start-items.result.now)) told
 
 pub invariant_of-result : goal.invariant_of-result
@@ -49,7 +49,7 @@ invariant_of-result g c =
     let a = about_boot (kind_of c.args.chooser.now) c.args.setup.paths.items c.args.setup.programs.items in
     let rest = rest_of c.args.setup.pages (kind_of c.args.chooser.now) c.args.setup.paths.items c.args.setup.programs.items in
     let all = left_none c.deref-start-items.result.now c.loop-start.start-index (world_of a c.loop-start.parts) (all_started (empty_world rest) (lines_of c.deref-start-items.result.now))
-        c.loop-start-test.false c.loop-start.invariant.left in
+    c.loop-start-test.false c.loop-start.invariant.left in
     let same : length (paths_of c.args.setup.paths.items) ≡ length c.args.setup.programs.items = length-map c.args.setup.paths.items (λ p. p.items) ∙ c.requires.paths in
     let loads = machine_loads rest (lines_of c.deref-start-items.result.now) a c.loop-start.parts (all ∙ boot_is rest (lines_of c.deref-start-items.result.now)) in
     record {
@@ -62,7 +62,7 @@ returns g c =
     let a = about_boot (kind_of c.args.chooser.now) c.args.setup.paths.items c.args.setup.programs.items in
     let rest = rest_of c.args.setup.pages (kind_of c.args.chooser.now) c.args.setup.paths.items c.args.setup.programs.items in
     let all = left_none c.deref-start-items.result.now c.loop-start.start-index (world_of a c.loop-start.parts) (all_started (empty_world rest) (lines_of c.deref-start-items.result.now))
-        c.loop-start-test.false c.loop-start.invariant.left in
+    c.loop-start-test.false c.loop-start.invariant.left in
     let kind = c.kind.ensures in
     rw (← c.deref-start-items.ensures.value, kind)
     (machine_boots (world_of a c.loop-start.parts)

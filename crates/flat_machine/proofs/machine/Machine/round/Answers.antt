@@ -1,6 +1,5 @@
 -- The quanta so far, and the next.
-use Rattle.std.proofs.Common.{◌+◌, ◌≤◌, arith, drop}
-use Rattle.std.specs.Prelude.{sum_by}
+use Rattle.std.proofs.Common.{arith}
 use Rattle.std.proofs.lemmas.List.Sums.{sum_by-drop_more}
 use Rattle.quantum_sched.specs.declared.Quantum.{Quantum}
 use Rattle.flat_machine.specs.State.{world}

@@ -1,5 +1,5 @@
 -- Behind the times so far the run goes on.
-use Rattle.std.proofs.Common.{◌+◌, ◌-◌, ◌*◌, ◌≤◌}
+use Rattle.std.proofs.Common.{◌+◌, ◌*◌, ◌≤◌}
 use Rattle.std.specs.Prelude.{sum_by}
 use Rattle.machine_world.specs.Courses.{Comes}
 use Rattle.flat_machine.specs.State.{world}
