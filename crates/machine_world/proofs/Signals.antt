@@ -9,10 +9,10 @@ use Rattle.rv32im_table.specs.Immediate.{sign_extended}
 use Rattle.rv32im_step.specs.declared.access.Access.{Access}
 use Rattle.rv32im_step.specs.declared.regs.Regs.{Regs}
 use Rattle.rv32im_step.specs.Integer.{add}
-use Rattle.rv32im_step.specs.Registers.{with_register, following}
+use Rattle.rv32im_step.specs.Registers.{with_register}
 use Rattle.rv32im_step.specs.Word.{wrap, signed}
 use Rattle.rv32im_step.specs.Memory.{fetch_of, load_of, store_of, loaded, stored}
-use Rattle.rv32im_step.specs.Meaning.{Meaning, next, call, trap, refused, misaligned, goes, jumps, branches, sets_loaded, loads, changes, stores, same, even, row, effect, decoded_effect, fetched_effect, meaning}
+use Rattle.rv32im_step.specs.Meaning.{Meaning, next, trap, misaligned, goes, jumps, branches, sets_loaded, loads, changes, stores, same, even, row, effect, decoded_effect, fetched_effect, meaning}
 
 abbrev Small : Meaning → Type 0
 Small (trap signal) = signal < 2 ^ 8
