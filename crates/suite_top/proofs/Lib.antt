@@ -11,7 +11,7 @@
 -- PathSets: the set of the paths so far.
 -- LoadedItems, OriginalsSame, MadePrograms: the loads of a manifest's lines, and the programs that they make.
 -- Booted, RunEndings, RunLaws: what a boot of the machine gives, how a run ends, and when it reaches its machine.
--- Samples, ListSamples: the definitions on the worked example.
+-- Samples, ListSamples, RunSamples: the definitions on the worked example and on small manifests.
 pub mod HostCourses
 pub mod HostSteps
 pub mod OneFileSteps
@@ -43,3 +43,4 @@ pub mod RunEndings
 pub mod RunLaws
 pub mod Samples
 pub mod ListSamples
+pub mod RunSamples
