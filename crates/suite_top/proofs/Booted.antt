@@ -1,25 +1,22 @@
 -- What a boot of the machine gives, as the opening world of the definition.
-use Rattle.std.proofs.Common.{◌≡◌, ℕ, ◌+◌, ◌*◌, ◌^◌, ◌<◌, ◌≤◌, Bool, true, false, cond, List, [], ◌∷◌, length, map, Option, Some, None, Result, Ok, Err, refl, sym, ap, subst, ◌∙◌, arith, inl, inr}
-use Rattle.std.specs.Prelude.{◌⊎◌, sum_by}
+use Rattle.std.proofs.Common.{◌≡◌, ℕ, ◌+◌, ◌*◌, ◌^◌, ◌<◌, ◌≤◌, Bool, true, false, List, [], ◌∷◌, length, map, Option, Some, None, Result, Ok, Err, refl, sym, ap, subst, ◌∙◌, arith, inr}
+use Rattle.std.specs.Prelude.{sum_by}
 use Rattle.std.specs.List.{AllByRecursion}
 use Rattle.std.proofs.lemmas.Simd.{map-map}
 use Rattle.std.proofs.lemmas.List.Sums.{sum_by-cons}
 use Rattle.std.proofs.Math.Nat.{mul-le-mul_left}
-use Rattle.page_runs.specs.declared.place.Kind.{Kind}
 use Rattle.quantum_sched.specs.declared.Quantum.{Quantum}
 use Rattle.manifest_text.specs.declared.manifest.Start.{Start as StoredStart}
 use Rattle.manifest_text.specs.Values.{Manifest, start_value}
 use Rattle.manifest_text.specs.Laws.{IsShort, Reasonable}
-use Rattle.machine_world.specs.World.{Program, Rest, World}
-use Rattle.machine_world.specs.Boot.{StartLine, BootFault, bad_start, args_too_big, no_run, Found, found_from, path_of, begun, placed, fitting, located, started, then_started, all_started, empty_world, boot}
-use Rattle.machine_world.specs.Event.{noted}
+use Rattle.machine_world.specs.World.{Rest, World}
+use Rattle.machine_world.specs.Boot.{StartLine, BootFault, bad_start, args_too_big, no_run, Found, found_from, path_of, placed, fitting, located, started, then_started, all_started, empty_world, boot}
 use Rattle.syscall_layer.specs.Stands.{world_of}
 use Rattle.flat_machine.specs.declared.boot.BootRefusal.{BootRefusal}
 use Rattle.flat_machine.specs.declared.boot.BootRefusal.TheVariants as refusal
-use Rattle.flat_machine.specs.State.{State, world, line_of, lines_of}
+use Rattle.flat_machine.specs.State.{State, world, lines_of}
 use Rattle.flat_machine.specs.Boots.{Boots}
 use Rattle.suite_top.specs.Ending.{Ending, memory_ending, OrMemory}
-use Rattle.suite_top.specs.Programs.{FaultAt}
 use Rattle.suite_top.specs.Making.{IsMemory, told_fault}
 use Rattle.suite_top.specs.Run.{start_line, boot_fault, fault_ending, booted_ending}
 

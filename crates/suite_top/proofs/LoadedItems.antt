@@ -1,9 +1,8 @@
 -- The loads of the item lines' files, one after the other.
-use Rattle.std.proofs.Common.{◌≡◌, ℕ, ◌+◌, ◌-◌, ◌≤◌, min, List, [], ◌∷◌, ◌++◌, length, drop, Some, refl, sym, ap, subst, ◌∙◌, arith, append_assoc, length-append}
+use Rattle.std.proofs.Common.{◌≡◌, ℕ, ◌+◌, ◌-◌, ◌≤◌, List, [], ◌∷◌, ◌++◌, length, drop, Some, refl, sym, ap, subst, arith, append_assoc, length-append}
 use Rattle.std.proofs.Math.Path.{fun_ext}
 use Rattle.std.proofs.lemmas.List.{append-nil, drop_all}
 use Rattle.host_io.specs.Host.{Told}
-use Rattle.manifest_text.specs.declared.manifest.ItemKind.{ItemKind}
 use Rattle.manifest_text.specs.Values.{Item}
 use Rattle.suite_top.specs.Ending.{Ending, memory_ending}
 use Rattle.suite_top.specs.Outcome.{Outcome, Inputs}
@@ -11,7 +10,7 @@ use Rattle.suite_top.specs.Load.{with_load}
 use Rattle.suite_top.specs.Observed.{Observed}
 use Rattle.suite_top.specs.HostCourse.{PerformsCommand}
 use Rattle.suite_top.specs.FileLoad.{GaveFile, EndsWithout}
-use Rattle.suite_top.specs.Run.{kind_limit, load_limit, files_limit, with_items}
+use Rattle.suite_top.specs.Run.{load_limit, files_limit, with_items}
 use Rattle.suite_top.specs.ItemLoads.{GaveFiles, LoadsSoFar}
 use Rattle.suite_top.proofs.HostSteps.{performs_rest, memory_now}
 

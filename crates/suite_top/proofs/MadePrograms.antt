@@ -1,5 +1,5 @@
 -- The programs of the item lines, one after the other.
-use Rattle.std.proofs.Common.{◌≡◌, ℕ, ◌+◌, ◌*◌, ◌≤◌, Vec, Fits, w8, get_or, List, [], ◌∷◌, ◌++◌, length, drop, Option, Some, None, Result, Ok, Err, refl, sym, ap, subst, ◌∙◌, arith, inl, inr, length-append}
+use Rattle.std.proofs.Common.{◌≡◌, ℕ, ◌+◌, ◌*◌, ◌≤◌, Vec, Fits, w8, get_or, List, [], ◌∷◌, ◌++◌, length, drop, Some, None, Result, Ok, Err, refl, sym, ap, subst, ◌∙◌, arith, inl, inr, length-append}
 use Rattle.std.specs.Prelude.{◌⊎◌}
 use Rattle.std.proofs.lemmas.List.{drop_all, length-map, map-append}
 use Rattle.byte_words.specs.Numbers.{IsBytes}
@@ -26,7 +26,7 @@ use Rattle.suite_top.specs.declared.programs.Places.{Places}
 use Rattle.suite_top.specs.declared.programs.Programs.{Programs}
 use Rattle.suite_top.specs.Originals.{elf_original}
 use Rattle.suite_top.specs.Programs.{Made, Taken, FaultAt, elf_made, elf_made_of, flat_made, flat_made_of, made_of, place_fault, one_more, with_first, placed, taken, programs_from, nothing_taken}
-use Rattle.suite_top.specs.Making.{IsMemory, Knows, Added, programs_value, AreSoMany, with_all, MadeSoFar}
+use Rattle.suite_top.specs.Making.{IsMemory, Added, programs_value, with_all, MadeSoFar}
 use Rattle.suite_top.proofs.OriginalsSame.{converted_original}
 
 -- ---- the program of a file

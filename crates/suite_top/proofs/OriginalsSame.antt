@@ -10,7 +10,7 @@ use Rattle.elf2flt_tool.specs.Image.{image}
 use Rattle.elf2flt_tool.specs.Fault.{fault}
 use Rattle.elf2flt_tool.specs.Converted.{converted}
 use Rattle.elf2flt_tool.proofs.ImageLaw.{values_of_flat, image_law}
-use Rattle.flat_loader.specs.Original.{Original, flat_original}
+use Rattle.flat_loader.specs.Original.{flat_original}
 use Rattle.suite_top.specs.Sizes.{sizes}
 use Rattle.suite_top.specs.Originals.{elf_original, OriginalsAreSame}
 

@@ -1,5 +1,5 @@
 -- The parts of a report, by what a machine tells of its world.
-use Rattle.std.proofs.Common.{◌≡◌, ℕ, ◌<◌, suc, zero, List, [], ◌∷◌, ◌++◌, length, map, reverse, Bool, Option, Some, refl, sym, ap, subst, ◌∙◌, get_or, arith}
+use Rattle.std.proofs.Common.{◌≡◌, ℕ, ◌<◌, suc, zero, List, [], ◌∷◌, ◌++◌, length, map, reverse, Bool, sym, ap, subst, ◌∙◌, get_or, arith}
 use Rattle.std.specs.Prelude.{Vec}
 use Rattle.std.specs.List.{flat_map}
 use Rattle.std.proofs.lemmas.List.{length-map, reverse-append, reverse-reverse}
@@ -8,12 +8,10 @@ use Rattle.call_log.specs.Notes.{Note}
 use Rattle.call_log.specs.Values.{note_value}
 use Rattle.call_log.specs.Programs.{IsProgramBelow, paths_of}
 use Rattle.manifest_text.specs.declared.manifest.Dump.{Dump}
-use Rattle.machine_world.specs.World.{Program, World, program_path}
-use Rattle.machine_world.specs.Turns.{End}
+use Rattle.machine_world.specs.World.{World, program_path}
 use Rattle.machine_world.specs.Programs.{AreLoaded}
 use Rattle.flat_machine.specs.declared.run.End.{End as Told}
-use Rattle.flat_machine.specs.Runs.{Ends}
-use Rattle.suite_top.specs.Report.{note_text, dump_line, stop_line, stop_word, report_text, IsStopWord, IsReport}
+use Rattle.suite_top.specs.Report.{note_text, dump_line, stop_line, report_text, IsStopWord, IsReport}
 
 loaded_append : (n : ℕ) (xs ys : List Note) → AreLoaded n xs → AreLoaded n ys → AreLoaded n (xs ++ ys)
 loaded_append n [] ys hx hy = hy

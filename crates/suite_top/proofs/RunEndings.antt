@@ -1,16 +1,13 @@
 -- How a run ends behind its loads.
-use Rattle.std.proofs.Common.{◌≡◌, ◌≢◌, ℕ, Bool, List, map, Option, Some, None, Result, Ok, Err, refl, sym, ap, subst, ◌∙◌, inl, inr}
+use Rattle.std.proofs.Common.{◌≡◌, ◌≢◌, ℕ, Bool, List, map, Option, Some, None, Result, Ok, Err, sym, subst, inl, inr}
 use Rattle.std.specs.Prelude.{◌⊎◌}
 use Rattle.host_io.specs.Host.{Told}
 use Rattle.page_runs.specs.declared.place.Kind.{Kind}
-use Rattle.quantum_sched.specs.declared.Quantum.{Quantum}
-use Rattle.manifest_text.specs.declared.manifest.Dump.{Dump}
 use Rattle.manifest_text.specs.Values.{Manifest}
 use Rattle.manifest_text.specs.Manifest.{Fault}
 use Rattle.machine_world.specs.World.{Program, World}
 use Rattle.machine_world.specs.Boot.{BootFault, boot}
-use Rattle.machine_world.specs.Turns.{End, all_ended, out_of_quanta, stray_at, log_full, turns}
-use Rattle.suite_top.specs.declared.status.Status.{Status}
+use Rattle.machine_world.specs.Turns.{End, all_ended, out_of_quanta, stray_at, log_full}
 use Rattle.suite_top.specs.declared.status.Status.TheVariants as status
 use Rattle.suite_top.specs.Ending.{Ending, refused_ending, memory_ending, OrMemory}
 use Rattle.suite_top.specs.Texts.Refusals.{manifest_tail}
@@ -21,7 +18,7 @@ use Rattle.suite_top.specs.Programs.{FaultAt, programs_from, nothing_taken}
 use Rattle.suite_top.specs.Making.{IsMemory}
 use Rattle.suite_top.specs.ItemLoads.{GaveFiles}
 use Rattle.suite_top.specs.Load.{at_once}
-use Rattle.suite_top.specs.Run.{fault_ending, booted_ending, programs_ending, files_ending, files_limit, with_items, items_outcome, manifest_outcome, world_ending, start_line, opening}
+use Rattle.suite_top.specs.Run.{fault_ending, booted_ending, programs_ending, files_ending, items_outcome, manifest_outcome, start_line, opening}
 use Rattle.suite_top.proofs.HostSteps.{asks_nothing}
 
 -- no end is that of a failed load

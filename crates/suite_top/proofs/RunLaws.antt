@@ -1,5 +1,5 @@
 -- When a run reaches its machine.
-use Rattle.std.proofs.Common.{◌≡◌, ℕ, ◌-◌, ◌≤◌, Bool, true, false, cond, List, [], ◌∷◌, ◌++◌, map, length, nat_lt, Option, Some, None, Result, Ok, Err, refl, sym, ap, subst, ◌∙◌, arith}
+use Rattle.std.proofs.Common.{◌≡◌, ℕ, ◌-◌, ◌≤◌, Bool, true, false, cond, List, [], ◌∷◌, ◌++◌, map, length, nat_lt, Option, Some, None, Result, Ok, Err, refl, ap, ◌∙◌, arith}
 use Rattle.std.specs.FinMap.{get}
 use Rattle.std.proofs.lemmas.Bool.Decides.{nat_tests}
 use Rattle.std.proofs.lemmas.List.{append-nil}
@@ -10,13 +10,13 @@ use Rattle.manifest_text.specs.Manifest.{Fault, manifest_of}
 use Rattle.machine_world.specs.World.{Program, World}
 use Rattle.machine_world.specs.Boot.{BootFault, boot}
 use Rattle.suite_top.specs.Texts.Refusals.{too_long_at}
-use Rattle.suite_top.specs.Ending.{Ending, refused_ending}
-use Rattle.suite_top.specs.Outcome.{Request, load, Outcome, Inputs, after}
+use Rattle.suite_top.specs.Ending.{refused_ending}
+use Rattle.suite_top.specs.Outcome.{Request, load, Outcome, after}
 use Rattle.suite_top.specs.HostCourse.{inputs_in}
 use Rattle.suite_top.specs.Load.{at_once, with_limited}
 use Rattle.suite_top.specs.Programs.{FaultAt, programs_from, nothing_taken}
 use Rattle.suite_top.specs.Run.{manifest_limit, load_limit, files_limit, with_items, start_line, opening, booted_ending, programs_ending, files_ending, items_outcome, manifest_outcome, run_outcome}
-use Rattle.suite_top.specs.Run.Laws.{AreThere, Opens, opened_outcome, IsStop, RunsWhereItOpens, OpensWhereItStops}
+use Rattle.suite_top.specs.Run.Laws.{AreThere, opened_outcome, IsStop, RunsWhereItOpens, OpensWhereItStops}
 
 -- ---- from what is there to the outcome
 

@@ -1,7 +1,6 @@
 -- What the outcome of a run can be: loads, one after the other, and then a refusal or the ending of a machine that stopped.
-use Rattle.std.proofs.Common.{◌≡◌, ℕ, ◌-◌, Bool, true, false, cond, List, [], ◌∷◌, length, nat_lt, map, Option, Some, None, Result, Ok, Err}
+use Rattle.std.proofs.Common.{ℕ, ◌-◌, Bool, true, false, cond, List, [], ◌∷◌, length, nat_lt, map, Option, Some, None, Result, Ok, Err}
 use Rattle.page_runs.specs.declared.place.Kind.{Kind}
-use Rattle.quantum_sched.specs.declared.Quantum.{Quantum}
 use Rattle.manifest_text.specs.declared.manifest.Dump.{Dump}
 use Rattle.manifest_text.specs.Values.{Item, Manifest}
 use Rattle.manifest_text.specs.Manifest.{Fault, manifest_of}
@@ -12,12 +11,12 @@ use Rattle.flat_machine.specs.Runs.{repeated}
 use Rattle.suite_top.specs.declared.status.Status.{Status}
 use Rattle.suite_top.specs.declared.status.Status.TheVariants.{Done, Stray, OutOfQuanta, LogFull}
 use Rattle.suite_top.specs.Texts.Refusals.{manifest_tail, line_tail, too_long_at}
-use Rattle.suite_top.specs.Ending.{Ending, refused_ending}
+use Rattle.suite_top.specs.Ending.{refused_ending}
 use Rattle.suite_top.specs.Outcome.{load, failure_ending, Outcome, Inputs, after}
 use Rattle.suite_top.specs.Load.{at_once, behind, with_limited}
 use Rattle.suite_top.specs.Programs.{FaultAt, programs_from, nothing_taken}
 use Rattle.suite_top.specs.Report.{status_of_end}
-use Rattle.suite_top.specs.Run.{manifest_limit, files_limit, load_limit, with_items, start_line, opening, boot_fault, walked_ending, booted_ending, programs_ending, files_ending, items_outcome, manifest_outcome, run_outcome}
+use Rattle.suite_top.specs.Run.{manifest_limit, files_limit, load_limit, with_items, start_line, opening, boot_fault, walked_ending, booted_ending, programs_ending, files_ending, manifest_outcome, run_outcome}
 
 -- what holds of each end, and of a load in front of an outcome of which it holds
 module _ (P : Outcome → Type 0) (step : (name : List ℕ) (o : Outcome) → P o → P (after (load name) o)) (read : (name : List ℕ) → P (at_once (failure_ending (load name)))) (refused : (tail : List ℕ) → P (at_once (refused_ending tail))) (walked : (log : Bool) (dumps : List Dump) (walk : Walk) → P (at_once (walked_ending log dumps walk))) where

@@ -1,5 +1,5 @@
 -- The definitions of `run` on small manifests.
-use Rattle.std.proofs.Common.{◌≡◌, ℕ, zero, suc, false, List, [], ◌∷◌, Option, Some, None, refl}
+use Rattle.std.proofs.Common.{◌≡◌, ℕ, zero, suc, false, List, [], ◌∷◌, Some, None, refl}
 use Rattle.std.specs.Prelude.{codes}
 use Rattle.std.specs.Fmt.{digits}
 use Rattle.page_runs.specs.declared.place.Kind.TheVariants.{First}
@@ -12,7 +12,6 @@ use Rattle.manifest_text.specs.Manifest.{draft_of, late_fault, all_said, first_f
 use Rattle.machine_world.specs.Boot.{all_started, started, boot}
 use Rattle.call_log.specs.declared.errno.Errno.TheVariants.{Eexist, Efbig, Enospc}
 use Rattle.suite_top.specs.declared.line_fault.LineFault.TheVariants.{TooLong, Place, BadStart, E2big, NoRun}
-use Rattle.suite_top.specs.Texts.{cannot_read_line}
 use Rattle.suite_top.specs.Texts.Refusals.{manifest_tail, line_tail}
 use Rattle.suite_top.specs.Ending.{refused_ending}
 use Rattle.suite_top.specs.Outcome.{load, failure_ending, Inputs}

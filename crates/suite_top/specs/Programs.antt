@@ -1,5 +1,5 @@
 -- The programs that the item lines of a manifest bring in.
-use Rattle.std.specs.Prelude.{ℕ, ◌+◌, Bool, nat_lt, if◌then◌else◌, List, [], ◌∷◌, length, bytes_eq, Option, Some, None, Result, Ok, Err}
+use Rattle.std.specs.Prelude.{ℕ, ◌+◌, nat_lt, if◌then◌else◌, List, [], ◌∷◌, length, bytes_eq, Option, Some, None, Result, Ok, Err}
 use Rattle.std.specs.List.{list_any}
 use Rattle.bflt_format.specs.declared.fault.FlatFault.{FlatFault}
 use Rattle.bflt_format.specs.Header.{flat_values}

@@ -10,7 +10,7 @@ use Rattle.machine_world.specs.Boot.{boot}
 use Rattle.flat_machine.specs.Runs.{repeated}
 use Rattle.suite_top.specs.declared.status.Status.{Status}
 use Rattle.suite_top.specs.declared.status.Status.TheVariants.{Done, Stray, OutOfQuanta, LogFull}
-use Rattle.suite_top.specs.Outcome.{Request, load, Outcome}
+use Rattle.suite_top.specs.Outcome.{load, Outcome}
 use Rattle.suite_top.specs.HostCourse.{inputs_in}
 use Rattle.suite_top.specs.Programs.{programs_from, nothing_taken}
 use Rattle.suite_top.specs.Run.{manifest_limit, load_limit, files_limit, start_line, opening, world_ending, run_outcome}

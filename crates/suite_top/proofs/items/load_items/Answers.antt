@@ -1,7 +1,6 @@
 -- One load after the other.
-use Rattle.std.proofs.Common.{◌≡◌, map, sym, subst, ◌∙◌}
 use Rattle.std.proofs.lemmas.List.{length-map, map-append}
-use Rattle.manifest_text.specs.Values.{item_value, vec_texts}
+use Rattle.manifest_text.specs.Values.{item_value}
 use Rattle.manifest_text.specs.Laws.{IsItem}
 use Rattle.suite_top.proofs.Opened.{opened, each_at}
 use Rattle.suite_top.proofs.LoadedItems.{no_loads, loads_more, ends_within, runs_out_within, all_loaded}

@@ -1,5 +1,5 @@
 -- The programs are made, or a line is refused.
-use Rattle.manifest_text.specs.Values.{manifest_value, vec_texts}
+use Rattle.manifest_text.specs.Values.{manifest_value}
 use Rattle.suite_top.proofs.RunEndings.{makes_programs, refuses_line}
 use Rattle.suite_top.proofs.run.run_files.Goals as goal
 

@@ -1,5 +1,4 @@
 -- The manifest is read, or has a fault.
-use Rattle.std.proofs.Common.{◌≡◌, sym, subst}
 use Rattle.suite_top.specs.declared.status.Status.TheVariants as status
 use Rattle.suite_top.specs.Texts.{refused_line}
 use Rattle.suite_top.specs.Texts.Refusals.{manifest_tail}

@@ -1,10 +1,9 @@
 -- The machine stands for the opening world.
-use Rattle.std.proofs.Common.{◌≡◌, ℕ, refl, sym, ap, subst, ◌∙◌}
+use Rattle.std.proofs.Common.{refl, sym, subst, ◌∙◌}
 use Rattle.std.proofs.lemmas.List.{length-map}
 use Rattle.page_runs.specs.Choosers.{kind_of}
 use Rattle.manifest_text.specs.Values.{start_value, manifest_value}
 use Rattle.manifest_text.specs.Laws.{HasArgument}
-use Rattle.machine_world.specs.Boot.{StartLine, boot}
 use Rattle.suite_top.specs.Programs.{FaultAt}
 use Rattle.suite_top.specs.Making.{IsMemory, programs_value}
 use Rattle.suite_top.specs.Ending.{OrMemory}
