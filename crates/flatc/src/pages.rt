@@ -24,7 +24,7 @@ exit status:
   1   wrong arguments
   2   a file can't be read
   3   a file is refused
-  4   a program used memory that isn't its own
+  4   a program's next access isn't to its own memory
   5   the quanta of a run are used up
   6   the log of a run is full
   7   standard output or error can't be written

@@ -5,6 +5,7 @@
 -- Steps     instructions of one process, one after the other
 -- Loads     the programs that load notes name
 -- Signals   the signals of instructions
+-- Beside    what an event leaves of all other processes and spaces
 mod Samples
 pub mod States
 pub mod TurnLaws
@@ -12,3 +13,4 @@ pub mod RunLaws
 pub mod Steps
 pub mod Loads
 pub mod Signals
+pub mod Beside

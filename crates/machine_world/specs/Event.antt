@@ -16,7 +16,7 @@ use Rattle.mmap_rules.specs.Space.{Space, writable_in, may_use}
 use Rattle.machine_world.specs.World.{Process, LiveSpace, World, pid_of, id_of}
 use Rattle.machine_world.specs.Rows.{Ask, Reply, Row, replies, waits, row}
 
--- what an event leaves for those who follow one space: the space, whether the event counts there, the calls made in it,
+-- what an event leaves for those who follow one space: the space, how many events it is there, the calls made in it,
 -- and whether the turn is over
 pub record Trace : Type 0 where
   pub space : ℕ

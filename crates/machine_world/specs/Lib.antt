@@ -6,7 +6,8 @@
 -- Boot     the opening world
 -- Programs the programs that load notes name
 -- Courses  how far a turn or a run came
--- Laws     instructions are events
+-- Laws     instructions are events, and what a refused call changes
+-- Others   what an event leaves of all other processes and spaces
 pub mod World
 pub mod Free
 pub mod Rows
@@ -16,3 +17,4 @@ pub mod Boot
 pub mod Programs
 pub mod Courses
 pub mod Laws
+pub mod Others

@@ -1,6 +1,7 @@
 //! Laws over the definitions. They hold for all worlds, and no code runs.
 
 ghost use Rattle.machine_world.specs.Laws.{InstructionsAreEvents, RefusalsChangeNothingElse};
+ghost use Rattle.machine_world.specs.Others.{EventsLeaveOthers};
 ghost use Rattle.machine_world.specs.Programs.{BootsLoadPrograms, TurnsLoadNothing, RunsLoadNothing};
 
 /// Instructions of one process, one after the other, are events.
@@ -18,4 +19,9 @@ pub fn programs_law()
 /// A system call that is refused changes nothing but the reply, the next instruction, the notes and the count of events.
 pub fn refused_calls_law()
     ensures { RefusalsChangeNothingElse }
+{}
+
+/// An event of a process changes that process and its own space, and leaves every other process and space as it was.
+pub fn others_law()
+    ensures { EventsLeaveOthers }
 {}

@@ -1,5 +1,5 @@
 -- When a run reaches its machine.
-use Rattle.std.proofs.Common.{◌≡◌, ℕ, ◌-◌, ◌≤◌, Bool, true, false, cond, List, [], ◌∷◌, ◌++◌, map, length, nat_lt, Option, Some, None, Result, Ok, Err, refl, ap, ◌∙◌, arith}
+use Rattle.std.proofs.Common.{◌≡◌, ℕ, ◌-◌, ◌≤◌, Bool, true, false, cond, List, [], ◌∷◌, ◌++◌, map, length, nat_lt, Option, Some, None, Result, Ok, Err, ◌⊎◌, inl, inr, refl, ap, ◌∙◌, arith}
 use Rattle.std.specs.FinMap.{get}
 use Rattle.std.proofs.lemmas.Bool.Decides.{nat_tests}
 use Rattle.std.proofs.lemmas.List.{append-nil}
@@ -16,7 +16,8 @@ use Rattle.suite_top.specs.HostCourse.{inputs_in}
 use Rattle.suite_top.specs.Load.{at_once, with_limited}
 use Rattle.suite_top.specs.Programs.{FaultAt, programs_from, nothing_taken}
 use Rattle.suite_top.specs.Run.{manifest_limit, load_limit, files_limit, with_items, start_line, opening, booted_ending, programs_ending, files_ending, items_outcome, manifest_outcome, run_outcome}
-use Rattle.suite_top.specs.Run.Laws.{AreThere, opened_outcome, IsStop, RunsWhereItOpens, OpensWhereItStops}
+use Rattle.suite_top.specs.Run.Laws.{AreThere, opened_outcome, IsStop, IsEarly, RunsWhereItOpens, OpensWhereItStops, RunsStopOrEndEarly}
+use Rattle.suite_top.proofs.RunOutcomes.{run_by, other_status}
 
 -- ---- from what is there to the outcome
 
@@ -97,3 +98,8 @@ opens_where_it_stops t name log kind stop =
     let (programs, made, boots_on) = ok_programs log kind m (programs_from nothing_taken m.items files) makes_on in
     let (world, boots) = ok_world log m (boot (opening kind m programs) (map start_line m.starts)) boots_on in
     record { text = text; found = found; fits = fits; manifest = m; reads = reads; files = files; there = there; programs = programs; made = made; world = world; boots = boots }
+
+pub runs_stop_or_end_early : RunsStopOrEndEarly
+runs_stop_or_end_early =
+    run_by (λ (o : Outcome). IsStop o.ending.status ⊎ IsEarly o.ending) (λ name o p. p) (λ name. inr (refl, inl refl)) (λ tail. inr (refl, inr refl))
+    (λ log dumps walk. inl (other_status IsStop tt tt tt tt walk.end))

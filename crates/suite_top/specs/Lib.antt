@@ -9,11 +9,11 @@
 -- Arguments   the table of commands; Invocation: a command with its arguments
 -- Load        a command that goes on with the file of a load
 -- OneFile     a command that begins with the load of a file
--- Convert, Check, List   the commands
+-- Convert, Check, List   the commands of one file
 -- Report      the report of a run, and the status that it ends with
 -- Originals   the program of an ELF file
 -- Programs    the programs that the item lines of a manifest bring in
--- Run         the command `run`
+-- Run         the command `run`, and when it reaches its machine
 -- Result      result_of: the outcome of each command line
 --
 -- Observed    what a host or a sink tells at one moment, and its count of faults

@@ -28,7 +28,7 @@ pub use delivery::deliver;
 pub use laws::{host_law, status_law};
 pub use list::laws::list_law;
 pub use placements::Placements;
-pub use run::laws::run_law;
+pub use run::laws::{originals_law, run_law};
 pub use status::Status;
 pub use texts::MEMORY_LINE;
 pub use top::suite;

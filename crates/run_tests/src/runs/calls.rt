@@ -1,5 +1,5 @@
 //! System calls, traps and ends, as the log has them.
-use super::programs::{BREAK, BRK, IDS, ILLEGAL, MISALIGNED, PIECES, WRITES};
+use super::programs::{BREAK, BRK, IDS, ILLEGAL, LOOP, MISALIGNED, PIECES, WRITES};
 use super::*;
 
 const CASES: &[Case] = &[
@@ -98,6 +98,17 @@ call 1 66 00000001 80001fd0 00000002 00000000 00000000 00000000 = 00000003 sent 
 call 1 93 00000000 80001fd0 00000002 00000000 00000000 00000000 = 00000000 sent - got -
 end 1 exit 0
 stop done events 16
+",
+    },
+    Case {
+        name: "the log is full, though it isn't shown",
+        files: &[("a", Content::Flat(LOOP))],
+        manifest: "flat /a a\nstart /a\nquanta 0:1000000\nrepeat 9\n",
+        options: &[],
+        status: Status::LogFull,
+        out: "",
+        report: "load 1 /a base 0x80000000 pages 2
+stop log events 2097153
 ",
     },
 ];

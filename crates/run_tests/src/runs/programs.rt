@@ -14,15 +14,19 @@ pub struct Program {
 /// A flat file's header with its fillers has 64 bytes, and so many zeros stand before the code.
 const CODE_AT: u32 = 64;
 
+fn word_of(count: usize) -> u32 {
+    u32::try_from(count).unwrap_or(u32::MAX)
+}
+
 /// The flat file of a program.
 pub fn flat_file(alloc: Global, program: &Program) -> Result<Vec<u8>, AllocError> {
     let mut body = Vec::new(alloc);
-    body.resize(CODE_AT as usize, 0)?;
+    body.resize(64, 0)?;
     for word in program.code {
         body.extend_from_slice(&word.to_le_bytes())?;
     }
     body.extend_from_slice(program.bytes)?;
-    let size = body.len() as u32;
+    let size = word_of(body.len());
     let end = CODE_AT.wrapping_add(size);
     let header = [
         0x6246_4c54,
@@ -33,14 +37,14 @@ pub fn flat_file(alloc: Global, program: &Program) -> Result<Vec<u8>, AllocError
         end,
         program.stack,
         end,
-        program.records.len() as u32,
+        word_of(program.records.len()),
         program.flags,
     ];
     let mut file = Vec::new(alloc);
     for word in header {
         file.extend_from_slice(&u32::to_be_bytes(word))?;
     }
-    file.resize(CODE_AT as usize, 0)?;
+    file.resize(64, 0)?;
     file.extend_from_slice(&body)?;
     for record in program.records {
         file.extend_from_slice(&record.to_be_bytes())?;
@@ -135,6 +139,12 @@ pub const BRK: Program = Program {
         0x05d0_0893,
         0x0000_0073,
     ],
+    ..EMPTY
+};
+
+/// getpid without end.
+pub const LOOP: Program = Program {
+    code: &[0x0ac0_0893, 0x0000_0073, 0xffdf_f06f],
     ..EMPTY
 };
 

@@ -1,5 +1,5 @@
 -- When a run reaches its machine, over a host that tells its files.
-use Rattle.std.specs.Prelude.{◌≡◌, ℕ, ◌-◌, ◌≤◌, Bool, List, [], ◌∷◌, map, length, Some, Ok}
+use Rattle.std.specs.Prelude.{◌≡◌, ◌⊎◌, ℕ, ◌-◌, ◌≤◌, Bool, List, [], ◌∷◌, map, length, Some, Ok}
 use Rattle.std.specs.FinMap.{get}
 use Rattle.host_io.specs.Host.{Files}
 use Rattle.page_runs.specs.declared.place.Kind.{Kind}
@@ -9,8 +9,9 @@ use Rattle.machine_world.specs.World.{Program, World}
 use Rattle.machine_world.specs.Boot.{boot}
 use Rattle.flat_machine.specs.Runs.{repeated}
 use Rattle.suite_top.specs.declared.status.Status.{Status}
-use Rattle.suite_top.specs.declared.status.Status.TheVariants.{Done, Stray, OutOfQuanta, LogFull}
-use Rattle.suite_top.specs.Outcome.{load, Outcome}
+use Rattle.suite_top.specs.declared.status.Status.TheVariants.{Done, HostRead, Refused, Stray, OutOfQuanta, LogFull}
+use Rattle.suite_top.specs.Ending.{Ending}
+use Rattle.suite_top.specs.Outcome.{load, Outcome, Inputs}
 use Rattle.suite_top.specs.HostCourse.{inputs_in}
 use Rattle.suite_top.specs.Programs.{programs_from, nothing_taken}
 use Rattle.suite_top.specs.Run.{manifest_limit, load_limit, files_limit, start_line, opening, world_ending, run_outcome}
@@ -57,3 +58,12 @@ RunsWhereItOpens = (t : Files) (name : List ℕ) (log : Bool) (kind : Kind) (o :
 -- and in no other case a run ends with one of these
 abbrev pub OpensWhereItStops : Type 0
 OpensWhereItStops = (t : Files) (name : List ℕ) (log : Bool) (kind : Kind) → IsStop (run_outcome name log kind (inputs_in t)).ending.status → Opens t name kind
+
+-- it ends early: a load failed, or something was refused, and nothing goes to `out`
+abbrev pub IsEarly : Ending → Type 0
+IsEarly ending = (ending.out ≡ []) × ((ending.status ≡ HostRead) ⊎ (ending.status ≡ Refused))
+
+-- a run reaches its machine or ends early, whatever its files are
+abbrev pub RunsStopOrEndEarly : Type 0
+RunsStopOrEndEarly = (name : List ℕ) (log : Bool) (kind : Kind) (inputs : Inputs)
+    → IsStop (run_outcome name log kind inputs).ending.status ⊎ IsEarly (run_outcome name log kind inputs).ending
