@@ -7,6 +7,7 @@ use byteorder::{BigEndian, ByteOrder, LittleEndian};
 
 /// The byte at an offset.
 #[tactic(auto, unfolding(crate::specs::Numbers::byte_at))]
+#[inline]
 pub fn byte(bytes: &[u8], at: usize) -> u8
     requires { at < length bytes.now }
     ensures { result ≡ byte_at bytes.now at }
@@ -16,6 +17,7 @@ pub fn byte(bytes: &[u8], at: usize) -> u8
 
 /// The number of two bytes from an offset on, the lowest first.
 #[tactic(auto, unfolding(crate::specs::Numbers::number_at))]
+#[inline]
 pub fn half(bytes: &[u8], at: usize) -> u16
     requires { at + 2 ≤ length bytes.now }
     ensures { result ≡ number_at low_first 2 bytes.now at }
@@ -25,6 +27,7 @@ pub fn half(bytes: &[u8], at: usize) -> u16
 
 /// The number of four bytes from an offset on, the lowest first.
 #[tactic(auto, unfolding(crate::specs::Numbers::number_at))]
+#[inline]
 pub fn word(bytes: &[u8], at: usize) -> u32
     requires { at + 4 ≤ length bytes.now }
     ensures { result ≡ number_at low_first 4 bytes.now at }
@@ -34,6 +37,7 @@ pub fn word(bytes: &[u8], at: usize) -> u32
 
 /// The number of four bytes from an offset on, the highest first.
 #[tactic(auto, unfolding(crate::specs::Numbers::number_at))]
+#[inline]
 pub fn big_word(bytes: &[u8], at: usize) -> u32
     requires { at + 4 ≤ length bytes.now }
     ensures { result ≡ number_at high_first 4 bytes.now at }
