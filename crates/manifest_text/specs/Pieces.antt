@@ -1,19 +1,11 @@
 -- Texts in pieces.
-use Rattle.std.specs.Prelude.{ℕ, ◌==◌, Bool, not, if◌then◌else◌, List, [], ◌∷◌, filter, length}
+pub use Rattle.byte_words.specs.Pieces.{in_front}
+unfoldable pub use Rattle.byte_words.specs.Pieces.{pieces}
+use Rattle.std.specs.Prelude.{ℕ, ◌==◌, Bool, not, List, filter, length}
 
 -- a text is its bytes
 abbrev pub Text : Type 0
 Text = List ℕ
-
--- a byte in front of the first piece
-abbrev pub in_front : ℕ → List Text → List Text
-in_front b [] = (b ∷ []) ∷ []
-in_front b (piece ∷ pieces) = (b ∷ piece) ∷ pieces
-
--- what stands between the bytes of one value: one piece more than there are such bytes
-unfoldable pub pieces : ℕ → Text → List Text
-pieces at [] = [] ∷ []
-pieces at (b ∷ bs) = if b == at then [] ∷ pieces at bs else in_front b (pieces at bs)
 
 abbrev pub newline : ℕ
 newline = 10
