@@ -1,6 +1,6 @@
 -- The bytes that a system call reads from its caller's memory, in the order read: a function of its number, its
 -- arguments and that memory (Linux, read_write.c and include/uapi/linux/uio.h).
-use Rattle.std.specs.Prelude.{ℕ, zero, suc, ◌+◌, ◌-◌, ◌*◌, ◌%◌, ◌^◌, ◌==◌, nat_le, nat_lt, min, if◌then◌else◌, List, [], ◌∷◌, ◌++◌, map, slice_index, Option, Some, None, Result, Ok, Err}
+use Rattle.std.specs.Prelude.{ℕ, zero, suc, ◌+◌, ◌-◌, ◌*◌, ◌%◌, ◌^◌, ◌==◌, Bool, ◌||◌, nat_le, nat_lt, min, if◌then◌else◌, List, [], ◌∷◌, ◌++◌, map, slice_index, Option, Some, None, Result, Ok, Err}
 use Rattle.std.specs.List.{range_with_len}
 use Rattle.byte_words.specs.Numbers.{low_first, number_at}
 use Rattle.byte_words.specs.ByteMap.{Bytes}
@@ -76,9 +76,36 @@ writev_sent m at count =
     if nat_lt most_pieces count then Ok []
     else followed (read_spans m (piece_spans at count)) (λ pieces. read_spans m (data_spans count pieces))
 
+-- readv: the pieces alone; nothing where there are too many
+abbrev pub readv_sent : Bytes → ℕ → ℕ → Result (List ℕ) Span
+readv_sent m at count = if nat_lt most_pieces count then Ok [] else read_spans m (piece_spans at count)
+
+-- the most bytes that are read of a path
+abbrev pub most_path : ℕ
+most_path = 4096
+
+-- behind a zero nothing more is read of a path
+abbrev pub up_to_zero : Result (List ℕ) Span → List ℕ → Result (List ℕ) Span
+up_to_zero more (zero ∷ []) = Ok []
+up_to_zero more front = more
+
+-- a path: byte by byte up to its zero, which is read too, or up to the most bytes
+abbrev pub path_from : ℕ → Bytes → ℕ → Result (List ℕ) Span
+path_from zero m at = Ok []
+path_from (suc left) m at = followed (read_span m (record { addr = at % 2 ^ 32; len = 1 })) (up_to_zero (path_from left m (at + 1)))
+
+abbrev pub path_sent : Bytes → ℕ → Result (List ℕ) Span
+path_sent m at = path_from most_path m at
+
+-- mkdirat, unlinkat and openat
+abbrev pub has_path : ℕ → Bool
+has_path number = number == 34 || number == 35 || number == 56
+
 -- of a call with this number and these arguments; the other calls read nothing
 unfoldable pub sent : ℕ → List ℕ → Bytes → Result (List ℕ) Span
 sent number args m =
     if number == 64 then write_sent m (slice_index args 1) (slice_index args 2)
     else if number == 66 then writev_sent m (slice_index args 1) (slice_index args 2)
+    else if number == 65 then readv_sent m (slice_index args 1) (slice_index args 2)
+    else if has_path number then path_sent m (slice_index args 1)
     else Ok []

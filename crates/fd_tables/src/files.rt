@@ -1,0 +1,6 @@
+//! All open files.
+
+/// x
+pub struct Files {
+    stdin: u32,
+}

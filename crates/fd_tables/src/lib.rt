@@ -1,0 +1,14 @@
+//! Who has which file open: tables of descriptors, the open files that they share, and the console's input.
+//!
+//! What may stand here: descriptors, open files with their positions, and how they come and go. What may not: paths, the bytes
+//! of files, and the processes that the tables belong to.
+#![tactic(auto)]
+
+mod fault;
+mod files;
+mod open_file;
+mod view;
+
+pub use fault::FdFault;
+pub use files::Files;
+pub use view::{Target, View, Way};

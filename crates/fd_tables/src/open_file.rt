@@ -1,0 +1,35 @@
+//! An open file, and the descriptors that share it.
+
+/// An open file: POSIX calls it an open file description.
+#[derive(Clone, Copy, Debug, PartialEq, Eq)]
+pub struct OpenFile {
+    /// The number of its node.
+    pub node: u32,
+    pub read: bool,
+    pub write: bool,
+    /// Each write goes to the file's end.
+    pub append: bool,
+    /// The position, in bytes, and of a folder in entries.
+    pub at: u64,
+    /// How many descriptors share it.
+    pub uses: u64,
+}
+
+/// What a descriptor stands for.
+#[derive(Clone, Copy, Debug, PartialEq, Eq)]
+pub enum Handle {
+    /// The console's input.
+    Input,
+    /// The console's output.
+    Output,
+    /// The open file of this number.
+    Open(u32),
+}
+
+/// A descriptor.
+#[derive(Clone, Copy, Debug, PartialEq, Eq)]
+pub struct Descriptor {
+    pub handle: Handle,
+    /// It closes at an execve.
+    pub cloexec: bool,
+}

@@ -1,0 +1,30 @@
+//! What a descriptor shows.
+
+/// What a descriptor leads to.
+#[derive(Clone, Copy, Debug, PartialEq, Eq)]
+pub enum Target {
+    /// The console.
+    Console,
+    /// The node of this number.
+    Node(u32),
+}
+
+/// What may be done through a descriptor.
+#[derive(Clone, Copy, Debug, PartialEq, Eq)]
+pub struct Way {
+    pub read: bool,
+    pub write: bool,
+    /// Each write goes to the file's end.
+    pub append: bool,
+    /// The descriptor closes at an execve.
+    pub cloexec: bool,
+}
+
+/// A descriptor that is open.
+#[derive(Clone, Copy, Debug, PartialEq, Eq)]
+pub struct View {
+    pub target: Target,
+    pub way: Way,
+    /// The position, in bytes, and of a folder in entries; 0 for the console.
+    pub at: u64,
+}

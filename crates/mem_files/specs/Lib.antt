@@ -1,0 +1,8 @@
+-- Inodes   files and folders by number: what is read of them, and their limits
+-- Paths    the names of a path, and what it leads to
+-- Changes  what writing, making and removing leave
+-- Calls    what the calls of `Tree` answer
+pub mod Inodes
+pub mod Paths
+pub mod Changes
+pub mod Calls

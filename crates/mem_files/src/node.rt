@@ -1,0 +1,10 @@
+//! What a node is.
+
+/// What a node is.
+#[derive(Clone, Copy, Debug, PartialEq, Eq)]
+pub enum Node {
+    /// A folder.
+    Dir,
+    /// A file.
+    File,
+}

@@ -1,0 +1,6 @@
+//! The tree.
+
+/// x
+pub struct Tree {
+    stdin: u32,
+}
