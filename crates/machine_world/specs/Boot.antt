@@ -1,15 +1,21 @@
 -- The opening world: the start lines' programs, loaded in order.
-use Rattle.std.specs.Prelude.{ℕ, ◌+◌, ◌*◌, List, [], ◌∷◌, Option, Some, None, Result, Ok, Err, Bool, bytes_eq, if◌then◌else◌}
+use Rattle.std.specs.Prelude.{ℕ, ◌+◌, ◌*◌, List, [], ◌∷◌, Option, Some, None, Result, Ok, Err, Bool, if◌then◌else◌, slice_get}
 use Rattle.std.specs.List.{slice_index_or}
 use Rattle.page_runs.specs.declared.run.Run.{Run}
 use Rattle.page_runs.specs.Place.{place, first_of}
+use Rattle.call_log.specs.declared.errno.Errno.{Errno}
 use Rattle.call_log.specs.Notes.{load_note}
+use Rattle.mem_files.specs.Inodes.{program_of}
+use Rattle.mem_files.specs.Paths.{lookup}
+use Rattle.fd_tables.specs.Files.{free_number}
+use Rattle.fd_tables.specs.Changes.{with_table}
 use Rattle.mmap_rules.specs.Space.{memory_base, page_size}
 use Rattle.flat_loader.specs.Original.{Original, block_pages}
 use Rattle.flat_loader.specs.Frame.{frame_fits}
 use Rattle.flat_loader.specs.Begin.{Loading, begin_space, begin_regs}
 use Rattle.machine_world.specs.World.{Program, Rest, World}
 use Rattle.machine_world.specs.Free.{free}
+use Rattle.machine_world.specs.Asks.{with_files}
 use Rattle.machine_world.specs.Event.{noted}
 
 -- a start line: its number, and the arguments, of which the first is the program's path
@@ -17,7 +23,7 @@ pub record StartLine : Type 0 where
   pub line : ℕ
   pub args : List (List ℕ)
 
--- why a start line fails: its path names no program, its frame doesn't fit into the stack, or no free run is long enough
+-- why a start line fails: its path leads to no program, its frame doesn't fit into the stack, or no free run is long enough
 pub data BootFault : Type 0 where
   bad_start : ℕ → BootFault
   args_too_big : ℕ → BootFault
@@ -27,21 +33,35 @@ pub record Found : Type 0 where
   pub index : ℕ
   pub original : Original
 
--- the first program of a path, where the programs count from a number on
-abbrev pub found_from : ℕ → List ℕ → List Program → Option Found
-found_from i path [] = None
-found_from i path (p ∷ ps) = if bytes_eq p.path path then Some (record { index = i; original = p.original }) else found_from (i + 1) path ps
+abbrev pub found_program : ℕ → Option Program → Option Found
+found_program index (Some p) = Some (record { index = index; original = p.original })
+found_program index None = None
+
+-- the program that a file is marked as
+abbrev pub found_mark : List Program → Option ℕ → Option Found
+found_mark programs (Some index) = found_program index (slice_get programs index)
+found_mark programs None = None
+
+abbrev pub found_node : Rest → Result (Option ℕ) Errno → Option Found
+found_node rest (Ok (Some node)) = found_mark rest.programs (program_of rest.tree node)
+found_node rest (Ok None) = None
+found_node rest (Err errno) = None
+
+-- the program to which a path leads
+abbrev pub found : Rest → List ℕ → Option Found
+found rest path = found_node rest (lookup rest.tree path)
 
 abbrev pub path_of : StartLine → List ℕ
 path_of s = slice_index_or s.args 0 []
 
--- a process of its own in a new space
+-- a process of its own in a new space, with a new table
 abbrev pub begun : World → ℕ → Loading → World
 begun w index l = noted (load_note (record { pid = w.next_pid; program = index; base = l.block; pages = block_pages l.original })) (record w {
-  procs = record { pid = w.next_pid; parent = 0; regs = begin_regs l; space = w.loads } ∷ w.procs;
+  procs = record { pid = w.next_pid; parent = 0; regs = begin_regs l; space = w.loads; table = free_number w.rest.files.tables } ∷ w.procs;
   spaces = record { id = w.loads; space = begin_space l } ∷ w.spaces;
   loads = w.loads + 1;
   next_pid = w.next_pid + 1;
+  rest = with_files w.rest (with_table w.rest.files);
 })
 
 -- the address of a page
@@ -65,7 +85,7 @@ located w s None = Err (bad_start s.line)
 located w s (Some f) = fitting w s f (frame_fits f.original s.args [])
 
 unfoldable pub started : World → StartLine → Result World BootFault
-started w s = located w s (found_from 0 (path_of s) w.rest.programs)
+started w s = located w s (found w.rest (path_of s))
 
 abbrev pub then_started : Result World BootFault → (World → Result World BootFault) → Result World BootFault
 then_started (Ok w) more = more w

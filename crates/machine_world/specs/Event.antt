@@ -14,7 +14,9 @@ use Rattle.call_log.specs.Sent.{Span, sent}
 use Rattle.vfork_exec.specs.Keyed.{find, change, without}
 use Rattle.mmap_rules.specs.Space.{Space, writable_in, may_use}
 use Rattle.machine_world.specs.World.{Process, LiveSpace, World, pid_of, id_of}
-use Rattle.machine_world.specs.Rows.{Ask, Reply, Row, replies, waits, row}
+use Rattle.fd_tables.specs.Changes.{without_table}
+use Rattle.machine_world.specs.Asks.{Ask, Reply, Row, replies, waits, storage_of, with_storage}
+use Rattle.machine_world.specs.Rows.{row}
 
 -- what an event leaves for those who follow one space: the space, how many events it is there, the calls made in it,
 -- and whether the turn is over
@@ -46,9 +48,13 @@ counted w = record w { events = w.events + 1 }
 abbrev pub noted : Note → World → World
 noted note w = record w { notes = note ∷ w.notes }
 
--- the process goes, and its space with all its mappings
+-- the process goes, its space with all its mappings, and its table with all that it has open
 abbrev pub departed : World → Process → World
-departed w p = record w { procs = without pid_of p.pid w.procs; spaces = without id_of p.space w.spaces }
+departed w p = record w {
+  procs = without pid_of p.pid w.procs;
+  spaces = without id_of p.space w.spaces;
+  rest = with_storage w.rest (without_table (storage_of w.rest) p.table);
+}
 
 unfoldable pub ended : World → Process → How → World
 ended w p how = noted (end_note p.pid how) (departed w p)

@@ -7,7 +7,8 @@ use Rattle.call_log.specs.declared.errno.Errno.{Errno}
 use Rattle.call_log.specs.Errno.{refusal}
 use Rattle.call_log.specs.Notes.{call_note, weight_of, has_room}
 use Rattle.machine_world.specs.World.{World, Process, LiveSpace, pid_of, id_of}
-use Rattle.machine_world.specs.Rows.{Ask, row, refuses}
+use Rattle.machine_world.specs.Asks.{Ask, refuses}
+use Rattle.machine_world.specs.Rows.{row}
 use Rattle.machine_world.specs.Event.{Outcome, went, full, with_state, counted, noted, entry_of, replied, answered}
 use Rattle.machine_world.specs.Courses.{Leads, Halts, moved}
 

@@ -1,5 +1,9 @@
 -- World    all processes with their private spaces, and what is kept of a run
 -- Free     the free pages of a world
+-- Asks     a system call as it is made, and what it is answered
+-- Descriptors  the calls that look at descriptors and no path
+-- Transfers    the calls that move bytes
+-- PathCalls    the calls that take a path
 -- Rows     the answer to each system call
 -- Event    one instruction or one system call of one process
 -- Turns    a list of quanta
@@ -10,6 +14,10 @@
 -- Others   what an event leaves of all other processes and spaces
 pub mod World
 pub mod Free
+pub mod Asks
+pub mod Descriptors
+pub mod Transfers
+pub mod PathCalls
 pub mod Rows
 pub mod Event
 pub mod Turns

@@ -5,29 +5,35 @@ use Rattle.page_runs.specs.declared.place.Kind.{Kind}
 use Rattle.call_log.specs.Notes.{Note}
 use Rattle.mmap_rules.specs.Space.{Space}
 use Rattle.flat_loader.specs.Original.{Original}
+use Rattle.mem_files.specs.Inodes.{Inodes}
+use Rattle.fd_tables.specs.Files.{OpenFiles}
 
 -- a program that can be started, by its path
 pub record Program : Type 0 where
   pub path : List ℕ
   pub original : Original
 
--- a process runs in one space
+-- a process runs in one space, and has one table of descriptors
 pub record Process : Type 0 where
   pub pid : ℕ
   pub parent : ℕ
   pub regs : Regs
   pub space : ℕ
+  pub table : ℕ
 
 -- the space of the load note with this number, from 0
 pub record LiveSpace : Type 0 where
   pub id : ℕ
   pub space : Space
 
--- what no space holds: the pages of memory, how free runs are chosen, the programs, and what was written to the console
+-- what no space holds: the pages of memory, how free runs are chosen, the programs, the files and folders, what is open, and
+-- what was written to the console
 pub record Rest : Type 0 where
   pub pages : ℕ
   pub kind : Kind
   pub programs : List Program
+  pub tree : Inodes
+  pub files : OpenFiles
   pub console : List ℕ
 
 -- processes, spaces and notes stand newest first; `loads` is the number of load notes, and `next_pid` one more than the

@@ -6,24 +6,30 @@ use Rattle.mmap_rules.specs.Space.{page_size}
 use Rattle.mmap_rules.specs.Held.{Held}
 use Rattle.vfork_exec.specs.Procs.{Listed, none_yet}
 use Rattle.call_log.specs.Notes.{Note}
+use Rattle.mem_files.specs.Inodes.{Inodes}
+use Rattle.fd_tables.specs.Files.{OpenFiles}
 use Rattle.syscall_layer.specs.declared.task.Task.{Task}
 
--- memory, and the regions of its pages; the spaces by the number of their load note, none where the space is gone; the
--- processes; the notes, newest first; and what was written to the console
+-- memory, and the regions of its pages; the spaces by the number of their load note, none where the space is gone; the files
+-- and folders, and what is open; the processes; the notes, newest first; and what was written to the console
 pub record Kept : Type 0 where
   pub mem : List ℕ
   pub regions : List Region
   pub spaces : List (Option Held)
+  pub tree : Inodes
+  pub files : OpenFiles
   pub procs : Listed Task
   pub notes : List Note
   pub console : List ℕ
 
--- before the first program
-abbrev pub nothing_yet : ℕ → Kept
-nothing_yet pages = record {
+-- before the first program, over these files
+abbrev pub nothing_yet : ℕ → Inodes → OpenFiles → Kept
+nothing_yet pages tree files = record {
   mem = replicate (page_size * pages) 0;
   regions = replicate pages (record { first = 0; pages = 0; source = Own; uses = 0 });
   spaces = [];
+  tree = tree;
+  files = files;
   procs = none_yet;
   notes = [];
   console = [];

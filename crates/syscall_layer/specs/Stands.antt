@@ -40,7 +40,7 @@ unfoldable pub live_spaces : List ℕ → List (Option Held) → List LiveSpace
 live_spaces mem spaces = live_from mem 0 spaces
 
 abbrev pub process_of : Entry Task → Process
-process_of e = record { pid = e.pid; parent = e.parent; regs = e.value.regs; space = e.value.space }
+process_of e = record { pid = e.pid; parent = e.parent; regs = e.value.regs; space = e.value.space; table = e.value.table }
 
 unfoldable pub world_of : About → Kept → World
 world_of a k = record {
@@ -48,7 +48,7 @@ world_of a k = record {
   spaces = live_spaces k.mem k.spaces;
   loads = length k.spaces;
   next_pid = k.procs.next_pid;
-  rest = record { pages = length k.regions; kind = a.kind; programs = a.programs; console = k.console };
+  rest = record { pages = length k.regions; kind = a.kind; programs = a.programs; tree = k.tree; files = k.files; console = k.console };
   notes = k.notes;
   events = a.events;
 }

@@ -2,10 +2,12 @@
 
 use rv32im_step::Regs;
 
-/// A process that lives: its registers, and the number of its space.
+/// A process that lives: its registers, its space, and what it has open.
 #[derive(Clone, Copy, Debug, PartialEq, Eq, Drop)]
 pub struct Task {
     pub regs: Regs,
     /// Its place among the spaces of `Parts`.
     pub space: u32,
+    /// The number of its table of descriptors.
+    pub table: u32,
 }

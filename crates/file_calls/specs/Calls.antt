@@ -1,0 +1,68 @@
+-- A call on files as the code has it, and what the code makes of it.
+use Rattle.std.specs.Prelude.{◌≡◌, ℕ, ◌==◌, Bool, true, ◌||◌, List, [], map, Result, Ok, Err}
+use Rattle.std.specs.declared.alloc.AllocError.{AllocError}
+use Rattle.call_log.specs.declared.note.Got.{Got}
+use Rattle.call_log.specs.Notes.{Written}
+use Rattle.call_log.specs.Values.{got_value}
+use Rattle.mem_files.specs.Inodes.{Inodes}
+use Rattle.fd_tables.specs.Files.{OpenFiles}
+use Rattle.fd_tables.specs.Kept.{Kept}
+use Rattle.fd_tables.specs.Changes.{moved, taken}
+use Rattle.machine_world.specs.World.{Rest}
+use Rattle.machine_world.specs.Asks.{Ask, Row, gives, with_files}
+use Rattle.file_calls.specs.declared.call.Call.{Call}
+use Rattle.file_calls.specs.declared.output.Output.{Output}
+use Rattle.file_calls.specs.declared.output.Then.{Then}
+use Rattle.file_calls.specs.declared.output.Then.TheVariants.{Nothing, Move, Take}
+
+-- the same call, as the world has it
+pub record MadeBy (call : Call) (a : Ask) : Type 0 where
+  pub pid : a.process.pid ≡ call.pid
+  pub parent : a.process.parent ≡ call.parent
+  pub table : a.process.table ≡ call.table
+  pub number : a.number ≡ call.number
+  pub args : a.args ≡ call.args
+  pub sent : a.sent ≡ call.sent.items
+
+-- dup, dup3, mkdirat, unlinkat, openat, close, write and writev
+abbrev pub is_change : ℕ → Bool
+is_change number =
+    number == 23 || number == 24 || number == 34 || number == 35 || number == 56 || number == 57 || number == 64 || number == 66
+
+abbrev pub IsChange : ℕ → Type 0
+IsChange number = is_change number ≡ true
+
+-- getdents64, llseek, read and readv
+abbrev pub is_output : ℕ → Bool
+is_output number = number == 61 || number == 62 || number == 63 || number == 65
+
+abbrev pub IsOutput : ℕ → Type 0
+IsOutput number = is_output number ≡ true
+
+-- the files and the console that the world has
+pub record IsRest (rest : Rest) (tree : Inodes) (files : Kept) (console : List ℕ) : Type 0 where
+  pub tree : rest.tree ≡ tree
+  pub files : rest.files ≡ files.open_files
+  pub console : rest.console ≡ console
+
+abbrev pub with_all : Rest → Inodes → OpenFiles → List ℕ → Rest
+with_all rest tree files console = record rest { tree = tree; files = files; console = console }
+
+-- a reply, and what is left of files and console; out of memory nothing changed
+abbrev pub Changes : Ask → Row → Inodes → Kept → List ℕ → Inodes → Kept → List ℕ → Result ℕ AllocError → Type 0
+Changes a row tree files console new_tree new_files new_console (Ok value) =
+    row ≡ gives a value [] (with_all a.rest new_tree new_files.open_files new_console)
+Changes a row tree files console new_tree new_files new_console (Err error) =
+    (new_tree ≡ tree) × (new_files.open_files ≡ files.open_files) × (new_console ≡ console)
+
+-- what is left where bytes were given
+abbrev pub after : Then → ℕ → OpenFiles → OpenFiles
+after Nothing table files = files
+after (Move fd at) table files = moved files table fd at
+after (Take n) table files = taken files n
+
+abbrev pub written_of : Output → List Written
+written_of o = map got_value o.got.items
+
+abbrev pub Gives : Ask → Row → Output → Type 0
+Gives a row o = row ≡ gives a o.value (written_of o) (with_files a.rest (after o.then a.process.table a.rest.files))

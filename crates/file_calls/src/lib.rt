@@ -1,0 +1,12 @@
+//! The system calls on files: what each changes in the tree, the open files and the console, or what bytes it gives.
+//!
+//! What may stand here: one call over these three. What may not: the memory of a process, its registers, and the log.
+#![tactic(auto)]
+
+mod call;
+mod change;
+mod output;
+
+pub use call::Call;
+pub use change::change;
+pub use output::{Output, Then, output};
