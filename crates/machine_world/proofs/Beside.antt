@@ -11,7 +11,8 @@ use Rattle.call_log.specs.declared.how.How.TheVariants.{Exit, Signal}
 use Rattle.call_log.specs.Notes.{call_note, has_room, weight_of}
 use Rattle.call_log.specs.Sent.{Span, sent}
 use Rattle.machine_world.specs.World.{Process, LiveSpace, World, pid_of, id_of}
-use Rattle.machine_world.specs.Rows.{Ask, Reply, Row, replies, waits, row}
+use Rattle.machine_world.specs.Asks.{Ask, Reply, Row, replies, waits}
+use Rattle.machine_world.specs.Rows.{row}
 use Rattle.machine_world.specs.Event.{Outcome, went, strays, full, idle, with_state, counted, noted, departed, entry_of, replied, exit_code, number_of, args_of, ask_of, put_got, stepped, trapped, ended, served, put, waited, answered, exited, is_exit, asked, answer, effect, in_space, by_process, at_process, event}
 use Rattle.machine_world.specs.Others.{LeavesOthers, EventsLeaveOthers}
 use Rattle.machine_world.proofs.States.{find_has}

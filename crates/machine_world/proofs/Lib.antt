@@ -1,4 +1,5 @@
 -- Samples   the definitions, computed on whole runs
+-- FileSamples  the calls on files, computed on worked examples
 -- States    a world in which one process has other registers and other bytes
 -- TurnLaws  turns, event by event
 -- RunLaws   runs, quantum by quantum
@@ -7,6 +8,7 @@
 -- Signals   the signals of instructions
 -- Beside    what an event leaves of all other processes and spaces
 mod Samples
+mod FileSamples
 pub mod States
 pub mod TurnLaws
 pub mod RunLaws

@@ -1,6 +1,6 @@
 -- The programs that load notes name.
-use Rattle.std.proofs.Common.{◌≡◌, ℕ, zero, suc, ◌+◌, ◌<◌, Bool, true, false, List, [], ◌∷◌, length, Some, None, refl, sym, ap, subst, map, arith}
-use Rattle.std.specs.Prelude.{Option, Result, Ok, Err, bytes_eq, if◌then◌else◌}
+use Rattle.std.proofs.Common.{◌≡◌, ℕ, zero, suc, ◌<◌, Bool, true, false, List, [], ◌∷◌, length, Some, None, refl, sym, ap, subst, map, arith}
+use Rattle.std.specs.Prelude.{Option, Result, Ok, Err, slice_get, if◌then◌else◌}
 use Rattle.std.proofs.lemmas.Option.{same_Some}
 use Rattle.byte_words.specs.ByteMap.{Bytes}
 use Rattle.rv32im_step.specs.Meaning.{Meaning, next, call, trap, refused, meaning}
@@ -12,11 +12,15 @@ use Rattle.call_log.specs.Sent.{Span, sent}
 use Rattle.flat_loader.specs.Original.{block_pages}
 use Rattle.flat_loader.specs.Frame.{frame_fits}
 use Rattle.machine_world.specs.World.{Program, Process, LiveSpace, Rest, World, pid_of, id_of}
+use Rattle.call_log.specs.declared.errno.Errno.{Errno}
+use Rattle.mem_files.specs.Inodes.{program_of}
+use Rattle.mem_files.specs.Paths.{lookup}
 use Rattle.machine_world.specs.Free.{free}
-use Rattle.machine_world.specs.Rows.{Ask, Reply, Row, replies, waits, row}
+use Rattle.machine_world.specs.Asks.{Ask, Reply, Row, replies, waits}
+use Rattle.machine_world.specs.Rows.{row}
 use Rattle.machine_world.specs.Event.{Outcome, went, strays, full, idle, number_of, args_of, put_got, stepped, trapped, ended, served, put, waited, answered, exited, is_exit, asked, ask_of, answer, effect, in_space, by_process, at_process, event}
 use Rattle.machine_world.specs.Turns.{Walk, End, stays_at, traced, turned, turn, going_on, quantum_turn, turns}
-use Rattle.machine_world.specs.Boot.{StartLine, BootFault, Found, found_from, path_of, taken, placed, fitting, located, started, all_started, then_started, empty_world, boot}
+use Rattle.machine_world.specs.Boot.{StartLine, BootFault, Found, found, found_program, found_mark, found_node, path_of, taken, placed, fitting, located, started, all_started, then_started, empty_world, boot}
 use Rattle.machine_world.specs.Programs.{AreLoaded, BootsLoadPrograms, TurnsLoadNothing, RunsLoadNothing}
 
 -- ---- an event
@@ -113,50 +117,63 @@ run_loads_nothing n (q ∷ qs) w are = quantum_stays n (turns qs) w q.count (pic
 -- ---- the start lines
 
 -- a program that is found is there
-found_below : (i : ℕ) (path : List ℕ) (ps : List Program) (f : Found) → found_from i path ps ≡ Some f → f.index < i + length ps
-found_below i path [] f is = absurd cc
-found_below i path (p ∷ ps) f is = first (bytes_eq p.path path) is (λ h. found_below (i + 1) path ps f h)
+place_below : (ps : List Program) (i : ℕ) (p : Program) → slice_get ps i ≡ Some p → i < length ps
+place_below [] i p is = absurd cc
+place_below (p ∷ ps) zero q is = omega arith
+place_below (p ∷ ps) (suc i) q is = let more = place_below ps i q is in omega (arith, more)
+
+found_below : (rest : Rest) (path : List ℕ) (f : Found) → found rest path ≡ Some f → f.index < length rest.programs
+found_below rest path f is = by_node (lookup rest.tree path) is
   where
-    first : (b : Bool) → (if b then Some (record { index = i; original = p.original }) else found_from (i + 1) path ps) ≡ Some f
-        → (found_from (i + 1) path ps ≡ Some f → f.index < i + 1 + length ps) → f.index < i + length (p ∷ ps)
-    first true is later = let e : i ≡ f.index = ap (λ (g : Found). g.index) (same_Some _ _ is) in omega (arith, e)
-    first false is later = omega (arith, later is)
+    by_program : (i : ℕ) (p : Option Program) → slice_get rest.programs i ≡ p → found_program i p ≡ Some f → f.index < length rest.programs
+    by_program i None there same = absurd cc
+    by_program i (Some p) there same =
+        let e : i ≡ f.index = ap (λ (g : Found). g.index) (same_Some _ _ same) in
+        let below = place_below rest.programs i p there in
+        omega (arith, e, below)
+
+    by_mark : (mark : Option ℕ) → found_mark rest.programs mark ≡ Some f → f.index < length rest.programs
+    by_mark None same = absurd cc
+    by_mark (Some i) same = by_program i (slice_get rest.programs i) refl same
+
+    by_node : (node : Result (Option ℕ) Errno) → found_node rest node ≡ Some f → f.index < length rest.programs
+    by_node (Ok (Some node)) same = by_mark (program_of rest.tree node) same
+    by_node (Ok None) same = absurd cc
+    by_node (Err errno) same = absurd cc
 
 -- what a start line gives has its load note, of a program that is there, and the same programs
-abbrev Began : Rest → Result World BootFault → Type 0
-Began rest (Ok now) = AreLoaded (length rest.programs) now.notes × (now.rest ≡ rest)
-Began rest (Err fault) = Unit {0}
+abbrev Began : List Program → Result World BootFault → Type 0
+Began programs (Ok now) = AreLoaded (length programs) now.notes × (now.rest.programs ≡ programs)
+Began programs (Err fault) = Unit {0}
 
 module _ (w : World) (are : AreLoaded (length w.rest.programs) w.notes) (s : StartLine) where
-  began_placed : (f : Found) → f.index < length w.rest.programs → (page : Option ℕ) → Began w.rest (placed w s f page)
+  began_placed : (f : Found) → f.index < length w.rest.programs → (page : Option ℕ) → Began w.rest.programs (placed w s f page)
   began_placed f below None = tt
   began_placed f below (Some page) = ((below, are), refl)
 
-  began_fitting : (f : Found) → f.index < length w.rest.programs → (fits : Bool) → Began w.rest (fitting w s f fits)
+  began_fitting : (f : Found) → f.index < length w.rest.programs → (fits : Bool) → Began w.rest.programs (fitting w s f fits)
   began_fitting f below true = began_placed f below (taken w (block_pages f.original) (free w))
   began_fitting f below false = tt
 
-  began_located : (found : Option Found) → ((f : Found) → found ≡ Some f → f.index < length w.rest.programs) → Began w.rest (located w s found)
+  began_located : (found : Option Found) → ((f : Found) → found ≡ Some f → f.index < length w.rest.programs) → Began w.rest.programs (located w s found)
   began_located None below = tt
   began_located (Some f) below = began_fitting f (below f refl) (frame_fits f.original s.args [])
 
-  began_started : Began w.rest (started w s)
+  began_started : Began w.rest.programs (started w s)
   unfolding started
-  began_started = began_located (found_from 0 (path_of s) w.rest.programs) (λ f is.
-      let zero_first : 0 + length w.rest.programs ≡ length w.rest.programs = omega arith in
-      subst (λ n. f.index < n) zero_first (found_below 0 (path_of s) w.rest.programs f is))
+  began_started = began_located (found w.rest (path_of s)) (λ f is. found_below w.rest (path_of s) f is)
 
-began_all : (rest : Rest) (ss : List StartLine) (w : World) → w.rest ≡ rest → AreLoaded (length rest.programs) w.notes → Began rest (all_started w ss)
+began_all : (programs : List Program) (ss : List StartLine) (w : World) → w.rest.programs ≡ programs → AreLoaded (length programs) w.notes → Began programs (all_started w ss)
 unfolding all_started
-began_all rest [] w same are = (are, same)
-began_all rest (s ∷ ss) w same are = on (started w s) (subst (λ r. Began r (started w s)) same (began_started w (subst (λ r. AreLoaded (length r.programs) w.notes) (sym same) are) s))
-    (λ v h is. began_all rest ss v h is)
+began_all programs [] w same are = (are, same)
+began_all programs (s ∷ ss) w same are = on (started w s) (subst (λ r. Began r (started w s)) same (began_started w (subst (λ r. AreLoaded (length r) w.notes) (sym same) are) s))
+    (λ v h is. began_all programs ss v h is)
   where
-    on : (r : Result World BootFault) → Began rest r → ((v : World) → v.rest ≡ rest → AreLoaded (length rest.programs) v.notes → Began rest (all_started v ss))
-        → Began rest (then_started r (λ now. all_started now ss))
+    on : (r : Result World BootFault) → Began programs r → ((v : World) → v.rest.programs ≡ programs → AreLoaded (length programs) v.notes → Began programs (all_started v ss))
+        → Began programs (then_started r (λ now. all_started now ss))
     on (Ok now) h more = more now h.1 h.0
     on (Err fault) h more = tt
 
 pub boot_loads_programs : BootsLoadPrograms
 unfolding boot
-boot_loads_programs rest starts w is = (subst (Began rest) is (began_all rest starts (empty_world rest) refl tt)).0
+boot_loads_programs rest starts w is = (subst (Began rest.programs) is (began_all rest.programs starts (empty_world rest) refl tt)).0

@@ -1,6 +1,6 @@
 -- Whole runs, computed from the definitions.
 use Rattle.std.proofs.Common.{◌≡◌, ℕ, ◌+◌, List, [], ◌∷◌, ◌++◌, Option, Some, None, refl}
-use Rattle.std.specs.Prelude.{Result, Ok, Err, replicate, flat_map, reverse, slice_index, codes}
+use Rattle.std.specs.Prelude.{Result, Ok, Err, drop, replicate, flat_map, reverse, slice_index, codes}
 use Rattle.byteorder.specs.Endian.{little_bytes}
 use Rattle.byte_words.specs.Patches.{from_base}
 use Rattle.byte_words.specs.Numbers.{number_at, byte_at}
@@ -28,7 +28,13 @@ use Rattle.quantum_sched.specs.Picked.{picked}
 use Rattle.vfork_exec.specs.Keyed.{find, change, without}
 use Rattle.machine_world.specs.World.{Program, Rest, World}
 use Rattle.machine_world.specs.Free.{free}
-use Rattle.machine_world.specs.Rows.{write_row, row}
+use Rattle.mem_files.specs.Inodes.{Inodes, Entry, file, folder, new_inode}
+use Rattle.mem_files.specs.Paths.{names, is_too_long, walked, place_of}
+use Rattle.byte_words.specs.Pieces.{pieces}
+use Rattle.fd_tables.specs.Files.{view, nothing_open}
+use Rattle.fd_tables.specs.Changes.{closed, with_table, without_table}
+use Rattle.machine_world.specs.Rows.{row}
+use Rattle.machine_world.specs.Transfers.{write_row}
 use Rattle.machine_world.specs.Event.{ended, stepped, trapped, served, exited, answer, at_process, event}
 use Rattle.machine_world.specs.Turns.{End, all_ended, out_of_quanta, stray_at, Walk, turn, turns}
 use Rattle.machine_world.specs.Boot.{StartLine, BootFault, bad_start, no_run, started, all_started, boot}
@@ -49,8 +55,20 @@ hi = record { path = codes "/hi"; original = greeting 0x69 }
 abbrev ho : Program
 ho = record { path = codes "/ho"; original = greeting 0x6f }
 
+-- each program stands in the root under its path, in order
+abbrev entries_from : ℕ → List Program → List Entry
+entries_from id [] = []
+entries_from id (p ∷ ps) = record { name = drop 1 p.path; id = id } ∷ entries_from (id + 1) ps
+
+abbrev files_from : ℕ → List Program → Inodes
+files_from i [] = []
+files_from i (p ∷ ps) = Some (new_inode (file []) (Some i)) ∷ files_from (i + 1) ps
+
+abbrev tree_of : List Program → Inodes
+tree_of programs = None ∷ Some (new_inode (folder 1 (entries_from 2 programs)) None) ∷ files_from 0 programs
+
 abbrev rest_of : ℕ → List Program → Rest
-rest_of pages programs = record { pages = pages; kind = First; programs = programs; console = [] }
+rest_of pages programs = record { pages = pages; kind = First; programs = programs; tree = tree_of programs; files = nothing_open []; console = [] }
 
 abbrev start : ℕ → List ℕ → StartLine
 start line path = record { line = line; args = path ∷ [] }
@@ -102,7 +120,7 @@ run-hi :
       events = 9;
       end = Some all_ended;
     })
-unfolding number_at byte_at from_base decoded opcode funct3 funct7 rd rs1 rs2 imm_i imm_s imm_b imm_u imm_j loaded stored effect meaning register with_register free_runs place refusal has_room sent read_span writable_in may_use block_pages frame_len frame frame_start frame_fits begin_space begin_regs find change without free write_row row ended stepped trapped served exited answer at_process event turn picked turns started all_started boot
+unfolding number_at byte_at from_base decoded opcode funct3 funct7 rd rs1 rs2 imm_i imm_s imm_b imm_u imm_j loaded stored effect meaning register with_register free_runs place refusal has_room sent read_span writable_in may_use block_pages frame_len frame frame_start frame_fits begin_space begin_regs find change without free write_row row view closed with_table without_table pieces names is_too_long walked place_of ended stepped trapped served exited answer at_process event turn picked turns started all_started boot
 run-hi = refl
 
 -- both programs in one memory, one after the other
@@ -119,7 +137,7 @@ run-one_by_one :
       events = 18;
       end = Some all_ended;
     })
-unfolding number_at byte_at from_base decoded opcode funct3 funct7 rd rs1 rs2 imm_i imm_s imm_b imm_u imm_j loaded stored effect meaning register with_register free_runs place refusal has_room sent read_span writable_in may_use block_pages frame_len frame frame_start frame_fits begin_space begin_regs find change without free write_row row ended stepped trapped served exited answer at_process event turn picked turns started all_started boot
+unfolding number_at byte_at from_base decoded opcode funct3 funct7 rd rs1 rs2 imm_i imm_s imm_b imm_u imm_j loaded stored effect meaning register with_register free_runs place refusal has_room sent read_span writable_in may_use block_pages frame_len frame frame_start frame_fits begin_space begin_regs find change without free write_row row view closed with_table without_table pieces names is_too_long walked place_of ended stepped trapped served exited answer at_process event turn picked turns started all_started boot
 run-one_by_one = refl
 
 -- by turns: the second one writes first
@@ -132,7 +150,7 @@ run-by_turns :
       events = 12;
       end = Some out_of_quanta;
     })
-unfolding number_at byte_at from_base decoded opcode funct3 funct7 rd rs1 rs2 imm_i imm_s imm_b imm_u imm_j loaded stored effect meaning register with_register free_runs place refusal has_room sent read_span writable_in may_use block_pages frame_len frame frame_start frame_fits begin_space begin_regs find change without free write_row row ended stepped trapped served exited answer at_process event turn picked turns started all_started boot
+unfolding number_at byte_at from_base decoded opcode funct3 funct7 rd rs1 rs2 imm_i imm_s imm_b imm_u imm_j loaded stored effect meaning register with_register free_runs place refusal has_room sent read_span writable_in may_use block_pages frame_len frame frame_start frame_fits begin_space begin_regs find change without free write_row row view closed with_table without_table pieces names is_too_long walked place_of ended stepped trapped served exited answer at_process event turn picked turns started all_started boot
 run-by_turns = refl
 
 -- the first stray access, a store to the next block's first own byte, stops the run before it has any effect
@@ -145,14 +163,14 @@ run-stray :
       events = 2;
       end = Some (stray_at 1 (record { pc = 0x8000_0088; addr = 0x8000_2040; len = 1; kind = Store }));
     })
-unfolding number_at byte_at from_base decoded opcode funct3 funct7 rd rs1 rs2 imm_i imm_s imm_b imm_u imm_j loaded stored effect meaning register with_register free_runs place refusal has_room sent read_span writable_in may_use block_pages frame_len frame frame_start frame_fits begin_space begin_regs find change without free write_row row ended stepped trapped served exited answer at_process event turn picked turns started all_started boot
+unfolding number_at byte_at from_base decoded opcode funct3 funct7 rd rs1 rs2 imm_i imm_s imm_b imm_u imm_j loaded stored effect meaning register with_register free_runs place refusal has_room sent read_span writable_in may_use block_pages frame_len frame frame_start frame_fits begin_space begin_regs find change without free write_row row view closed with_table without_table pieces names is_too_long walked place_of ended stepped trapped served exited answer at_process event turn picked turns started all_started boot
 run-stray = refl
 
 -- a program that isn't there, and one that finds no free run
 boot-no_program : boot (rest_of 4 (hi ∷ [])) (start 3 (codes "/no") ∷ []) ≡ Err (bad_start 3)
-unfolding all_started started boot
+unfolding all_started started boot pieces names is_too_long walked place_of
 boot-no_program = refl
 
 boot-no_run : boot (rest_of 1 (hi ∷ [])) (start 3 (codes "/hi") ∷ []) ≡ Err (no_run 3)
-unfolding all_started started boot block_pages frame_fits frame_len frame_start free free_runs place
+unfolding all_started started boot pieces names is_too_long walked place_of block_pages frame_fits frame_len frame_start free free_runs place
 boot-no_run = refl

@@ -1,6 +1,6 @@
 -- The calls that look at descriptors and no path (Linux, dup(2), ioctl(2), close(2), lseek(2), getdents(2), in this project's
 -- profile).
-use Rattle.std.specs.Prelude.{ℕ, ◌+◌, ◌-◌, ◌*◌, ◌/◌, ◌^◌, ◌==◌, Bool, not, ◌||◌, nat_le, nat_lt, if◌then◌else◌, List, [], ◌∷◌, ◌++◌, length, drop, replicate, Option, Some, None}
+use Rattle.std.specs.Prelude.{ℕ, ◌+◌, ◌-◌, ◌*◌, ◌/◌, ◌^◌, ◌==◌, Bool, false, not, ◌||◌, nat_le, nat_lt, if◌then◌else◌, List, [], ◌∷◌, ◌++◌, length, drop, replicate, Option, Some, None}
 use Rattle.byte_words.specs.ByteMap.{little_bytes}
 use Rattle.call_log.specs.declared.errno.Errno.TheVariants.{Enotdir, Einval, Enotty, Espipe}
 use Rattle.call_log.specs.Notes.{Written}

@@ -1,5 +1,5 @@
 -- The calls that take a path (Linux, open(2), mkdir(2), unlink(2), include/uapi/asm-generic/fcntl.h, in this project's profile).
-use Rattle.std.specs.Prelude.{ℕ, ◌-◌, ◌/◌, ◌%◌, ◌^◌, ◌==◌, Bool, true, false, not, ◌&&◌, ◌||◌, nat_lt, if◌then◌else◌, List, [], ◌∷◌, length, take_while, slice_index, Option, Some, None, is_some, Result, Ok, Err}
+use Rattle.std.specs.Prelude.{ℕ, ◌-◌, ◌/◌, ◌%◌, ◌^◌, ◌==◌, Bool, true, false, not, ◌&&◌, ◌||◌, nat_lt, if◌then◌else◌, List, [], ◌∷◌, length, take_while, slice_index, Option, Some, None, is_some}
 use Rattle.byte_words.specs.Search.{first}
 use Rattle.call_log.specs.declared.errno.Errno.{Errno}
 use Rattle.call_log.specs.declared.errno.Errno.TheVariants.{Enoent, Ebadf, Eacces, Eexist, Enotdir, Eisdir, Einval, Enametoolong}

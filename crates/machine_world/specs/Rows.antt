@@ -1,5 +1,5 @@
 -- What each system call answers (Linux, include/uapi/asm-generic/unistd.h, in this project's profile).
-use Rattle.std.specs.Prelude.{ℕ, ◌==◌, Bool, true, ◌&&◌, ◌||◌, nat_le, if◌then◌else◌, []}
+use Rattle.std.specs.Prelude.{ℕ, ◌==◌, Bool, true, false, ◌&&◌, ◌||◌, nat_le, if◌then◌else◌, []}
 use Rattle.call_log.specs.declared.errno.Errno.TheVariants.{Enosys}
 use Rattle.mmap_rules.specs.Space.{Space}
 use Rattle.machine_world.specs.Asks.{Ask, arg, Row, replies, answers, refuses}

@@ -1,5 +1,5 @@
 -- The calls that move bytes (Linux, read(2), write(2), readv(2), in this project's profile).
-use Rattle.std.specs.Prelude.{ℕ, ◌+◌, ◌*◌, ◌==◌, Bool, not, min, nat_lt, if◌then◌else◌, List, [], ◌∷◌, ◌++◌, map, sum, length, take, drop}
+use Rattle.std.specs.Prelude.{ℕ, ◌+◌, ◌*◌, ◌==◌, min, nat_lt, if◌then◌else◌, List, [], ◌∷◌, ◌++◌, map, sum, length, take, drop}
 use Rattle.std.specs.List.{range_with_len}
 use Rattle.call_log.specs.declared.errno.Errno.TheVariants.{Ebadf, Eisdir, Einval}
 use Rattle.call_log.specs.Notes.{Written}
@@ -13,7 +13,6 @@ use Rattle.fd_tables.specs.declared.view.Target.{Target}
 use Rattle.fd_tables.specs.declared.view.Target.TheVariants.{Console, Node as a_node}
 use Rattle.fd_tables.specs.Files.{OpenFiles}
 use Rattle.fd_tables.specs.Changes.{moved, taken}
-use Rattle.machine_world.specs.World.{Rest}
 use Rattle.machine_world.specs.Asks.{Ask, arg, Row, gives, refuses, with_ok, view_of, with_view, with_files}
 
 -- ---- read and readv
