@@ -16,7 +16,7 @@ pub enum ManifestFault {
     WordCount,
     /// A number isn't written as one, or is out of its range.
     BadNumber,
-    /// A path isn't a slash and one name.
+    /// A path doesn't begin with a slash, is too long, or has a name that is empty, too long, `.` or `..`.
     BadPath,
     /// A line that may stand once stands again.
     Repeated,
