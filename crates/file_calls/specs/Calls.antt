@@ -3,7 +3,7 @@ use Rattle.std.specs.Prelude.{◌≡◌, ℕ, ◌==◌, Bool, true, ◌||◌, Li
 use Rattle.std.specs.declared.alloc.AllocError.{AllocError}
 use Rattle.call_log.specs.declared.note.Got.{Got}
 use Rattle.call_log.specs.Notes.{Written}
-use Rattle.call_log.specs.Values.{got_value}
+use Rattle.call_log.specs.Values.{written_value}
 use Rattle.mem_files.specs.Inodes.{Inodes}
 use Rattle.fd_tables.specs.Files.{OpenFiles}
 use Rattle.fd_tables.specs.Kept.{Kept}
@@ -62,7 +62,7 @@ after (Move fd at) table files = moved files table fd at
 after (Take n) table files = taken files n
 
 abbrev pub written_of : Output → List Written
-written_of o = map got_value o.got.items
+written_of o = map written_value o.got.items
 
 abbrev pub Gives : Ask → Row → Output → Type 0
 Gives a row o = row ≡ gives a o.value (written_of o) (with_files a.rest (after o.then a.process.table a.rest.files))
