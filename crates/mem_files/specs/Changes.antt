@@ -72,6 +72,12 @@ abbrev pub with_new : Inodes → ℕ → List ℕ → Inode → Inodes
 with_new ns at name n =
     with_change (λ folder. Some (with_entries (λ entries. entries ++ record { name = name; id = length ns } ∷ []) folder)) ns at ++ Some n ∷ []
 
+-- a new node with this content, under the last name of a path
+abbrev pub made_in : Inodes → Place → Content → Option ℕ → Result Inodes Errno
+made_in ns p content program =
+    if nat_lt most_of_one (length (bytes_in content)) then Err Efbig
+    else or_no_space (with_new ns p.folder p.name (new_inode content program))
+
 -- what a path leads to must not be there, and the folder in which it is made
 abbrev pub made_at : (ℕ → Content) → Option ℕ → Inodes → Result Place Errno → Result Inodes Errno
 made_at content program ns (Err errno) = Err errno
@@ -79,9 +85,7 @@ made_at content program ns (Ok p) = by_id p.id
   where
     by_id : Option ℕ → Result Inodes Errno
     by_id (Some id) = Err Eexist
-    by_id None =
-        if nat_lt most_of_one (length (bytes_in (content p.folder))) then Err Efbig
-        else or_no_space (with_new ns p.folder p.name (new_inode (content p.folder) program))
+    by_id None = made_in ns p (content p.folder) program
 
 unfoldable pub with_folder : Inodes → List ℕ → Result Inodes Errno
 with_folder ns path = made_at (λ parent. folder parent []) None ns (place_of ns path)

@@ -1,0 +1,54 @@
+//! Names that go.
+
+ghost use Rattle.std.specs.Prelude.{◌≡◌};
+ghost use Rattle.mem_files.specs.Calls.{Changes};
+ghost use Rattle.mem_files.specs.Changes.{unlinked, unnamed, may_be_entry};
+ghost use Rattle.mem_files.specs.Walks.{place_value};
+
+use super::Tree;
+use crate::node::Node;
+use crate::place::{ABOVE, HERE, Place};
+use call_log::Errno;
+
+impl Tree {
+    /// Takes a name from its folder: that of a folder, if `dir`, or of a file. What is open stays until it is let go.
+    pub fn unlink(&mut self, path: &[u8], dir: bool) -> Result<(), Errno>
+        ensures { Changes (unlinked self.old path.now dir) self.old self.new result }
+    {
+        let place = self.place(path)?;
+        if !may_be_entry(place.name) {
+            return Err(Errno::Einval);
+        }
+        let Some(id) = place.id else {
+            return Err(Errno::Enoent);
+        };
+        match (self.kind(id), dir) {
+            (Node::Dir, false) => return Err(Errno::Eisdir),
+            (Node::File, true) => return Err(Errno::Enotdir),
+            (Node::Dir, true) if self.size(id) > 0 => return Err(Errno::Enotempty),
+            _ => {}
+        }
+        self.take_name(place, id);
+        Ok(())
+    }
+
+    /// Takes a name from its folder, and the node of this number goes where it isn't held.
+    fn take_name(&mut self, place: Place<'_>, id: u32)
+        ensures { self.new ≡ unnamed self.old (place_value place.entry) id }
+    {
+        if let Some(Some(folder)) = self.inodes.get_mut(place.folder as usize) {
+            folder.remove(place.name);
+        }
+        if let Some(Some(inode)) = self.inodes.get_mut(id as usize) {
+            inode.unlink();
+        }
+        self.clear(id);
+    }
+}
+
+/// Whether a folder may have an entry with this name.
+fn may_be_entry(name: &[u8]) -> bool
+    ensures { result ≡ may_be_entry name.now }
+{
+    !name.is_empty() && name != HERE && name != ABOVE
+}
