@@ -67,10 +67,13 @@ truncated ns id = with_change (λ n. Some (with_bytes (λ bytes. []) n)) ns id
 
 -- ---- names
 
+-- a name behind the entries of a folder
+abbrev pub with_entry : Inodes → ℕ → List ℕ → ℕ → Inodes
+with_entry ns at name id = with_change (λ folder. Some (with_entries (λ entries. entries ++ record { name = name; id = id } ∷ []) folder)) ns at
+
 -- a new node, which gets the next number, behind the entries of a folder
 abbrev pub with_new : Inodes → ℕ → List ℕ → Inode → Inodes
-with_new ns at name n =
-    with_change (λ folder. Some (with_entries (λ entries. entries ++ record { name = name; id = length ns } ∷ []) folder)) ns at ++ Some n ∷ []
+with_new ns at name n = with_entry ns at name (length ns) ++ Some n ∷ []
 
 -- a new node with this content, under the last name of a path
 abbrev pub made_in : Inodes → Place → Content → Option ℕ → Result Inodes Errno
@@ -97,10 +100,17 @@ with_file ns path bytes program = made_at (λ parent. file bytes) program ns (pl
 abbrev pub may_be_entry : List ℕ → Bool
 may_be_entry name = not (length name == 0) && not (bytes_eq name (codes ".")) && not (bytes_eq name (codes ".."))
 
+-- a folder without the entry of a name
+abbrev pub without_entry : Inodes → ℕ → List ℕ → Inodes
+without_entry ns at name = with_change (λ folder. Some (with_entries (λ entries. filter (λ e. not (bytes_eq e.name name)) entries) folder)) ns at
+
+-- no folder names a node any more, so that it goes where it isn't held
+abbrev pub without_link : Inodes → ℕ → Inodes
+without_link ns id = with_change (λ n. kept (record n { linked = false })) ns id
+
 -- the name goes from its folder, and the node where it isn't held
 abbrev pub unnamed : Inodes → Place → ℕ → Inodes
-unnamed ns p id =
-    with_change (λ n. kept (record n { linked = false })) (with_change (λ folder. Some (with_entries (λ entries. filter (λ e. not (bytes_eq e.name p.name)) entries) folder)) ns p.folder) id
+unnamed ns p id = without_link (without_entry ns p.folder p.name) id
 
 -- a folder goes only by `rmdir`, and only where it is empty; a file only by `unlink`
 abbrev pub unnamed_as : Bool → Node → Inodes → Place → ℕ → Result Inodes Errno

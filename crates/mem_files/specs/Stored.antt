@@ -1,8 +1,11 @@
 -- The code's contents of a node as plain values.
-use Rattle.std.specs.Prelude.{ℕ, ◌-◌, ◌≤◌, length}
+use Rattle.std.specs.Prelude.{◌≡◌, ℕ, ◌<◌, ◌≤◌, length, Result, Ok, Err, ⊤}
+use Rattle.call_log.specs.declared.errno.Errno.TheVariants.{Enospc}
+use Rattle.mem_files.specs.declared.fault.FileFault.{FileFault}
+use Rattle.mem_files.specs.declared.fault.FileFault.TheVariants.{Errno, Memory}
 use Rattle.mem_files.specs.declared.content.Content.{Content as Stored}
 use Rattle.mem_files.specs.declared.content.Content.TheVariants.{File, Folder}
-use Rattle.mem_files.specs.Inodes.{Content, file, folder, bytes_in, most_of_one}
+use Rattle.mem_files.specs.Inodes.{Inode, Content, file, folder, bytes_in, most_of_one}
 
 abbrev pub content_value : Stored → Content
 content_value (File bytes) = file bytes.items
@@ -12,7 +15,8 @@ content_value (Folder parent entries) = folder parent entries
 abbrev pub IsSmall : Content → Type 0
 IsSmall content = length (bytes_in content) ≤ most_of_one
 
--- by how many bytes a file grows where it is written up to a position; a folder doesn't grow
-abbrev pub growth_in : ℕ → Content → ℕ
-growth_in end (file bytes) = end - length bytes
-growth_in end (folder parent entries) = 0
+-- a write that makes `written` of a node, where a file may have so many bytes: a refusal changes nothing
+abbrev pub WritesNode : Inode → ℕ → Inode → Inode → Result ⊤ FileFault → Type 0
+WritesNode written most old new (Ok done) = (new ≡ written) × (length (bytes_in written.content) ≤ most)
+WritesNode written most old new (Err (Errno errno)) = (errno ≡ Enospc) × (most < length (bytes_in written.content)) × (new ≡ old)
+WritesNode written most old new (Err Memory) = new ≡ old

@@ -15,16 +15,15 @@ pub struct Entries {
 }
 
 impl Model for Entries {
-    ghost use Rattle.std.specs.Prelude.{List, ◌<◌, ◌^◌, map, length, nat_eq};
-    ghost use Rattle.indexmap.specs.IndexMap.{IsUnique};
+    ghost use Rattle.std.specs.Prelude.{List, ◌<◌, ◌^◌, map, length};
     ghost use Rattle.mem_files.specs.Inodes.{Entry};
-    ghost use Rattle.mem_files.specs.Seen.{entry_in};
+    ghost use Rattle.mem_files.specs.Seen.{entry_in, AreApart};
 
     ghost Value = { List Entry };
 
     ghost view = { λ e. map entry_in e.ids.entries };
 
-    ghost invariant = { λ e. length e.ids.entries < 2 ^ 32 };
+    ghost invariant = { λ e. (length e.ids.entries < 2 ^ 32) × AreApart e.ids.entries };
 }
 
 impl Entries {

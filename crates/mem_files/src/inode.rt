@@ -5,10 +5,11 @@ ghost use Rattle.mem_files.specs.Inodes.{new_inode, raised, bytes_in, entries_in
 ghost use Rattle.mem_files.specs.Changes.{with_bytes, with_entries, overwritten};
 ghost use Rattle.mem_files.specs.Paths.{named, id_in, looked_up, found_in};
 ghost use Rattle.mem_files.specs.Seen.{entry_of};
-ghost use Rattle.mem_files.specs.Stored.{IsSmall, content_value, growth_in};
+ghost use Rattle.mem_files.specs.Stored.{IsSmall, content_value, WritesNode};
 
 use crate::content::{Content, overwrite};
 use crate::entries::Entries;
+use crate::fault::FileFault;
 use crate::node::Node;
 use crate::place::{ABOVE, HERE};
 use call_log::Errno;
@@ -143,32 +144,26 @@ impl Inode {
     pub fn truncate(&mut self)
         ensures { self.new ≡ with_bytes (λ bytes. []) self.old }
     {
-        if let Content::File(bytes) = &mut self.content {
-            bytes.clear();
-            self.change = self.change.saturating_add(1);
-        }
+        let Content::File(bytes) = &mut self.content else {
+            return;
+        };
+        bytes.clear();
+        self.change = self.change.saturating_add(1);
     }
 
-    /// By how many bytes a file grows where it is written up to `end`; a folder doesn't grow.
-    pub fn growth(&self, end: u64) -> u64
-        ensures { result ≡ growth_in end self.now.content }
-    {
-        match &self.content {
-            Content::File(bytes) => end.saturating_sub(bytes.len() as u64),
-            Content::Folder { .. } => 0,
-        }
-    }
-
-    /// Writes into a file. A folder, and any node where memory is out, stays as it was.
-    pub fn write(&mut self, at: usize, bytes: &[u8]) -> Result<(), AllocError>
+    /// Writes into a file, which may then have at most so many bytes. A folder stays, and so does any node that isn't written.
+    pub fn write(&mut self, at: usize, bytes: &[u8], most: u64) -> Result<(), FileFault>
         requires { at + length bytes.now ≤ most_of_one }
-        ensures written { OnOk result (self.new ≡ with_bytes (overwritten at bytes.now) self.old) }
-        ensures err { OnErr result (self.new ≡ self.old) }
+        ensures { WritesNode (with_bytes (overwritten at bytes.now) self.old) most self.old self.new result }
     {
-        if let Content::File(file) = &mut self.content {
-            overwrite(file, at, bytes)?;
-            self.change = self.change.saturating_add(1);
+        let Content::File(file) = &mut self.content else {
+            return Ok(());
+        };
+        if (at + bytes.len()).max(file.len()) as u64 > most {
+            return Err(FileFault::Errno(Errno::Enospc));
         }
+        overwrite(file, at, bytes)?;
+        self.change = self.change.saturating_add(1);
         Ok(())
     }
 
@@ -178,10 +173,10 @@ impl Inode {
         ensures added { OnOk result (self.new ≡ with_entries (λ entries. entries ++ record { name = name.items; id = id } ∷ []) self.old) }
         ensures err { OnErr result (self.new ≡ self.old) }
     {
-        if let Content::Folder { entries, .. } = &mut self.content {
-            entries.push(name, id)?;
-        }
-        Ok(())
+        let Content::Folder { entries, .. } = &mut self.content else {
+            return Ok(());
+        };
+        entries.push(name, id)
     }
 
     /// Takes the entry with a name off a folder. A file stays.

@@ -1,8 +1,8 @@
 //! The tree of files and folders.
 
-ghost use Rattle.std.specs.Prelude.{◌≡◌, IfOk};
-ghost use Rattle.mem_files.specs.Inodes.{opening};
-ghost use Rattle.mem_files.specs.Changes.{with_change, kept, held, let_go, truncated};
+ghost use Rattle.std.specs.Prelude.{◌≡◌, None, Some, slice_get, slice_set, IfOk};
+ghost use Rattle.mem_files.specs.Inodes.{opening, inode_at, Fits};
+ghost use Rattle.mem_files.specs.Changes.{kept, held, let_go, truncated};
 
 mod making;
 mod reading;
@@ -73,42 +73,69 @@ impl Tree {
     pub fn hold(&mut self, id: u32)
         ensures { self.new ≡ held self.old id }
     {
-        if let Some(Some(inode)) = self.inodes.get_mut(id as usize) {
-            inode.hold();
-        }
+        let Some(mut inode) = self.take(id) else {
+            return;
+        };
+        inode.hold();
+        self.put(id, inode);
     }
 
     /// Holds a node once less.
     pub fn let_go(&mut self, id: u32)
         ensures { self.new ≡ let_go self.old id }
     {
-        if let Some(Some(inode)) = self.inodes.get_mut(id as usize) {
-            inode.let_go();
-        }
-        self.clear(id);
+        let Some(mut inode) = self.take(id) else {
+            return;
+        };
+        inode.let_go();
+        self.put_kept(id, inode);
     }
 
     /// Empties a file.
     pub fn truncate(&mut self, id: u32)
         ensures { self.new ≡ truncated self.old id }
     {
-        if let Some(Some(inode)) = self.inodes.get_mut(id as usize) {
-            self.bytes -= inode.bytes().len() as u64;
-            inode.truncate();
-        }
-    }
-
-    /// A node that no folder names and no open file holds goes.
-    fn clear(&mut self, id: u32)
-        ensures { self.new ≡ with_change kept self.old id }
-    {
-        let Some(Some(inode)) = self.inodes.get(id as usize) else {
+        let Some(mut inode) = self.take(id) else {
             return;
         };
-        if !inode.is_kept() {
-            self.bytes -= inode.bytes().len() as u64;
-            self.count -= 1;
-            self.inodes[id as usize] = None;
+        inode.truncate();
+        self.put(id, inode);
+    }
+
+    /// Takes a node out of its place, to be changed and put back.
+    fn take(&mut self, id: u32) -> Option<Inode>
+        ensures node { result ≡ inode_at self.old id }
+        ensures rest { self.new ≡ slice_set self.old id None }
+        ensures fits { Fits self.old }
+    {
+        if id as usize >= self.inodes.len() {
+            return None;
+        }
+        let inode = self.inodes[id as usize].take()?;
+        self.count -= 1;
+        self.bytes -= inode.bytes().len() as u64;
+        Some(inode)
+    }
+
+    /// Puts a node into an empty place.
+    fn put(&mut self, id: u32, inode: Inode)
+        requires place { slice_get self.old id ≡ Some None }
+        requires fits { Fits (slice_set self.old id (Some inode)) }
+        ensures { self.new ≡ slice_set self.old id (Some inode) }
+    {
+        self.count += 1;
+        self.bytes += inode.bytes().len() as u64;
+        self.inodes[id as usize] = Some(inode);
+    }
+
+    /// Puts a node into an empty place, if a folder names it or an open file holds it.
+    fn put_kept(&mut self, id: u32, inode: Inode)
+        requires place { slice_get self.old id ≡ Some None }
+        requires fits { Fits (slice_set self.old id (Some inode)) }
+        ensures { self.new ≡ slice_set self.old id (kept inode) }
+    {
+        if inode.is_kept() {
+            self.put(id, inode);
         }
     }
 }

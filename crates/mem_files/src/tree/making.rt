@@ -1,10 +1,11 @@
 //! New files and folders.
 
-ghost use Rattle.std.specs.Prelude.{◌≡◌, None, length, OnOk, IfOk, OnErr};
-ghost use Rattle.mem_files.specs.Inodes.{entries_of, Fits};
+ghost use Rattle.std.specs.Prelude.{◌≡◌, None, length, vec_capacity, OnOk, IfOk, OnErr};
+ghost use Rattle.mem_files.specs.declared.node.Node.TheVariants.{Dir};
+ghost use Rattle.mem_files.specs.Inodes.{kind_of, entries_of, Fits};
 ghost use Rattle.mem_files.specs.Paths.{named};
 ghost use Rattle.mem_files.specs.Calls.{Makes};
-ghost use Rattle.mem_files.specs.Changes.{with_folder, with_file, with_new, made_in};
+ghost use Rattle.mem_files.specs.Changes.{with_folder, with_file, with_new, with_entry, made_in};
 ghost use Rattle.mem_files.specs.Stored.{content_value};
 ghost use Rattle.mem_files.specs.Walks.{place_value};
 
@@ -50,7 +51,8 @@ impl Tree {
         content: Content,
         program: Option<u32>,
     ) -> Result<u32, FileFault>
-        requires { named place.name.now (entries_of self.old place.folder) ≡ None }
+        requires folder { kind_of self.old place.folder ≡ Dir }
+        requires absent { named place.name.now (entries_of self.old place.folder) ≡ None }
         ensures { Makes (made_in self.old (place_value place.entry) (content_value content) program) self.old self.new result }
     {
         let len = content.bytes().len() as u64;
@@ -65,9 +67,10 @@ impl Tree {
 
     /// Adds a node, and its name behind the entries of its folder.
     fn add(&mut self, place: Place<'_>, inode: Inode) -> Result<u32, AllocError>
+        requires folder { kind_of self.old place.folder ≡ Dir }
         requires absent { named place.name.now (entries_of self.old place.folder) ≡ None }
         requires fits { Fits (with_new self.old place.folder place.name.now inode) }
-        ensures added { OnOk result (self.new ≡ with_new self.old place.entry.folder place.entry.name.now inode.entry) }
+        ensures added { OnOk result (self.new ≡ with_new self.old place.entry.folder place.entry.name.now inode) }
         ensures id { IfOk result (λ id. id ≡ length self.old) }
         ensures err { OnErr result (self.new ≡ self.old) }
     {
@@ -77,12 +80,29 @@ impl Tree {
         let id = self.inodes.len() as u32;
         let name = place.name.to_vec(*self.inodes.allocator())?;
         self.inodes.reserve(1)?;
-        if let Some(Some(folder)) = self.inodes.get_mut(place.folder as usize) {
-            folder.add(name, id)?;
-        }
+        add_entry(&mut self.inodes, place.folder, name, id)?;
         self.count += 1;
         self.bytes += inode.bytes().len() as u64;
         self.inodes.push(Some(inode)).unwrap();
         Ok(id)
+    }
+}
+
+/// Adds an entry behind those of a folder.
+fn add_entry(
+    inodes: &mut Vec<Option<Inode>>,
+    at: u32,
+    name: Vec<u8>,
+    id: u32,
+) -> Result<(), AllocError>
+    requires folder { kind_of inodes.old.items at ≡ Dir }
+    requires absent { named name.items (entries_of inodes.old.items at) ≡ None }
+    ensures added { OnOk result (inodes.new.items ≡ with_entry inodes.old.items at name.items id) }
+    ensures err { OnErr result (inodes.new.items ≡ inodes.old.items) }
+    ensures capacity { vec_capacity inodes.new ≡ vec_capacity inodes.old }
+{
+    match &mut inodes[at as usize] {
+        Some(folder) => folder.add(name, id),
+        None => unreachable!(),
     }
 }

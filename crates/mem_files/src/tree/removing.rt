@@ -2,7 +2,7 @@
 
 ghost use Rattle.std.specs.Prelude.{◌≡◌};
 ghost use Rattle.mem_files.specs.Calls.{Changes};
-ghost use Rattle.mem_files.specs.Changes.{unlinked, unnamed, may_be_entry};
+ghost use Rattle.mem_files.specs.Changes.{unlinked, unnamed, without_entry, without_link, may_be_entry};
 ghost use Rattle.mem_files.specs.Walks.{place_value};
 
 use super::Tree;
@@ -36,13 +36,30 @@ impl Tree {
     fn take_name(&mut self, place: Place<'_>, id: u32)
         ensures { self.new ≡ unnamed self.old (place_value place.entry) id }
     {
-        if let Some(Some(folder)) = self.inodes.get_mut(place.folder as usize) {
-            folder.remove(place.name);
-        }
-        if let Some(Some(inode)) = self.inodes.get_mut(id as usize) {
-            inode.unlink();
-        }
-        self.clear(id);
+        self.remove_entry(place.folder, place.name);
+        self.unname(id);
+    }
+
+    /// Takes the entry with a name off a folder.
+    fn remove_entry(&mut self, at: u32, name: &[u8])
+        ensures { self.new ≡ without_entry self.old at name.now }
+    {
+        let Some(mut folder) = self.take(at) else {
+            return;
+        };
+        folder.remove(name);
+        self.put(at, folder);
+    }
+
+    /// No folder names the node any more.
+    fn unname(&mut self, id: u32)
+        ensures { self.new ≡ without_link self.old id }
+    {
+        let Some(mut inode) = self.take(id) else {
+            return;
+        };
+        inode.unlink();
+        self.put_kept(id, inode);
     }
 }
 

@@ -20,14 +20,11 @@ impl Tree {
         if at > MOST_OF_ONE || len > MOST_OF_ONE - at {
             return Err(FileFault::Errno(Errno::Efbig));
         }
-        if let Some(Some(inode)) = self.inodes.get_mut(id as usize) {
-            let growth = inode.growth(at + len);
-            if growth > MOST_OF_ALL - self.bytes {
-                return Err(FileFault::Errno(Errno::Enospc));
-            }
-            inode.write(at as usize, bytes)?;
-            self.bytes += growth;
-        }
-        Ok(())
+        let Some(mut inode) = self.take(id) else {
+            return Ok(());
+        };
+        let answer = inode.write(at as usize, bytes, MOST_OF_ALL - self.bytes);
+        self.put(id, inode);
+        answer
     }
 }
