@@ -6,7 +6,6 @@ use Rattle.std.proofs.lemmas.List.{get_or-drop}
 use Rattle.byte_words.specs.Pieces.{in_front, pieces}
 use Rattle.mem_files.specs.Paths.{names, slash}
 
-
 eqb_same : (n k : ℕ) → n ≡ k → (n == k) ≡ true
 eqb_same n k h = grind (arith, nat_tests)
 

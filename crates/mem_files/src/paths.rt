@@ -11,6 +11,7 @@ const LONGEST_PATH: usize = 4095;
 const LONGEST_NAME: usize = 255;
 
 /// Whether a path has more than 4,095 bytes, or a name of more than 255.
+#[tactic(auto, unfolding(crate::specs::Paths::is_too_long))]
 pub fn is_too_long(path: &[u8]) -> bool
     ensures { result ≡ is_too_long path.now }
 {

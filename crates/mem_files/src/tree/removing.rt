@@ -3,7 +3,8 @@
 ghost use Rattle.std.specs.Prelude.{◌≡◌};
 ghost use Rattle.mem_files.specs.Calls.{Changes};
 ghost use Rattle.mem_files.specs.Changes.{unlinked, unnamed, without_entry, without_link, may_be_entry};
-ghost use Rattle.mem_files.specs.Walks.{place_value};
+ghost use Rattle.mem_files.specs.Inodes.{kind_of, size_of};
+ghost use Rattle.mem_files.specs.Walks.{place_value, may_go_as};
 
 use super::Tree;
 use crate::node::Node;
@@ -22,14 +23,26 @@ impl Tree {
         let Some(id) = place.id else {
             return Err(Errno::Enoent);
         };
-        match (self.kind(id), dir) {
-            (Node::Dir, false) => return Err(Errno::Eisdir),
-            (Node::File, true) => return Err(Errno::Enotdir),
-            (Node::Dir, true) if self.size(id) > 0 => return Err(Errno::Enotempty),
-            _ => {}
-        }
+        self.may_go(id, dir)?;
         self.take_name(place, id);
         Ok(())
+    }
+
+    /// Whether a node's name may go: that of an empty folder, if `dir`, or of a file.
+    fn may_go(&self, id: u32, dir: bool) -> Result<(), Errno>
+        ensures { result ≡ may_go_as dir (kind_of self.now id) (size_of self.now id) }
+    {
+        match (self.kind(id), dir) {
+            (Node::Dir, false) => Err(Errno::Eisdir),
+            (Node::File, true) => Err(Errno::Enotdir),
+            (Node::File, false) => Ok(()),
+            (Node::Dir, true) => {
+                if self.size(id) > 0 {
+                    return Err(Errno::Enotempty);
+                }
+                Ok(())
+            }
+        }
     }
 
     /// Takes a name from its folder, and the node of this number goes where it isn't held.
