@@ -109,11 +109,12 @@ most_of_all = 67108864
 abbrev pub node_count : Inodes → ℕ
 node_count ns = count_by is_some ns
 
+-- the bytes of a node, where there is one
+abbrev pub bytes_at : Option Inode → ℕ
+bytes_at node = length (bytes_in (content_in node))
+
 abbrev pub byte_count : Inodes → ℕ
 byte_count ns = sum_by bytes_at ns
-  where
-    bytes_at : Option Inode → ℕ
-    bytes_at node = length (bytes_in (content_in node))
 
 pub record Fits (ns : Inodes) : Type 0 where
   pub nodes : node_count ns ≤ most_nodes
