@@ -24,6 +24,12 @@ Opens None old t node way new (Ok fd) = ⊥
 Opens None old t node way new (Err (Errno errno)) = (errno ≡ Emfile) × (new ≡ old)
 Opens None old t node way new (Err Memory) = new ≡ old
 
+-- a fault for another cause than memory, or none
+abbrev pub IsNotMemory : Result ℕ FdFault → Type 0
+IsNotMemory (Ok fd) = ⊤
+IsNotMemory (Err (Errno errno)) = ⊤
+IsNotMemory (Err Memory) = ⊥
+
 -- `dup`: EBADF where the descriptor isn't open, and then EMFILE where none is free
 abbrev pub dup_number : Option View → Option ℕ → Result ℕ log.Errno
 dup_number None free = Err Ebadf
