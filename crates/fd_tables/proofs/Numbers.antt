@@ -1,12 +1,13 @@
--- The lowest number that is free, by a search along the list.
+-- The lowest number that is free, by a search along the list, and what is left of the input.
 use Rattle.std.proofs.Common.{◌≡◌, ℕ, zero, suc, ◌+◌, ◌<◌, ◌≤◌, Bool, true, false, List, [], ◌∷◌, ◌++◌, length, get_or, drop, Option, Some, None, refl, sym, ap, arith}
-use Rattle.std.specs.Prelude.{not, is_some, nat_lt, position, slice_set, if◌then◌else◌}
+use Rattle.std.specs.Prelude.{not, is_some, nat_lt, slice_set, if◌then◌else◌}
 use Rattle.std.specs.List.{position_or_len}
 use Rattle.std.proofs.lemmas.Bool.Decides.{nat_tests}
 use Rattle.std.proofs.lemmas.List.{drop-drop}
 use Rattle.std.proofs.lemmas.List.Quantifiers.{position-Some}
 use Rattle.fd_tables.specs.Files.{first_free, with_next}
 
+-- bytes are taken behind those that were taken before
 pub drop_more : (m n : ℕ) (xs : List ℕ) → drop (n + m) xs ≡ drop m (drop n xs)
 drop_more m n xs = sym (drop-drop m n xs)
 
@@ -14,9 +15,6 @@ none_past : (i n : ℕ) → (if nat_lt i n then Some i else None) ≡ None → n
 none_past i n h = grind (arith, nat_tests)
 
 module _ {A : Type 0} where
-  is_free : Option A → Bool
-  is_free x = not (is_some x)
-
   at_first : (x : A) (xs : List (Option A)) (i : ℕ) → i < length xs → not (is_some (get_or xs i None)) ≡ true → ((k : ℕ) → k < i → not (is_some (get_or xs k None)) ≡ false) → with_next x xs ≡ slice_set xs i (Some x)
   at_first x [] i inside free before = absurd (omega arith)
   at_first x (None ∷ xs) zero inside free before = refl

@@ -7,7 +7,7 @@ use Rattle.fd_tables.specs.declared.view.View.{View}
 use Rattle.fd_tables.specs.declared.view.Way.{Way}
 use Rattle.fd_tables.specs.declared.fault.FdFault.{FdFault}
 use Rattle.fd_tables.specs.declared.fault.FdFault.TheVariants.{Errno, Memory}
-use Rattle.fd_tables.specs.Files.{most_descriptors, OpenFiles, view, lowest_free}
+use Rattle.fd_tables.specs.Files.{most_descriptors, OpenFiles}
 use Rattle.fd_tables.specs.Changes.{Storage, opened, duplicated}
 
 -- `view`: EBADF where the descriptor isn't open

@@ -1,5 +1,5 @@
 -- What the fields of `Files` say.
-use Rattle.std.specs.Prelude.{◌≤◌, drop, length, vec_len}
+use Rattle.std.specs.Prelude.{◌≤◌, drop, vec_len}
 use Rattle.fd_tables.specs.declared.files.Files.TheInside.{Inside}
 use Rattle.fd_tables.specs.Kept.{Kept, spare_places}
 

@@ -1,18 +1,17 @@
 //! All open files, and the tables of descriptors that share them.
 
-ghost use Rattle.std.specs.Prelude.{◌≡◌, ◌≤◌, length, IfOk, OnErr, IsSome};
-ghost use Rattle.fd_tables.specs.Files.{nothing_open, free_number, lowest_free, descriptor, handle_view, view, table_at};
-ghost use Rattle.fd_tables.specs.Changes.{storage, with_table, with_copy, exec_closed, without_table, all_shared, closed, dropped, moved, taken, with_descriptor};
+ghost use Rattle.std.specs.Prelude.{◌≡◌, ◌≤◌, length, IfOk};
+ghost use Rattle.fd_tables.specs.Files.{nothing_open, lowest_free, descriptor, handle_view, view};
+ghost use Rattle.fd_tables.specs.Changes.{moved, taken, with_descriptor};
 ghost use Rattle.fd_tables.specs.Calls.{view_or_errno};
 
 use crate::open_file::{Descriptor, Handle, OpenFile};
-use crate::places::{at_number, first_free, put_next, set_place};
+use crate::places::at_number;
 use crate::shares;
 use crate::shows::{console_view, file_view};
-use crate::table::{self, MOST_DESCRIPTORS, Table};
-use crate::view::{Target, View, Way};
+use crate::table::{self, Table};
+use crate::view::View;
 use call_log::Errno;
-use mem_files::Tree;
 use std::alloc::{AllocError, Global};
 use std::marker::Model;
 
@@ -40,7 +39,7 @@ impl Model for Files {
 }
 
 impl Files {
-    /// Nothing is open; the console's input is this.
+    /// Nothing is open yet; the console's input is this.
     pub fn new(alloc: Global, stdin: Vec<u8>) -> Result<Files, AllocError>
         ensures { IfOk result (λ files. files.open_files ≡ nothing_open stdin.items) }
     {

@@ -1,6 +1,6 @@
 //! Lists in which a thing stands at the place of its number.
 
-ghost use Rattle.std.specs.Prelude.{◌≡◌, ◌<◌, IfOk, OnErr, length, slice_set};
+ghost use Rattle.std.specs.Prelude.{◌≡◌, IfOk, OnErr, slice_set};
 ghost use Rattle.fd_tables.specs.Files.{at_number, first_free, free_number, with_next};
 ghost use Rattle.fd_tables.specs.Kept.{spare_places};
 

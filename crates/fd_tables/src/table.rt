@@ -13,7 +13,7 @@ pub(crate) const MOST_DESCRIPTORS: u32 = 32;
 /// What is open, by descriptor.
 pub(crate) type Table = [Option<Descriptor>; MOST_DESCRIPTORS as usize];
 
-/// The table of a process that another one didn't start.
+/// The table in which the console alone is open.
 pub(crate) fn first_table() -> Table
     ensures { result ≡ first_table }
 {
