@@ -7,6 +7,7 @@ abbrev pub kept : Inside → Kept
 kept s = record {
   open_files = record { stdin = drop s.taken s.stdin.items; files = s.files.items; tables = s.tables.items };
   spare = spare_places s.files;
+  spare_tables = spare_places s.tables;
 }
 
 abbrev pub NotPastInput : Inside → Type 0

@@ -8,7 +8,7 @@ ghost use Rattle.fd_tables.specs.Calls.{Opens, IsNotMemory, dup_number, Duplicat
 use crate::fault::FdFault;
 use crate::files::Files;
 use crate::open_file::{Descriptor, Handle, OpenFile};
-use crate::places::{at_number, put_next, set_place};
+use crate::places::{at_number, put_next, ready_place, set_place};
 use crate::shares::new_file;
 use crate::table::MOST_DESCRIPTORS;
 use crate::view::Way;
@@ -17,15 +17,14 @@ use mem_files::Tree;
 use std::alloc::AllocError;
 
 impl Files {
-    /// Takes the memory that the next `open` needs.
+    /// Takes the memory that the next `open` and the next table need.
     pub fn ready(&mut self) -> Result<(), AllocError>
         ensures same { self.new.open_files ≡ self.old.open_files }
         ensures spare { IfOk result (λ _. 1 ≤ self.new.spare) }
+        ensures spare_tables { IfOk result (λ _. 1 ≤ self.new.spare_tables) }
     {
-        if self.files.len() > u32::MAX as usize {
-            return Err(AllocError);
-        }
-        self.files.reserve(1)
+        ready_place(&mut self.files)?;
+        ready_place(&mut self.tables)
     }
 
     /// Opens a node at position 0, as the lowest descriptor that is free.

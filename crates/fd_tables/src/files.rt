@@ -112,9 +112,9 @@ impl Files {
         table::set_descriptor(&mut self.tables, table, fd, descriptor);
     }
 
-    /// The lowest descriptor of a table that isn't open.
+    /// The lowest descriptor of a table that isn't open; None where all are.
     #[tactic(auto, unfolding(crate::specs::Files::lowest_free))]
-    pub(crate) fn lowest_free(&self, table: u32) -> Option<u32>
+    pub fn lowest_free(&self, table: u32) -> Option<u32>
         ensures { result ≡ lowest_free self.now.open_files table }
     {
         table::lowest_free(&self.tables, table)

@@ -1,6 +1,6 @@
 //! Lists in which a thing stands at the place of its number.
 
-ghost use Rattle.std.specs.Prelude.{◌≡◌, IfOk, OnErr, slice_set};
+ghost use Rattle.std.specs.Prelude.{◌≡◌, ◌≤◌, IfOk, OnErr, slice_set};
 ghost use Rattle.fd_tables.specs.Files.{at_number, first_free, free_number, with_next};
 ghost use Rattle.fd_tables.specs.Kept.{spare_places};
 
@@ -31,6 +31,17 @@ pub(crate) fn first_free<T>(places: &[Option<T>]) -> Option<usize>
     ensures { result ≡ first_free places.now }
 {
     places.iter().position(|place| place.is_none())
+}
+
+/// Takes the memory of one place more.
+pub(crate) fn ready_place<T>(places: &mut Vec<Option<T>>) -> Result<(), AllocError>
+    ensures same { places.new.items ≡ places.old.items }
+    ensures spare { IfOk result (λ _. 1 ≤ spare_places places.new) }
+{
+    if places.len() > u32::MAX as usize {
+        return Err(AllocError);
+    }
+    places.reserve(1)
 }
 
 /// Puts an item at the lowest number that is free, and gives that number. After a fault nothing has changed.

@@ -1,6 +1,6 @@
 //! Tables come and go.
 
-ghost use Rattle.std.specs.Prelude.{◌≡◌, ◌||◌, [], ◌∷◌, IfOk, OnErr, IsSome};
+ghost use Rattle.std.specs.Prelude.{◌≡◌, ◌||◌, [], ◌∷◌, ◌≤◌, IfOk, IsOk, OnErr, IsSome};
 ghost use Rattle.fd_tables.specs.Files.{free_number, table_at};
 ghost use Rattle.fd_tables.specs.Changes.{storage, with_table, with_copy, exec_closed, without_table, shared, all_shared, all_closed, all_descriptors};
 
@@ -19,6 +19,7 @@ impl Files {
         ensures table { IfOk result (λ t. t ≡ free_number self.old.open_files.tables) }
         ensures added { IfOk result (λ _. self.new.open_files ≡ with_table self.old.open_files) }
         ensures same { OnErr result (self.new.open_files ≡ self.old.open_files) }
+        ensures ready { 1 ≤ self.old.spare_tables → IsOk result }
     {
         put_next(&mut self.tables, first_table())
     }
