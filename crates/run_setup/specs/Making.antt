@@ -1,5 +1,5 @@
 -- What the code brings in, as that of the definition.
-use Rattle.std.specs.Prelude.{◌≡◌, ◌⊎◌, ℕ, List, length, Vec, Result, Ok, Err}
+use Rattle.std.specs.Prelude.{◌≡◌, ◌⊎◌, ℕ, ◌≤◌, length, Result, Ok, Err}
 use Rattle.bflt_format.specs.declared.fault.FlatFault.TheVariants as flat
 use Rattle.elf2flt_tool.specs.declared.refusal.Refusal.TheVariants as refusal
 use Rattle.call_log.specs.Programs.{paths_of}
@@ -23,9 +23,10 @@ fault_value at = record { line = at.line; fault = at.fault }
 abbrev pub brought_value : RunFiles → Brought
 brought_value f = record { tree = f.tree; programs = programs_of (paths_of f.paths.items) f.flats.items; stdin = f.stdin.items }
 
--- each program has its path
-abbrev pub HasPaths : RunFiles → Type 0
-HasPaths f = length f.paths.items ≡ length f.flats.items
+-- each program has its path, and no line brings in more than one
+pub record HasPaths (f : RunFiles) (items : ℕ) : Type 0 where
+  pub paths : length f.paths.items ≡ length f.flats.items
+  pub few : length f.flats.items ≤ items
 
 -- those of all lines, or the first fault, or out of memory
 abbrev pub BringsAll : Result Brought FaultAt → Result RunFiles ToldAt → Type 0

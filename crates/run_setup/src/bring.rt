@@ -32,7 +32,7 @@ pub fn bring(alloc: Global, items: &[Item], files: Vec<Vec<u8>>) -> Result<RunFi
     requires files { length files.items ≡ length items.now }
     requires few { length items.now < 2 ^ 32 }
     ensures brought { BringsAll (all_brought (map item_value items.now) (vec_texts files.items) nothing_brought) result }
-    ensures paths { IfOk result HasPaths }
+    ensures paths { IfOk result (λ f. HasPaths f (length items.now)) }
 {
     Err(FaultAt { line: 0, fault: LineFault::Memory })
 }
