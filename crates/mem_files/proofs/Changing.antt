@@ -1,11 +1,10 @@
 -- What a change of one node leaves of the others, and of their numbers and bytes.
-use Rattle.std.proofs.Common.{◌≡◌, ℕ, zero, suc, ◌+◌, ◌-◌, ◌<◌, ◌≤◌, Bool, true, false, cond, List, [], ◌∷◌, ◌++◌, length, get_or, Option, None, Some, is_some, slice_get, slice_set, nat_lt, refl, sym, ap, ◌∙◌, arith, rules}
+use Rattle.std.proofs.Common.{◌≡◌, ℕ, zero, suc, ◌+◌, ◌≤◌, Bool, false, cond, List, [], ◌∷◌, length, get_or, Option, None, Some, is_some, slice_get, slice_set, nat_lt, refl, sym, ap, ◌∙◌, arith}
 use Rattle.std.specs.Prelude.{◌||◌}
-use Rattle.std.specs.List.{sum_by, count_by}
 use Rattle.std.proofs.lemmas.Option.{slice_get-get_or, slice_get_within, get_or_from_slice_get}
 use Rattle.std.proofs.lemmas.List.{set-set, length-set, get_or-set_same}
 use Rattle.std.proofs.lemmas.List.Sums.{sum_by-set}
-use Rattle.mem_files.specs.Inodes.{Entry, Inode, Inodes, Content, file, folder, bytes_in, content_in, bytes_at, inode_at, node_count, byte_count, most_of_all, most_nodes, Fits}
+use Rattle.mem_files.specs.Inodes.{Entry, Inode, Inodes, Content, file, folder, bytes_in, bytes_at, inode_at, node_count, byte_count, Fits}
 use Rattle.mem_files.specs.Changes.{with_change, with_bytes, with_entries, kept}
 
 -- taken out of its place

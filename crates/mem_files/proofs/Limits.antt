@@ -1,16 +1,15 @@
 -- What fits the limits of all nodes, and what doesn't.
-use Rattle.std.proofs.Common.{◌≡◌, ◌≢◌, ℕ, ◌+◌, ◌-◌, ◌<◌, ◌≤◌, Bool, true, false, cond, List, [], ◌∷◌, ◌++◌, ◌⊎◌, inl, inr, length, get_or, nat_lt, nat_le, Option, None, Some, is_some, Result, Ok, Err, slice_get, slice_set, refl, sym, ap, ◌∙◌, subst, arith}
+use Rattle.std.proofs.Common.{◌≡◌, ◌≢◌, ℕ, ◌+◌, ◌-◌, ◌<◌, ◌≤◌, Bool, true, false, cond, List, [], ◌∷◌, ◌++◌, ◌⊎◌, inl, inr, length, nat_lt, nat_le, Option, None, Some, is_some, Result, Ok, Err, slice_get, slice_set, refl, sym, ap, ◌∙◌, subst, arith}
 use Rattle.std.specs.Prelude.{◌==◌, ◌&&◌, ⊤}
-use Rattle.std.specs.List.{sum_by}
 use Rattle.std.proofs.lemmas.Bool.Decides.{nat_tests}
-use Rattle.std.proofs.lemmas.Option.{slice_get_within, get_or_from_slice_get}
+use Rattle.std.proofs.lemmas.Option.{get_or_from_slice_get}
 use Rattle.std.proofs.lemmas.List.{set-set, set-get_or, length-set, length_push}
 use Rattle.std.proofs.lemmas.List.Sums.{sum_by_push}
 use Rattle.call_log.specs.declared.errno.Errno.{Errno as log}
 use Rattle.call_log.specs.declared.errno.Errno.TheVariants.{Efbig, Enospc}
 use Rattle.mem_files.specs.declared.fault.FileFault.{FileFault}
 use Rattle.mem_files.specs.declared.fault.FileFault.TheVariants.{Errno, Memory}
-use Rattle.mem_files.specs.Inodes.{Entry, Inode, Inodes, Content, bytes_in, bytes_at, inode_at, node_count, byte_count, most_of_one, most_of_all, most_nodes, new_inode, Fits}
+use Rattle.mem_files.specs.Inodes.{Inode, Inodes, Content, bytes_in, bytes_at, inode_at, node_count, byte_count, most_of_one, most_of_all, most_nodes, new_inode, Fits}
 use Rattle.mem_files.specs.Paths.{Place}
 use Rattle.mem_files.specs.Changes.{with_change, with_bytes, with_entries, with_entry, with_new, or_no_space, overwritten, written, made_in}
 use Rattle.mem_files.specs.Calls.{Writes}

@@ -1,12 +1,11 @@
 -- Where a walk ends: a name that leads to nothing was looked up in a folder, which has no entry of it.
 use Rattle.std.proofs.Common.{◌≡◌, ℕ, Bool, true, false, cond, List, [], ◌∷◌, length, Option, None, Some, Result, Ok, Err, refl, sym, ap, subst, ◌∙◌}
 use Rattle.std.specs.Prelude.{◌==◌, ⊤}
-use Rattle.std.specs.Str.{bytes_eq}
 use Rattle.call_log.specs.declared.errno.Errno.{Errno as log}
-use Rattle.call_log.specs.declared.errno.Errno.TheVariants.{Enoent, Enametoolong, Eexist, Einval, Enotempty}
+use Rattle.call_log.specs.declared.errno.Errno.TheVariants.{Enoent, Eexist, Einval, Enotempty}
 use Rattle.mem_files.specs.declared.node.Node.{Node}
 use Rattle.mem_files.specs.declared.node.Node.TheVariants.{Dir, File}
-use Rattle.mem_files.specs.Inodes.{Entry, Inodes, Content, file, folder, inode_at, content_in, entries_in, kind_in, kind_of, size_of, entries_of}
+use Rattle.mem_files.specs.Inodes.{Inodes, Content, file, folder, inode_at, content_in, entries_in, kind_in, kind_of, size_of, entries_of}
 use Rattle.mem_files.specs.Paths.{Place, start, names, named, is_too_long, looked_up, next_place, then_walked, walked, place_of}
 use Rattle.mem_files.specs.Changes.{made_at, made_in, unnamed, unnamed_as, unnamed_at, may_be_entry}
 use Rattle.mem_files.specs.Walks.{vacant_at, vacant_in, may_go_as}

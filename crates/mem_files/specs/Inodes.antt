@@ -1,5 +1,5 @@
 -- The files and folders of a machine, by number (POSIX.1-2017, 3.129 Directory, 3.164 File, 3.176 File Serial Number).
-use Rattle.std.specs.Prelude.{ℕ, ◌+◌, ◌-◌, ◌^◌, ◌≤◌, Bool, true, false, min, List, [], ◌∷◌, length, count_by, Option, Some, None, is_some, slice_get, slice_set}
+use Rattle.std.specs.Prelude.{ℕ, ◌+◌, ◌-◌, ◌^◌, ◌≤◌, Bool, true, min, List, [], ◌∷◌, length, count_by, Option, Some, None, is_some, slice_get}
 use Rattle.std.specs.List.{sum_by}
 use Rattle.mem_files.specs.declared.node.Node.{Node}
 use Rattle.mem_files.specs.declared.node.Node.TheVariants.{Dir, File}

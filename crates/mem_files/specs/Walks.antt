@@ -1,5 +1,5 @@
 -- The code's places of a walk as plain values.
-use Rattle.std.specs.Prelude.{ℕ, ◌==◌, Bool, true, false, if◌then◌else◌, ⊤, List, Option, Some, None, Result, Ok, Err}
+use Rattle.std.specs.Prelude.{ℕ, ◌==◌, Bool, true, false, if◌then◌else◌, ⊤, Option, Some, None, Result, Ok, Err}
 use Rattle.call_log.specs.declared.errno.Errno.{Errno}
 use Rattle.call_log.specs.declared.errno.Errno.TheVariants.{Eexist, Enotdir, Eisdir, Enotempty}
 use Rattle.mem_files.specs.declared.node.Node.{Node}

@@ -1,5 +1,5 @@
 -- A slash more at the front, and then the rest.
-use Rattle.std.proofs.Common.{◌≡◌, ◌-◌, List, [], ℕ, length, take, drop, ap, sym, ◌∙◌, refl, arith, rules}
+use Rattle.std.proofs.Common.{◌≡◌, ◌-◌, [], length, take, drop, ap, sym, ◌∙◌, arith}
 use Rattle.std.proofs.Common.{length-drop}
 use Rattle.std.proofs.lemmas.List.{drop_all, take_all}
 use Rattle.mem_files.specs.Paths.{names}

@@ -1,5 +1,5 @@
 -- The map's look-up is that by names.
-use Rattle.std.proofs.Common.{ap, sym, ◌∙◌}
+use Rattle.std.proofs.Common.{ap, ◌∙◌}
 use Rattle.mem_files.specs.Paths.{named}
 use Rattle.mem_files.proofs.Entering.{lookup_named}
 use Rattle.mem_files.proofs.entries.Entries.find.Goals as goal

@@ -1,5 +1,5 @@
 -- A new name goes last.
-use Rattle.std.proofs.Common.{◌≡◌, ◌++◌, ◌∷◌, [], None, map, ap, sym, ◌∙◌}
+use Rattle.std.proofs.Common.{◌++◌, ◌∷◌, [], map, ap, ◌∙◌}
 use Rattle.std.proofs.lemmas.List.{map-append}
 use Rattle.mem_files.specs.Paths.{named}
 use Rattle.mem_files.specs.Seen.{entry_in}

@@ -1,5 +1,5 @@
 -- Only one entry has the name.
-use Rattle.std.proofs.Common.{not, map, filter, ap, sym, ◌∙◌}
+use Rattle.std.proofs.Common.{not, map, filter, ap, ◌∙◌}
 use Rattle.std.specs.Str.{bytes_eq}
 use Rattle.mem_files.specs.Seen.{entry_in}
 use Rattle.mem_files.proofs.Entering.{removed}

@@ -1,6 +1,5 @@
 -- One node more, and its bytes.
 use Rattle.std.proofs.Common.{◌≡◌, ◌+◌, length, ap, ◌∙◌, subst, sym, arith, rules}
-use Rattle.std.proofs.lemmas.Grind.{common_steps}
 use Rattle.mem_files.specs.Inodes.{Fits, node_count, byte_count}
 use Rattle.mem_files.specs.Changes.{with_new}
 use Rattle.mem_files.proofs.Limits.{nodes_new, bytes_new, length-with_new}

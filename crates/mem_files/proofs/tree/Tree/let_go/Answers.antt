@@ -1,6 +1,6 @@
 -- The node is taken out, changed and put back.
-use Rattle.std.proofs.Common.{◌≡◌, ◌≤◌, ◌-◌, [], length, false, Some, Option, ap, ◌∙◌, refl, arith}
-use Rattle.mem_files.specs.Inodes.{Inode, Content, file, folder, bytes_in, raised}
+use Rattle.std.proofs.Common.{◌≡◌, ◌≤◌, ◌-◌, length, ap, ◌∙◌, arith}
+use Rattle.mem_files.specs.Inodes.{Inode, bytes_in}
 use Rattle.mem_files.specs.Changes.{let_go, kept}
 use Rattle.mem_files.proofs.Changing.{unchanged, place, fits, changed}
 use Rattle.mem_files.proofs.tree.Tree.let_go.Goals as goal

@@ -1,7 +1,7 @@
 -- The path leads to nothing yet, so that the node is made in its folder.
-use Rattle.std.proofs.Common.{◌≡◌, [], None, Ok, Err, refl, sym, ap, subst, ◌∙◌, rules}
+use Rattle.std.proofs.Common.{◌≡◌, [], None, Err, refl, sym, ap, subst, ◌∙◌, rules}
 use Rattle.mem_files.specs.declared.fault.FileFault.TheVariants.{Errno}
-use Rattle.mem_files.specs.Inodes.{file, folder}
+use Rattle.mem_files.specs.Inodes.{folder}
 use Rattle.mem_files.specs.Paths.{place_of}
 use Rattle.mem_files.specs.Walks.{place_value, place_answer}
 use Rattle.mem_files.specs.Calls.{Makes}

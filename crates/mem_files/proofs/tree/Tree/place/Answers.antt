@@ -1,6 +1,5 @@
 -- A name more is a step more of the walk.
-use Rattle.std.proofs.Common.{◌≡◌, Err, Ok, Result, sym, ap, ◌∙◌, refl, arith, rules}
-use Rattle.call_log.specs.declared.errno.Errno.{Errno}
+use Rattle.std.proofs.Common.{◌≡◌, Err, sym, ap, ◌∙◌, refl, rules}
 use Rattle.mem_files.specs.Paths.{names, then_walked, walked, place_of}
 use Rattle.mem_files.specs.Walks.{place_value, place_answer}
 use Rattle.mem_files.proofs.Walking.{too_long, empty, walk, step, done}

@@ -1,5 +1,5 @@
 -- One node more, and its bytes.
-use Rattle.std.proofs.Common.{◌≡◌, ◌+◌, ◌<◌, None, Some, length, slice_get, slice_set, arith, ◌∙◌, ap, sym}
+use Rattle.std.proofs.Common.{◌≡◌, ◌+◌, None, Some, length, slice_get, slice_set, arith, ◌∙◌, ap}
 use Rattle.std.proofs.lemmas.List.{length-set}
 use Rattle.mem_files.specs.Inodes.{node_count, byte_count, bytes_in}
 use Rattle.mem_files.proofs.Changing.{node_count-set, byte_count-set}

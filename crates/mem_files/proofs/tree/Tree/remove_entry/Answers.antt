@@ -1,8 +1,8 @@
 -- The node is taken out, changed and put back.
-use Rattle.std.proofs.Common.{◌≡◌, ℕ, List, ◌≤◌, length, not, filter, false, Some, ap, ◌∙◌, arith}
+use Rattle.std.proofs.Common.{◌≡◌, ℕ, List, ◌≤◌, length, not, filter, Some, ap, ◌∙◌, arith}
 use Rattle.std.specs.Str.{bytes_eq}
 use Rattle.mem_files.specs.Inodes.{Inode, bytes_in}
-use Rattle.mem_files.specs.Changes.{with_entries, kept}
+use Rattle.mem_files.specs.Changes.{with_entries}
 use Rattle.mem_files.proofs.Changing.{unchanged, place, fits, changed, same_bytes}
 use Rattle.mem_files.proofs.tree.Tree.remove_entry.Goals as goal
 

@@ -1,6 +1,6 @@
 -- The node is taken out, changed and put back.
-use Rattle.std.proofs.Common.{◌≡◌, ◌≤◌, ◌-◌, [], length, false, Some, Option, ap, ◌∙◌, refl, arith}
-use Rattle.mem_files.specs.Inodes.{Inode, Content, file, folder, bytes_in, raised}
+use Rattle.std.proofs.Common.{◌≡◌, ◌≤◌, [], length, Some, ap, ◌∙◌, arith}
+use Rattle.mem_files.specs.Inodes.{Inode, bytes_in}
 use Rattle.mem_files.specs.Changes.{truncated, with_bytes}
 use Rattle.mem_files.proofs.Changing.{unchanged, place, fits, changed, emptied}
 use Rattle.mem_files.proofs.tree.Tree.truncate.Goals as goal

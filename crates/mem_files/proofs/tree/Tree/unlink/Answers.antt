@@ -1,11 +1,11 @@
 -- The refusals one after the other, and then the name goes.
-use Rattle.std.proofs.Common.{◌≡◌, true, false, Ok, Err, Result, refl, sym, ap, subst, ◌∙◌, rules}
+use Rattle.std.proofs.Common.{◌≡◌, true, false, Ok, Err, refl, sym, ap, subst, ◌∙◌, rules}
 use Rattle.call_log.specs.declared.errno.Errno.TheVariants.{Enoent, Einval}
-use Rattle.mem_files.specs.Inodes.{Inodes, kind_of}
+use Rattle.mem_files.specs.Inodes.{kind_of}
 use Rattle.mem_files.specs.Paths.{place_of}
 use Rattle.mem_files.specs.Walks.{place_value, place_answer}
 use Rattle.mem_files.specs.Calls.{Changes}
-use Rattle.mem_files.specs.Changes.{unlinked, unnamed, unnamed_as, unnamed_at, may_be_entry}
+use Rattle.mem_files.specs.Changes.{unlinked, unnamed, may_be_entry}
 use Rattle.mem_files.proofs.Places.{gone_refused, gone_invalid, gone_missing, gone_as, goes, goes_as}
 use Rattle.mem_files.proofs.tree.Tree.unlink.Goals as goal
 

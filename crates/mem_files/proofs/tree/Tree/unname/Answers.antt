@@ -1,9 +1,8 @@
 -- The node is taken out, changed and put back.
-use Rattle.std.proofs.Common.{◌≡◌, ◌≤◌, length, not, filter, false, Some, ap, ◌∙◌, arith}
-use Rattle.std.specs.Str.{bytes_eq}
+use Rattle.std.proofs.Common.{◌≡◌, ◌≤◌, length, false, ap, ◌∙◌, arith}
 use Rattle.mem_files.specs.Inodes.{Inode, bytes_in}
-use Rattle.mem_files.specs.Changes.{with_entries, kept}
-use Rattle.mem_files.proofs.Changing.{unchanged, place, fits, changed, same_bytes}
+use Rattle.mem_files.specs.Changes.{kept}
+use Rattle.mem_files.proofs.Changing.{unchanged, place, fits, changed}
 use Rattle.mem_files.proofs.tree.Tree.unname.Goals as goal
 
 no_more : (n m : Inode) → m ≡ record n { linked = false } → length (bytes_in m.content) ≤ length (bytes_in n.content)

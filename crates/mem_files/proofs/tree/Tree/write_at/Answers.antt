@@ -1,7 +1,7 @@
 -- The node is taken out, written and put back.
 use Rattle.std.proofs.Common.{◌≡◌, ◌+◌, ◌-◌, ◌<◌, ◌≤◌, length, None, Some, Ok, slice_set, sym, ap, subst, ◌∙◌, arith}
-use Rattle.mem_files.specs.Inodes.{Inode, Fits, byte_count, most_of_one, most_of_all}
-use Rattle.mem_files.specs.Changes.{with_bytes, with_change, overwritten, written, or_no_space}
+use Rattle.mem_files.specs.Inodes.{Fits, byte_count, most_of_one, most_of_all}
+use Rattle.mem_files.specs.Changes.{with_bytes, with_change, overwritten, or_no_space}
 use Rattle.mem_files.specs.Calls.{Writes}
 use Rattle.mem_files.proofs.Changing.{place, out_of_none, changed_none}
 use Rattle.mem_files.proofs.Limits.{nothing_written, too_large, written_so, none_written, fits_written, writes}
