@@ -1,5 +1,5 @@
 -- What stands at a number after a change.
-use Rattle.std.proofs.Common.{◌≡◌, ◌≢◌, ℕ, zero, suc, ◌<◌, List, [], ◌∷◌, ◌++◌, length, Option, Some, None, refl, ap, ◌∙◌, arith}
+use Rattle.std.proofs.Common.{◌≡◌, ◌≢◌, ℕ, zero, suc, ◌<◌, List, [], ◌∷◌, ◌++◌, length, get_or, Option, Some, None, refl, sym, ap, ◌∙◌, arith}
 use Rattle.std.specs.Prelude.{not, is_some, slice_get, slice_set}
 use Rattle.std.proofs.lemmas.List.Quantifiers.{position-Some}
 use Rattle.fd_tables.specs.Files.{at_number, first_free, free_number, with_next}
@@ -11,6 +11,13 @@ module _ {A : Type 0} where
   behind_head g y xs i (Some (Some x)) e = rw e refl
   behind_head g y xs i (Some None) e = rw e refl
   behind_head g y xs i None e = rw e refl
+
+  -- where nothing stands nothing changes
+  pub nothing_changes : (g : A → Option A) (xs : List (Option A)) (i : ℕ) → i < length xs → get_or xs i None ≡ None → slice_set xs i (get_or xs i None) ≡ with_item g xs i
+  nothing_changes g [] i inside nothing = absurd (omega arith)
+  nothing_changes g (Some y ∷ xs) zero inside nothing = cc
+  nothing_changes g (None ∷ xs) zero inside nothing = refl
+  nothing_changes g (y ∷ xs) (suc i) inside nothing = ap (λ zs. y ∷ zs) (nothing_changes g xs i (omega arith) nothing) ∙ sym (behind_head g y xs i _ refl)
 
   -- an item that changes stays there
   pub item_there : (f : A → A) (xs : List (Option A)) (i k : ℕ) → is_some (at_number (with_item (λ x. Some (f x)) xs i) k) ≡ is_some (at_number xs k)

@@ -37,8 +37,10 @@ fn console(handle: Handle) -> Option<Descriptor>
 pub(crate) fn descriptor(tables: &[Option<Table>], table: u32, fd: u32) -> Option<Descriptor>
     ensures { result ≡ descriptor_in (at_number tables.now table) fd }
 {
-    let places = at_number(tables, table)?;
-    at_number(&places, fd)
+    match tables.get(table as usize) {
+        Some(Some(places)) => at_number(places, fd),
+        _ => None,
+    }
 }
 
 /// The lowest descriptor of a table that isn't open.
@@ -67,8 +69,10 @@ pub(crate) fn set_descriptor(
 )
     ensures { tables.new ≡ with_item (λ places. Some (slice_set places fd descriptor)) tables.old table }
 {
-    if let Some(mut places) = at_number(tables, table) {
-        set_place(&mut places, fd, descriptor);
-        set_place(tables, table, Some(places));
+    let table = table as usize;
+    if table < tables.len() {
+        if let Some(places) = &mut tables[table] {
+            set_place(places, fd, descriptor);
+        }
     }
 }

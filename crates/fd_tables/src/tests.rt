@@ -162,6 +162,23 @@ fn the_33rd_descriptor_is_refused(rt: HostRuntime) -> Result<(), Fail> {
 }
 
 #[test]
+fn the_last_close_lets_the_node_go(rt: HostRuntime) -> Result<(), Fail> {
+    let mut tree = Tree::new(rt.alloc())?;
+    let mut files = nothing_open(rt.alloc())?;
+    let table = files.new_table()?;
+    let bytes = Vec::from_slice(rt.alloc(), b"abc")?;
+    let id = tree.create(b"/f", bytes, None)?;
+    assert_eq!(rt; files.open(&mut tree, table, id, READ), Ok(3));
+    assert_eq!(rt; files.dup(table, 3), Ok(4));
+    assert_eq!(rt; tree.unlink(b"/f", false), Ok(()));
+    assert_eq!(rt; files.close(&mut tree, table, 3), Ok(()));
+    assert_eq!(rt; tree.size(id), 3);
+    assert_eq!(rt; files.close(&mut tree, table, 4), Ok(()));
+    assert_eq!(rt; tree.size(id), 0);
+    Ok(())
+}
+
+#[test]
 fn tables_share_positions(rt: HostRuntime) -> Result<(), Fail> {
     let mut tree = Tree::new(rt.alloc())?;
     let mut files = nothing_open(rt.alloc())?;
