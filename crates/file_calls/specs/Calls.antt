@@ -1,7 +1,6 @@
 -- A call on files as the code has it, and what the code makes of it.
 use Rattle.std.specs.Prelude.{◌≡◌, ℕ, ◌==◌, Bool, true, ◌||◌, List, [], map, Result, Ok, Err}
 use Rattle.std.specs.declared.alloc.AllocError.{AllocError}
-use Rattle.call_log.specs.declared.note.Got.{Got}
 use Rattle.call_log.specs.Notes.{Written}
 use Rattle.call_log.specs.Values.{written_value}
 use Rattle.mem_files.specs.Inodes.{Inodes}
@@ -40,10 +39,10 @@ abbrev pub IsOutput : ℕ → Type 0
 IsOutput number = is_output number ≡ true
 
 -- the files and the console that the world has
-pub record IsRest (rest : Rest) (tree : Inodes) (files : Kept) (console : List ℕ) : Type 0 where
-  pub tree : rest.tree ≡ tree
-  pub files : rest.files ≡ files.open_files
-  pub console : rest.console ≡ console
+pub record IsRest (rest : Rest) (nodes : Inodes) (kept : Kept) (text : List ℕ) : Type 0 where
+  pub tree : rest.tree ≡ nodes
+  pub files : rest.files ≡ kept.open_files
+  pub console : rest.console ≡ text
 
 abbrev pub with_all : Rest → Inodes → OpenFiles → List ℕ → Rest
 with_all rest tree files console = record rest { tree = tree; files = files; console = console }

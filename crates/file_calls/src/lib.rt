@@ -4,9 +4,14 @@
 #![tactic(auto)]
 
 mod call;
-mod change;
+mod changes;
+mod descriptors;
+mod flags;
+mod opening;
 mod output;
+mod paths;
+mod writing;
 
 pub use call::Call;
-pub use change::change;
+pub use changes::change;
 pub use output::{Output, Then, output};
