@@ -4,9 +4,16 @@
 #![tactic(auto)]
 
 mod call;
-mod change;
-mod output;
+mod changes;
+mod listing;
+mod outcome;
+mod outputs;
+mod piece;
+mod reading;
+mod records;
+mod seeking;
 
 pub use call::Call;
-pub use change::change;
-pub use output::{Output, Then, output};
+pub use changes::change;
+pub use outcome::{Outcome, Then};
+pub use outputs::output;

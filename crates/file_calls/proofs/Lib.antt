@@ -1,0 +1,6 @@
+-- Asked        the calls that give bytes: what is asked, and what is made
+-- Sought       llseek: each answer is that of the row
+-- Transferred  read and readv: each answer is that of the row, and how pieces are filled
+mod Asked
+mod Sought
+mod Transferred
