@@ -1,6 +1,8 @@
 -- Asked        the calls that give bytes: what is asked, and what is made
 -- Sought       llseek: each answer is that of the row
 -- Transferred  read and readv: each answer is that of the row, and how pieces are filled
+-- Listed       getdents64: records, and how many of them fit
 mod Asked
 mod Sought
 mod Transferred
+mod Listed

@@ -16,22 +16,16 @@ abbrev pub GivesRow : (Ask → Row) → Call → Inodes → OpenFiles → Outcom
 GivesRow row call tree files o = (a : Ask) → MadeBy call a → a.rest.tree ≡ tree → a.rest.files ≡ files → Gives a (row a) o
 
 -- as many bytes of the console's input are there as go from it
-abbrev pub can_take : OpenFiles → Then → Type 0
-can_take files Nothing = ⊤
-can_take files (Move fd at) = ⊤
-can_take files (Take n) = n ≤ length files.stdin
-
-abbrev pub CanTake : OpenFiles → Outcome → Type 0
-CanTake files o = can_take files o.then
+abbrev pub CanTake : OpenFiles → Then → Type 0
+CanTake files Nothing = ⊤
+CanTake files (Move fd at) = ⊤
+CanTake files (Take n) = n ≤ length files.stdin
 
 -- nothing goes from the console's input
-abbrev pub is_no_take : Then → Type 0
-is_no_take Nothing = ⊤
-is_no_take (Move fd at) = ⊤
-is_no_take (Take n) = ⊥
-
-abbrev pub IsNoTake : Outcome → Type 0
-IsNoTake o = is_no_take o.then
+abbrev pub IsNoTake : Then → Type 0
+IsNoTake Nothing = ⊤
+IsNoTake (Move fd at) = ⊤
+IsNoTake (Take n) = ⊥
 
 abbrev pub span_of : Piece → Span
 span_of piece = record { addr = piece.addr; len = piece.len }

@@ -1,6 +1,6 @@
 //! getdents64.
 
-ghost use Rattle.std.specs.Prelude.{◌≡◌, ◌+◌, ◌≤◌, ◌∷◌, IfOk, MatchOption, map, length, drop, slice_index};
+ghost use Rattle.std.specs.Prelude.{◌≡◌, ◌+◌, ◌^◌, ◌<◌, ◌≤◌, ◌∷◌, IfOk, MatchOption, map, length, drop, slice_index};
 ghost use Rattle.call_log.specs.Values.{written_value};
 ghost use Rattle.mem_files.specs.Inodes.{kind_of, entries_of};
 ghost use Rattle.mem_files.specs.declared.node.Node.TheVariants.{Dir};
@@ -28,7 +28,7 @@ pub(crate) fn getdents64(
     call: &Call,
 ) -> Result<Outcome, AllocError>
     ensures gives { IfOk result (GivesRow getdents_row call.now tree.now files.now.open_files) }
-    ensures fits { IfOk result (CanTake files.now.open_files) }
+    ensures fits { IfOk result (λ o. CanTake files.now.open_files o.then) }
 {
     let view = match files.view(call.table, call.args[0]) {
         Ok(view) => view,
@@ -44,18 +44,12 @@ pub(crate) fn getdents64(
 }
 
 /// Lists a folder's entries from a position on: as many whole records as fit. If an entry is left and none fits, EINVAL.
-fn list(
-    alloc: Global,
-    tree: &Tree,
-    node: u32,
-    at: u64,
-    call: &Call,
-) -> Result<Outcome, AllocError>
+fn list(alloc: Global, tree: &Tree, node: u32, at: u64, call: &Call) -> Result<Outcome, AllocError>
     requires { kind_of tree.now node ≡ Dir }
     ensures gives { IfOk result (λ o. (a : Ask) → MadeBy call.now a → a.rest.tree ≡ tree.now → (v : View) → v.at ≡ at → Gives a (list_row a v (drop at (entries_of tree.now node)) (slice_index call.now.args 2)) o) }
     ensures then { IfOk result (λ o. IsNoTake o.then) }
 {
-    let room = call.args[2] as usize;
+    let room = call.args[2];
     let from = at.min(u64::from(tree.size(node))) as u32;
     if is_short(tree, node, from, room) {
         return Ok(Outcome::refusal(alloc, Errno::Einval));
@@ -72,11 +66,11 @@ fn list(
 }
 
 /// Whether an entry is left and its record is longer than the room.
-fn is_short(tree: &Tree, node: u32, at: u32, room: usize) -> bool
+fn is_short(tree: &Tree, node: u32, at: u32, room: u32) -> bool
     ensures { result ≡ is_short room (drop at (entries_of tree.now node)) }
 {
     match tree.entry(node, at) {
-        Some((name, _)) => record_len(name) > room,
+        Some((name, _)) => record_len(name) > room as usize,
         None => false,
     }
 }
@@ -87,16 +81,17 @@ fn listing(
     tree: &Tree,
     node: u32,
     from: u32,
-    room: usize,
+    room: u32,
 ) -> Result<Listing, AllocError>
     requires { kind_of tree.now node ≡ Dir }
-    ensures { IfOk result (λ l. listing_value l ≡ listing tree.now room from (drop from (entries_of tree.now node))) }
+    ensures fits { IfOk result (λ l. length l.bytes.items < 2 ^ 32) }
+    ensures listed { IfOk result (λ l. listing_value l ≡ listing tree.now room from (drop from (entries_of tree.now node))) }
 {
     let mut listing = Listing {
         bytes: Vec::new(alloc),
         count: 0,
     };
-    let mut room = room;
+    let mut room = room as usize;
     for k in from..tree.size(node) {
         let Some((name, id)) = fitting(tree, node, k, room) else {
             return Ok(listing);

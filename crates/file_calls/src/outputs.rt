@@ -18,7 +18,7 @@ use std::alloc::{AllocError, Global};
 pub fn output(alloc: Global, tree: &Tree, files: &Files, call: &Call) -> Result<Outcome, AllocError>
     requires { IsOutput call.now.number }
     ensures gives { IfOk result (GivesRow row call.now tree.now files.now.open_files) }
-    ensures fits { IfOk result (CanTake files.now.open_files) }
+    ensures fits { IfOk result (λ o. CanTake files.now.open_files o.then) }
 {
     match call.number {
         61 => getdents64(alloc, tree, files, call),

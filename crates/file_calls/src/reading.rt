@@ -33,7 +33,7 @@ pub(crate) fn read(
     call: &Call,
 ) -> Result<Outcome, AllocError>
     ensures gives { IfOk result (GivesRow read_row call.now tree.now files.now.open_files) }
-    ensures fits { IfOk result (CanTake files.now.open_files) }
+    ensures fits { IfOk result (λ o. CanTake files.now.open_files o.then) }
 {
     let piece = Piece {
         addr: call.args[1],
@@ -50,7 +50,7 @@ pub(crate) fn readv(
     call: &Call,
 ) -> Result<Outcome, AllocError>
     ensures gives { IfOk result (GivesRow readv_row call.now tree.now files.now.open_files) }
-    ensures fits { IfOk result (CanTake files.now.open_files) }
+    ensures fits { IfOk result (λ o. CanTake files.now.open_files o.then) }
 {
     if call.args[2] > MOST_PIECES {
         return Ok(Outcome::refusal(alloc, Errno::Einval));
@@ -102,7 +102,7 @@ fn read_into(
     pieces: &[Piece],
 ) -> Result<Outcome, AllocError>
     ensures gives { IfOk result (GivesRow (λ a. read_into a (map span_of pieces.now)) call.now tree.now files.now.open_files) }
-    ensures fits { IfOk result (CanTake files.now.open_files) }
+    ensures fits { IfOk result (λ o. CanTake files.now.open_files o.then) }
 {
     let view = match files.view(call.table, call.args[0]) {
         Ok(view) => view,
@@ -136,7 +136,13 @@ fn console_read(alloc: Global, files: &Files, pieces: &[Piece]) -> Result<Outcom
 }
 
 /// Reads a file's bytes from a position on.
-fn file_read(alloc: Global, bytes: &[u8], fd: u32, at: u64, pieces: &[Piece]) -> Result<Outcome, AllocError>
+fn file_read(
+    alloc: Global,
+    bytes: &[u8],
+    fd: u32,
+    at: u64,
+    pieces: &[Piece],
+) -> Result<Outcome, AllocError>
     ensures value { IfOk result (λ o. o.value ≡ length (moved_bytes (map span_of pieces.now) (drop at bytes.now))) }
     ensures got { IfOk result (λ o. written_of o ≡ scattered (moved_bytes (map span_of pieces.now) (drop at bytes.now)) (map span_of pieces.now)) }
     ensures then { IfOk result (λ o. o.then ≡ Move fd (at + length (moved_bytes (map span_of pieces.now) (drop at bytes.now)))) }

@@ -39,7 +39,8 @@ pub(crate) fn push_record(
     bytes.extend_from_slice(&len.to_le_bytes()[..2])?;
     bytes.push(type_of(tree.kind(id)))?;
     bytes.extend_from_slice(name)?;
-    bytes.extend_from_slice(&[0; 8][..len - (HEAD + name.len())])
+    bytes.extend_from_slice(&[0; 8][..len - (HEAD + name.len())])?;
+    Ok(())
 }
 
 /// What an entry names, as a record says it: DT_DIR or DT_REG.

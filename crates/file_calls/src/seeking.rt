@@ -25,7 +25,7 @@ pub(crate) fn llseek(
     call: &Call,
 ) -> Result<Outcome, AllocError>
     ensures gives { IfOk result (GivesRow llseek_row call.now tree.now files.now.open_files) }
-    ensures fits { IfOk result (CanTake files.now.open_files) }
+    ensures fits { IfOk result (λ o. CanTake files.now.open_files o.then) }
 {
     let at = match sought_at(tree, files, call) {
         Ok(at) => at,
