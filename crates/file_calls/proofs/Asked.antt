@@ -1,20 +1,17 @@
 -- The calls that give bytes: what the code has is what the world asks, and what the code makes is what the row gives.
-use Rattle.std.proofs.Common.{◌≡◌, ℕ, ◌+◌, ◌*◌, ◌^◌, ◌<◌, ◌≤◌, Bool, true, false, List, [], ◌∷◌, ◌++◌, map, Option, Some, None, Result, Ok, Err, refl, sym, ap, ◌∙◌, arith}
-use Rattle.std.specs.Prelude.{◌==◌, nat_lt, if◌then◌else◌, slice_index}
+use Rattle.std.proofs.Common.{◌≡◌, ℕ, ◌<◌, ◌≤◌, true, false, List, [], ◌∷◌, ◌++◌, map, Option, Some, None, Result, Ok, Err, refl, sym, ap, ◌∙◌, arith}
+use Rattle.std.specs.Prelude.{nat_lt, slice_index}
 use Rattle.std.proofs.lemmas.Bool.Decides.{nat_tests}
 use Rattle.call_log.specs.declared.errno.Errno.{Errno}
-use Rattle.call_log.specs.declared.errno.Errno.TheVariants.{Ebadf, Einval, Espipe, Enotdir}
+use Rattle.call_log.specs.declared.errno.Errno.TheVariants.{Ebadf}
 use Rattle.call_log.specs.declared.note.Got.{Got}
 use Rattle.call_log.specs.Errno.{refusal}
 use Rattle.call_log.specs.Notes.{Written}
 use Rattle.call_log.specs.Values.{written_value}
-use Rattle.mem_files.specs.Inodes.{Inodes, size_of}
 use Rattle.fd_tables.specs.declared.view.View.{View}
-use Rattle.fd_tables.specs.declared.view.Target.TheVariants.{Console, Node}
 use Rattle.fd_tables.specs.Files.{OpenFiles, view}
 use Rattle.fd_tables.specs.Calls.{view_or_errno}
 use Rattle.machine_world.specs.Asks.{Ask, Row, arg, gives, refuses, view_of, with_view, with_files}
-use Rattle.machine_world.specs.Descriptors.{position_from, sought, seek_row, llseek_row}
 use Rattle.file_calls.specs.declared.call.Call.{Call}
 use Rattle.file_calls.specs.declared.outcome.Outcome.{Outcome}
 use Rattle.file_calls.specs.declared.outcome.Then.{Then}

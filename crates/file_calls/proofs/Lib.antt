@@ -2,7 +2,9 @@
 -- Sought       llseek: each answer is that of the row
 -- Transferred  read and readv: each answer is that of the row, and how pieces are filled
 -- Listed       getdents64: records, and how many of them fit
+-- Numbered     the row of each number
 mod Asked
 mod Sought
 mod Transferred
 mod Listed
+mod Numbered

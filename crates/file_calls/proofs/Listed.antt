@@ -1,6 +1,6 @@
 -- getdents64: records, and how many of them fit.
-use Rattle.std.proofs.Common.{◌≡◌, ℕ, zero, suc, ◌+◌, ◌*◌, ◌-◌, ◌/◌, ◌<◌, ◌≤◌, ◌⊎◌, inl, inr, Bool, true, false, min, max, List, [], ◌∷◌, ◌++◌, length, take, drop, replicate, Option, Some, None, Result, Ok, Err, refl, sym, ap, ◌∙◌, arith, append_assoc, length-append, append-nil, add-zero, add-one}
-use Rattle.std.specs.Prelude.{IfOk, nat_le, nat_lt, if◌then◌else◌, slice_get, slice_index}
+use Rattle.std.proofs.Common.{◌≡◌, ℕ, zero, suc, ◌+◌, ◌-◌, ◌<◌, ◌≤◌, ◌⊎◌, inl, inr, Bool, true, false, min, List, [], ◌∷◌, ◌++◌, length, take, drop, replicate, Some, None, Result, Ok, Err, refl, sym, ap, ◌∙◌, arith, append_assoc, length-append, append-nil, add-zero, add-one}
+use Rattle.std.specs.Prelude.{IfOk, nat_le, nat_lt, slice_get, slice_index}
 use Rattle.std.proofs.lemmas.Bool.{cases_lt, leb-true}
 use Rattle.std.proofs.lemmas.List.{drop_all, take-replicate, length-replicate}
 use Rattle.std.proofs.lemmas.Bool.Decides.{nat_tests}

@@ -1,12 +1,12 @@
 -- llseek: each answer of the code is that of the row.
 use Rattle.std.proofs.Common.{◌≡◌, ℕ, ◌+◌, ◌*◌, ◌^◌, ◌<◌, ◌≤◌, Option, Some, None, refl, sym, ap, ◌∙◌}
-use Rattle.std.specs.Prelude.{◌==◌, nat_lt, if◌then◌else◌, slice_index}
+use Rattle.std.specs.Prelude.{◌==◌, if◌then◌else◌, slice_index}
 use Rattle.call_log.specs.declared.errno.Errno.TheVariants.{Ebadf, Einval, Espipe}
 use Rattle.mem_files.specs.Inodes.{Inodes, size_of}
 use Rattle.fd_tables.specs.declared.view.View.{View}
 use Rattle.fd_tables.specs.declared.view.Target.TheVariants.{Console, Node}
 use Rattle.fd_tables.specs.Files.{OpenFiles, view}
-use Rattle.machine_world.specs.Asks.{Ask, arg, refuses}
+use Rattle.machine_world.specs.Asks.{Ask, refuses}
 use Rattle.machine_world.specs.Descriptors.{position_from, sought, seek_row, llseek_row}
 use Rattle.file_calls.specs.declared.call.Call.{Call}
 use Rattle.file_calls.specs.Calls.{MadeBy}

@@ -1,24 +1,21 @@
 -- read and readv: each answer of the code is that of the row, and bytes are filled into pieces one by one.
-use Rattle.std.proofs.Common.{◌≡◌, ℕ, zero, suc, ◌+◌, ◌*◌, ◌-◌, ◌<◌, ◌≤◌, Bool, true, false, min, List, [], ◌∷◌, ◌++◌, map, sum, length, take, drop, get_or, Option, Some, None, Result, Ok, Err, refl, sym, ap, ◌∙◌, arith, append_assoc}
-use Rattle.std.specs.Prelude.{IfOk, nat_lt, if◌then◌else◌, slice_index}
+use Rattle.std.proofs.Common.{◌≡◌, ℕ, suc, ◌+◌, ◌*◌, ◌<◌, ◌≤◌, true, false, List, [], ◌∷◌, ◌++◌, map, length, take, drop, get_or, Some, None, Result, Ok, Err, refl, sym, ap, ◌∙◌, arith}
+use Rattle.std.specs.Prelude.{IfOk, if◌then◌else◌, slice_index}
 use Rattle.std.specs.List.{range_with_len}
 use Rattle.std.specs.declared.alloc.AllocError.{AllocError}
 use Rattle.std.proofs.Math.Seq.{drop-cons}
 use Rattle.std.proofs.lemmas.List.FromFn.{map-range_with_len_more}
-use Rattle.std.proofs.lemmas.List.{map-append, take_min, drop_all, length-take, length-drop, take_more}
+use Rattle.std.proofs.lemmas.List.{map-append, drop_all}
 use Rattle.byte_words.specs.Numbers.{low_first, number_at}
 use Rattle.call_log.specs.declared.errno.Errno.TheVariants.{Ebadf, Einval, Eisdir}
-use Rattle.call_log.specs.declared.note.Got.{Got}
-use Rattle.call_log.specs.Notes.{Written}
-use Rattle.call_log.specs.Sent.{Span, most_moved, most_pieces, piece_at}
-use Rattle.call_log.specs.Values.{written_value}
+use Rattle.call_log.specs.Sent.{Span, most_pieces, piece_at}
 use Rattle.mem_files.specs.declared.node.Node.TheVariants.{Dir, File}
 use Rattle.mem_files.specs.Inodes.{Inodes, kind_of, bytes_of}
 use Rattle.fd_tables.specs.declared.view.View.{View}
 use Rattle.fd_tables.specs.declared.view.Target.TheVariants.{Console, Node}
 use Rattle.fd_tables.specs.Files.{OpenFiles, view}
 use Rattle.machine_world.specs.Asks.{Ask, Row, arg, refuses}
-use Rattle.machine_world.specs.Transfers.{scattered, moved_bytes, read_reply, console_read, file_read, node_read, target_read, read_into, read_row, readv_row}
+use Rattle.machine_world.specs.Transfers.{scattered, moved_bytes, console_read, file_read, node_read, target_read, read_into, read_row, readv_row}
 use Rattle.file_calls.specs.declared.call.Call.{Call}
 use Rattle.file_calls.specs.declared.piece.Piece.{Piece}
 use Rattle.file_calls.specs.declared.outcome.Outcome.{Outcome}

@@ -1,5 +1,5 @@
 -- What is listed fits, so far and at the end.
-use Rattle.std.proofs.Common.{◌≤◌, ◌+◌, length, drop, arith}
+use Rattle.std.proofs.Common.{drop, arith}
 use Rattle.mem_files.specs.Inodes.{entries_of}
 use Rattle.machine_world.specs.Descriptors.{listing}
 use Rattle.file_calls.specs.Listings.{listing_value}

@@ -1,9 +1,4 @@
 -- One more piece.
-use Rattle.std.proofs.Common.{◌≡◌, ◌∙◌, ◌∷◌, ◌++◌, [], ap, refl}
-use Rattle.std.proofs.lemmas.List.{map-append}
-use Rattle.std.proofs.lemmas.List.FromFn.{map-range_with_len_more}
-use Rattle.call_log.specs.Sent.{piece_at}
-use Rattle.file_calls.specs.Outcomes.{span_of}
 use Rattle.file_calls.proofs.Transferred.{pieces_more}
 use Rattle.file_calls.proofs.reading.pieces.Goals as goal
 

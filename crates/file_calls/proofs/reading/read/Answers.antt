@@ -1,5 +1,4 @@
 -- One piece.
-use Rattle.std.proofs.Common.{◌∙◌}
 use Rattle.file_calls.proofs.Transferred.{read_row_is, rows_same}
 use Rattle.file_calls.proofs.reading.read.Goals as goal
 

@@ -2,7 +2,7 @@
 use Rattle.std.proofs.Common.{ℕ, ap, arith, add-zero}
 use Rattle.std.specs.Prelude.{slice_index}
 use Rattle.std.proofs.lemmas.List.{get_or-drop}
-use Rattle.byte_words.specs.Numbers.{low_first, number_at}
+use Rattle.byte_words.specs.Numbers.{number_at}
 use Rattle.file_calls.proofs.reading.word_in.Goals as goal
 
 pub returns : goal.returns
