@@ -10,9 +10,9 @@ use Rattle.fd_tables.specs.Changes.{moved, taken}
 use Rattle.machine_world.specs.World.{Rest}
 use Rattle.machine_world.specs.Asks.{Ask, Row, gives, with_files}
 use Rattle.file_calls.specs.declared.call.Call.{Call}
-use Rattle.file_calls.specs.declared.output.Output.{Output}
-use Rattle.file_calls.specs.declared.output.Then.{Then}
-use Rattle.file_calls.specs.declared.output.Then.TheVariants.{Nothing, Move, Take}
+use Rattle.file_calls.specs.declared.outcome.Outcome.{Outcome}
+use Rattle.file_calls.specs.declared.outcome.Then.{Then}
+use Rattle.file_calls.specs.declared.outcome.Then.TheVariants.{Nothing, Move, Take}
 
 -- the same call, as the world has it
 pub record MadeBy (call : Call) (a : Ask) : Type 0 where
@@ -60,8 +60,8 @@ after Nothing table files = files
 after (Move fd at) table files = moved files table fd at
 after (Take n) table files = taken files n
 
-abbrev pub written_of : Output → List Written
+abbrev pub written_of : Outcome → List Written
 written_of o = map written_value o.got.items
 
-abbrev pub Gives : Ask → Row → Output → Type 0
+abbrev pub Gives : Ask → Row → Outcome → Type 0
 Gives a row o = row ≡ gives a o.value (written_of o) (with_files a.rest (after o.then a.process.table a.rest.files))
