@@ -2,9 +2,11 @@
 -- MadePrograms: the program of one line.
 -- OneLine: what one line brings in, where the tree made it or refused it.
 -- Opened: a list opened at one place.
+-- Pairs: a loop over lines, each with its file.
 -- AllLines: the lines one after the other.
 pub mod OriginalsSame
 pub mod MadePrograms
 pub mod OneLine
 pub mod Opened
+pub mod Pairs
 pub mod AllLines

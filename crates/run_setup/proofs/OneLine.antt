@@ -1,6 +1,7 @@
 -- What one line brings in, where the tree made it or refused it.
 use Rattle.std.proofs.Common.{◌≡◌, ℕ, ◌+◌, ◌≤◌, Vec, List, [], ◌∷◌, ◌++◌, length, Option, Some, None, Result, Ok, Err, refl, sym, ap, subst, ◌∙◌, arith, inl, inr, length-append}
-use Rattle.std.specs.Prelude.{◌⊎◌}
+use Rattle.std.specs.Prelude.{◌⊎◌, ⊤}
+use Rattle.std.specs.Result.{IsErr, IsErrAnd}
 use Rattle.std.proofs.lemmas.List.{length-map, map-append}
 use Rattle.bflt_format.specs.Values.{Values}
 use Rattle.call_log.specs.declared.errno.Errno as log
@@ -18,7 +19,7 @@ use Rattle.run_setup.specs.declared.fault.LineFault.TheVariants as line
 use Rattle.run_setup.specs.declared.bringing.RunFiles.{RunFiles}
 use Rattle.run_setup.specs.Brought.{Brought, or_errno, with_tree, with_program}
 use Rattle.run_setup.specs.Faults.{IsMemory, place_fault}
-use Rattle.run_setup.specs.Making.{HasPaths, brought_value, Added}
+use Rattle.run_setup.specs.Making.{HasPaths, brought_value, Added, Brings}
 
 -- ---- the tree's answer
 
@@ -80,9 +81,10 @@ module _ (old : RunFiles) (has : HasPaths old) (path : List ℕ) (flat : Values)
       ap (λ (n : ℕ). or_errno (with_file old.tree path bytes (Some n)) (λ (tree : Inodes). record { tree = tree; programs = (brought_value old).programs ++ p ∷ []; stdin = old.stdin.items }))
       (length_programs (paths_of old.paths.items) old.flats.items same_length ∙ sym numbered)
 
-  pub program_refused : (new : Inodes) (why : FileFault) → Makes (with_file old.tree path bytes (Some number)) old.tree new (Err why) → (e : LineFault) → e ≡ place_fault why
-      → IsMemory e ⊎ (with_program (brought_value old) path (record { original = flat_original flat; bytes = bytes }) ≡ Err e)
-  program_refused new why made e is =
+  pub program_refused : (beside : RunFiles) (new : Inodes) (why : FileFault) → Makes (with_file old.tree path bytes (Some number)) old.tree new (Err why) → (r : Result ⊤ LineFault) → IsErr r → IsErrAnd r (λ e. e ≡ place_fault why)
+      → Brings (with_program (brought_value old) path (record { original = flat_original flat; bytes = bytes })) old beside r
+  program_refused beside new why made (Ok done) err is = absurd cc
+  program_refused beside new why made (Err e) err is =
       elim (refused (with_file old.tree path bytes (Some number)) old.tree new why made e is (λ (tree : Inodes). record { tree = tree; programs = (brought_value old).programs ++ p ∷ []; stdin = old.stdin.items })) [
         | inl memory ↦ inl memory
         | inr fault ↦ inr (by_number ∙ fault)

@@ -5,4 +5,4 @@ use Rattle.run_setup.specs.Making.{BroughtSoFar}
 use Rattle.run_setup.proofs.bringing.bring.Given as goal
 
 abbrev pub invariant-loop-item : goal.invariant-loop-item
-invariant-loop-item l = BroughtSoFar (map item_value l.items) (vec_texts l.files.items) l.run (length l.yielded)
+invariant-loop-item l = BroughtSoFar (map item_value l.items) (vec_texts l.fn.files.items) l.run (length l.yielded)
