@@ -4,9 +4,11 @@
 -- Opened: a list opened at one place.
 -- Pairs: a loop over lines, each with its file.
 -- AllLines: the lines one after the other.
+-- Samples: what a few lines bring in.
 pub mod OriginalsSame
 pub mod MadePrograms
 pub mod OneLine
 pub mod Opened
 pub mod Pairs
 pub mod AllLines
+pub mod Samples
