@@ -10,3 +10,6 @@ mod program;
 
 pub use bringing::{RunFiles, bring};
 pub use fault::{FaultAt, LineFault};
+
+#[cfg(test)]
+mod tests;
