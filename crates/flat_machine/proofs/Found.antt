@@ -1,14 +1,18 @@
--- The program of a path, and the start of a start line.
-use Rattle.std.proofs.Common.{◌≡◌, ℕ, suc, ◌+◌, ◌-◌, ◌≤◌, ◌<◌, ◌⊎◌, inl, inr, Bool, true, false, List, [], ◌∷◌, length, map, get_or, Option, Some, None, Result, Ok, Err, refl, sym, ap, subst, ◌∙◌, arith}
-use Rattle.std.specs.Prelude.{Vec, ⊤, bytes_eq, position}
-use Rattle.std.specs.List.{position_from, slice_index_or}
-use Rattle.std.proofs.lemmas.Iterator.Adapters.{position_from-zero}
+-- The program to which a path leads, and the start of a start line.
+-- Not checked since the machine starts with a tree.
+use Rattle.std.proofs.Common.{◌≡◌, ℕ, zero, suc, ◌<◌, List, [], ◌∷◌, length, map, get_or, Option, Some, None, Result, Ok, Err, refl, sym, ap, subst, ◌∙◌, arith}
+use Rattle.std.specs.Prelude.{Vec, ⊤, slice_get}
+use Rattle.std.specs.List.{slice_index_or}
+use Rattle.std.proofs.lemmas.List.{length-map}
 use Rattle.bflt_format.specs.Values.{Values}
+use Rattle.call_log.specs.declared.errno.Errno.{Errno}
 use Rattle.call_log.specs.Programs.{paths_of}
 use Rattle.flat_loader.specs.Original.{flat_original}
 use Rattle.flat_loader.specs.Frame.{frame_fits}
-use Rattle.machine_world.specs.World.{World, Program}
-use Rattle.machine_world.specs.Boot.{StartLine, BootFault, Found, found_from, path_of, fitting, located, started}
+use Rattle.mem_files.specs.Inodes.{Inodes}
+use Rattle.mem_files.specs.Paths.{lookup}
+use Rattle.machine_world.specs.World.{World, Rest, Program}
+use Rattle.machine_world.specs.Boot.{StartLine, BootFault, Found, found_program, found_mark, found_node, found, path_of, fitting, located, started}
 use Rattle.syscall_layer.specs.declared.start.StartRefusal.TheVariants as start
 use Rattle.syscall_layer.specs.Kept.{Kept}
 use Rattle.syscall_layer.specs.Stands.{About, world_of}
@@ -16,59 +20,52 @@ use Rattle.syscall_layer.specs.Starts.{Started}
 use Rattle.flat_machine.specs.declared.boot.BootRefusal.{BootRefusal}
 use Rattle.flat_machine.specs.declared.boot.BootRefusal.TheVariants as refusal
 use Rattle.flat_machine.specs.State.{programs_of}
-use Rattle.flat_machine.specs.Boots.{IsFault, Begins}
+use Rattle.flat_machine.specs.Boots.{marked, IsFault, Begins}
 
-decide : (b : Bool) → (b ≡ true) ⊎ (b ≡ false)
-decide true = inl refl
-decide false = inr refl
+-- ---- the program that a file is marked as
 
--- ---- the first program of a path
+-- what a path leads to counts by its mark alone
+by_mark : (rest : Rest) (r : Result (Option ℕ) Errno) → found_node rest r ≡ found_mark rest.programs (marked rest.tree r)
+by_mark rest (Ok (Some node)) = refl
+by_mark rest (Ok None) = refl
+by_mark rest (Err errno) = refl
 
-module _ {Y : Type 0} (path : List ℕ) where
-  abbrev has_path : Vec ℕ Y → Bool
-  has_path p = bytes_eq p.items path
+got_at : (n i : ℕ) (paths : List (List ℕ)) (flats : List Values) (flat : Values) → length paths ≡ length flats → slice_get flats i ≡ Some flat
+    → found_program n (slice_get (programs_of paths flats) i) ≡ Some (record { index = n; original = flat_original flat })
+got_at n i paths [] flat same is = absurd cc
+got_at n i [] (f ∷ fs) flat same is = absurd (omega (arith, same))
+got_at n zero (p ∷ ps) (f ∷ fs) flat same is =
+    let e : f ≡ flat = cc in
+    ap (λ (g : Values). Some (record { index = n; original = flat_original g })) e
+got_at n (suc i) (p ∷ ps) (f ∷ fs) flat same is = got_at n i ps fs flat (omega (arith, same)) is
 
-  abbrev rest : List (Vec ℕ Y) → List Values → List Program
-  rest paths flats = programs_of (paths_of paths) flats
+none_at : (n i : ℕ) (paths : List (List ℕ)) (flats : List Values) → length paths ≡ length flats → slice_get flats i ≡ None → found_program n (slice_get (programs_of paths flats) i) ≡ None
+none_at n i [] flats same is = refl
+none_at n i (p ∷ ps) [] same is = absurd (omega (arith, same))
+none_at n zero (p ∷ ps) (f ∷ fs) same is = absurd cc
+none_at n (suc i) (p ∷ ps) (f ∷ fs) same is = none_at n i ps fs (omega (arith, same)) is
 
-  record At (d : Values) (i j : ℕ) (paths : List (Vec ℕ Y)) (flats : List Values) : Type 0 where
-    below : i ≤ j
-    found : found_from i path (rest paths flats) ≡ Some (record { index = j; original = flat_original (get_or flats (j - i) d) })
+module _ {Y : Type 0} (paths : List (Vec ℕ Y)) (flats : List Values) (same : length paths ≡ length flats) (rest : Rest) (programs : rest.programs ≡ programs_of (paths_of paths) flats) (path : List ℕ) where
+  many : length (paths_of paths) ≡ length flats
+  many = length-map paths (λ p. p.items) ∙ same
 
-  found_at : (d : Values) (i j : ℕ) (paths : List (Vec ℕ Y)) (flats : List Values) → length paths ≡ length flats → position_from has_path i paths ≡ Some j → At d i j paths flats
-  found_at d i j [] flats same is = absurd cc
-  found_at d i j (p ∷ ps) [] same is = absurd (omega arith)
-  found_at d i j (p ∷ ps) (f ∷ fs) same is = elim (decide (has_path p)) [
-    | inl here_it_is ↦
-        let here : i ≡ j = let e : Some i ≡ Some j = (rw here_it_is at is) in cc in
-        let zero_on : j - i ≡ 0 = omega arith in
-        record { below = omega arith; found = rw (here_it_is, zero_on, here) refl }
-    | inr not_here ↦
-        let more = found_at d (i + 1) j ps fs (omega arith) (rw not_here at is) in
-        let below = more.below in
-        let next : j - i ≡ suc (j - (i + 1)) = omega arith in
-        record { below = omega arith; found = rw (not_here, next) more.found }
-  ]
+  marked_as : (mark : Option ℕ) → mark ≡ marked rest.tree (lookup rest.tree path) → found rest path ≡ found_mark (programs_of (paths_of paths) flats) mark
+  marked_as mark is =
+      by_mark rest (lookup rest.tree path)
+      ∙ ap (found_mark rest.programs) (sym is)
+      ∙ ap (λ (ps : List Program). found_mark ps mark) programs
 
-  found_none : (i : ℕ) (paths : List (Vec ℕ Y)) (flats : List Values) → length paths ≡ length flats → position_from has_path i paths ≡ None → found_from i path (rest paths flats) ≡ None
-  found_none i [] flats same is = refl
-  found_none i (p ∷ ps) [] same is = absurd (omega arith)
-  found_none i (p ∷ ps) (f ∷ fs) same is = elim (decide (has_path p)) [
-    | inl here_it_is ↦ absurd (let e : Some i ≡ None = (rw here_it_is at is) in cc)
-    | inr not_here ↦ rw not_here (found_none (i + 1) ps fs (omega arith) (rw not_here at is))
-  ]
+  pub program_found : (index : ℕ) (flat : Values) → Some index ≡ marked rest.tree (lookup rest.tree path) → slice_get flats index ≡ Some flat
+      → found rest path ≡ Some (record { index = index; original = flat_original flat })
+  program_found index flat is got = marked_as (Some index) is ∙ got_at index index (paths_of paths) flats flat many got
 
-  module _ (paths : List (Vec ℕ Y)) (flats : List Values) (same : length paths ≡ length flats) where
-    pub program_found : (j : ℕ) (flat : Values) → Some j ≡ position has_path paths → flat ≡ get_or flats j flat
-        → found_from 0 path (rest paths flats) ≡ Some (record { index = j; original = flat_original flat })
-    program_found j flat is there =
-        let at = found_at flat 0 j paths flats same (sym (is ∙ position_from-zero has_path paths)) in
-        let all : j - 0 ≡ j = omega arith in
-        let o : Values → Option Found = λ f. Some (record { index = j; original = flat_original f }) in
-        at.found ∙ ap (λ (n : ℕ). o (get_or flats n flat)) all ∙ ap o (sym there)
+  -- it has no mark
+  pub program_none : None ≡ marked rest.tree (lookup rest.tree path) → found rest path ≡ None
+  program_none is = marked_as None is
 
-    pub program_none : None ≡ position has_path paths → found_from 0 path (rest paths flats) ≡ None
-    program_none is = found_none 0 paths flats same (sym (is ∙ position_from-zero has_path paths))
+  -- its mark is of no program
+  pub program_missing : (index : ℕ) → Some index ≡ marked rest.tree (lookup rest.tree path) → slice_get flats index ≡ None → found rest path ≡ None
+  program_missing index is none = marked_as (Some index) is ∙ none_at index index (paths_of paths) flats many none
 
 -- the path of a start line is its first argument
 first_arg : {Y : Type 0} (args : List (Vec ℕ Y)) (d : Vec ℕ Y) → 0 < length args → slice_index_or (map (λ v. v.items) args) 0 [] ≡ (get_or args 0 d).items
@@ -81,17 +78,17 @@ path_is args x path some at is = first_arg args x some ∙ ap (λ v. v.items) (s
 -- ---- its start
 
 module _ (a : About) (old new : Kept) (s : StartLine) where
-  starts_with : (f : Found) → found_from 0 (path_of s) a.programs ≡ Some f → started (world_of a old) s ≡ fitting (world_of a old) s f (frame_fits f.original s.args [])
+  starts_with : (f : Found) → found (world_of a old).rest (path_of s) ≡ Some f → started (world_of a old) s ≡ fitting (world_of a old) s f (frame_fits f.original s.args [])
   unfolding started world_of
   starts_with f is = ap (located (world_of a old) s) is
 
-  pub no_program : (line : ℕ) → line ≡ s.line → found_from 0 (path_of s) a.programs ≡ None → Begins a (started (world_of a old) s) new (Err (refusal.BadStart line))
+  pub no_program : (line : ℕ) → line ≡ s.line → found (world_of a old).rest (path_of s) ≡ None → Begins a (started (world_of a old) s) new (Err (refusal.BadStart line))
   unfolding started world_of
   no_program line same is =
       let P : Result World BootFault → Type 0 = λ r. Begins a r new (Err (refusal.BadStart line)) in
       subst P (sym (ap (located (world_of a old) s) is)) same
 
-  module _ (f : Found) (is : found_from 0 (path_of s) a.programs ≡ Some f) where
+  module _ (f : Found) (is : found (world_of a old).rest (path_of s) ≡ Some f) where
     begins : (r : Result ⊤ BootRefusal) → Begins a (fitting (world_of a old) s f (frame_fits f.original s.args [])) new r → Begins a (started (world_of a old) s) new r
     begins r x = subst (λ (w : Result World BootFault). Begins a w new r) (sym (starts_with f is)) x
 

@@ -1,7 +1,9 @@
 -- Each start line in order.
+-- Not checked since the machine starts with a tree.
 use Rattle.std.proofs.Common.{refl, ap, ◌∙◌, ◌≡◌, ◌+◌, length, subst}
 use Rattle.std.proofs.lemmas.List.{length-map}
 use Rattle.call_log.specs.Programs.{paths_of}
+use Rattle.fd_tables.specs.Files.{nothing_open}
 use Rattle.machine_world.specs.Programs.{AreLoaded}
 use Rattle.flat_machine.proofs.Readers.{programs_count}
 use Rattle.page_runs.specs.Choosers.{kind_of}
@@ -14,8 +16,8 @@ use Rattle.flat_machine.proofs.machine.Machine.boot.Goals as goal
 pub loop-start-init : goal.loop-start-init
 loop-start-init g c =
     let a = about_boot (kind_of c.args.chooser.now) c.args.setup.paths.items c.args.setup.programs.items in
-    rw c.in_ok-parts.ensures (record {
-      left = ap (λ w. all_started w (lines_of c.deref-start-items.result.now)) (first_world a c.args.setup.pages refl);
+    rw (c.in_ok-parts.ensures, c.in_ok-files.ensures) (record {
+      left = ap (λ w. all_started w (lines_of c.deref-start-items.result.now)) (first_world a c.args.setup.pages c.args.setup.tree (nothing_open c.args.setup.stdin.items) refl);
       pids = refl;
       spaces = refl;
       entries = refl;
@@ -24,7 +26,7 @@ loop-start-init g c =
 pub loop-start-preserved : goal.loop-start-preserved
 loop-start-preserved g c =
     let a = about_boot (kind_of c.args.chooser.now) c.args.setup.paths.items c.args.setup.programs.items in
-    let rest = rest_of c.args.setup.pages (kind_of c.args.chooser.now) c.args.setup.paths.items c.args.setup.programs.items in
+    let rest = rest_of c.args.setup.pages (kind_of c.args.chooser.now) c.args.setup.paths.items c.args.setup.programs.items c.args.setup.tree c.args.setup.stdin.items in
     let begins = rw (c.deref.ensures.value, c.deref-in-loop-start.ensures.value) at c.in_ok-begin.ensures in
     let s = line_of c.start-item.result in
     record {
@@ -37,7 +39,7 @@ loop-start-preserved g c =
 pub returns-in_err-begin : goal.returns-in_err-begin
 returns-in_err-begin g c =
     let a = about_boot (kind_of c.args.chooser.now) c.args.setup.paths.items c.args.setup.programs.items in
-    let rest = rest_of c.args.setup.pages (kind_of c.args.chooser.now) c.args.setup.paths.items c.args.setup.programs.items in
+    let rest = rest_of c.args.setup.pages (kind_of c.args.chooser.now) c.args.setup.paths.items c.args.setup.programs.items c.args.setup.tree c.args.setup.stdin.items in
     let begins = rw (c.deref.ensures.value, c.deref-in-loop-start.ensures.value) at c.in_err-begin.ensures in
     let fails = left_fails c.deref-start-items.result.now c.loop-start.start-index c.start-item.result c.loop-start-test.true c.start-item.is a c.loop-start.parts c.begin.new.parts (all_started (empty_world rest) (lines_of c.deref-start-items.result.now)) c.loop-start.invariant.left c.in_err-begin.field-0.0 begins in
     let told = fails_as (all_started (empty_world rest) (lines_of c.deref-start-items.result.now)) c.from_residual-in_err-begin.result c.in_err-begin.field-0.0
@@ -47,7 +49,7 @@ returns-in_err-begin g c =
 pub invariant_of-result : goal.invariant_of-result
 invariant_of-result g c =
     let a = about_boot (kind_of c.args.chooser.now) c.args.setup.paths.items c.args.setup.programs.items in
-    let rest = rest_of c.args.setup.pages (kind_of c.args.chooser.now) c.args.setup.paths.items c.args.setup.programs.items in
+    let rest = rest_of c.args.setup.pages (kind_of c.args.chooser.now) c.args.setup.paths.items c.args.setup.programs.items c.args.setup.tree c.args.setup.stdin.items in
     let all = left_none c.deref-start-items.result.now c.loop-start.start-index (world_of a c.loop-start.parts) (all_started (empty_world rest) (lines_of c.deref-start-items.result.now))
     c.loop-start-test.false c.loop-start.invariant.left in
     let same : length (paths_of c.args.setup.paths.items) ≡ length c.args.setup.programs.items = length-map c.args.setup.paths.items (λ p. p.items) ∙ c.requires.paths in
@@ -60,7 +62,7 @@ invariant_of-result g c =
 pub returns : goal.returns
 returns g c =
     let a = about_boot (kind_of c.args.chooser.now) c.args.setup.paths.items c.args.setup.programs.items in
-    let rest = rest_of c.args.setup.pages (kind_of c.args.chooser.now) c.args.setup.paths.items c.args.setup.programs.items in
+    let rest = rest_of c.args.setup.pages (kind_of c.args.chooser.now) c.args.setup.paths.items c.args.setup.programs.items c.args.setup.tree c.args.setup.stdin.items in
     let all = left_none c.deref-start-items.result.now c.loop-start.start-index (world_of a c.loop-start.parts) (all_started (empty_world rest) (lines_of c.deref-start-items.result.now))
     c.loop-start-test.false c.loop-start.invariant.left in
     let kind = c.kind.ensures in
