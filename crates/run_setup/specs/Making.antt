@@ -1,21 +1,13 @@
 -- What the code brings in, as that of the definition.
-use Rattle.std.specs.Prelude.{◌≡◌, ◌⊎◌, ℕ, ◌≤◌, length, Result, Ok, Err}
-use Rattle.bflt_format.specs.declared.fault.FlatFault.TheVariants as flat
-use Rattle.elf2flt_tool.specs.declared.refusal.Refusal.TheVariants as refusal
+use Rattle.std.specs.Prelude.{◌≡◌, ◌⊎◌, ⊤, ℕ, ◌+◌, ◌≤◌, List, drop, length, Vec, Result, Ok, Err}
 use Rattle.call_log.specs.Programs.{paths_of}
 use Rattle.machine_world.specs.Programs.{programs_of}
+use Rattle.manifest_text.specs.Values.{Item}
 use Rattle.run_setup.specs.declared.fault.LineFault.{LineFault}
-use Rattle.run_setup.specs.declared.fault.LineFault.TheVariants as line
 use Rattle.run_setup.specs.declared.fault.FaultAt.{FaultAt as ToldAt}
-use Rattle.run_setup.specs.declared.bring.RunFiles.{RunFiles}
-use Rattle.run_setup.specs.Brought.{Brought, FaultAt}
-
--- out of memory, which is no fault of a line
-abbrev pub IsMemory : LineFault → Type 0
-IsMemory line.Memory = Unit {0}
-IsMemory (line.Elf refusal.Memory) = Unit {0}
-IsMemory (line.Flat flat.Memory) = Unit {0}
-IsMemory other = ⊥
+use Rattle.run_setup.specs.declared.bringing.RunFiles.{RunFiles}
+use Rattle.run_setup.specs.Brought.{Brought, FaultAt, nothing_brought, all_brought}
+use Rattle.run_setup.specs.Faults.{IsMemory}
 
 abbrev pub fault_value : ToldAt → FaultAt
 fault_value at = record { line = at.line; fault = at.fault }
@@ -23,10 +15,27 @@ fault_value at = record { line = at.line; fault = at.fault }
 abbrev pub brought_value : RunFiles → Brought
 brought_value f = record { tree = f.tree; programs = programs_of (paths_of f.paths.items) f.flats.items; stdin = f.stdin.items }
 
--- each program has its path, and no line brings in more than one
-pub record HasPaths (f : RunFiles) (items : ℕ) : Type 0 where
-  pub paths : length f.paths.items ≡ length f.flats.items
-  pub few : length f.flats.items ≤ items
+-- each program has its path
+abbrev pub HasPaths : RunFiles → Type 0
+HasPaths f = length f.paths.items ≡ length f.flats.items
+
+-- with what one line brought in, which is one program at most
+pub record Added (wanted : Result Brought LineFault) (old new : RunFiles) : Type 0 where
+  pub value : wanted ≡ Ok (brought_value new)
+  pub paths : HasPaths new
+  pub count : length new.flats.items ≤ length old.flats.items + 1
+
+-- that of one line, or its fault, or out of memory
+abbrev pub Brings : Result Brought LineFault → (old new : RunFiles) → Result ⊤ LineFault → Type 0
+Brings wanted old new (Ok done) = Added wanted old new
+Brings wanted old new (Err first) = IsMemory first ⊎ (wanted ≡ Err first)
+
+-- behind the first n lines
+pub record BroughtSoFar (items : List Item) (files : List (List ℕ)) (run : RunFiles) (n : ℕ) : Type 0 where
+  pub paths : HasPaths run
+  pub count : length run.flats.items ≤ n
+  pub within : n ≤ length items
+  pub goes_on : all_brought (drop n items) (drop n files) (brought_value run) ≡ all_brought items files nothing_brought
 
 -- those of all lines, or the first fault, or out of memory
 abbrev pub BringsAll : Result Brought FaultAt → Result RunFiles ToldAt → Type 0

@@ -6,6 +6,7 @@ ghost use Rattle.run_setup.specs.declared.fault.LineFault.TheVariants.{Memory};
 use bflt_format::FlatFault;
 use call_log::Errno;
 use elf2flt_tool::Refusal;
+use mem_files::FileFault;
 use std::alloc::{AllocError, AllocFailed};
 
 /// Why a line of a manifest is refused.
@@ -49,5 +50,18 @@ impl<T: Drop> From<AllocFailed<T>> for LineFault {
 
     fn from(_error: AllocFailed<T>) -> LineFault {
         LineFault::Memory
+    }
+}
+
+impl From<FileFault> for LineFault {
+    ghost use Rattle.run_setup.specs.Faults.{place_fault};
+
+    ghost from_gives = { λ why e. e ≡ place_fault why };
+
+    fn from(why: FileFault) -> LineFault {
+        match why {
+            FileFault::Errno(errno) => LineFault::Place(errno),
+            FileFault::Memory => LineFault::Memory,
+        }
     }
 }

@@ -4,8 +4,12 @@
 //! a host, the machine, and texts.
 #![tactic(auto)]
 
-mod bring;
+mod bringing;
 mod fault;
+mod program;
 
-pub use bring::{RunFiles, bring};
+pub use bringing::{RunFiles, bring};
 pub use fault::{FaultAt, LineFault};
+
+#[cfg(test)]
+mod tests;

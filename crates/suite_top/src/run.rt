@@ -119,7 +119,8 @@ fn run_brought<F: Fn(&[Run], u32) -> Option<usize>>(
 ) -> Result<Answer, AllocError>
     requires chooser { IsChooser F.pre F.post chooser.now }
     requires manifest { Reasonable (manifest_value manifest) }
-    requires paths { HasPaths files (length manifest.items.items) }
+    requires paths { HasPaths files }
+    requires few { length files.flats.items ≤ length manifest.items.items }
     ensures { OrMemory (brought_ending log (kind_of chooser.now) (manifest_value manifest) (Ok (brought_value files))) (ending_of result) }
 {
     let setup = Setup {

@@ -1,0 +1,14 @@
+-- OriginalsSame: the program of an ELF file is that of its flat file.
+-- MadePrograms: the program of one line.
+-- OneLine: what one line brings in, where the tree made it or refused it.
+-- Opened: a list opened at one place.
+-- Pairs: a loop over lines, each with its file.
+-- AllLines: the lines one after the other.
+-- Samples: what a few lines bring in.
+pub mod OriginalsSame
+pub mod MadePrograms
+pub mod OneLine
+pub mod Opened
+pub mod Pairs
+pub mod AllLines
+pub mod Samples

@@ -1,0 +1,114 @@
+-- What one line brings in, where the tree made it or refused it.
+use Rattle.std.proofs.Common.{◌≡◌, ℕ, ◌+◌, ◌≤◌, Vec, List, [], ◌∷◌, ◌++◌, length, Option, Some, None, Result, Ok, Err, refl, sym, ap, subst, ◌∙◌, arith, inl, inr, length-append}
+use Rattle.std.specs.Prelude.{◌⊎◌, ⊤}
+use Rattle.std.specs.Result.{IsErr, IsErrAnd}
+use Rattle.std.proofs.lemmas.List.{length-map, map-append}
+use Rattle.bflt_format.specs.Values.{Values}
+use Rattle.call_log.specs.declared.errno.Errno as log
+use Rattle.call_log.specs.Programs.{paths_of}
+use Rattle.mem_files.specs.declared.fault.FileFault.{FileFault}
+use Rattle.mem_files.specs.declared.fault.FileFault.TheVariants.{Errno, Memory}
+use Rattle.mem_files.specs.Inodes.{Inodes}
+use Rattle.mem_files.specs.Calls.{Makes}
+use Rattle.mem_files.specs.Changes.{with_file}
+use Rattle.flat_loader.specs.Original.{flat_original}
+use Rattle.machine_world.specs.World.{Program}
+use Rattle.machine_world.specs.Programs.{programs_of}
+use Rattle.run_setup.specs.declared.fault.LineFault.{LineFault}
+use Rattle.run_setup.specs.declared.fault.LineFault.TheVariants as line
+use Rattle.run_setup.specs.declared.bringing.RunFiles.{RunFiles}
+use Rattle.run_setup.specs.Brought.{Brought, or_errno, with_tree, with_program}
+use Rattle.run_setup.specs.Faults.{IsMemory, place_fault}
+use Rattle.run_setup.specs.Making.{HasPaths, brought_value, Added, Brings}
+
+-- ---- the tree's answer
+
+made_is : (wanted : Result Inodes log.Errno) (old new : Inodes) (id : ℕ) → Makes wanted old new (Ok id) → wanted ≡ Ok new
+made_is (Ok now) old new id made = ap (λ (ns : Inodes). Ok ns) (sym made.0)
+made_is (Err first) old new id made = absurd made
+
+pub refused : (wanted : Result Inodes log.Errno) (old new : Inodes) (why : FileFault) → Makes wanted old new (Err why) → (e : LineFault) → e ≡ place_fault why
+    → (with : Inodes → Brought) → IsMemory e ⊎ (or_errno wanted with ≡ Err e)
+refused (Ok now) old new (Errno errno) made e is with = absurd made
+refused (Ok now) old new Memory made e is with = inl (subst IsMemory (sym is) tt)
+refused (Err first) old new (Errno errno) made e is with = inr (ap (λ (x : log.Errno). Err (line.Place x)) (sym made.0) ∙ ap (λ (x : LineFault). Err x) (sym is))
+refused (Err first) old new Memory made e is with = inl (subst IsMemory (sym is) tt)
+
+-- ---- a file or a folder
+
+pub tree_added : (old new : RunFiles) → HasPaths old → (wanted : Result Inodes log.Errno) (id : ℕ) → Makes wanted old.tree new.tree (Ok id)
+    → new.paths ≡ old.paths → new.flats ≡ old.flats → new.stdin ≡ old.stdin → Added (or_errno wanted (with_tree (brought_value old))) old new
+tree_added old new has wanted id made paths flats stdin = record {
+  value =
+      ap (λ (r : Result Inodes log.Errno). or_errno r (with_tree (brought_value old))) (made_is wanted old.tree new.tree id made)
+      ∙ ap (λ ps. Ok (record { tree = new.tree; programs = programs_of (paths_of ps.items) old.flats.items; stdin = old.stdin.items })) (sym paths)
+      ∙ ap (λ fs. Ok (record { tree = new.tree; programs = programs_of (paths_of new.paths.items) fs.items; stdin = old.stdin.items })) (sym flats)
+      ∙ ap (λ bs. Ok (record { tree = new.tree; programs = programs_of (paths_of new.paths.items) new.flats.items; stdin = bs.items })) (sym stdin);
+  paths = ap (λ ps. length ps.items) paths ∙ has ∙ ap (λ fs. length fs.items) (sym flats);
+  count = rw flats (omega arith);
+}
+
+-- ---- a program
+
+length_programs : (paths : List (List ℕ)) (flats : List Values) → length paths ≡ length flats → length (programs_of paths flats) ≡ length flats
+length_programs [] [] same = refl
+length_programs [] (f ∷ flats) same = absurd (omega (arith, same))
+length_programs (p ∷ paths) [] same = absurd (omega (arith, same))
+length_programs (p ∷ paths) (f ∷ flats) same = omega (arith, length_programs paths flats (omega (arith, same)))
+
+programs_more : (paths : List (List ℕ)) (flats : List Values) (path : List ℕ) (f : Values) → length paths ≡ length flats
+    → programs_of (paths ++ path ∷ []) (flats ++ f ∷ []) ≡ programs_of paths flats ++ record { path = path; original = flat_original f } ∷ []
+programs_more [] [] path f same = refl
+programs_more [] (g ∷ flats) path f same = absurd (omega (arith, same))
+programs_more (p ∷ paths) [] path f same = absurd (omega (arith, same))
+programs_more (p ∷ paths) (g ∷ flats) path f same =
+    ap (λ (ps : List Program). record { path = p; original = flat_original g } ∷ ps) (programs_more paths flats path f (omega (arith, same)))
+
+pub paths_more : {Y : Type 0} (olds news : List (Vec ℕ Y)) (v : Vec ℕ Y) (path : List ℕ) → news ≡ olds ++ v ∷ [] → v.items ≡ path → paths_of news ≡ paths_of olds ++ path ∷ []
+paths_more olds news v path are is = ap paths_of are ∙ map-append (λ p. p.items) olds (v ∷ []) ∙ ap (λ p. paths_of olds ++ p ∷ []) is
+
+module _ (old : RunFiles) (has : HasPaths old) (path : List ℕ) (flat : Values) (bytes : List ℕ) (number : ℕ) (numbered : number ≡ length old.flats.items) where
+  abbrev p : Program
+  p = record { path = path; original = flat_original flat }
+
+  same_length : length (paths_of old.paths.items) ≡ length old.flats.items
+  same_length = length-map old.paths.items (λ path. path.items) ∙ has
+
+  -- the number is how many programs there are
+  by_number : with_program (brought_value old) path (record { original = flat_original flat; bytes = bytes })
+      ≡ or_errno (with_file old.tree path bytes (Some number)) (λ (tree : Inodes). record { tree = tree; programs = (brought_value old).programs ++ p ∷ []; stdin = old.stdin.items })
+  by_number =
+      ap (λ (n : ℕ). or_errno (with_file old.tree path bytes (Some n)) (λ (tree : Inodes). record { tree = tree; programs = (brought_value old).programs ++ p ∷ []; stdin = old.stdin.items }))
+      (length_programs (paths_of old.paths.items) old.flats.items same_length ∙ sym numbered)
+
+  pub program_refused : (beside : RunFiles) (new : Inodes) (why : FileFault) → Makes (with_file old.tree path bytes (Some number)) old.tree new (Err why) → (r : Result ⊤ LineFault) → IsErr r → IsErrAnd r (λ e. e ≡ place_fault why)
+      → Brings (with_program (brought_value old) path (record { original = flat_original flat; bytes = bytes })) old beside r
+  program_refused beside new why made (Ok done) err is = absurd cc
+  program_refused beside new why made (Err e) err is =
+      elim (refused (with_file old.tree path bytes (Some number)) old.tree new why made e is (λ (tree : Inodes). record { tree = tree; programs = (brought_value old).programs ++ p ∷ []; stdin = old.stdin.items })) [
+        | inl memory ↦ inl memory
+        | inr fault ↦ inr (by_number ∙ fault)
+      ]
+
+  pub program_added : (new : RunFiles) (id : ℕ) → Makes (with_file old.tree path bytes (Some number)) old.tree new.tree (Ok id)
+      → paths_of new.paths.items ≡ paths_of old.paths.items ++ path ∷ [] → new.flats.items ≡ old.flats.items ++ flat ∷ [] → new.stdin ≡ old.stdin
+      → Added (with_program (brought_value old) path (record { original = flat_original flat; bytes = bytes })) old new
+  program_added new id made paths flats stdin =
+      let programs : (brought_value new).programs ≡ (brought_value old).programs ++ p ∷ [] =
+      ap (λ (ps : List (List ℕ)). programs_of ps new.flats.items) paths
+      ∙ ap (programs_of (paths_of old.paths.items ++ path ∷ [])) flats
+      ∙ programs_more (paths_of old.paths.items) old.flats.items path flat same_length in
+      let new_len = length-map new.paths.items (λ path. path.items) in
+      let len_paths = ap (λ (ps : List (List ℕ)). length ps) paths ∙ length-append (paths_of old.paths.items) (path ∷ []) in
+      let len_flats = ap (λ (fs : List Values). length fs) flats ∙ length-append old.flats.items (flat ∷ []) in
+      let same = same_length in
+      record {
+        value =
+            by_number
+            ∙ ap (λ (r : Result Inodes log.Errno). or_errno r (λ (tree : Inodes). record { tree = tree; programs = (brought_value old).programs ++ p ∷ []; stdin = old.stdin.items }))
+            (made_is (with_file old.tree path bytes (Some number)) old.tree new.tree id made)
+            ∙ ap (λ (ps : List Program). Ok (record { tree = new.tree; programs = ps; stdin = old.stdin.items })) (sym programs)
+            ∙ ap (λ bs. Ok (record { tree = new.tree; programs = (brought_value new).programs; stdin = bs.items })) (sym stdin);
+        paths = omega (arith, len_paths, new_len, len_flats, same);
+        count = omega (arith, len_flats);
+      }
