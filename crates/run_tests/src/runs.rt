@@ -2,6 +2,7 @@
 
 mod calls;
 mod examples;
+mod files;
 mod placements;
 mod programs;
 mod refusals;

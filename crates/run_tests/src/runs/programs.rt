@@ -26,6 +26,11 @@ pub fn flat_file(alloc: Global, program: &Program) -> Result<Vec<u8>, AllocError
         body.extend_from_slice(&word.to_le_bytes())?;
     }
     body.extend_from_slice(program.bytes)?;
+    image_file(alloc, &body, program)
+}
+
+/// The flat file of an image, with a program's pointers and two words of its header.
+pub fn image_file(alloc: Global, body: &[u8], program: &Program) -> Result<Vec<u8>, AllocError> {
     let size = word_of(body.len());
     let end = CODE_AT.wrapping_add(size);
     let header = [
@@ -45,7 +50,7 @@ pub fn flat_file(alloc: Global, program: &Program) -> Result<Vec<u8>, AllocError
         file.extend_from_slice(&u32::to_be_bytes(word))?;
     }
     file.resize(64, 0)?;
-    file.extend_from_slice(&body)?;
+    file.extend_from_slice(body)?;
     for record in program.records {
         file.extend_from_slice(&record.to_be_bytes())?;
     }
@@ -53,7 +58,7 @@ pub fn flat_file(alloc: Global, program: &Program) -> Result<Vec<u8>, AllocError
 }
 
 /// A program without code; the others have code of their own.
-const EMPTY: Program = Program {
+pub const EMPTY: Program = Program {
     code: &[],
     bytes: &[],
     records: &[],

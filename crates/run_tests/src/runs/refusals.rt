@@ -30,10 +30,40 @@ const CASES: &[Case] = &[
         ..REFUSED
     },
     Case {
-        name: "a line of files, which there aren't yet",
-        files: &[],
-        manifest: "file /a a\n",
-        report: "refused: manifest line 1 2 UnknownWord\n",
+        name: "a file in a folder that isn't there",
+        files: &[HI_FILE],
+        manifest: "flat /a hi.flt\nfile /d/a hi.flt\nstart /a\nquanta 0:9\n",
+        report: "refused: line 2 errno 2\n",
+        ..REFUSED
+    },
+    Case {
+        name: "a folder in a file",
+        files: &[HI_FILE],
+        manifest: "flat /a hi.flt\ndir /a/b\nstart /a\nquanta 0:9\n",
+        report: "refused: line 2 errno 20\n",
+        ..REFUSED
+    },
+    Case {
+        name: "the console's input twice",
+        files: &[HI_FILE],
+        manifest: "stdin hi.flt\nstdin hi.flt\n",
+        report: "refused: manifest line 2 6 Repeated\n",
+        ..REFUSED
+    },
+    Case {
+        name: "the console's input isn't there",
+        files: &[HI_FILE],
+        manifest: "dir /d\nflat /a hi.flt\nstdin in\nstart /a\nquanta 0:9\n",
+        options: &[],
+        status: Status::HostRead,
+        out: "",
+        report: "host: cannot read in\n",
+    },
+    Case {
+        name: "a plain file isn't started",
+        files: &[HI_FILE],
+        manifest: "file /a hi.flt\nstart /a\nquanta 0:9\n",
+        report: "refused: line 2 start\n",
         ..REFUSED
     },
     Case {
