@@ -15,3 +15,6 @@ mod writing;
 pub use call::Call;
 pub use changes::change;
 pub use output::{Output, Then, output};
+
+#[cfg(test)]
+mod change_tests;
