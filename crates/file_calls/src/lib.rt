@@ -22,3 +22,6 @@ pub use call::Call;
 pub use changes::change;
 pub use outcome::{Outcome, Then};
 pub use outputs::output;
+
+#[cfg(test)]
+mod change_tests;
