@@ -8,7 +8,7 @@
 -- The calls that give bytes:
 -- Asked        what is asked, and what is made
 -- Sought       llseek: each answer is that of the row
--- Transferred  read and readv: each answer is that of the row, and how pieces are filled
+-- Transferred  read and readv: what they read into, and their pieces
 -- Listed       getdents64: records, and how many of them fit
 -- Numbered     the row of each number
 pub mod Faults

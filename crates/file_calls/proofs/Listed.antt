@@ -1,5 +1,5 @@
 -- getdents64: records, and how many of them fit.
-use Rattle.std.proofs.Common.{◌≡◌, ℕ, zero, suc, ◌+◌, ◌-◌, ◌<◌, ◌≤◌, ◌⊎◌, inl, inr, Bool, true, false, min, List, [], ◌∷◌, ◌++◌, length, take, drop, replicate, Some, None, Result, Ok, Err, refl, sym, ap, ◌∙◌, arith, append_assoc, length-append, append-nil, add-zero, add-one}
+use Rattle.std.proofs.Common.{◌≡◌, ℕ, zero, suc, ◌+◌, ◌-◌, ◌<◌, ◌≤◌, ◌⊎◌, inl, inr, Bool, true, false, min, List, [], ◌∷◌, ◌++◌, length, take, drop, replicate, Some, None, Result, Ok, Err, refl, sym, ap, ◌∙◌, arith, append_assoc, length-append, add-one}
 use Rattle.std.specs.Prelude.{IfOk, nat_le, nat_lt, slice_get, slice_index}
 use Rattle.std.proofs.lemmas.Bool.{cases_lt, leb-true}
 use Rattle.std.proofs.lemmas.List.{drop_all, take-replicate, length-replicate}
@@ -10,7 +10,7 @@ use Rattle.byte_words.proofs.LowestFirst.{little_bytes_are}
 use Rattle.byte_words.specs.ByteMap.{little_bytes}
 use Rattle.mem_files.specs.declared.node.Node.TheVariants.{Dir, File}
 use Rattle.mem_files.specs.Inodes.{Entry, Inodes, Content, file, folder, content_in, inode_at, kind_of, kind_in, size_of, size_in, entries_of, entries_in}
-use Rattle.call_log.specs.declared.errno.Errno.TheVariants.{Ebadf, Einval, Enotdir}
+use Rattle.call_log.specs.declared.errno.Errno.TheVariants.{Ebadf, Enotdir}
 use Rattle.fd_tables.specs.declared.view.View.{View}
 use Rattle.fd_tables.specs.declared.view.Target.TheVariants.{Console, Node}
 use Rattle.fd_tables.specs.Files.{OpenFiles, view}
@@ -39,14 +39,8 @@ size_of_folder ns id is = by (content_in (inode_at ns id)) is
 abbrev pub followed : Listing → Listing → Listing
 followed l m = record { bytes = l.bytes ++ m.bytes; count = l.count + m.count }
 
-pub followed_none : (l : Listing) → followed l nothing_listed ≡ l
-followed_none l = λ i. record { bytes = append-nil l.bytes i; count = add-zero l.count i }
-
 le_false : (m n : ℕ) → n < m → nat_le m n ≡ false
 le_false m n h = grind (arith, nat_tests)
-
-le_true : (m n : ℕ) → m ≤ n → nat_le m n ≡ true
-le_true m n h = grind (arith, nat_tests)
 
 -- what is left from a place on
 from_place : (es : List Entry) (k : ℕ) (e : Entry) → Some e ≡ slice_get es k → drop k es ≡ e ∷ drop (suc k) es
@@ -68,20 +62,6 @@ listing_ends ns room at left none = ap (listing ns room at) none
 
 pub listing_stops : (ns : Inodes) (room at : ℕ) (e : Entry) (es left : List Entry) → left ≡ e ∷ es → room < record_len (length e.name) → listing ns room at left ≡ nothing_listed
 listing_stops ns room at e es left is long = rw (is, le_false (record_len (length e.name)) room long) refl
-
--- one record more
-pub followed_more : (ns : Inodes) (l m : Listing) (room at : ℕ) (e : Entry) (es left : List Entry) → left ≡ e ∷ es → record_len (length e.name) ≤ room →
-    m.bytes ≡ l.bytes ++ dirent ns (at + 1) e → m.count ≡ l.count + 1 →
-    followed m (listing ns (room - record_len (length e.name)) (at + 1) es) ≡ followed l (listing ns room at left)
-followed_more ns l m room at e es left is fits bytes count =
-    rw (is, le_true (record_len (length e.name)) room fits)
-    (λ i. record { bytes = (ap (λ bs. bs ++ rest.bytes) bytes ∙ append_assoc l.bytes (dirent ns (at + 1) e) rest.bytes) i; count = more i })
-  where
-    rest : Listing
-    rest = listing ns (room - record_len (length e.name)) (at + 1) es
-
-    more : m.count + rest.count ≡ l.count + (rest.count + 1)
-    more = omega arith
 
 pub is_short_there : (room len : ℕ) (e : Entry) (es left : List Entry) → left ≡ e ∷ es → len ≡ record_len (length e.name) → nat_lt room len ≡ is_short room left
 is_short_there room len e es left is long = ap (nat_lt room) long ∙ sym (ap (is_short room) is)
@@ -137,14 +117,6 @@ front_fits ns room from es l m is =
     let all : length (l.bytes ++ m.bytes) ≡ length (listing ns room from es).bytes = ap (λ (n : Listing). length n.bytes) is in
     omega (arith, all, length-append l.bytes m.bytes, listing_fits ns room from es)
 
-pub listing_count : (ns : Inodes) (room at : ℕ) (es : List Entry) → (listing ns room at es).count ≤ length es
-listing_count ns room at [] = omega arith
-listing_count ns room at (e ∷ es) = by (listing_count ns (room - record_len (length e.name)) (at + 1) es) (nat_le (record_len (length e.name)) room) refl
-  where
-    by : (listing ns (room - record_len (length e.name)) (at + 1) es).count ≤ length es → (b : Bool) → nat_le (record_len (length e.name)) room ≡ b → (listing ns room at (e ∷ es)).count ≤ length (e ∷ es)
-    by less true is = rw is (omega arith)
-    by less false is = rw is (omega arith)
-
 -- a position past the end is as one at the end
 pub from_least : (es : List Entry) (at from : ℕ) (A : Type 0) (f : ℕ → List Entry → A) → ((n : ℕ) → f n [] ≡ f at []) → from ≡ min at (length es) → f from (drop from es) ≡ f at (drop at es)
 from_least es at from A f alike is = by (cases_lt (length es) at)
@@ -156,9 +128,6 @@ from_least es at from A f alike is = by (cases_lt (length es) at)
 -- ---- the rows
 
 module _ (a : Ask) (tree : Inodes) (same_tree : a.rest.tree ≡ tree) (v : View) (left : List Entry) (room : ℕ) where
-  pub list_short : is_short room left ≡ true → list_row a v left room ≡ refuses a Einval
-  list_short short = rw short refl
-
   pub list_gives : (call : Call) → MadeBy call a → (at : ℕ) → v.at ≡ at → (l : Listing) → is_short room left ≡ false → l ≡ listing tree room at left → (o : Outcome) →
       o.value ≡ length l.bytes → written_of o ≡ written_at (slice_index call.args 1) l.bytes → o.then ≡ Move (slice_index call.args 0) (at + l.count) →
       Gives a (list_row a v left room) o
