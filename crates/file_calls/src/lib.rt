@@ -4,9 +4,9 @@
 #![tactic(auto)]
 
 mod call;
-mod change;
+mod changing;
 mod output;
 
 pub use call::Call;
-pub use change::change;
-pub use output::{Output, Then, output};
+pub use changing::change;
+pub use output::{Output, Then, give};

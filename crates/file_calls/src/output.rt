@@ -1,9 +1,9 @@
 //! The calls on files that give bytes.
 
-ghost use Rattle.std.specs.Prelude.{IfOk};
+ghost use Rattle.std.specs.Prelude.{◌≡◌, IfOk, All};
 ghost use Rattle.machine_world.specs.Asks.{Ask};
 ghost use Rattle.machine_world.specs.Rows.{row};
-ghost use Rattle.file_calls.specs.Calls.{IsOutput, MadeBy, IsRest, Gives};
+ghost use Rattle.file_calls.specs.Calls.{IsOutput, MadeBy, CanFollow, IsRange, Gives};
 
 use crate::call::Call;
 use call_log::Got;
@@ -32,9 +32,11 @@ pub struct Output {
 }
 
 /// What a call on files gives that changes nothing before: getdents64, llseek, read or readv. A refusal is a reply without bytes.
-pub fn output(alloc: Global, tree: &Tree, files: &Files, call: &Call) -> Result<Output, AllocError>
+pub fn give(alloc: Global, tree: &Tree, files: &Files, call: &Call) -> Result<Output, AllocError>
     requires { IsOutput call.now.number }
-    ensures { IfOk result (λ o. (a : Ask) → MadeBy call.now a → a.rest.tree ≡ tree.now → a.rest.files ≡ files.now.open_files → Gives a (row a) o) }
+    ensures gives { IfOk result (λ o. (a : Ask) → MadeBy call.now a → a.rest.tree ≡ tree.now → a.rest.files ≡ files.now.open_files → Gives a (row a) o) }
+    ensures follows { IfOk result (λ o. CanFollow o.then files.now.open_files) }
+    ensures ranges { IfOk result (λ o. All IsRange o.got.items) }
 {
     Err(AllocError)
 }

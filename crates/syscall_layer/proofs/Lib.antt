@@ -1,6 +1,8 @@
 -- Begins  the parts before the first program
 -- Worlds  the world of the parts, where one space or one process is found, changed or taken out
 -- ReadRanges  what a call reads in one memory, range by range
+-- QuietRows  the calls that change files give no bytes
+-- Puts      ranges written into memory, one behind the other
 -- CallRows  the row of each call, and the effect that the code gives it
 -- Runs      a process that runs in its space, and the call at which it stands
 -- Stays     what holds of the parts stays so where one process and its space change
@@ -21,6 +23,8 @@ pub mod Gone
 pub mod FreePages
 mod Started
 mod Boots
+pub mod QuietRows
+pub mod Puts
 pub mod CallRows
 pub mod Runs
 pub mod Stays

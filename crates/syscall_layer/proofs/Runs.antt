@@ -84,10 +84,11 @@ module _ (k : Kept) (pid : ℕ) (e : Entry Task) (h : Held) (runs : RunsIn k pid
   sent_is = sent_same _ _ _ _ _ _ (sym same_number) (sym same_args) (ap (private_bytes k.mem) (sym same_space))
 
   pub call_is : (parent : ℕ) → parent_at k.procs pid ≡ Some parent → (bytes : Vec ℕ _) → sent (slice_index t.regs.x 17) args (private_bytes k.mem g) ≡ Ok bytes.items →
-      IsCall k.mem e h (record { pid = pid; parent = parent; number = slice_index t.regs.x 17; args = args; sent = bytes })
+      IsCall k.mem e h (record { pid = pid; parent = parent; table = t.table; number = slice_index t.regs.x 17; args = args; sent = bytes })
   call_is parent is bytes reads = record {
     pid = pid_found k.procs pid e runs.lives;
     parent = parent_found k.procs pid e runs.lives parent is;
+    table = ap (λ (x : Task). x.table) same_task;
     number = same_number;
     args = same_args;
     sent = sent_is ∙ reads;
