@@ -129,6 +129,15 @@ same_entry : (p q n m : ℕ) (xs ys : List ℕ) (bytes : List ℕ) (value : ℕ)
     call_note (record { pid = p; call = n; args = xs; sent = bytes; reply = value; got = got }) ≡ call_note (record { pid = q; call = m; args = ys; sent = bytes; reply = value; got = got })
 same_entry p q n m xs ys bytes value got e f g = cc
 
+-- the files of the call are those of the parts
+pub files_in : (a : About) (k : Kept) (e : Entry Task) (h : Held) (call : Call) {files : OpenFiles} → k.files ≡ files → (ask_in a k e h call).rest.files ≡ files
+unfolding world_of
+files_in a k e h call is = is
+
+pub tree_in : (a : About) (k : Kept) (e : Entry Task) (h : Held) (call : Call) {tree : Inodes} → k.tree ≡ tree → (ask_in a k e h call).rest.tree ≡ tree
+unfolding world_of
+tree_in a k e h call is = is
+
 module _ (a : About) (k : Kept) (e : Entry Task) (h : Held) (call : Call) (runs : RunsIn k call.pid e h) (is : IsCall k.mem e h call) where
   -- a call without bytes weighs what it sends
   weighs : (bytes : List ℕ) (b : Bool) → has_room k.notes (length bytes) ≡ b → has_room k.notes (weight_of bytes []) ≡ b
@@ -203,7 +212,7 @@ module _ (a : About) (k : Kept) (e : Entry Task) (h : Held) (call : Call) (runs 
     effect_serves room =
         subst (λ (r : Reply). Answered a (answered (world_of a k) ask (replies r)) k (after_reply k e h call r k.mem) call.pid (served_by f)) (sym effect_shape)
         (reply_serves effect_reply.value [] k.tree k.files k.console effect_reply.brk effect_reply.over k.mem refl (λ j o other there. refl)
-        (weighs call.sent.items true room) (served_by f) (went_by f ask))
+        (weighs call.sent.items true room) (served_by f) (λ t n. went_by f ask t n call.pid))
 
     pub effect_full : has_room k.notes (length call.sent.items) ≡ false → Answered a (answered (world_of a k) ask (replies effect_reply)) k k call.pid LogFull
     effect_full room =
@@ -376,7 +385,7 @@ module _ (a : About) (k : Kept) (pid : ℕ) (e : Entry Task) (h : Held) (runs : 
 
 -- the same of the parts that are left, where the end was noted before the process went
 pub end_done : (a : About) (k : Kept) (pid signal : ℕ) → Regular k → Lives k.procs pid → (new : Kept) (notes : List Note) → notes ≡ end_note pid (Signal signal) ∷ k.notes →
-    ((e : Entry Task) → (h : Held) → RunsIn (record k { notes = notes }) pid e h → new ≡ gone (record k { notes = notes }) pid e.value.space h) → Died a (died (world_of a k) pid signal) new pid
+    ((e : Entry Task) → (h : Held) → RunsIn (record k { notes = notes }) pid e h → new ≡ gone (record k { notes = notes }) pid e h) → Died a (died (world_of a k) pid signal) new pid
 end_done a k pid signal regular lives new notes is_noted departs =
     let r = runs_in k pid regular lives in
     let e : Entry Task = r.0 in

@@ -8,7 +8,6 @@ use Rattle.fd_tables.specs.Changes.{closed, duplicated, replaced}
 use Rattle.fd_tables.specs.declared.view.View.{View}
 use Rattle.fd_tables.specs.declared.view.Target.{Target}
 use Rattle.fd_tables.specs.declared.view.Target.TheVariants.{Console, Node as a_node}
-use Rattle.machine_world.specs.World.{Rest}
 use Rattle.machine_world.specs.Asks.{Ask, arg, Row, replies, waits, gives, refuses, unless, with_ok, view_of, with_view, free_of, with_free, with_files, with_storage, storage_of}
 use Rattle.machine_world.specs.Descriptors.{table_of, close_on_exec, dup_row, dup3_row, close_row}
 use Rattle.machine_world.specs.Transfers.{write_position, after_write, target_write, write_row, writev_row}
@@ -42,9 +41,6 @@ module _ (a : Ask) where
   quiet_free (Some fd) rows each = each fd
   quiet_free None rows each = refl
 
-no_bytes : (a : Ask) (value : ℕ) (rest : Rest) → Quiet (gives a value [] rest)
-no_bytes a value rest = refl
-
 quiet_if : (b : Bool) (x y : Row) → Quiet x → Quiet y → Quiet (if b then x else y)
 quiet_if true x y quiet other = quiet
 quiet_if false x y other quiet = quiet
@@ -63,7 +59,9 @@ quiet_dup3 a =
     quiet_if (not (arg a 2 == 0 || arg a 2 == close_on_exec)) (refuses a Einval)
     (unless a (dup3_fault (view_of a (arg a 0)) (arg a 0) (arg a 1))
     (gives a (arg a 1) [] (with_storage a.rest (replaced (storage_of a.rest) (table_of a) (arg a 0) (arg a 1) (arg a 2 == close_on_exec)))))
-    refl (quiet_unless a (dup3_fault (view_of a (arg a 0)) (arg a 0) (arg a 1)) _ (no_bytes a (arg a 1) _))
+    refl
+    (quiet_unless a (dup3_fault (view_of a (arg a 0)) (arg a 0) (arg a 1))
+    (gives a (arg a 1) [] (with_storage a.rest (replaced (storage_of a.rest) (table_of a) (arg a 0) (arg a 1) (arg a 2 == close_on_exec)))) refl)
 
 quiet_close : (a : Ask) → Quiet (close_row a)
 unfolding close_row

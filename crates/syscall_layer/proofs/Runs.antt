@@ -58,6 +58,12 @@ has_space k pid t regular lives is =
 pub memory_fits : (k : Kept) (i : ℕ) (h : Held) → Regular k → slice_get k.spaces i ≡ Some (Some h) → length k.mem ≡ 4096 * h.pages
 memory_fits k i h regular there = regular.memory ∙ ap (λ n. 4096 * n) (sym (regular.pages i h there))
 
+-- the space of a process is the one that stands at its number
+pub home_is : (k : Kept) (pid : ℕ) (e : Entry Task) (h : Held) → RunsIn k pid e h → (t : Task) → value_at k.procs pid ≡ Some t → (g : Held) → slice_get k.spaces t.space ≡ Some (Some g) → g ≡ h
+home_is k pid e h runs t kept g home =
+    let both : Some (Some g) ≡ Some (Some h) = sym home ∙ ap (λ (x : Task). slice_get k.spaces x.space) (value_found k.procs pid e runs.lives t kept) ∙ runs.home in
+    same_Some g h (same_Some (Some g) (Some h) both)
+
 -- ---- the call
 
 sent_same : (n m : ℕ) (xs ys : List ℕ) (b c : Bytes) → n ≡ m → xs ≡ ys → b ≡ c → sent n xs b ≡ sent m ys c
@@ -69,9 +75,7 @@ module _ (k : Kept) (pid : ℕ) (e : Entry Task) (h : Held) (runs : RunsIn k pid
   same_task = value_found k.procs pid e runs.lives t kept
 
   same_space : g ≡ h
-  same_space =
-      let both : Some (Some g) ≡ Some (Some h) = sym home ∙ ap (λ (x : Task). slice_get k.spaces x.space) same_task ∙ runs.home in
-      same_Some g h (same_Some (Some g) (Some h) both)
+  same_space = home_is k pid e h runs t kept g home
 
   same_number : slice_index t.regs.x 17 ≡ number_of e.value.regs
   unfolding register

@@ -1,7 +1,7 @@
 //! The bytes that a system call reads.
 
 ghost use Rattle.std.specs.Prelude.{◌≡◌, ◌*◌, ◌≤◌, IfOk, length};
-ghost use Rattle.call_log.specs.Sent.{read_span, read_spans, piece_spans, data_spans, write_sent, writev_sent, readv_sent, path_sent, sent};
+ghost use Rattle.call_log.specs.Sent.{read_span, read_spans, piece_spans, data_spans, write_sent, writev_sent, readv_sent, path_sent, has_path, sent};
 ghost use Rattle.syscall_layer.specs.Stands.{private_bytes};
 ghost use Rattle.syscall_layer.specs.Reading.{Reads, ReadsByte, Appends};
 
@@ -188,8 +188,14 @@ fn read_readv(
     read_pieces(alloc, mem, space, at, count)
 }
 
+/// mkdirat, unlinkat and openat.
+fn has_path(number: u32) -> bool
+    ensures { result ≡ has_path number }
+{
+    number == 34 || number == 35 || number == 56
+}
+
 /// The bytes that the call of this number reads, in the order read.
-#[tactic(auto, unfolding(call_log::specs::Sent::sent))]
 pub fn read_sent(
     alloc: Global,
     mem: &PhysMem,
@@ -204,7 +210,7 @@ pub fn read_sent(
         64 => read_write(alloc, mem, space, args[1], args[2]),
         66 => read_writev(alloc, mem, space, args[1], args[2]),
         65 => read_readv(alloc, mem, space, args[1], args[2]),
-        34 | 35 | 56 => read_path(alloc, mem, space, args[1]),
+        number if has_path(number) => read_path(alloc, mem, space, args[1]),
         _ => Ok(Vec::new(alloc)),
     }
 }

@@ -28,4 +28,4 @@ returns-in_default-2 c = λ a made files.
     let n124 : n ≢ 124 = omega arith in
     let n173 : n ≢ 173 = omega arith in
     let n214 : n ≢ 214 = omega arith in
-    row_other c.args.call.now a made c.requires.change c.requires.output c.refusal-in_default-2.result n29 (sym c.asks_pid.ensures ∙ c.if-asks_pid.false) n124 n173 n214 c.refusal-in_default-2.ensures
+    row_other c.args.call.now a made c.requires.change c.requires.output c.refusal.result n29 (sym c.asks_pid.ensures ∙ c.if-asks_pid.false) n124 n173 n214 c.refusal.ensures
