@@ -7,7 +7,7 @@ use Rattle.fd_tables.specs.declared.view.View.{View}
 use Rattle.fd_tables.specs.declared.view.Way.{Way}
 use Rattle.fd_tables.specs.declared.fault.FdFault.{FdFault}
 use Rattle.fd_tables.specs.declared.fault.FdFault.TheVariants.{Errno, Memory}
-use Rattle.fd_tables.specs.Files.{most_descriptors, OpenFiles, view, lowest_free}
+use Rattle.fd_tables.specs.Files.{most_descriptors, OpenFiles}
 use Rattle.fd_tables.specs.Changes.{Storage, opened, duplicated}
 
 -- `view`: EBADF where the descriptor isn't open
@@ -23,6 +23,12 @@ Opens (Some free) old t node way new (Err Memory) = new ≡ old
 Opens None old t node way new (Ok fd) = ⊥
 Opens None old t node way new (Err (Errno errno)) = (errno ≡ Emfile) × (new ≡ old)
 Opens None old t node way new (Err Memory) = new ≡ old
+
+-- a fault for another cause than memory, or none
+abbrev pub IsNotMemory : Result ℕ FdFault → Type 0
+IsNotMemory (Ok fd) = ⊤
+IsNotMemory (Err (Errno errno)) = ⊤
+IsNotMemory (Err Memory) = ⊥
 
 -- `dup`: EBADF where the descriptor isn't open, and then EMFILE where none is free
 abbrev pub dup_number : Option View → Option ℕ → Result ℕ log.Errno

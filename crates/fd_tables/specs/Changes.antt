@@ -15,6 +15,9 @@ pub record Storage : Type 0 where
   pub nodes : Inodes
   pub files : OpenFiles
 
+abbrev pub storage : Inodes → OpenFiles → Storage
+storage nodes files = record { nodes = nodes; files = files }
+
 -- ---- parts
 
 -- what stands at a number becomes what f makes of it; where nothing stands nothing changes
@@ -61,13 +64,18 @@ closed_descriptor s t fd (Some d) = dropped (record s { files = with_descriptor 
 unfoldable pub closed : Storage → ℕ → ℕ → Storage
 closed s t fd = closed_descriptor s t fd (descriptor s.files t fd)
 
+abbrev pub new_file : ℕ → Way → OpenFile
+new_file node way = record { node = node; read = way.read; write = way.write; append = way.append; at = 0; uses = 1 }
+
+-- one more open file, at the lowest number that is free
+abbrev pub with_open_file : OpenFiles → OpenFile → OpenFiles
+with_open_file fs f = record fs { files = with_next f fs.files }
+
 -- a descriptor of a node opens at position 0, as the lowest open file that is free
 unfoldable pub opened : Storage → ℕ → ℕ → ℕ → Way → Storage
 opened s t fd node way = record {
   nodes = tree.held s.nodes node;
-  files = with_descriptor
-    (record s.files { files = with_next (record { node = node; read = way.read; write = way.write; append = way.append; at = 0; uses = 1 }) s.files.files })
-    t fd (Some (record { handle = Open (free_number s.files.files); cloexec = way.cloexec }));
+  files = with_descriptor (with_open_file s.files (new_file node way)) t fd (Some (record { handle = Open (free_number s.files.files); cloexec = way.cloexec }));
 }
 
 abbrev pub copied_descriptor : OpenFiles → ℕ → ℕ → Option Descriptor → OpenFiles
@@ -141,13 +149,17 @@ all_closed test s t (fd ∷ fds) = all_closed test (by_test (descriptor s.files 
     by_test (Some d) = if test d then closed s t fd else s
     by_test None = s
 
+-- all descriptors of a table, in order
+unfoldable pub all_descriptors : List ℕ
+all_descriptors = range_with_len 0 most_descriptors
+
 -- at an execve
 unfoldable pub exec_closed : Storage → ℕ → Storage
-exec_closed s t = all_closed (λ d. d.cloexec) s t (range_with_len 0 most_descriptors)
+exec_closed s t = all_closed (λ d. d.cloexec) s t all_descriptors
 
 -- a table goes, and all its descriptors close
 unfoldable pub without_table : Storage → ℕ → Storage
-without_table s t = gone (all_closed (λ d. true) s t (range_with_len 0 most_descriptors))
+without_table s t = gone (all_closed (λ d. true) s t all_descriptors)
   where
     gone : Storage → Storage
     gone now = record now { files = record now.files { tables = with_item (λ table. None) now.files.tables t } }

@@ -1,6 +1,5 @@
 -- Open files, and the tables of descriptors that share them (POSIX.1-2017, 3.258 Open File Description, 3.166 File Descriptor).
 use Rattle.std.specs.Prelude.{ℕ, true, false, not, List, [], ◌∷◌, length, position, Option, Some, None, is_some, slice_get}
-use Rattle.fd_tables.specs.declared.view.Target.{Target}
 use Rattle.fd_tables.specs.declared.view.Target.TheVariants.{Console, Node}
 use Rattle.fd_tables.specs.declared.view.Way.{Way}
 use Rattle.fd_tables.specs.declared.view.View.{View}

@@ -4,11 +4,20 @@
 //! of files, and the processes that the tables belong to.
 #![tactic(auto)]
 
+mod calls;
 mod fault;
 mod files;
 mod open_file;
+mod places;
+mod shares;
+mod shows;
+mod table;
+mod tables;
 mod view;
 
 pub use fault::FdFault;
 pub use files::Files;
 pub use view::{Target, View, Way};
+
+#[cfg(test)]
+mod tests;

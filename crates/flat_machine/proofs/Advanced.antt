@@ -53,19 +53,19 @@ pub record Ranged (k : Kept) (pid count : ℕ) (e : Entry Task) (h : Held) (tabl
   pub frozen : frozen table now ≡ frozen table k.mem
   pub length : length now ≡ length k.mem
 
-abbrev pub after : Kept → ℕ → ℕ → Regs → List ℕ → Kept
-after k pid space regs now = record k { mem = now; procs = with_value_at k.procs pid (record { regs = regs; space = space }) }
+abbrev pub after : Kept → ℕ → Task → Regs → List ℕ → Kept
+after k pid t regs now = record k { mem = now; procs = with_value_at k.procs pid (record t { regs = regs }) }
 
 module _ (k : Kept) (pid count : ℕ) (e : Entry Task) (h : Held) (table : List PageOwner) (now : List ℕ) (regs : Regs) (done : ℕ) (stop : Stop)
     (r : Ranged k pid count e h table now regs done stop) where
-  pub after_regular : Regular (after k pid e.value.space regs now)
+  pub after_regular : Regular (after k pid e.value regs now)
   after_regular =
-      let P : List (Option Held) → Type 0 = λ spaces. Regular (record (after k pid e.value.space regs now) { spaces = spaces }) in
+      let P : List (Option Held) → Type 0 = λ spaces. Regular (record (after k pid e.value regs now) { spaces = spaces }) in
       subst P (set_kept k.spaces e.value.space (Some h) r.home) (regular_stays k pid e h r.regular r.lives r.home regs h.brk now r.length k.notes k.console)
 
-  pub after_lives : Lives (after k pid e.value.space regs now).procs pid
+  pub after_lives : Lives (after k pid e.value regs now).procs pid
   after_lives =
-      let value : Task = record { regs = regs; space = e.value.space } in
+      let value : Task = record e.value { regs = regs } in
       let is = find_changed entry_pid pid (λ (x : Entry Task). with_value x value) (λ x. refl) k.procs.entries ∙ ap (option_map (λ (x : Entry Task). with_value x value)) r.lives in
       subst IsSome (sym is) refl
 
@@ -87,13 +87,13 @@ module _ (k : Kept) (pid count : ℕ) (e : Entry Task) (h : Held) (table : List 
     unfolding world_of
     has_in = find_space k.mem k.spaces e.value.space h r.home
 
-    procs_in : map process_of (change entry_pid pid (λ (x : Entry Task). with_value x (record { regs = regs; space = e.value.space })) k.procs.entries)
+    procs_in : map process_of (change entry_pid pid (λ (x : Entry Task). with_value x (record e.value { regs = regs })) k.procs.entries)
         ≡ change pid_of e.pid (λ q. with_regs q regs) (map process_of k.procs.entries)
     procs_in =
         let same : e.pid ≡ pid = find_has entry_pid pid k.procs.entries e r.lives in
-        ap (map process_of) (change_alike entry_pid pid (λ (x : Entry Task). with_value x (record { regs = regs; space = e.value.space }))
-        (λ (x : Entry Task). with_value x (record { regs = regs; space = x.value.space })) k.procs.entries e r.lives refl)
-        ∙ change_process pid (λ (x : Entry Task). with_value x (record { regs = regs; space = x.value.space })) (λ q. with_regs q regs) k.procs.entries (λ x. refl)
+        ap (map process_of) (change_alike entry_pid pid (λ (x : Entry Task). with_value x (record e.value { regs = regs }))
+        (λ (x : Entry Task). with_value x (record x.value { regs = regs })) k.procs.entries e r.lives refl)
+        ∙ change_process pid (λ (x : Entry Task). with_value x (record x.value { regs = regs })) (λ q. with_regs q regs) k.procs.entries (λ x. refl)
         ∙ ap (λ (n : ℕ). change pid_of n (λ q. with_regs q regs) (map process_of k.procs.entries)) (sym same)
 
     spaces_in : live_spaces now k.spaces ≡ change id_of e.value.space (λ l. with_held l (private_bytes now h) h.brk) (live_spaces k.mem k.spaces)
@@ -101,7 +101,7 @@ module _ (k : Kept) (pid count : ℕ) (e : Entry Task) (h : Held) (table : List 
         (others_keep k r.regular e.value.space h r.home now frozen_in)
         ∙ ap (live_spaces now) (set_kept k.spaces e.value.space (Some h) r.home))
 
-    after_moved : world_of (later done a) (after k pid e.value.space regs now) ≡ moved (world_of a k) (process_of e) regs (private_bytes now h) h.brk done
+    after_moved : world_of (later done a) (after k pid e.value regs now) ≡ moved (world_of a k) (process_of e) regs (private_bytes now h) h.brk done
     unfolding world_of
     after_moved = rw (procs_in, spaces_in) refl
 
@@ -110,10 +110,10 @@ module _ (k : Kept) (pid count : ℕ) (e : Entry Task) (h : Held) (table : List 
         let P : Ran → Type 0 = λ x. RanOn pid (world_of a k) (process_of e) (record { id = e.value.space; space = private_of k.mem h }) count x in
         subst P (sym left) (run_on pid count (world_of a k) (process_of e) (record { id = e.value.space; space = private_of k.mem h }) lives_in has_in)
 
-    pub after_leads : Leads pid (world_of a k) done (world_of (later done a) (after k pid e.value.space regs now))
+    pub after_leads : Leads pid (world_of a k) done (world_of (later done a) (after k pid e.value regs now))
     after_leads = subst (λ (w : World). Leads pid (world_of a k) done w) (sym after_moved) on.0
 
-    pub after_halts : Halts (world_of (later done a) (after k pid e.value.space regs now)) pid count done stop
+    pub after_halts : Halts (world_of (later done a) (after k pid e.value regs now)) pid count done stop
     after_halts = subst (λ (w : World). Halts w pid count done stop) (sym after_moved) on.1
 
 pub halts_within : (w : World) (pid count done : ℕ) (stop : Stop) → Halts w pid count done stop → done ≤ count
@@ -157,11 +157,11 @@ pub some_about : About
 some_about = record { kind = First; programs = []; events = 0 }
 
 advances_in : (k : Kept) (pid count : ℕ) (e : Entry Task) (h : Held) (table : List PageOwner) (now : List ℕ) (regs : Regs) (done : ℕ) (stop : Stop)
-    → Ranged k pid count e h table now regs done stop → Advances k (after k pid e.value.space regs now) pid count done stop
+    → Ranged k pid count e h table now regs done stop → Advances k (after k pid e.value regs now) pid count done stop
 advances_in k pid count e h table now regs done stop r = record {
   regular = after_regular k pid count e h table now regs done stop r;
   lives = after_lives k pid count e h table now regs done stop r;
-  within = halts_within (world_of (later done some_about) (after k pid e.value.space regs now)) pid count done stop
+  within = halts_within (world_of (later done some_about) (after k pid e.value regs now)) pid count done stop
       (after_halts k pid count e h table now regs done stop r some_about);
   leads = after_leads k pid count e h table now regs done stop r;
   halts = after_halts k pid count e h table now regs done stop r;
@@ -171,11 +171,11 @@ pub advances : (k : Kept) (pid count : ℕ) (task : Task) (x : Option Held) (h :
     → Regular k → value_at k.procs pid ≡ Some task → x ≡ get_or k.spaces task.space x → x ≡ Some h
     → owns table false ≡ own_in h.maps → owns table true ≡ writable_in h.maps → seen ≡ table → was ≡ k.mem
     → ran regs (own_bytes seen now) done stop ≡ instructions count (owns seen true) task.regs (own_bytes seen was)
-    → frozen seen now ≡ frozen seen was → length now ≡ length was → Advances k (after k pid task.space regs now) pid count done stop
+    → frozen seen now ≡ frozen seen was → length now ≡ length was → Advances k (after k pid task regs now) pid count done stop
 advances k pid count task x h table seen was now regs done stop regular is at space own writable sees before leaves same long =
     let e = entered k.procs pid task is in
     let home = home_of k.spaces task.space x h (has_space k pid task regular is) at space in
-    subst (λ (t : Task). Advances k (after k pid t.space regs now) pid count done stop) e.value (advances_in k pid count e.entry h table now regs done stop (record {
+    subst (λ (t : Task). Advances k (after k pid t regs now) pid count done stop) e.value (advances_in k pid count e.entry h table now regs done stop (record {
       regular = regular;
       lives = e.there;
       home = subst (λ (t : Task). slice_get k.spaces t.space ≡ Some (Some h)) (sym e.value) home;

@@ -5,9 +5,11 @@ use Rattle.std.specs.Result.{IsErr, IsErrAnd}
 use Rattle.std.proofs.lemmas.List.{length-replicate, length-map, drop_all}
 use Rattle.flat_loader.specs.Original.{block_pages}
 use Rattle.flat_loader.specs.Frame.{frame_fits}
+use Rattle.mem_files.specs.Inodes.{Inodes}
+use Rattle.fd_tables.specs.Files.{OpenFiles}
 use Rattle.machine_world.specs.World.{World, Rest}
 use Rattle.machine_world.specs.Free.{free}
-use Rattle.machine_world.specs.Boot.{StartLine, BootFault, bad_start, args_too_big, no_run, Found, found_from, path_of, taken, address_of, begun, placed, fitting, located, started, then_started, all_started, empty_world, boot}
+use Rattle.machine_world.specs.Boot.{StartLine, BootFault, bad_start, args_too_big, no_run, Found, found, path_of, taken, address_of, begun, placed, fitting, located, started, then_started, all_started, empty_world, boot}
 use Rattle.machine_world.specs.Programs.{AreLoaded}
 use Rattle.machine_world.proofs.Loads.{boot_loads_programs}
 use Rattle.syscall_layer.specs.Kept.{Kept, nothing_yet}
@@ -49,7 +51,7 @@ module _ (w now : World) (s : StartLine) where
 
   one_more : started w s ≡ Ok now → OneMore w now
   unfolding started
-  one_more is = more_located (found_from 0 (path_of s) w.rest.programs) is
+  one_more is = more_located (found w.rest (path_of s)) is
 
 module _ (a : About) (old new : Kept) (s : StartLine) where
   begun_as : (r : Result World BootFault) (done : ⊤) → Begins a r new (Ok done) → r ≡ Ok (world_of a new)
@@ -104,10 +106,11 @@ lines_fail a old new s more all e x left =
 -- ---- none and all
 
 -- before the first
-pub first_world : (a : About) (pages : ℕ) → a.events ≡ 0 → world_of a (nothing_yet pages) ≡ empty_world (record { pages = pages; kind = a.kind; programs = a.programs; console = [] })
+first_world : (a : About) (pages : ℕ) (tree : Inodes) (files : OpenFiles) → a.events ≡ 0
+    → world_of a (nothing_yet pages tree files) ≡ empty_world (record { pages = pages; kind = a.kind; programs = a.programs; tree = tree; files = files; console = [] })
 unfolding world_of live_spaces
-first_world a pages none =
-    let pages_are : length (nothing_yet pages).regions ≡ pages = length-replicate pages _ in
+first_world a pages tree files none =
+    let pages_are : length (nothing_yet pages tree files).regions ≡ pages = length-replicate pages _ in
     rw (pages_are, none) refl
 
 -- behind the last
@@ -122,9 +125,16 @@ pub machine_loads : (rest : Rest) (starts : List StartLine) (a : About) (k : Kep
 unfolding world_of
 machine_loads rest starts a k is = boot_loads_programs rest starts (world_of a k) (sym is)
 
-pub boot_is : (rest : Rest) (starts : List StartLine) → all_started (empty_world rest) starts ≡ boot rest starts
+boot_is : (rest : Rest) (starts : List StartLine) → all_started (empty_world rest) starts ≡ boot rest starts
 unfolding boot
 boot_is rest starts = refl
+
+-- from the parts before the first program
+pub boots_from : (a : About) (pages : ℕ) (tree : Inodes) (files : OpenFiles) (rest : Rest) (k : Kept) (starts : List StartLine) → k ≡ nothing_yet pages tree files
+    → record { pages = pages; kind = a.kind; programs = a.programs; tree = tree; files = files; console = [] } ≡ rest → a.events ≡ 0 → all_started (world_of a k) starts ≡ boot rest starts
+boots_from a pages tree files rest k starts is same none =
+    ap (λ (x : Kept). all_started (world_of a x) starts) is ∙ ap (λ (w : World). all_started w starts) (first_world a pages tree files none)
+    ∙ ap (λ (r : Rest). all_started (empty_world r) starts) same ∙ boot_is rest starts
 
 -- ---- as the code has them
 

@@ -1,5 +1,7 @@
 -- What a boot gives.
-use Rattle.std.specs.Prelude.{◌≡◌, Result, Ok, Err, ⊤}
+use Rattle.std.specs.Prelude.{◌≡◌, ℕ, Option, Some, None, Result, Ok, Err, ⊤}
+use Rattle.call_log.specs.declared.errno.Errno.{Errno}
+use Rattle.mem_files.specs.Inodes.{Inodes, program_of}
 use Rattle.machine_world.specs.World.{World}
 use Rattle.machine_world.specs.Boot.{BootFault, bad_start, args_too_big, no_run}
 use Rattle.flat_machine.specs.declared.boot.BootRefusal.{BootRefusal}
@@ -7,6 +9,12 @@ use Rattle.flat_machine.specs.declared.boot.BootRefusal.TheVariants as refusal
 use Rattle.syscall_layer.specs.Kept.{Kept}
 use Rattle.syscall_layer.specs.Stands.{About, world_of}
 use Rattle.flat_machine.specs.State.{State, world}
+
+-- the number of the program that a path leads to
+abbrev pub marked : Inodes → Result (Option ℕ) Errno → Option ℕ
+marked tree (Ok (Some node)) = program_of tree node
+marked tree (Ok None) = None
+marked tree (Err errno) = None
 
 -- the fault of a start line, or out of memory
 abbrev pub IsFault : BootFault → BootRefusal → Type 0

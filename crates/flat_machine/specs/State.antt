@@ -1,12 +1,14 @@
 -- What a machine keeps, and the world that it stands for.
-use Rattle.std.specs.Prelude.{ℕ, List, [], ◌∷◌, map, Vec}
+pub use Rattle.machine_world.specs.Programs.{programs_of}
+use Rattle.std.specs.Prelude.{ℕ, List, [], map, Vec}
 use Rattle.page_runs.specs.declared.place.Kind.{Kind}
 use Rattle.bflt_format.specs.Values.{Values}
-use Rattle.flat_loader.specs.Original.{flat_original}
 use Rattle.call_log.specs.Programs.{paths_of}
 use Rattle.manifest_text.specs.declared.manifest.Start.{Start as StartItem}
 use Rattle.manifest_text.specs.Values.{vec_texts}
-use Rattle.machine_world.specs.World.{Program, Rest, World}
+use Rattle.mem_files.specs.Inodes.{Inodes}
+use Rattle.fd_tables.specs.Files.{nothing_open}
+use Rattle.machine_world.specs.World.{Rest, World}
 use Rattle.machine_world.specs.Boot.{StartLine}
 use Rattle.syscall_layer.specs.Kept.{Kept}
 use Rattle.syscall_layer.specs.Stands.{About, world_of}
@@ -19,20 +21,22 @@ pub record State : Type 0 where
   pub programs : List Values
   pub events : ℕ
 
--- each program is the flat file of its path
-abbrev pub programs_of : List (List ℕ) → List Values → List Program
-programs_of (path ∷ paths) (flat ∷ flats) = record { path = path; original = flat_original flat } ∷ programs_of paths flats
-programs_of paths flats = []
-
 abbrev pub about_of : State → About
 about_of s = record { kind = s.kind; programs = programs_of s.paths s.programs; events = s.events }
 
 abbrev pub world : State → World
 world s = world_of (about_of s) s.kept
 
--- before the first program, with what no space holds
-abbrev pub rest_of : {Y : Type 0} → ℕ → Kind → List (Vec ℕ Y) → List Values → Rest
-rest_of pages kind paths programs = record { pages = pages; kind = kind; programs = programs_of (paths_of paths) programs; console = [] }
+-- before the first program, with what no space holds: these files, and this input of the console
+abbrev pub rest_of : {Y : Type 0} → ℕ → Kind → List (Vec ℕ Y) → List Values → Inodes → List ℕ → Rest
+rest_of pages kind paths programs tree stdin = record {
+  pages = pages;
+  kind = kind;
+  programs = programs_of (paths_of paths) programs;
+  tree = tree;
+  files = nothing_open stdin;
+  console = [];
+}
 
 abbrev pub line_of : StartItem → StartLine
 line_of s = record { line = s.line; args = vec_texts s.args.items }

@@ -1,17 +1,20 @@
 //! The start of a machine.
 
-ghost use Rattle.std.specs.Prelude.{◌≡◌, ◌^◌, ◌<◌, ◌≤◌, ℕ, Some, bytes_eq, position, slice_get, length};
+ghost use Rattle.std.specs.Prelude.{◌≡◌, ◌^◌, ◌<◌, ◌≤◌, ℕ, Some, slice_get, length};
+ghost use Rattle.mem_files.specs.Paths.{lookup};
 ghost use Rattle.vfork_exec.specs.Procs.{most_entries};
 ghost use Rattle.syscall_layer.specs.Stands.{world_of};
 ghost use Rattle.page_runs.specs.Choosers.{IsChooser, kind_of};
 ghost use Rattle.machine_world.specs.Boot.{boot, started};
 ghost use Rattle.manifest_text.specs.declared.manifest.Start.{Start as StartItem};
 ghost use Rattle.flat_machine.specs.State.{rest_of, line_of, lines_of, about_boot};
-ghost use Rattle.flat_machine.specs.Boots.{Boots, Begins};
+ghost use Rattle.flat_machine.specs.Boots.{marked, Boots, Begins};
 
 use crate::machine::Machine;
 use bflt_format::Flat;
+use fd_tables::Files;
 use manifest_text::Start;
+use mem_files::Tree;
 use page_runs::{Chooser, Run};
 use std::alloc::{AllocError, Global};
 use syscall_layer::{Parts, StartRefusal};
@@ -21,17 +24,21 @@ use syscall_layer::{Parts, StartRefusal};
 pub struct Setup {
     /// The pages of memory.
     pub pages: u32,
+    /// The files and folders. A file that is a program is marked with its number.
+    pub tree: Tree,
     /// The path of each program.
     pub paths: Vec<Vec<u8>>,
     pub programs: Vec<Flat>,
     /// The start lines: the first argument of each is the path of its program.
     pub starts: Vec<Start>,
+    /// The console's input.
+    pub stdin: Vec<u8>,
 }
 
 /// Why a machine doesn't start: the number of the start line that failed.
 #[derive(Clone, Copy, Debug, PartialEq, Eq)]
 pub enum BootRefusal {
-    /// Its path is that of no program.
+    /// Its path leads to no program.
     BadStart { line: u32 },
     /// Its start frame doesn't fit into the stack.
     E2big { line: u32 },
@@ -52,11 +59,14 @@ impl From<AllocError> for BootRefusal {
     }
 }
 
-/// The number of the first program of a path.
-fn program_at(paths: &[Vec<u8>], path: &[u8]) -> Option<usize>
-    ensures { result ≡ position (λ p. bytes_eq p.items path.now) paths.now }
+/// The number of the program to which a path leads.
+fn program_at(tree: &Tree, path: &[u8]) -> Option<u32>
+    ensures { result ≡ marked tree.now (lookup tree.now path.now) }
 {
-    paths.iter().position(|p| p.as_slice() == path)
+    match tree.lookup(path) {
+        Ok(Some(node)) => tree.program(node),
+        _ => None,
+    }
 }
 
 /// Starts the program of a start line.
@@ -77,10 +87,13 @@ fn begin<F: Fn(&[Run], u32) -> Option<usize>>(
     ensures { let a = about_boot (kind_of chooser.now) paths.now programs.now in
         Begins a (started (world_of a parts.old) (line_of start.now)) parts.new result }
 {
-    let Some(index) = program_at(paths, &start.args[0]) else {
+    let Some(index) = program_at(&parts.tree, &start.args[0]) else {
         return Err(BootRefusal::BadStart { line: start.line });
     };
-    match parts.start(index as u32, &programs[index], &start.args, chooser) {
+    let Some(flat) = programs.get(index as usize) else {
+        return Err(BootRefusal::BadStart { line: start.line });
+    };
+    match parts.start(index, flat, &start.args, chooser) {
         Ok(()) => Ok(()),
         Err(StartRefusal::E2big) => Err(BootRefusal::E2big { line: start.line }),
         Err(StartRefusal::NoRun) => Err(BootRefusal::NoRun { line: start.line }),
@@ -102,15 +115,18 @@ impl Machine {
         requires programs { length setup.programs.items < 2 ^ 32 }
         requires starts { length setup.starts.items ≤ 64 }
         requires args { (i : ℕ) → (s : StartItem) → slice_get setup.starts.items i ≡ Some s → 0 < length s.args.items }
-        ensures { Boots (boot (rest_of setup.pages (kind_of chooser.now) setup.paths.items setup.programs.items) (lines_of setup.starts.items)) result }
+        ensures { Boots (boot (rest_of setup.pages (kind_of chooser.now) setup.paths.items setup.programs.items setup.tree setup.stdin.items) (lines_of setup.starts.items)) result }
     {
         let Setup {
             pages,
+            tree,
             paths,
             programs,
             starts,
+            stdin,
         } = setup;
-        let mut parts = Parts::new(alloc, pages)?;
+        let files = Files::new(alloc, stdin)?;
+        let mut parts = Parts::new(alloc, pages, tree, files)?;
         for start in &starts {
             begin(&mut parts, &paths, &programs, start, chooser)?;
         }

@@ -1,11 +1,18 @@
--- The programs that load notes name.
+-- Programs that are flat files, and those that load notes name.
 use Rattle.std.specs.Prelude.{◌≡◌, ℕ, List, [], ◌∷◌, length, Ok}
 use Rattle.quantum_sched.specs.declared.Quantum.{Quantum}
 use Rattle.call_log.specs.Notes.{Note}
 use Rattle.call_log.specs.Programs.{IsProgramBelow}
-use Rattle.machine_world.specs.World.{Rest, World}
+use Rattle.bflt_format.specs.Values.{Values}
+use Rattle.flat_loader.specs.Original.{flat_original}
+use Rattle.machine_world.specs.World.{Program, Rest, World}
 use Rattle.machine_world.specs.Turns.{turn, turns}
 use Rattle.machine_world.specs.Boot.{StartLine, boot}
+
+-- each program is the flat file of its path
+abbrev pub programs_of : List (List ℕ) → List Values → List Program
+programs_of (path ∷ paths) (flat ∷ flats) = record { path = path; original = flat_original flat } ∷ programs_of paths flats
+programs_of paths flats = []
 
 -- each load note names one of the first n programs
 abbrev pub AreLoaded : ℕ → List Note → Type 0

@@ -7,7 +7,7 @@ use Rattle.std.proofs.lemmas.List.{append-nil}
 use Rattle.manifest_text.specs.declared.fault.ManifestFault.{ManifestFault}
 use Rattle.manifest_text.specs.Values.{Manifest}
 use Rattle.manifest_text.specs.Lines.{Line, Said, nothing, memory, item, start, quanta, repeat, dump, line_said}
-use Rattle.manifest_text.specs.Manifest.{Fault, Draft, draft_of, late_fault, fault_in, all_said, or_later, first_fault, first_or, manifest_by, whole, judged_lines, lines_of, manifest_of}
+use Rattle.manifest_text.specs.Manifest.{Fault, Draft, draft_of, late_fault, fault_in, all_said, or_later, first_fault, is_stdin, has_stdin, first_or, manifest_by, whole, judged_lines, lines_of, manifest_of}
 use Rattle.manifest_text.specs.Reading.{added, added_line}
 use Rattle.manifest_text.specs.Laws.{IsItem, HasArgument, IsShort, Reasonable, ManifestsAreReasonable}
 use Rattle.manifest_text.proofs.SaidBounds.{IsSaid, Bounds, line_bounded}
@@ -39,12 +39,17 @@ passed : {F : Type 0} (b : Bool) (fault : F) → cond b (Some fault) None ≡ No
 passed true fault h = absurd cc
 passed false fault h = refl
 
+-- where no row holds, the second doesn't
+second_none : {F : Type 0} (a b : Bool) (one two : F) → cond a (Some one) (cond b (Some two) None) ≡ None → cond b (Some two) None ≡ None
+second_none true b one two h = absurd cc
+second_none false b one two h = h
+
 added_bounded : (d : Draft) (said : Said) → IsDraft d → IsSaid said → late_fault d said ≡ None → IsDraft (added d said)
 unfolding late_fault
 added_bounded d nothing is says none = is
 added_bounded d (memory pages) is says none = record { pages = (says, tt); items = is.items; each_item = is.each_item; starts = is.starts; each_start = is.each_start; quanta = is.quanta; each_quantum = is.each_quantum; counts = is.counts }
 added_bounded d (item i) is says none =
-    let fits : nat_le 4096 (length d.items) ≡ false = passed (nat_le 4096 (length d.items)) _ none in
+    let fits : nat_le 4096 (length d.items) ≡ false = passed (nat_le 4096 (length d.items)) _ (second_none (is_stdin i.kind && has_stdin d.items) (nat_le 4096 (length d.items)) _ _ none) in
     let len = length-append d.items (i ∷ []) in
     let below : length d.items < 4096 = grind (arith, nat_tests) in
     record { pages = is.pages; items = omega (arith, len, below); each_item = all_append IsItem d.items (i ∷ []) is.each_item (says, tt); starts = is.starts; each_start = is.each_start; quanta = is.quanta; each_quantum = is.each_quantum; counts = is.counts }

@@ -45,35 +45,44 @@ module _ (at : ℕ) (text : Text) (start i : ℕ) (from : start ≤ i) (below : 
       ∙ take_more (drop start text) (i - start) 0 within
       ∙ ap (λ b. take (i - start) (drop start text) ++ b ∷ []) (get_or-drop start text (i - start) 0 ∙ ap (λ n. get_or text n 0) place)
 
+  pub cut_one : get_or text i 0 ≡ at → glue (take (i - start) (drop start text)) (pieces at (drop i text)) ≡ take (i - start) (drop start text) ∷ glue (take (i + 1 - (i + 1)) (drop (i + 1) text)) (pieces at (drop (i + 1) text))
+  cut_one same =
+      let none : i + 1 - (i + 1) ≡ 0 = omega arith in
+      ap (glue (take (i - start) (drop start text))) (ap (pieces at) opened ∙ head at (get_or text i 0) (drop (i + 1) text) true (eqb_same (get_or text i 0) at same))
+      ∙ glue_cut (take (i - start) (drop start text)) (pieces at (drop (i + 1) text))
+      ∙ sym (ap (λ n. take (i - start) (drop start text) ∷ glue (take n (drop (i + 1) text)) (pieces at (drop (i + 1) text))) none)
+
+  pub keep_one : get_or text i 0 ≢ at → glue (take (i - start) (drop start text)) (pieces at (drop i text)) ≡ glue (take (i + 1 - start) (drop start text)) (pieces at (drop (i + 1) text))
+  keep_one other =
+      ap (glue (take (i - start) (drop start text))) (ap (pieces at) opened ∙ head at (get_or text i 0) (drop (i + 1) text) false (eqb_other (get_or text i 0) at other))
+      ∙ glue_front (take (i - start) (drop start text)) (get_or text i 0) (pieces at (drop (i + 1) text))
+      ∙ sym (ap (λ t. glue t (pieces at (drop (i + 1) text))) longer)
+
   pub cut_step : (outs : List Text) → outs ++ glue (take (i - start) (drop start text)) (pieces at (drop i text)) ≡ pieces at text → get_or text i 0 ≡ at
       → (outs ++ take (i - start) (drop start text) ∷ []) ++ glue (take (i + 1 - (i + 1)) (drop (i + 1) text)) (pieces at (drop (i + 1) text)) ≡ pieces at text
   cut_step outs so_far same =
-      let none : i + 1 - (i + 1) ≡ 0 = omega arith in
-      ap (λ n. (outs ++ take (i - start) (drop start text) ∷ []) ++ glue (take n (drop (i + 1) text)) (pieces at (drop (i + 1) text))) none
-      ∙ append_assoc outs (take (i - start) (drop start text) ∷ []) (pieces at (drop (i + 1) text))
-      ∙ ap (λ ps. outs ++ ps) (sym (glue_cut (take (i - start) (drop start text)) (pieces at (drop (i + 1) text))))
-      ∙ ap (λ ps. outs ++ glue (take (i - start) (drop start text)) ps) (sym (ap (pieces at) opened ∙ head at (get_or text i 0) (drop (i + 1) text) true (eqb_same (get_or text i 0) at same)))
+      append_assoc outs (take (i - start) (drop start text) ∷ []) (glue (take (i + 1 - (i + 1)) (drop (i + 1) text)) (pieces at (drop (i + 1) text)))
+      ∙ ap (λ ps. outs ++ ps) (sym (cut_one same))
       ∙ so_far
 
   pub keep_step : (outs : List Text) → outs ++ glue (take (i - start) (drop start text)) (pieces at (drop i text)) ≡ pieces at text → get_or text i 0 ≢ at
       → outs ++ glue (take (i + 1 - start) (drop start text)) (pieces at (drop (i + 1) text)) ≡ pieces at text
-  keep_step outs so_far other =
-      ap (λ t. outs ++ glue t (pieces at (drop (i + 1) text))) longer
-      ∙ ap (λ ps. outs ++ ps) (sym (glue_front (take (i - start) (drop start text)) (get_or text i 0) (pieces at (drop (i + 1) text))))
-      ∙ ap (λ ps. outs ++ glue (take (i - start) (drop start text)) ps) (sym (ap (pieces at) opened ∙ head at (get_or text i 0) (drop (i + 1) text) false (eqb_other (get_or text i 0) at other)))
-      ∙ so_far
+  keep_step outs so_far other = ap (λ ps. outs ++ ps) (sym (keep_one other)) ∙ so_far
 
-pub last_step : (at : ℕ) (text : Text) (start i : ℕ) (outs : List Text) → start ≤ i → i ≤ length text → length text ≤ i → outs ++ glue (take (i - start) (drop start text)) (pieces at (drop i text)) ≡ pieces at text → outs ++ take (length text - start) (drop start text) ∷ [] ≡ pieces at text
-unfolding pieces
-last_step at text start i outs from within past so_far =
-    let rest : drop i text ≡ [] = drop_all i text past in
-    let all : take (i - start) (drop start text) ≡ drop start text = take_all (i - start) (drop start text) (omega (arith, from, past, length-drop start text)) in
-    let whole : take (length text - start) (drop start text) ≡ drop start text = take_all (length text - start) (drop start text) (omega (arith, length-drop start text)) in
-    ap (λ t. outs ++ t ∷ []) whole
-    ∙ sym (ap (λ t. outs ++ glue t (pieces at (drop i text))) all
-    ∙ ap (λ t. outs ++ glue (drop start text) (pieces at t)) rest
-    ∙ ap (λ ps. outs ++ ps) (glue_cut (drop start text) []))
-    ∙ so_far
+module _ (at : ℕ) (text : Text) (start i : ℕ) (from : start ≤ i) (within : i ≤ length text) (past : length text ≤ i) where
+  pub last_one : glue (take (i - start) (drop start text)) (pieces at (drop i text)) ≡ take (length text - start) (drop start text) ∷ []
+  unfolding pieces
+  last_one =
+      let rest : drop i text ≡ [] = drop_all i text past in
+      let all : take (i - start) (drop start text) ≡ drop start text = take_all (i - start) (drop start text) (omega (arith, from, past, length-drop start text)) in
+      let whole : take (length text - start) (drop start text) ≡ drop start text = take_all (length text - start) (drop start text) (omega (arith, length-drop start text)) in
+      ap (λ t. glue t (pieces at (drop i text))) all
+      ∙ ap (λ t. glue (drop start text) (pieces at t)) rest
+      ∙ glue_cut (drop start text) []
+      ∙ sym (ap (λ t. t ∷ []) whole)
+
+  pub last_step : (outs : List Text) → outs ++ glue (take (i - start) (drop start text)) (pieces at (drop i text)) ≡ pieces at text → outs ++ take (length text - start) (drop start text) ∷ [] ≡ pieces at text
+  last_step outs so_far = ap (λ ps. outs ++ ps) (sym last_one) ∙ so_far
 
 -- there is one piece more, at the most, than bytes
 front_length : (b : ℕ) (ps : List Text) → length (in_front b ps) ≤ length ps + 1

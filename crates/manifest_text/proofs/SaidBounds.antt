@@ -9,11 +9,11 @@ use Rattle.manifest_text.specs.declared.fault.ManifestFault.TheVariants.{BadByte
 use Rattle.manifest_text.specs.declared.keyword.Keyword.{Keyword}
 use Rattle.manifest_text.specs.declared.keyword.Keyword.TheVariants as keyword
 use Rattle.manifest_text.specs.declared.manifest.ItemKind.{ItemKind}
-use Rattle.manifest_text.specs.declared.manifest.ItemKind.TheVariants.{Elf, Flat}
+use Rattle.manifest_text.specs.declared.manifest.ItemKind.TheVariants.{Elf, Flat, File, Dir}
 use Rattle.manifest_text.specs.Pieces.{Text, in_front, pieces, space, is_empty, words}
 use Rattle.manifest_text.specs.Numbers.{decimal_value, is_number, is_number_in, number_in, address, colon, is_pair, is_quantum, pair_value, quantum_value}
 use Rattle.manifest_text.specs.Paths.{is_path}
-use Rattle.manifest_text.specs.Lines.{Line, Said, nothing, memory, item, start, quanta, repeat, dump, is_bad_byte, judged, item_said, stacked_said, memory_said, elf_said, flat_said, start_said, quanta_said, repeat_said, dump_of, dump_said, keyword_said, keyword_of, hash, words_said, line_said}
+use Rattle.manifest_text.specs.Lines.{Line, Said, nothing, memory, item, start, quanta, repeat, dump, is_bad_byte, judged, item_said, stacked_said, memory_said, elf_said, flat_said, file_said, dir_said, stdin_said, start_said, quanta_said, repeat_said, dump_of, dump_said, keyword_said, keyword_of, hash, words_said, line_said}
 use Rattle.manifest_text.specs.Laws.{HasStack, IsItem, HasArgument, IsShort}
 
 abbrev pub IsSaid : Said → Type 0
@@ -100,6 +100,28 @@ flat_bounded line (path ∷ []) all = tt
 flat_bounded line (path ∷ name ∷ []) all = item_bounded line Flat path name 0 all.1.0 refl
 flat_bounded line (path ∷ name ∷ more ∷ rest) all = tt
 
+file_bounded : (line : ℕ) (args : List Text) → AllByRecursion IsAscii args → Bounds (file_said line args)
+unfolding file_said
+file_bounded line [] all = tt
+file_bounded line (path ∷ []) all = tt
+file_bounded line (path ∷ name ∷ []) all = item_bounded line File path name 0 all.1.0 refl
+file_bounded line (path ∷ name ∷ more ∷ rest) all = tt
+
+empty_ascii : IsAscii []
+empty_ascii i = omega arith
+
+dir_bounded : (line : ℕ) (args : List Text) → Bounds (dir_said line args)
+unfolding dir_said
+dir_bounded line [] = tt
+dir_bounded line (path ∷ []) = item_bounded line Dir path [] 0 empty_ascii refl
+dir_bounded line (path ∷ more ∷ rest) = tt
+
+stdin_bounded : (line : ℕ) (args : List Text) → AllByRecursion IsAscii args → Bounds (stdin_said line args)
+unfolding stdin_said
+stdin_bounded line [] all = tt
+stdin_bounded line (name ∷ []) all = record { name = all.0; stack = refl }
+stdin_bounded line (name ∷ more ∷ rest) all = tt
+
 memory_bounded : (args : List Text) → Bounds (memory_said args)
 unfolding memory_said
 memory_bounded [] = tt
@@ -158,6 +180,9 @@ keyword_bounded line None args all = tt
 keyword_bounded line (Some keyword.Memory) args all = memory_bounded args
 keyword_bounded line (Some keyword.Elf) args all = elf_bounded line args all
 keyword_bounded line (Some keyword.Flat) args all = flat_bounded line args all
+keyword_bounded line (Some keyword.File) args all = file_bounded line args all
+keyword_bounded line (Some keyword.Dir) args all = dir_bounded line args
+keyword_bounded line (Some keyword.Stdin) args all = stdin_bounded line args all
 keyword_bounded line (Some keyword.Start) args all = start_bounded line args
 keyword_bounded line (Some keyword.Quanta) args all = quanta_bounded args
 keyword_bounded line (Some keyword.Repeat) args all = repeat_bounded args
@@ -169,7 +194,7 @@ abbrev Each : Text → Type 0
 Each text = AllByRecursion (λ b. b < 128) text
 
 ascii_of : (text : Text) → Each text → IsAscii text
-ascii_of [] all i = omega arith
+ascii_of [] all i = empty_ascii i
 ascii_of (b ∷ bs) all zero = all.0
 ascii_of (b ∷ bs) all (suc i) = ascii_of bs all.1 i
 

@@ -4,15 +4,15 @@ use Rattle.std.specs.List.{AllByRecursion}
 use Rattle.std.specs.Str.{IsAscii}
 use Rattle.quantum_sched.specs.declared.Quantum.{Quantum}
 use Rattle.manifest_text.specs.declared.manifest.ItemKind.{ItemKind}
-use Rattle.manifest_text.specs.declared.manifest.ItemKind.TheVariants.{Elf, Flat}
+use Rattle.manifest_text.specs.declared.manifest.ItemKind.TheVariants.{Elf}
 use Rattle.manifest_text.specs.Values.{Item, Start, Manifest}
 use Rattle.manifest_text.specs.Pieces.{Text}
 use Rattle.manifest_text.specs.Manifest.{manifest_of}
 
--- the stack of an ELF file's program
+-- the stack of an ELF file's program; the others have none
 abbrev pub HasStack : ItemKind → ℕ → Type 0
 HasStack Elf stack = (16 ≤ stack) × (stack ≤ 1048576)
-HasStack Flat stack = stack ≡ 0
+HasStack _ stack = stack ≡ 0
 
 pub record IsItem (i : Item) : Type 0 where
   pub name : IsAscii i.name

@@ -8,7 +8,7 @@ use Rattle.manifest_text.specs.declared.fault.ManifestFault.TheVariants.{BadByte
 use Rattle.manifest_text.specs.declared.keyword.Keyword.{Keyword}
 use Rattle.manifest_text.specs.declared.keyword.Keyword.TheVariants as keyword
 use Rattle.manifest_text.specs.declared.manifest.ItemKind.{ItemKind}
-use Rattle.manifest_text.specs.declared.manifest.ItemKind.TheVariants.{Elf, Flat}
+use Rattle.manifest_text.specs.declared.manifest.ItemKind.TheVariants.{Elf, Flat, File, Dir, Stdin}
 use Rattle.manifest_text.specs.declared.manifest.Dump.{Dump}
 use Rattle.manifest_text.specs.Values.{Item, Start}
 use Rattle.manifest_text.specs.Pieces.{Text, words}
@@ -33,12 +33,15 @@ pub data Said : Type 0 where
 abbrev pub is_bad_byte : ℕ → Bool
 is_bad_byte b = not (nat_le 32 b && nat_le b 126)
 
--- the seven words that a line may begin with
+-- the ten words that a line may begin with
 unfoldable pub keyword_of : Text → Option Keyword
 keyword_of word =
     if bytes_eq word (codes "memory") then Some keyword.Memory
     else if bytes_eq word (codes "elf") then Some keyword.Elf
     else if bytes_eq word (codes "flat") then Some keyword.Flat
+    else if bytes_eq word (codes "file") then Some keyword.File
+    else if bytes_eq word (codes "dir") then Some keyword.Dir
+    else if bytes_eq word (codes "stdin") then Some keyword.Stdin
     else if bytes_eq word (codes "start") then Some keyword.Start
     else if bytes_eq word (codes "quanta") then Some keyword.Quanta
     else if bytes_eq word (codes "repeat") then Some keyword.Repeat
@@ -58,7 +61,7 @@ unfoldable pub memory_said : List Text → Result Said ManifestFault
 memory_said (pages ∷ []) = judged ((not (is_number_in 1 16384 pages), BadNumber) ∷ []) (memory (decimal_value pages))
 memory_said _ = Err WordCount
 
--- a program of a path
+-- what stands at a path
 abbrev pub item_said : ℕ → ItemKind → Text → Text → ℕ → Result Said ManifestFault
 item_said line kind path name stack = judged
     ((not (is_path path), BadPath) ∷ [])
@@ -78,6 +81,21 @@ elf_said line _ = Err WordCount
 unfoldable pub flat_said : ℕ → List Text → Result Said ManifestFault
 flat_said line (path ∷ name ∷ []) = item_said line Flat path name 0
 flat_said line _ = Err WordCount
+
+-- `file PATH NAME`
+unfoldable pub file_said : ℕ → List Text → Result Said ManifestFault
+file_said line (path ∷ name ∷ []) = item_said line File path name 0
+file_said line _ = Err WordCount
+
+-- `dir PATH`: a folder has no file of the host
+unfoldable pub dir_said : ℕ → List Text → Result Said ManifestFault
+dir_said line (path ∷ []) = item_said line Dir path [] 0
+dir_said line _ = Err WordCount
+
+-- `stdin NAME`: the console's input has no path
+unfoldable pub stdin_said : ℕ → List Text → Result Said ManifestFault
+stdin_said line (name ∷ []) = Ok (item (record { line = line; kind = Stdin; path = []; name = name; stack = 0 }))
+stdin_said line _ = Err WordCount
 
 -- `start PATH`, then any number of words
 unfoldable pub start_said : ℕ → List Text → Result Said ManifestFault
@@ -109,6 +127,9 @@ keyword_said line None args = Err UnknownWord
 keyword_said line (Some keyword.Memory) args = memory_said args
 keyword_said line (Some keyword.Elf) args = elf_said line args
 keyword_said line (Some keyword.Flat) args = flat_said line args
+keyword_said line (Some keyword.File) args = file_said line args
+keyword_said line (Some keyword.Dir) args = dir_said line args
+keyword_said line (Some keyword.Stdin) args = stdin_said line args
 keyword_said line (Some keyword.Start) args = start_said line args
 keyword_said line (Some keyword.Quanta) args = quanta_said args
 keyword_said line (Some keyword.Repeat) args = repeat_said args

@@ -1,10 +1,12 @@
 -- What a text says as a manifest, or its first fault.
-use Rattle.std.specs.Prelude.{ℕ, ◌+◌, ◌==◌, Bool, ◌&&◌, nat_le, nat_lt, List, [], ◌∷◌, ◌++◌, length, Option, Some, None, Result, Ok, Err}
-use Rattle.std.specs.List.{filter_map, flat_map}
+use Rattle.std.specs.Prelude.{ℕ, ◌+◌, ◌==◌, Bool, true, false, ◌&&◌, nat_le, nat_lt, List, [], ◌∷◌, ◌++◌, length, Option, Some, None, Result, Ok, Err}
+use Rattle.std.specs.List.{list_any, filter_map, flat_map}
 use Rattle.byte_words.specs.Search.{first}
 use Rattle.quantum_sched.specs.declared.Quantum.{Quantum}
 use Rattle.manifest_text.specs.declared.fault.ManifestFault.{ManifestFault}
 use Rattle.manifest_text.specs.declared.fault.ManifestFault.TheVariants.{Repeated, TooMany, NoQuanta, NoStart}
+use Rattle.manifest_text.specs.declared.manifest.ItemKind.{ItemKind}
+use Rattle.manifest_text.specs.declared.manifest.ItemKind.TheVariants.{Stdin}
 use Rattle.manifest_text.specs.declared.manifest.Dump.{Dump}
 use Rattle.manifest_text.specs.Values.{Item, Start, Manifest}
 use Rattle.manifest_text.specs.Pieces.{Text, pieces, newline}
@@ -62,10 +64,24 @@ draft_of saids = record {
 
 -- ---- the faults of a line behind others
 
+abbrev pub is_stdin : ItemKind → Bool
+is_stdin Stdin = true
+is_stdin _ = false
+
+abbrev pub has_stdin : List Item → Bool
+has_stdin items = list_any (λ i. is_stdin i.kind) items
+
+-- one stdin line, and 4096 lines of all five kinds
+abbrev pub item_rows : List Item → ItemKind → List (Bool × ManifestFault)
+item_rows items kind =
+    ((is_stdin kind && has_stdin items, Repeated)
+    ∷ (nat_le 4096 (length items), TooMany)
+    ∷ [])
+
 abbrev pub late_rows : Draft → Said → List (Bool × ManifestFault)
 late_rows d nothing = []
 late_rows d (memory pages) = (nat_lt 0 (length d.pages), Repeated) ∷ []
-late_rows d (item i) = (nat_le 4096 (length d.items), TooMany) ∷ []
+late_rows d (item i) = item_rows d.items i.kind
 late_rows d (start s) = (nat_le 64 (length d.starts), TooMany) ∷ []
 late_rows d (quanta qs) = (nat_lt 65536 (length d.quanta + length qs), TooMany) ∷ []
 late_rows d (repeat count) = (nat_lt 0 (length d.counts), Repeated) ∷ []

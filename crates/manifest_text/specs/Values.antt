@@ -8,7 +8,7 @@ use Rattle.manifest_text.specs.declared.manifest.Start.{Start as StoredStart}
 use Rattle.manifest_text.specs.declared.manifest.Manifest.{Manifest as Stored}
 use Rattle.std.specs.Borrow.{Bor}
 
--- a line that brings in a file
+-- a line that brings in a file, or makes a folder
 pub record Item : Type 0 where
   pub line : ℕ
   pub kind : ItemKind

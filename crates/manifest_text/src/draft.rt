@@ -1,17 +1,18 @@
 //! The manifest so far.
 
-ghost use Rattle.std.specs.Prelude.{◌≡◌, [], ◌∷◌, IfOk};
+ghost use Rattle.std.specs.Prelude.{◌≡◌, [], ◌∷◌, map, IfOk};
 ghost use Rattle.byte_words.specs.Search.{first};
-ghost use Rattle.manifest_text.specs.Manifest.{draft_of, late_fault, whole};
+ghost use Rattle.manifest_text.specs.Values.{item_value};
+ghost use Rattle.manifest_text.specs.Manifest.{draft_of, is_stdin, has_stdin, item_rows, late_fault, whole};
 ghost use Rattle.manifest_text.specs.Reading.{said_value, draft_value, added, Reads};
 
 use crate::fault::{ManifestFault, ManifestRefusal};
 use crate::line::Spoken;
-use crate::manifest::{Dump, Item, Manifest, Start};
+use crate::manifest::{Dump, Item, ItemKind, Manifest, Start};
 use quantum_sched::Quantum;
 use std::alloc::{AllocError, Global};
 
-/// The most lines that bring in a file.
+/// The most item lines.
 const MOST_ITEMS: usize = 4096;
 
 /// The most start lines.
@@ -60,7 +61,7 @@ impl Draft {
         match said {
             Spoken::Nothing => None,
             Spoken::Memory(_) => fault_if(self.pages.is_some(), ManifestFault::Repeated),
-            Spoken::Item(_) => fault_if(self.items.len() >= MOST_ITEMS, ManifestFault::TooMany),
+            Spoken::Item(item) => item_fault(&self.items, item.kind),
             Spoken::Start(_) => fault_if(self.starts.len() >= MOST_STARTS, ManifestFault::TooMany),
             Spoken::Quanta(more) => {
                 let room = MOST_QUANTA.saturating_sub(self.quanta.len());
@@ -115,6 +116,28 @@ impl Draft {
             dumps: self.dumps,
         })
     }
+}
+
+/// The fault of an item line of this kind behind those of these items.
+fn item_fault(items: &[Item], kind: ItemKind) -> Option<ManifestFault>
+    ensures { result ≡ first (item_rows (map item_value items.now) kind) }
+{
+    if is_stdin(kind) && has_stdin(items) {
+        return Some(ManifestFault::Repeated);
+    }
+    fault_if(items.len() >= MOST_ITEMS, ManifestFault::TooMany)
+}
+
+fn has_stdin(items: &[Item]) -> bool
+    ensures { result ≡ has_stdin (map item_value items.now) }
+{
+    items.iter().any(|item| is_stdin(item.kind))
+}
+
+fn is_stdin(kind: ItemKind) -> bool
+    ensures { result ≡ is_stdin kind }
+{
+    matches!(kind, ItemKind::Stdin)
 }
 
 fn fault_if(holds: bool, fault: ManifestFault) -> Option<ManifestFault>

@@ -10,13 +10,13 @@ use std::alloc::{AllocError, AllocFailed};
 pub enum ManifestFault {
     /// The line has a byte outside 0x20 to 0x7e.
     BadByte,
-    /// Its first word isn't one of the seven.
+    /// Its first word isn't one of the ten.
     UnknownWord,
     /// It has too few or too many words.
     WordCount,
     /// A number isn't written as one, or is out of its range.
     BadNumber,
-    /// A path isn't a slash and one name.
+    /// A path doesn't begin with a slash, is too long, or has a name that is empty, too long, `.` or `..`.
     BadPath,
     /// A line that may stand once stands again.
     Repeated,

@@ -9,6 +9,9 @@ pub(crate) enum Keyword {
     Memory,
     Elf,
     Flat,
+    File,
+    Dir,
+    Stdin,
     Start,
     Quanta,
     Repeat,
@@ -25,6 +28,12 @@ pub fn keyword_of(word: &[u8]) -> Option<Keyword>
         Some(Keyword::Elf)
     } else if word == b"flat".as_slice() {
         Some(Keyword::Flat)
+    } else if word == b"file".as_slice() {
+        Some(Keyword::File)
+    } else if word == b"dir".as_slice() {
+        Some(Keyword::Dir)
+    } else if word == b"stdin".as_slice() {
+        Some(Keyword::Stdin)
     } else if word == b"start".as_slice() {
         Some(Keyword::Start)
     } else if word == b"quanta".as_slice() {

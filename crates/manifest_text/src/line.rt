@@ -4,7 +4,7 @@ ghost use Rattle.std.specs.Prelude.{◌≡◌, ◌==◌, map, slice_index, if◌
 ghost use Rattle.std.specs.List.{list_any, list_all};
 ghost use Rattle.manifest_text.specs.Numbers.{is_quantum, quantum_value};
 ghost use Rattle.manifest_text.specs.Values.{texts, vec_texts};
-ghost use Rattle.manifest_text.specs.Lines.{hash, is_bad_byte, item_said, stacked_said, dump_of, memory_said, elf_said, flat_said, start_said, quanta_said, repeat_said, dump_said, keyword_said, words_said, line_said};
+ghost use Rattle.manifest_text.specs.Lines.{hash, is_bad_byte, item_said, stacked_said, dump_of, memory_said, elf_said, flat_said, file_said, dir_said, stdin_said, start_said, quanta_said, repeat_said, dump_said, keyword_said, words_said, line_said};
 ghost use Rattle.manifest_text.specs.Reading.{Says};
 
 use crate::fault::{ManifestFault, ManifestRefusal};
@@ -103,6 +103,9 @@ fn read_args(
         Some(Keyword::Memory) => read_memory(number, args),
         Some(Keyword::Elf) => read_elf(alloc, number, args),
         Some(Keyword::Flat) => read_flat(alloc, number, args),
+        Some(Keyword::File) => read_file(alloc, number, args),
+        Some(Keyword::Dir) => read_dir(alloc, number, args),
+        Some(Keyword::Stdin) => read_stdin(alloc, number, args),
         Some(Keyword::Start) => read_start(alloc, number, args),
         Some(Keyword::Quanta) => read_quanta(alloc, number, args),
         Some(Keyword::Repeat) => read_repeat(number, args),
@@ -160,6 +163,45 @@ fn read_flat(alloc: Global, number: u32, args: &[&[u8]]) -> Result<Spoken, Manif
 {
     match args {
         [path, name] => read_item(alloc, number, ItemKind::Flat, path, name, 0),
+        _ => Err(refusal(number, ManifestFault::WordCount)),
+    }
+}
+
+/// `file PATH NAME`
+#[tactic(auto, unfolding(crate::specs::Lines::file_said))]
+fn read_file(alloc: Global, number: u32, args: &[&[u8]]) -> Result<Spoken, ManifestRefusal>
+    ensures { Says number (file_said number (texts args.now)) result }
+{
+    match args {
+        [path, name] => read_item(alloc, number, ItemKind::File, path, name, 0),
+        _ => Err(refusal(number, ManifestFault::WordCount)),
+    }
+}
+
+/// `dir PATH`
+#[tactic(auto, unfolding(crate::specs::Lines::dir_said))]
+fn read_dir(alloc: Global, number: u32, args: &[&[u8]]) -> Result<Spoken, ManifestRefusal>
+    ensures { Says number (dir_said number (texts args.now)) result }
+{
+    match args {
+        [path] => read_item(alloc, number, ItemKind::Dir, path, b"", 0),
+        _ => Err(refusal(number, ManifestFault::WordCount)),
+    }
+}
+
+/// `stdin NAME`
+#[tactic(auto, unfolding(crate::specs::Lines::stdin_said))]
+fn read_stdin(alloc: Global, number: u32, args: &[&[u8]]) -> Result<Spoken, ManifestRefusal>
+    ensures { Says number (stdin_said number (texts args.now)) result }
+{
+    match args {
+        [name] => Ok(Spoken::Item(Item {
+            line: number,
+            kind: ItemKind::Stdin,
+            path: Vec::new(alloc),
+            name: Vec::from_slice(alloc, name)?,
+            stack: 0,
+        })),
         _ => Err(refusal(number, ManifestFault::WordCount)),
     }
 }

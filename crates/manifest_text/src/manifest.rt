@@ -9,19 +9,25 @@ pub enum ItemKind {
     Elf,
     /// A program that is a flat file.
     Flat,
+    /// A plain file.
+    File,
+    /// A folder.
+    Dir,
+    /// The console's input.
+    Stdin,
 }
 
-/// A line that brings in a file of the host.
+/// A line that brings in a file of the host, or makes a folder.
 #[derive(Debug, Drop)]
 pub struct Item {
     /// The line's number, from 1.
     pub line: u32,
     pub kind: ItemKind,
-    /// Where the program stands in the machine.
+    /// Where it stands in the machine; empty for the console's input.
     pub path: Vec<u8>,
-    /// The host's name of the file.
+    /// The host's name of the file; empty for a folder.
     pub name: Vec<u8>,
-    /// The bytes of stack of an ELF file's program; 0 for a flat file, which has its own.
+    /// The bytes of stack of an ELF file's program; 0 for all others. A flat file has its own.
     pub stack: u32,
 }
 

@@ -1,5 +1,5 @@
 -- What the calls of `Tree` answer.
-use Rattle.std.specs.Prelude.{◌≡◌, ℕ, List, length, Result, Ok, Err, ⊤}
+use Rattle.std.specs.Prelude.{◌≡◌, ℕ, length, Result, Ok, Err, ⊤}
 use Rattle.call_log.specs.declared.errno.Errno as log
 use Rattle.mem_files.specs.declared.fault.FileFault.{FileFault}
 use Rattle.mem_files.specs.declared.fault.FileFault.TheVariants.{Errno, Memory}

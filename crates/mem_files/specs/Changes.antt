@@ -67,10 +67,19 @@ truncated ns id = with_change (λ n. Some (with_bytes (λ bytes. []) n)) ns id
 
 -- ---- names
 
+-- a name behind the entries of a folder
+abbrev pub with_entry : Inodes → ℕ → List ℕ → ℕ → Inodes
+with_entry ns at name id = with_change (λ folder. Some (with_entries (λ entries. entries ++ record { name = name; id = id } ∷ []) folder)) ns at
+
 -- a new node, which gets the next number, behind the entries of a folder
 abbrev pub with_new : Inodes → ℕ → List ℕ → Inode → Inodes
-with_new ns at name n =
-    with_change (λ folder. Some (with_entries (λ entries. entries ++ record { name = name; id = length ns } ∷ []) folder)) ns at ++ Some n ∷ []
+with_new ns at name n = with_entry ns at name (length ns) ++ Some n ∷ []
+
+-- a new node with this content, under the last name of a path
+abbrev pub made_in : Inodes → Place → Content → Option ℕ → Result Inodes Errno
+made_in ns p content program =
+    if nat_lt most_of_one (length (bytes_in content)) then Err Efbig
+    else or_no_space (with_new ns p.folder p.name (new_inode content program))
 
 -- what a path leads to must not be there, and the folder in which it is made
 abbrev pub made_at : (ℕ → Content) → Option ℕ → Inodes → Result Place Errno → Result Inodes Errno
@@ -79,9 +88,7 @@ made_at content program ns (Ok p) = by_id p.id
   where
     by_id : Option ℕ → Result Inodes Errno
     by_id (Some id) = Err Eexist
-    by_id None =
-        if nat_lt most_of_one (length (bytes_in (content p.folder))) then Err Efbig
-        else or_no_space (with_new ns p.folder p.name (new_inode (content p.folder) program))
+    by_id None = made_in ns p (content p.folder) program
 
 unfoldable pub with_folder : Inodes → List ℕ → Result Inodes Errno
 with_folder ns path = made_at (λ parent. folder parent []) None ns (place_of ns path)
@@ -93,10 +100,17 @@ with_file ns path bytes program = made_at (λ parent. file bytes) program ns (pl
 abbrev pub may_be_entry : List ℕ → Bool
 may_be_entry name = not (length name == 0) && not (bytes_eq name (codes ".")) && not (bytes_eq name (codes ".."))
 
+-- a folder without the entry of a name
+abbrev pub without_entry : Inodes → ℕ → List ℕ → Inodes
+without_entry ns at name = with_change (λ folder. Some (with_entries (λ entries. filter (λ e. not (bytes_eq e.name name)) entries) folder)) ns at
+
+-- no folder names a node any more, so that it goes where it isn't held
+abbrev pub without_link : Inodes → ℕ → Inodes
+without_link ns id = with_change (λ n. kept (record n { linked = false })) ns id
+
 -- the name goes from its folder, and the node where it isn't held
 abbrev pub unnamed : Inodes → Place → ℕ → Inodes
-unnamed ns p id =
-    with_change (λ n. kept (record n { linked = false })) (with_change (λ folder. Some (with_entries (λ entries. filter (λ e. not (bytes_eq e.name p.name)) entries) folder)) ns p.folder) id
+unnamed ns p id = without_link (without_entry ns p.folder p.name) id
 
 -- a folder goes only by `rmdir`, and only where it is empty; a file only by `unlink`
 abbrev pub unnamed_as : Bool → Node → Inodes → Place → ℕ → Result Inodes Errno

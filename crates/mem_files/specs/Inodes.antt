@@ -1,5 +1,5 @@
 -- The files and folders of a machine, by number (POSIX.1-2017, 3.129 Directory, 3.164 File, 3.176 File Serial Number).
-use Rattle.std.specs.Prelude.{ℕ, ◌+◌, ◌-◌, ◌^◌, ◌≤◌, Bool, true, false, min, List, [], ◌∷◌, length, count_by, Option, Some, None, is_some, slice_get, slice_set}
+use Rattle.std.specs.Prelude.{ℕ, ◌+◌, ◌-◌, ◌^◌, ◌≤◌, Bool, true, min, List, [], ◌∷◌, length, count_by, Option, Some, None, is_some, slice_get}
 use Rattle.std.specs.List.{sum_by}
 use Rattle.mem_files.specs.declared.node.Node.{Node}
 use Rattle.mem_files.specs.declared.node.Node.TheVariants.{Dir, File}
@@ -109,11 +109,12 @@ most_of_all = 67108864
 abbrev pub node_count : Inodes → ℕ
 node_count ns = count_by is_some ns
 
+-- the bytes of a node, where there is one
+abbrev pub bytes_at : Option Inode → ℕ
+bytes_at node = length (bytes_in (content_in node))
+
 abbrev pub byte_count : Inodes → ℕ
 byte_count ns = sum_by bytes_at ns
-  where
-    bytes_at : Option Inode → ℕ
-    bytes_at node = length (bytes_in (content_in node))
 
 pub record Fits (ns : Inodes) : Type 0 where
   pub nodes : node_count ns ≤ most_nodes

@@ -2,7 +2,13 @@
 -- Paths    the names of a path, and what it leads to
 -- Changes  what writing, making and removing leave
 -- Calls    what the calls of `Tree` answer
+-- Seen     the code's entries as plain values
+-- Stored   its contents of a node
+-- Walks    its places of a walk
 pub mod Inodes
 pub mod Paths
 pub mod Changes
 pub mod Calls
+pub mod Seen
+pub mod Stored
+pub mod Walks

@@ -23,3 +23,13 @@ impl From<AllocError> for FileFault {
         FileFault::Memory
     }
 }
+
+impl From<Errno> for FileFault {
+    ghost use Rattle.mem_files.specs.declared.fault.FileFault.TheVariants.{Errno};
+
+    ghost from_gives = { λ errno e. e ≡ Errno errno };
+
+    fn from(errno: Errno) -> FileFault {
+        FileFault::Errno(errno)
+    }
+}

@@ -4,10 +4,19 @@
 //! what a process may do with it.
 #![tactic(auto)]
 
+mod content;
+mod entries;
 mod fault;
+mod inode;
 mod node;
+mod paths;
+mod place;
 mod tree;
 
 pub use fault::FileFault;
 pub use node::Node;
-pub use tree::Tree;
+pub use paths::is_too_long;
+pub use tree::{ROOT, Tree};
+
+#[cfg(test)]
+mod tests;

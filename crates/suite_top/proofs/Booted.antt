@@ -10,14 +10,15 @@ use Rattle.manifest_text.specs.declared.manifest.Start.{Start as StoredStart}
 use Rattle.manifest_text.specs.Values.{Manifest, start_value}
 use Rattle.manifest_text.specs.Laws.{IsShort, Reasonable}
 use Rattle.machine_world.specs.World.{Rest, World}
-use Rattle.machine_world.specs.Boot.{StartLine, BootFault, bad_start, args_too_big, no_run, Found, found_from, path_of, placed, fitting, located, started, then_started, all_started, empty_world, boot}
+use Rattle.machine_world.specs.Boot.{StartLine, BootFault, bad_start, args_too_big, no_run, Found, found, path_of, placed, fitting, located, started, then_started, all_started, empty_world, boot}
 use Rattle.syscall_layer.specs.Stands.{world_of}
 use Rattle.flat_machine.specs.declared.boot.BootRefusal.{BootRefusal}
 use Rattle.flat_machine.specs.declared.boot.BootRefusal.TheVariants as refusal
 use Rattle.flat_machine.specs.State.{State, world, lines_of}
 use Rattle.flat_machine.specs.Boots.{Boots}
 use Rattle.suite_top.specs.Ending.{Ending, memory_ending, OrMemory}
-use Rattle.suite_top.specs.Making.{IsMemory, told_fault}
+use Rattle.run_setup.specs.Making.{IsMemory}
+use Rattle.suite_top.specs.Refusing.{told_fault}
 use Rattle.suite_top.specs.Run.{start_line, boot_fault, fault_ending, booted_ending}
 
 -- ---- no event before the first
@@ -48,7 +49,7 @@ no_event_all : (starts : List StartLine) (w now : World) → all_started w start
 unfolding all_started started
 no_event_all [] w now is = let h : w ≡ now = cc in sym (ap (λ (v : World). v.events) h)
 no_event_all (s ∷ ss) w now is =
-    no_event_then (started w s) w (λ v. all_started v ss) now (λ v first. no_event_located w s (found_from 0 (path_of s) w.rest.programs) v first) (λ v. no_event_all ss v now) is
+    no_event_then (started w s) w (λ v. all_started v ss) now (λ v first. no_event_located w s (found w.rest (path_of s)) v first) (λ v. no_event_all ss v now) is
 
 pub no_event_yet : (rest : Rest) (starts : List StartLine) (w : World) → boot rest starts ≡ Ok w → w.events ≡ 0
 unfolding boot

@@ -8,8 +8,7 @@
 -- Reports: the parts of the report of a run.
 -- OneFileSteps: a command that goes on with one file.
 -- Opened: a list opened at one place.
--- PathSets: the set of the paths so far.
--- LoadedItems, OriginalsSame, MadePrograms: the loads of a manifest's lines, and the programs that they make.
+-- LoadedItems: the loads of a manifest's lines.
 -- Booted, RunEndings, RunLaws: what a boot of the machine gives, how a run ends, and when it reaches its machine.
 -- Samples, ListSamples, RunSamples: the definitions on the worked example and on small manifests.
 pub mod HostCourses
@@ -33,11 +32,8 @@ pub mod CheckLaws
 pub mod ListLaws
 pub mod SizesLaw
 pub mod Opened
-pub mod PathSets
 pub mod Reports
 pub mod LoadedItems
-pub mod OriginalsSame
-pub mod MadePrograms
 pub mod Booted
 pub mod RunEndings
 pub mod RunLaws

@@ -5,7 +5,7 @@ use Rattle.host_io.specs.Host.{Told}
 use Rattle.page_runs.specs.declared.place.Kind.{Kind}
 use Rattle.manifest_text.specs.Values.{Manifest}
 use Rattle.manifest_text.specs.Manifest.{Fault}
-use Rattle.machine_world.specs.World.{Program, World}
+use Rattle.machine_world.specs.World.{World}
 use Rattle.machine_world.specs.Boot.{BootFault, boot}
 use Rattle.machine_world.specs.Turns.{End, all_ended, out_of_quanta, stray_at, log_full}
 use Rattle.suite_top.specs.declared.status.Status.TheVariants as status
@@ -14,11 +14,11 @@ use Rattle.suite_top.specs.Texts.Refusals.{manifest_tail}
 use Rattle.suite_top.specs.Observed.{Observed}
 use Rattle.suite_top.specs.HostCourse.{PerformsCommand}
 use Rattle.suite_top.specs.Report.{status_of_end}
-use Rattle.suite_top.specs.Programs.{FaultAt, programs_from, nothing_taken}
-use Rattle.suite_top.specs.Making.{IsMemory}
+use Rattle.run_setup.specs.Brought.{Brought, FaultAt, nothing_brought, all_brought}
+use Rattle.run_setup.specs.Making.{IsMemory}
 use Rattle.suite_top.specs.ItemLoads.{GaveFiles}
 use Rattle.suite_top.specs.Load.{at_once}
-use Rattle.suite_top.specs.Run.{fault_ending, booted_ending, programs_ending, files_ending, items_outcome, manifest_outcome, start_line, opening}
+use Rattle.suite_top.specs.Run.{fault_ending, booted_ending, brought_ending, files_ending, items_outcome, manifest_outcome, start_line, opening}
 use Rattle.suite_top.proofs.HostSteps.{asks_nothing}
 
 -- no end is that of a failed load
@@ -33,13 +33,13 @@ booted_is_told : (log : Bool) (m : Manifest) (b : Result World BootFault) → (b
 booted_is_told log m (Err fault) = λ h. cc
 booted_is_told log m (Ok w) = end_is_told _
 
-programs_are_told : (log : Bool) (kind : Kind) (m : Manifest) (r : Result (List Program) FaultAt) → (programs_ending log kind m r).status ≢ status.HostRead
-programs_are_told log kind m (Err at) = λ h. cc
-programs_are_told log kind m (Ok ps) = booted_is_told log m (boot (opening kind m ps) (map start_line m.starts))
+brought_is_told : (log : Bool) (kind : Kind) (m : Manifest) (r : Result Brought FaultAt) → (brought_ending log kind m r).status ≢ status.HostRead
+brought_is_told log kind m (Err at) = λ h. cc
+brought_is_told log kind m (Ok b) = booted_is_told log m (boot (opening kind m b) (map start_line m.starts))
 
 files_are_told : (log : Bool) (kind : Kind) (m : Manifest) (files : List (List ℕ)) → (files_ending log kind m files).status ≢ status.HostRead
 unfolding files_ending
-files_are_told log kind m files = programs_are_told log kind m (programs_from nothing_taken m.items files)
+files_are_told log kind m files = brought_is_told log kind m (all_brought m.items files nothing_brought)
 
 -- a manifest with a fault
 pub refuses_manifest : (old : Observed Told) (log : Bool) (kind : Kind) (r : Result Manifest Fault) (first : Fault) (ending : Ending)
@@ -54,13 +54,13 @@ runs_files old now log kind m files ending gave ends =
     gave.goes_on (λ fs. at_once (files_ending log kind m fs)) now ending (asks_nothing now (files_ending log kind m files) ending (files_are_told log kind m files) ends)
 
 module _ (log : Bool) (kind : Kind) (m : Manifest) (files : List (List ℕ)) (ending : Ending) where
-  pub makes_programs : (ps : List Program) → programs_from nothing_taken m.items files ≡ Ok ps → OrMemory (programs_ending log kind m (Ok ps)) ending → OrMemory (files_ending log kind m files) ending
+  pub brings_all : (b : Brought) → all_brought m.items files nothing_brought ≡ Ok b → OrMemory (brought_ending log kind m (Ok b)) ending → OrMemory (files_ending log kind m files) ending
   unfolding files_ending
-  makes_programs ps made ends = subst (λ (r : Result (List Program) FaultAt). OrMemory (programs_ending log kind m r) ending) (sym made) ends
+  brings_all b brings ends = subst (λ (r : Result Brought FaultAt). OrMemory (brought_ending log kind m r) ending) (sym brings) ends
 
-  pub refuses_line : (at : FaultAt) → IsMemory at.fault ⊎ (programs_from nothing_taken m.items files ≡ Err at) → OrMemory (fault_ending at) ending → (IsMemory at.fault → ending ≡ memory_ending) → OrMemory (files_ending log kind m files) ending
+  pub refuses_line : (at : FaultAt) → IsMemory at.fault ⊎ (all_brought m.items files nothing_brought ≡ Err at) → OrMemory (fault_ending at) ending → (IsMemory at.fault → ending ≡ memory_ending) → OrMemory (files_ending log kind m files) ending
   unfolding files_ending
   refuses_line at why ends memory = elim why [
     | inl is ↦ inr (memory is)
-    | inr is ↦ subst (λ (r : Result (List Program) FaultAt). OrMemory (programs_ending log kind m r) ending) (sym is) ends
+    | inr is ↦ subst (λ (r : Result Brought FaultAt). OrMemory (brought_ending log kind m r) ending) (sym is) ends
   ]

@@ -1,5 +1,5 @@
 -- When a run reaches its machine.
-use Rattle.std.proofs.Common.{◌≡◌, ℕ, ◌-◌, ◌≤◌, Bool, true, false, cond, List, [], ◌∷◌, ◌++◌, map, length, nat_lt, Option, Some, None, Result, Ok, Err, ◌⊎◌, inl, inr, refl, ap, ◌∙◌, arith}
+use Rattle.std.proofs.Common.{◌≡◌, ℕ, ◌-◌, ◌≤◌, Bool, true, false, cond, List, [], ◌∷◌, ◌++◌, map, length, nat_lt, Option, Some, None, Result, Ok, Err, ◌⊎◌, inl, inr, refl, sym, ap, ◌∙◌, arith, filter}
 use Rattle.std.specs.FinMap.{get}
 use Rattle.std.proofs.lemmas.Bool.Decides.{nat_tests}
 use Rattle.std.proofs.lemmas.List.{append-nil}
@@ -7,16 +7,16 @@ use Rattle.host_io.specs.Host.{Files}
 use Rattle.page_runs.specs.declared.place.Kind.{Kind}
 use Rattle.manifest_text.specs.Values.{Item, Manifest}
 use Rattle.manifest_text.specs.Manifest.{Fault, manifest_of}
-use Rattle.machine_world.specs.World.{Program, World}
+use Rattle.machine_world.specs.World.{World}
 use Rattle.machine_world.specs.Boot.{BootFault, boot}
 use Rattle.suite_top.specs.Texts.Refusals.{too_long_at}
 use Rattle.suite_top.specs.Ending.{refused_ending}
-use Rattle.suite_top.specs.Outcome.{Request, load, Outcome, after}
+use Rattle.suite_top.specs.Outcome.{Request, load, Outcome, Inputs, after}
 use Rattle.suite_top.specs.HostCourse.{inputs_in}
-use Rattle.suite_top.specs.Load.{at_once, with_limited}
-use Rattle.suite_top.specs.Programs.{FaultAt, programs_from, nothing_taken}
-use Rattle.suite_top.specs.Run.{manifest_limit, load_limit, files_limit, with_items, start_line, opening, booted_ending, programs_ending, files_ending, items_outcome, manifest_outcome, run_outcome}
-use Rattle.suite_top.specs.Run.Laws.{AreThere, opened_outcome, IsStop, IsEarly, RunsWhereItOpens, OpensWhereItStops, RunsStopOrEndEarly}
+use Rattle.suite_top.specs.Load.{at_once, with_limited, with_load}
+use Rattle.run_setup.specs.Brought.{Brought, FaultAt, nothing_brought, all_brought}
+use Rattle.suite_top.specs.Run.{manifest_limit, load_limit, files_limit, has_file, with_item, with_items, start_line, opening, booted_ending, brought_ending, files_ending, items_outcome, manifest_outcome, run_outcome}
+use Rattle.suite_top.specs.Run.Laws.{IsThere, AreThere, opened_outcome, IsStop, IsEarly, RunsWhereItOpens, OpensWhereItStops, RunsStopOrEndEarly}
 use Rattle.suite_top.proofs.RunOutcomes.{run_by, other_status}
 
 -- ---- from what is there to the outcome
@@ -28,7 +28,7 @@ is_within limit line name o bytes rest found short =
     ∙ ap (λ (b : Bool). cond b (at_once (refused_ending (too_long_at line))) (rest bytes)) fits
 
 abbrev loads_of : List Item → List Request
-loads_of items = map (λ i. load i.name) items
+loads_of items = map (λ i. load i.name) (filter (λ i. has_file i.kind) items)
 
 -- behind all loads
 abbrev behind_all : List Item → Outcome → Outcome
@@ -40,9 +40,18 @@ items_there t left [] [] rest there = refl
 items_there t left [] (file ∷ files) rest there = absurd there
 items_there t left (item ∷ items) [] rest there = absurd there
 items_there t left (item ∷ items) (file ∷ files) rest there =
-    ap (after (load item.name))
-    (is_within (load_limit item.kind left) (Some item.line) item.name (get t item.name) file (λ bytes. with_items (left - length bytes) items (λ more. rest (bytes ∷ more)) (inputs_in t)) there.0 there.1
-    ∙ items_there t (left - length file) items files (λ more. rest (file ∷ more)) there.2)
+    by_kind (has_file item.kind) there.0 (items_there t (left - length file) items files (λ more. rest (file ∷ more)) there.1)
+  where
+    next : List ℕ → Inputs → Outcome
+    next bytes = with_items (left - length bytes) items (λ more. rest (bytes ∷ more))
+
+    by_kind : (b : Bool) → IsThere t left item file b → next file (inputs_in t) ≡ behind_all items (rest (file ∷ files))
+        → cond b (with_load (load_limit item.kind left) (Some item.line) item.name next (inputs_in t)) (next [] (inputs_in t))
+        ≡ record { requests = map (λ i. load i.name) (cond b (item ∷ filter (λ i. has_file i.kind) items) (filter (λ i. has_file i.kind) items)) ++ (rest (file ∷ files)).requests; ending = (rest (file ∷ files)).ending }
+    by_kind true is more =
+        ap (after (load item.name))
+        (is_within (load_limit item.kind left) (Some item.line) item.name (get t item.name) file (λ bytes. next bytes (inputs_in t)) is.0 is.1 ∙ more)
+    by_kind false is more = ap (λ bytes. next bytes (inputs_in t)) (sym is) ∙ more
 
 pub runs_where_it_opens : RunsWhereItOpens
 unfolding run_outcome files_ending
@@ -51,7 +60,7 @@ runs_where_it_opens t name log kind o =
     (is_within manifest_limit None name (get t name) o.text (λ bytes. manifest_outcome log kind (manifest_of bytes) (inputs_in t)) o.found o.fits
     ∙ ap (λ (r : Result Manifest Fault). manifest_outcome log kind r (inputs_in t)) o.reads
     ∙ items_there t files_limit o.manifest.items o.files (λ files. at_once (files_ending log kind o.manifest files)) o.there
-    ∙ ap (λ (r : Result (List Program) FaultAt). behind_all o.manifest.items (at_once (programs_ending log kind o.manifest r))) o.made
+    ∙ ap (λ (r : Result Brought FaultAt). behind_all o.manifest.items (at_once (brought_ending log kind o.manifest r))) o.brings
     ∙ ap (λ (r : Result World BootFault). behind_all o.manifest.items (at_once (booted_ending log o.manifest r))) o.boots
     ∙ ap (λ (rs : List Request). record { requests = rs; ending = (opened_outcome log o).ending }) (append-nil (loads_of o.manifest.items)))
 
@@ -67,23 +76,34 @@ within limit line name (Some bytes) rest stop = by_test (nat_lt limit (length by
     by_test true is stops = absurd stops
     by_test false is stops = (bytes, refl, grind (arith, nat_tests), stops)
 
+item_within : (t : Files) (left : ℕ) (item : Item) (rest : List ℕ → Inputs → Outcome) → IsStop (with_item left item rest (inputs_in t)).ending.status
+    → (file : List ℕ) × IsThere t left item file (has_file item.kind) × IsStop (rest file (inputs_in t)).ending.status
+item_within t left item rest stop = by_kind (has_file item.kind) stop
+  where
+    by_kind : (b : Bool) → IsStop (cond b (with_load (load_limit item.kind left) (Some item.line) item.name rest (inputs_in t)) (rest [] (inputs_in t))).ending.status
+        → (file : List ℕ) × IsThere t left item file b × IsStop (rest file (inputs_in t)).ending.status
+    by_kind true stops =
+        let (file, found, fits, more) = within (load_limit item.kind left) (Some item.line) item.name (get t item.name) (λ bytes. rest bytes (inputs_in t)) stops in
+        (file, (found, fits), more)
+    by_kind false stops = ([], refl, stops)
+
 items_within : (t : Files) (left : ℕ) (items : List Item) (rest : List (List ℕ) → Outcome) → IsStop (with_items left items rest (inputs_in t)).ending.status
     → (files : List (List ℕ)) × AreThere t left items files × IsStop (rest files).ending.status
 unfolding with_items
 items_within t left [] rest stop = ([], tt, stop)
 items_within t left (item ∷ items) rest stop =
-    let (file, found, fits, more) = within (load_limit item.kind left) (Some item.line) item.name (get t item.name) (λ bytes. with_items (left - length bytes) items (λ files. rest (bytes ∷ files)) (inputs_in t)) stop in
+    let (file, is, more) = item_within t left item (λ bytes. with_items (left - length bytes) items (λ files. rest (bytes ∷ files))) stop in
     let (files, there, last) = items_within t (left - length file) items (λ files. rest (file ∷ files)) more in
-    (file ∷ files, (found, fits, there), last)
+    (file ∷ files, (is, there), last)
 
 ok_manifest : (t : Files) (log : Bool) (kind : Kind) (r : Result Manifest Fault) → IsStop (manifest_outcome log kind r (inputs_in t)).ending.status → (m : Manifest) × (r ≡ Ok m) × IsStop (items_outcome log kind m (inputs_in t)).ending.status
 ok_manifest t log kind (Err fault) stop = absurd stop
 ok_manifest t log kind (Ok m) stop = (m, refl, stop)
 
-ok_programs : (log : Bool) (kind : Kind) (m : Manifest) (r : Result (List Program) FaultAt) → IsStop (programs_ending log kind m r).status
-    → (ps : List Program) × (r ≡ Ok ps) × IsStop (booted_ending log m (boot (opening kind m ps) (map start_line m.starts))).status
-ok_programs log kind m (Err at) stop = absurd stop
-ok_programs log kind m (Ok ps) stop = (ps, refl, stop)
+ok_brought : (log : Bool) (kind : Kind) (m : Manifest) (r : Result Brought FaultAt) → IsStop (brought_ending log kind m r).status
+    → (b : Brought) × (r ≡ Ok b) × IsStop (booted_ending log m (boot (opening kind m b) (map start_line m.starts))).status
+ok_brought log kind m (Err at) stop = absurd stop
+ok_brought log kind m (Ok b) stop = (b, refl, stop)
 
 ok_world : (log : Bool) (m : Manifest) (r : Result World BootFault) → IsStop (booted_ending log m r).status → (w : World) × (r ≡ Ok w)
 ok_world log m (Err fault) stop = absurd stop
@@ -95,9 +115,9 @@ opens_where_it_stops t name log kind stop =
     let (text, found, fits, reads_on) = within manifest_limit None name (get t name) (λ bytes. manifest_outcome log kind (manifest_of bytes) (inputs_in t)) stop in
     let (m, reads, loads_on) = ok_manifest t log kind (manifest_of text) reads_on in
     let (files, there, makes_on) = items_within t files_limit m.items (λ fs. at_once (files_ending log kind m fs)) loads_on in
-    let (programs, made, boots_on) = ok_programs log kind m (programs_from nothing_taken m.items files) makes_on in
-    let (world, boots) = ok_world log m (boot (opening kind m programs) (map start_line m.starts)) boots_on in
-    record { text = text; found = found; fits = fits; manifest = m; reads = reads; files = files; there = there; programs = programs; made = made; world = world; boots = boots }
+    let (brought, brings, boots_on) = ok_brought log kind m (all_brought m.items files nothing_brought) makes_on in
+    let (world, boots) = ok_world log m (boot (opening kind m brought) (map start_line m.starts)) boots_on in
+    record { text = text; found = found; fits = fits; manifest = m; reads = reads; files = files; there = there; brought = brought; brings = brings; world = world; boots = boots }
 
 pub runs_stop_or_end_early : RunsStopOrEndEarly
 runs_stop_or_end_early =

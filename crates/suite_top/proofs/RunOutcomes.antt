@@ -4,7 +4,7 @@ use Rattle.page_runs.specs.declared.place.Kind.{Kind}
 use Rattle.manifest_text.specs.declared.manifest.Dump.{Dump}
 use Rattle.manifest_text.specs.Values.{Item, Manifest}
 use Rattle.manifest_text.specs.Manifest.{Fault, manifest_of}
-use Rattle.machine_world.specs.World.{Program, World}
+use Rattle.machine_world.specs.World.{World}
 use Rattle.machine_world.specs.Turns.{End, all_ended, out_of_quanta, stray_at, log_full, Walk, turns}
 use Rattle.machine_world.specs.Boot.{BootFault, boot}
 use Rattle.flat_machine.specs.Runs.{repeated}
@@ -13,10 +13,10 @@ use Rattle.suite_top.specs.declared.status.Status.TheVariants.{Done, Stray, OutO
 use Rattle.suite_top.specs.Texts.Refusals.{manifest_tail, line_tail, too_long_at}
 use Rattle.suite_top.specs.Ending.{refused_ending}
 use Rattle.suite_top.specs.Outcome.{load, failure_ending, Outcome, Inputs, after}
-use Rattle.suite_top.specs.Load.{at_once, behind, with_limited}
-use Rattle.suite_top.specs.Programs.{FaultAt, programs_from, nothing_taken}
+use Rattle.suite_top.specs.Load.{at_once, behind, with_limited, with_load}
+use Rattle.run_setup.specs.Brought.{Brought, FaultAt, nothing_brought, all_brought}
 use Rattle.suite_top.specs.Report.{status_of_end}
-use Rattle.suite_top.specs.Run.{manifest_limit, files_limit, load_limit, with_items, start_line, opening, boot_fault, walked_ending, booted_ending, programs_ending, files_ending, manifest_outcome, run_outcome}
+use Rattle.suite_top.specs.Run.{manifest_limit, files_limit, load_limit, has_file, with_item, with_items, start_line, opening, boot_fault, walked_ending, booted_ending, brought_ending, files_ending, manifest_outcome, run_outcome}
 
 -- what holds of each end, and of a load in front of an outcome of which it holds
 module _ (P : Outcome → Type 0) (step : (name : List ℕ) (o : Outcome) → P o → P (after (load name) o)) (read : (name : List ℕ) → P (at_once (failure_ending (load name)))) (refused : (tail : List ℕ) → P (at_once (refused_ending tail))) (walked : (log : Bool) (dumps : List Dump) (walk : Walk) → P (at_once (walked_ending log dumps walk))) where
@@ -25,27 +25,33 @@ module _ (P : Outcome → Type 0) (step : (name : List ℕ) (o : Outcome) → P 
   limited limit line name rest each (Some bytes) =
       elim (nat_lt limit (length bytes)) as (λ (b : Bool). P (cond b (at_once (refused_ending (too_long_at line))) (rest bytes))) [ true ↦ refused (too_long_at line) | false ↦ each bytes ]
 
+  item_run : (left : ℕ) (item : Item) (rest : List ℕ → Inputs → Outcome) → ((bytes : List ℕ) (more : Inputs) → P (rest bytes more)) → (inputs : Inputs) → P (with_item left item rest inputs)
+  item_run left item rest each inputs =
+      elim (has_file item.kind) as (λ (b : Bool). P (cond b (with_load (load_limit item.kind left) (Some item.line) item.name rest inputs) (rest [] inputs))) [
+        | true ↦
+            step item.name (with_limited (load_limit item.kind left) (Some item.line) item.name (inputs 0 item.name) (λ bytes. rest bytes (behind inputs)))
+            (limited (load_limit item.kind left) (Some item.line) item.name (λ bytes. rest bytes (behind inputs)) (λ bytes. each bytes (behind inputs)) (inputs 0 item.name))
+        | false ↦ each [] inputs
+      ]
+
   items_run : (left : ℕ) (items : List Item) (rest : List (List ℕ) → Outcome) → ((files : List (List ℕ)) → P (rest files)) → (inputs : Inputs) → P (with_items left items rest inputs)
   unfolding with_items
   items_run left [] rest each inputs = each []
   items_run left (item ∷ items) rest each inputs =
-      let next : List ℕ → Outcome = λ bytes. with_items (left - length bytes) items (λ files. rest (bytes ∷ files)) (behind inputs) in
-      step item.name (with_limited (load_limit item.kind left) (Some item.line) item.name (inputs 0 item.name) next)
-      (limited (load_limit item.kind left) (Some item.line) item.name next
-      (λ bytes. items_run (left - length bytes) items (λ files. rest (bytes ∷ files)) (λ files. each (bytes ∷ files)) (behind inputs))
-      (inputs 0 item.name))
+      item_run left item (λ bytes. with_items (left - length bytes) items (λ files. rest (bytes ∷ files)))
+      (λ bytes more. items_run (left - length bytes) items (λ files. rest (bytes ∷ files)) (λ files. each (bytes ∷ files)) more) inputs
 
   booted : (log : Bool) (m : Manifest) (r : Result World BootFault) → P (at_once (booted_ending log m r))
   booted log m (Err first) = refused (line_tail (boot_fault first).line (boot_fault first).fault)
   booted log m (Ok w) = walked log m.dumps (turns (repeated m.repeat m.quanta) w)
 
-  made : (log : Bool) (kind : Kind) (m : Manifest) (r : Result (List Program) FaultAt) → P (at_once (programs_ending log kind m r))
+  made : (log : Bool) (kind : Kind) (m : Manifest) (r : Result Brought FaultAt) → P (at_once (brought_ending log kind m r))
   made log kind m (Err at) = refused (line_tail at.line at.fault)
-  made log kind m (Ok programs) = booted log m (boot (opening kind m programs) (map start_line m.starts))
+  made log kind m (Ok b) = booted log m (boot (opening kind m b) (map start_line m.starts))
 
   from_files : (log : Bool) (kind : Kind) (m : Manifest) (files : List (List ℕ)) → P (at_once (files_ending log kind m files))
   unfolding files_ending
-  from_files log kind m files = made log kind m (programs_from nothing_taken m.items files)
+  from_files log kind m files = made log kind m (all_brought m.items files nothing_brought)
 
   from_manifest : (log : Bool) (kind : Kind) (r : Result Manifest Fault) (inputs : Inputs) → P (manifest_outcome log kind r inputs)
   from_manifest log kind (Err first) inputs = refused (manifest_tail first.line first.fault)

@@ -10,12 +10,13 @@ use Rattle.manifest_text.specs.Paths.{is_name, is_path}
 use Rattle.manifest_text.specs.Lines.{keyword_of, flat_said, start_said, quanta_said, keyword_said, words_said, line_said}
 use Rattle.manifest_text.specs.Manifest.{draft_of, late_fault, all_said, first_fault, lines_of, manifest_of}
 use Rattle.machine_world.specs.Boot.{all_started, started, boot}
-use Rattle.call_log.specs.declared.errno.Errno.TheVariants.{Eexist, Efbig, Enospc}
-use Rattle.suite_top.specs.declared.line_fault.LineFault.TheVariants.{TooLong, Place, BadStart, E2big, NoRun}
+use Rattle.call_log.specs.declared.errno.Errno.TheVariants.{Eexist}
+use Rattle.run_setup.specs.declared.fault.LineFault.TheVariants.{TooLong, Place, BadStart, E2big, NoRun}
 use Rattle.suite_top.specs.Texts.Refusals.{manifest_tail, line_tail}
 use Rattle.suite_top.specs.Ending.{refused_ending}
 use Rattle.suite_top.specs.Outcome.{load, failure_ending, Inputs}
-use Rattle.suite_top.specs.Programs.{place_fault, programs_from}
+use Rattle.mem_files.specs.Paths.{names, is_too_long, walked, place_of}
+use Rattle.run_setup.specs.Brought.{all_brought}
 use Rattle.suite_top.specs.Run.{with_items, files_ending, run_outcome}
 
 -- the tails of refused lines
@@ -35,23 +36,13 @@ manifest_is_told : manifest_tail 7 WordCount ≡ codes "manifest line 7 3 WordCo
 unfolding digits
 manifest_is_told = refl
 
--- a path that is there, and the limits of one file and of all
-path_is_there : place_fault (record { paths = codes "/a" ∷ []; bytes = 64 }) (codes "/a") 16777217 ≡ Some Eexist
-path_is_there = refl
-
-one_file : (place_fault (record { paths = []; bytes = 0 }) (codes "/a") 16777216 ∷ place_fault (record { paths = []; bytes = 0 }) (codes "/a") 16777217 ∷ []) ≡ (None ∷ Some Efbig ∷ [])
-one_file = refl
-
-all_files : (place_fault (record { paths = []; bytes = 67108800 }) (codes "/a") 64 ∷ place_fault (record { paths = []; bytes = 67108800 }) (codes "/a") 65 ∷ []) ≡ (None ∷ Some Enospc ∷ [])
-all_files = refl
-
 -- a manifest, and no other file
 alone : List ℕ → Inputs
 alone text zero name = Some text
 alone text (suc i) name = None
 
 no_program : run_outcome (codes "m") false First (alone (codes "start /a\nquanta 0:1\n")) ≡ record { requests = load (codes "m") ∷ []; ending = refused_ending (codes "line 1 start") }
-unfolding run_outcome manifest_of lines_of pieces words first_fault line_said words_said keyword_of keyword_said start_said quanta_said is_path is_name is_quantum quantum_value is_number_in decimal_value draft_of late_fault all_said with_items files_ending programs_from boot all_started started digits alone
+unfolding run_outcome manifest_of lines_of pieces words first_fault line_said words_said keyword_of keyword_said start_said quanta_said is_path is_name is_quantum quantum_value is_number_in decimal_value draft_of late_fault all_said with_items files_ending all_brought names is_too_long walked place_of boot all_started started digits alone
 no_program = refl
 
 -- two lines of files: the first has a fault, and the second isn't there

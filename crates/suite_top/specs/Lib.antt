@@ -11,8 +11,6 @@
 -- OneFile     a command that begins with the load of a file
 -- Convert, Check, List   the commands of one file
 -- Report      the report of a run, and the status that it ends with
--- Originals   the program of an ELF file
--- Programs    the programs that the item lines of a manifest bring in
 -- Run         the command `run`, and when it reaches its machine
 -- Result      result_of: the outcome of each command line
 --
@@ -22,7 +20,7 @@
 -- Call        MeetsResult, the clause of `suite`: a course of the outcome, and a delivery of its ending
 -- StatusLaws, HostLaws   what holds of every call
 --
--- Answer, FileLoad, ItemLoads, Making       for private functions only: the ending of a value of the code, what loads give, and what programs are made
+-- Answer, FileLoad, ItemLoads, Refusing       for private functions only: the ending of a value of the code, what loads give, and why a machine doesn't start
 pub mod Status
 pub mod Texts
 pub mod Sizes
@@ -35,8 +33,6 @@ pub mod Convert
 pub mod Check
 pub mod List
 pub mod Report
-pub mod Originals
-pub mod Programs
 pub mod Run
 pub mod Result
 pub mod Observed
@@ -48,4 +44,4 @@ pub mod HostLaws
 pub mod Answer
 pub mod FileLoad
 pub mod ItemLoads
-pub mod Making
+pub mod Refusing

@@ -1,35 +1,39 @@
 -- The command `run MANIFEST`: the programs of a manifest run by turns in one memory.
 -- Laws: when a run reaches its machine.
 pub mod Laws
-use Rattle.std.specs.Prelude.{ℕ, ◌-◌, min, Bool, List, [], ◌∷◌, map, length, Option, Some, None, Result, Ok, Err}
+use Rattle.std.specs.Prelude.{ℕ, ◌-◌, min, Bool, true, false, if◌then◌else◌, List, [], ◌∷◌, map, length, Option, Some, None, Result, Ok, Err}
 use Rattle.page_runs.specs.declared.place.Kind.{Kind}
 use Rattle.quantum_sched.specs.declared.Quantum.{Quantum}
 use Rattle.manifest_text.specs.declared.manifest.ItemKind.{ItemKind}
-use Rattle.manifest_text.specs.declared.manifest.ItemKind.TheVariants.{Elf, Flat}
+use Rattle.manifest_text.specs.declared.manifest.ItemKind.TheVariants.{Elf, Flat, File, Dir, Stdin}
 use Rattle.manifest_text.specs.declared.manifest.Dump.{Dump}
 use Rattle.manifest_text.specs.Values.{Item, Start, Manifest}
 use Rattle.manifest_text.specs.Manifest.{Fault, manifest_of}
-use Rattle.machine_world.specs.World.{Program, Rest, World}
+use Rattle.machine_world.specs.World.{Rest, World}
 use Rattle.machine_world.specs.Boot.{StartLine, BootFault, bad_start, args_too_big, no_run, boot}
 use Rattle.machine_world.specs.Turns.{Walk, turns}
 use Rattle.flat_machine.specs.Runs.{repeated}
-use Rattle.suite_top.specs.declared.line_fault.LineFault.TheVariants as line
+use Rattle.fd_tables.specs.Files.{nothing_open}
+use Rattle.run_setup.specs.declared.fault.LineFault.TheVariants as line
+use Rattle.run_setup.specs.Brought.{Brought, FaultAt, nothing_brought, all_brought}
 use Rattle.suite_top.specs.Texts.Refusals.{manifest_tail, line_tail}
 use Rattle.suite_top.specs.Ending.{Ending, refused_ending}
 use Rattle.suite_top.specs.Outcome.{Outcome, Inputs}
 use Rattle.suite_top.specs.Load.{at_once, with_load}
 use Rattle.suite_top.specs.Report.{status_of_end, report_text}
-use Rattle.suite_top.specs.Programs.{FaultAt, programs_from, nothing_taken}
 
 -- ---- the loads
 
--- the most bytes of a manifest, of an ELF file, of a flat file, and of all files together
+-- the most bytes of a manifest, of an ELF file, of any other file, and of all files together
 abbrev pub manifest_limit : ℕ
 manifest_limit = 1048576
 
 abbrev pub kind_limit : ItemKind → ℕ
 kind_limit Elf = 67108864
 kind_limit Flat = 16777216
+kind_limit File = 16777216
+kind_limit Dir = 0
+kind_limit Stdin = 16777216
 
 abbrev pub files_limit : ℕ
 files_limit = 268435456
@@ -38,12 +42,24 @@ files_limit = 268435456
 abbrev pub load_limit : ItemKind → ℕ → ℕ
 load_limit kind left = min (kind_limit kind) left
 
+-- the line of a folder brings in no file of the host
+abbrev pub has_file : ItemKind → Bool
+has_file Elf = true
+has_file Flat = true
+has_file File = true
+has_file Dir = false
+has_file Stdin = true
+
+-- the file of a line is loaded, if it has one, and then `rest` goes on with it
+abbrev pub with_item : (left : ℕ) → Item → (List ℕ → Inputs → Outcome) → Inputs → Outcome
+with_item left item rest inputs =
+    if has_file item.kind then with_load (load_limit item.kind left) (Some item.line) item.name rest inputs else rest [] inputs
+
 -- the files of the item lines are loaded in order, and then `rest` goes on with all of them
 unfoldable pub with_items : (left : ℕ) → List Item → (List (List ℕ) → Outcome) → Inputs → Outcome
 with_items left [] rest inputs = rest []
 with_items left (item ∷ items) rest inputs =
-    with_load (load_limit item.kind left) (Some item.line) item.name
-    (λ bytes. with_items (left - length bytes) items (λ files. rest (bytes ∷ files))) inputs
+    with_item left item (λ bytes. with_items (left - length bytes) items (λ files. rest (bytes ∷ files))) inputs
 
 -- ---- the machine
 
@@ -51,8 +67,15 @@ abbrev pub start_line : Start → StartLine
 start_line s = record { line = s.line; args = s.args }
 
 -- what no space holds, before the first program
-abbrev pub opening : Kind → Manifest → List Program → Rest
-opening kind m programs = record { pages = m.pages; kind = kind; programs = programs; console = [] }
+abbrev pub opening : Kind → Manifest → Brought → Rest
+opening kind m b = record {
+  pages = m.pages;
+  kind = kind;
+  programs = b.programs;
+  tree = b.tree;
+  files = nothing_open b.stdin;
+  console = [];
+}
 
 -- why a start line is refused
 abbrev pub boot_fault : BootFault → FaultAt
@@ -81,13 +104,13 @@ abbrev pub booted_ending : (log : Bool) → Manifest → Result World BootFault 
 booted_ending log m (Err first) = fault_ending (boot_fault first)
 booted_ending log m (Ok w) = world_ending log (repeated m.repeat m.quanta) m.dumps w
 
-abbrev pub programs_ending : (log : Bool) → Kind → Manifest → Result (List Program) FaultAt → Ending
-programs_ending log kind m (Err at) = fault_ending at
-programs_ending log kind m (Ok programs) = booted_ending log m (boot (opening kind m programs) (map start_line m.starts))
+abbrev pub brought_ending : (log : Bool) → Kind → Manifest → Result Brought FaultAt → Ending
+brought_ending log kind m (Err at) = fault_ending at
+brought_ending log kind m (Ok b) = booted_ending log m (boot (opening kind m b) (map start_line m.starts))
 
 -- where the item lines' files are there
 unfoldable pub files_ending : (log : Bool) → Kind → Manifest → List (List ℕ) → Ending
-files_ending log kind m files = programs_ending log kind m (programs_from nothing_taken m.items files)
+files_ending log kind m files = brought_ending log kind m (all_brought m.items files nothing_brought)
 
 -- behind the manifest
 abbrev pub items_outcome : (log : Bool) → Kind → Manifest → Inputs → Outcome
@@ -97,6 +120,6 @@ abbrev pub manifest_outcome : (log : Bool) → Kind → Result Manifest Fault �
 manifest_outcome log kind (Err first) inputs = at_once (refused_ending (manifest_tail first.line first.fault))
 manifest_outcome log kind (Ok m) inputs = items_outcome log kind m inputs
 
--- the manifest is load 0, and the file of its item i, counted from 0, is load i + 1
+-- the manifest is load 0, and the files of its items are the loads behind it
 unfoldable pub run_outcome : (name : List ℕ) (log : Bool) → Kind → Inputs → Outcome
 run_outcome name log kind inputs = with_load manifest_limit None name (λ bytes. manifest_outcome log kind (manifest_of bytes)) inputs

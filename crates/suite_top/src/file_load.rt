@@ -7,11 +7,11 @@ ghost use Rattle.suite_top.specs.Observed.{observed};
 ghost use Rattle.suite_top.specs.FileLoad.{LoadsFile};
 
 use crate::answer::Answer;
-use crate::line_fault::LineFault;
 use crate::status::Status;
 use crate::texts;
 use crate::texts::refusals;
 use host_io::{Host, HostError, Loaded};
+use run_setup::LineFault;
 use std::alloc::{AllocError, Global};
 
 /// The most bytes of an ELF or flat file that is loaded.

@@ -6,7 +6,7 @@ ghost use Rattle.manifest_text.specs.Values.{item_value};
 ghost use Rattle.manifest_text.specs.Laws.{IsItem};
 ghost use Rattle.suite_top.specs.Observed.{observed};
 ghost use Rattle.suite_top.specs.Run.{load_limit};
-ghost use Rattle.suite_top.specs.ItemLoads.{LoadsItems};
+ghost use Rattle.suite_top.specs.ItemLoads.{LoadsItem, LoadsItems};
 
 use crate::answer::Answer;
 use crate::file_load::{FileLoad, load_limited};
@@ -20,13 +20,13 @@ const FILES_LIMIT: u32 = 268_435_456;
 /// The most bytes of an ELF file.
 const ELF_LIMIT: u32 = 67_108_864;
 
-/// The most bytes of a flat file.
-const FLAT_LIMIT: u32 = 16_777_216;
+/// The most bytes of a file that stands in the machine as it is, and of the console's input.
+const FILE_LIMIT: u32 = 16_777_216;
 
 /// What the loads of all lines' files give.
 #[derive(Debug, Drop)]
 pub enum ItemsLoad {
-    /// All files, in the order of the lines.
+    /// All files, in the order of the lines; an empty one for a folder.
     Whole(Vec<Vec<u8>>),
     /// Not all files, and how the command ends without them.
     Ended(Result<Answer, AllocError>),
@@ -40,8 +40,7 @@ pub fn load_items<H: Host>(alloc: Global, items: &[Item], host: &mut H) -> Items
     let mut files = Vec::new(alloc);
     let mut left = FILES_LIMIT;
     for item in items {
-        let limit = load_limit(item.kind, left);
-        match load_limited(alloc, name_of(item), limit, Some(item.line), host) {
+        match load_item(alloc, item, left, host) {
             FileLoad::Whole(bytes) => {
                 left -= bytes.len() as u32;
                 if files.push(bytes).is_err() {
@@ -54,13 +53,26 @@ pub fn load_items<H: Host>(alloc: Global, items: &[Item], host: &mut H) -> Items
     ItemsLoad::Whole(files)
 }
 
+/// Loads the file of a line, where so many bytes are left of those of all files. A folder has none.
+fn load_item<H: Host>(alloc: Global, item: &Item, left: u32, host: &mut H) -> FileLoad
+    requires { IsItem (item_value item.now) }
+    ensures { LoadsItem (observed H.told H.faults host.old) (observed H.told H.faults host.new) (item_value item.now) left result }
+{
+    if item.kind == ItemKind::Dir {
+        return FileLoad::Whole(Vec::new(alloc));
+    }
+    let limit = load_limit(item.kind, left);
+    load_limited(alloc, name_of(item), limit, Some(item.line), host)
+}
+
 /// The limit of one load, where so many bytes are left of those of all files.
 fn load_limit(kind: ItemKind, left: u32) -> u32
     ensures { result ≡ load_limit kind left }
 {
     match kind {
         ItemKind::Elf => ELF_LIMIT.min(left),
-        ItemKind::Flat => FLAT_LIMIT.min(left),
+        ItemKind::Dir => 0,
+        ItemKind::Flat | ItemKind::File | ItemKind::Stdin => FILE_LIMIT.min(left),
     }
 }
 

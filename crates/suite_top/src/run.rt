@@ -9,15 +9,14 @@ ghost use Rattle.flat_machine.specs.Runs.{repeated};
 ghost use Rattle.suite_top.specs.Ending.{memory_ending, OrMemory};
 ghost use Rattle.suite_top.specs.Observed.{observed};
 ghost use Rattle.suite_top.specs.Answer.{ending_of};
-ghost use Rattle.suite_top.specs.Making.{IsMemory, fault_value, AreSoMany, programs_value, told_fault};
-ghost use Rattle.suite_top.specs.Run.{manifest_limit, fault_ending, world_ending, programs_ending, files_ending, items_outcome, manifest_outcome, run_outcome};
+ghost use Rattle.run_setup.specs.Making.{IsMemory, fault_value, HasPaths, brought_value};
+ghost use Rattle.suite_top.specs.Refusing.{told_fault};
+ghost use Rattle.suite_top.specs.Run.{manifest_limit, fault_ending, world_ending, brought_ending, files_ending, items_outcome, manifest_outcome, run_outcome};
 ghost use Rattle.suite_top.specs.HostCourse.{PerformsCommand};
 
 use crate::answer::Answer;
 use crate::file_load::{FileLoad, load_limited};
 use crate::items::{ItemsLoad, load_items};
-use crate::line_fault::{FaultAt, LineFault};
-use crate::programs::{Programs, make_programs};
 use crate::report::{report, status_of};
 use crate::status::Status;
 use crate::texts::refusals::{refused_line, refused_manifest};
@@ -26,6 +25,7 @@ use host_io::Host;
 use manifest_text::{Dump, Manifest, ManifestRefusal};
 use page_runs::{Chooser, Run};
 use quantum_sched::Quantum;
+use run_setup::{FaultAt, LineFault, RunFiles, bring};
 use std::alloc::{AllocError, Global};
 
 pub mod laws;
@@ -33,7 +33,7 @@ pub mod laws;
 /// The most bytes of a manifest.
 const MANIFEST_LIMIT: u32 = 1_048_576;
 
-/// Loads the manifest and the files of its lines, makes their programs, and runs them.
+/// Loads the manifest and the files of its lines, and runs the programs that they bring in.
 pub fn run_file<H: Host, F: Fn(&[Run], u32) -> Option<usize>>(
     alloc: Global,
     manifest: &str,
@@ -85,48 +85,50 @@ fn run_items<H: Host, F: Fn(&[Run], u32) -> Option<usize>>(
     ensures { PerformsCommand (observed H.told H.faults host.old) (observed H.told H.faults host.new) (items_outcome log (kind_of chooser.now) (manifest_value manifest)) (ending_of result) }
 {
     match load_items(alloc, &manifest.items, host) {
-        ItemsLoad::Whole(files) => run_files(alloc, manifest, &files, log, chooser),
+        ItemsLoad::Whole(files) => run_files(alloc, manifest, files, log, chooser),
         ItemsLoad::Ended(ends) => ends,
     }
 }
 
-/// Makes the programs of all lines, and goes on with them.
+/// Goes on with the files of all lines.
 fn run_files<F: Fn(&[Run], u32) -> Option<usize>>(
     alloc: Global,
     manifest: Manifest,
-    files: &[Vec<u8>],
+    files: Vec<Vec<u8>>,
     log: bool,
     chooser: &Chooser<F>,
 ) -> Result<Answer, AllocError>
     requires chooser { IsChooser F.pre F.post chooser.now }
     requires manifest { Reasonable (manifest_value manifest) }
-    requires files { length files.now ≡ length manifest.items.items }
-    ensures { OrMemory (files_ending log (kind_of chooser.now) (manifest_value manifest) (vec_texts files.now)) (ending_of result) }
+    requires files { length files.items ≡ length manifest.items.items }
+    ensures { OrMemory (files_ending log (kind_of chooser.now) (manifest_value manifest) (vec_texts files.items)) (ending_of result) }
 {
-    match make_programs(alloc, &manifest.items, files) {
-        Ok(programs) => run_programs(alloc, manifest, programs, log, chooser),
+    match bring(alloc, &manifest.items, files) {
+        Ok(files) => run_brought(alloc, manifest, files, log, chooser),
         Err(at) => refuse_line(alloc, &at),
     }
 }
 
 /// Starts the machine, and goes on with it.
-fn run_programs<F: Fn(&[Run], u32) -> Option<usize>>(
+fn run_brought<F: Fn(&[Run], u32) -> Option<usize>>(
     alloc: Global,
     manifest: Manifest,
-    programs: Programs,
+    files: RunFiles,
     log: bool,
     chooser: &Chooser<F>,
 ) -> Result<Answer, AllocError>
     requires chooser { IsChooser F.pre F.post chooser.now }
     requires manifest { Reasonable (manifest_value manifest) }
-    requires programs { AreSoMany programs (length manifest.items.items) }
-    ensures { OrMemory (programs_ending log (kind_of chooser.now) (manifest_value manifest) (Ok (programs_value programs))) (ending_of result) }
+    requires paths { HasPaths files (length manifest.items.items) }
+    ensures { OrMemory (brought_ending log (kind_of chooser.now) (manifest_value manifest) (Ok (brought_value files))) (ending_of result) }
 {
     let setup = Setup {
         pages: manifest.pages,
-        paths: programs.paths,
-        programs: programs.flats,
+        tree: files.tree,
+        paths: files.paths,
+        programs: files.flats,
         starts: manifest.starts,
+        stdin: files.stdin,
     };
     match Machine::boot(alloc, setup, chooser) {
         Ok(machine) => run_machine(

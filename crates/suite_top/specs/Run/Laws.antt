@@ -1,11 +1,11 @@
 -- When a run reaches its machine, over a host that tells its files.
-use Rattle.std.specs.Prelude.{◌≡◌, ◌⊎◌, ℕ, ◌-◌, ◌≤◌, Bool, List, [], ◌∷◌, map, length, Some, Ok}
+use Rattle.std.specs.Prelude.{◌≡◌, ◌⊎◌, ℕ, ◌-◌, ◌≤◌, Bool, true, false, List, [], ◌∷◌, map, filter, length, Some, Ok}
 use Rattle.std.specs.FinMap.{get}
 use Rattle.host_io.specs.Host.{Files}
 use Rattle.page_runs.specs.declared.place.Kind.{Kind}
 use Rattle.manifest_text.specs.Values.{Item, Manifest}
 use Rattle.manifest_text.specs.Manifest.{manifest_of}
-use Rattle.machine_world.specs.World.{Program, World}
+use Rattle.machine_world.specs.World.{World}
 use Rattle.machine_world.specs.Boot.{boot}
 use Rattle.flat_machine.specs.Runs.{repeated}
 use Rattle.suite_top.specs.declared.status.Status.{Status}
@@ -13,14 +13,19 @@ use Rattle.suite_top.specs.declared.status.Status.TheVariants.{Done, HostRead, R
 use Rattle.suite_top.specs.Ending.{Ending}
 use Rattle.suite_top.specs.Outcome.{load, Outcome, Inputs}
 use Rattle.suite_top.specs.HostCourse.{inputs_in}
-use Rattle.suite_top.specs.Programs.{programs_from, nothing_taken}
-use Rattle.suite_top.specs.Run.{manifest_limit, load_limit, files_limit, start_line, opening, world_ending, run_outcome}
+use Rattle.run_setup.specs.Brought.{Brought, nothing_brought, all_brought}
+use Rattle.suite_top.specs.Run.{manifest_limit, load_limit, files_limit, has_file, start_line, opening, world_ending, run_outcome}
 
--- the file of each line is there, and isn't longer than the limit of its load
+-- the file of a line that has one is there, and isn't longer than the limit of its load
+abbrev pub IsThere : Files → (left : ℕ) → Item → List ℕ → Bool → Type 0
+IsThere t left item file true = (get t item.name ≡ Some file) × (length file ≤ load_limit item.kind left)
+IsThere t left item file false = file ≡ []
+
+-- that of each line
 abbrev pub AreThere : Files → (left : ℕ) → List Item → List (List ℕ) → Type 0
 AreThere t left [] [] = Unit {0}
 AreThere t left (item ∷ items) (file ∷ files) =
-    (get t item.name ≡ Some file) × (length file ≤ load_limit item.kind left) × AreThere t (left - length file) items files
+    IsThere t left item file (has_file item.kind) × AreThere t (left - length file) items files
 AreThere t left items files = ⊥
 
 -- all that a run needs is there and has no fault, and this is its opening world
@@ -32,15 +37,15 @@ pub record Opens (t : Files) (name : List ℕ) (kind : Kind) : Type 0 where
   pub reads : manifest_of text ≡ Ok manifest
   pub files : List (List ℕ)
   pub there : AreThere t files_limit manifest.items files
-  pub programs : List Program
-  pub made : programs_from nothing_taken manifest.items files ≡ Ok programs
+  pub brought : Brought
+  pub brings : all_brought manifest.items files nothing_brought ≡ Ok brought
   pub world : World
-  pub boots : boot (opening kind manifest programs) (map start_line manifest.starts) ≡ Ok world
+  pub boots : boot (opening kind manifest brought) (map start_line manifest.starts) ≡ Ok world
 
--- the manifest is asked for, then the file of each line in order; and the turns from that world give the texts
+-- the manifest is asked for, then the file of each line that has one, in order; and the turns from that world give the texts
 abbrev pub opened_outcome : {t : Files} {name : List ℕ} {kind : Kind} → (log : Bool) → Opens t name kind → Outcome
 opened_outcome {name = name} log o = record {
-  requests = load name ∷ map (λ i. load i.name) o.manifest.items;
+  requests = load name ∷ map (λ i. load i.name) (filter (λ i. has_file i.kind) o.manifest.items);
   ending = world_ending log (repeated o.manifest.repeat o.manifest.quanta) o.manifest.dumps o.world;
 }
 

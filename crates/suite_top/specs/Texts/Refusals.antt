@@ -3,8 +3,8 @@ use Rattle.std.specs.Prelude.{ℕ, List, [], ◌∷◌, ◌++◌, codes, decimal
 use Rattle.call_log.specs.Errno.{errno_number}
 use Rattle.manifest_text.specs.declared.fault.ManifestFault.{ManifestFault}
 use Rattle.manifest_text.specs.declared.fault.ManifestFault.TheVariants as fault
-use Rattle.suite_top.specs.declared.line_fault.LineFault.{LineFault}
-use Rattle.suite_top.specs.declared.line_fault.LineFault.TheVariants as line
+use Rattle.run_setup.specs.declared.fault.LineFault.{LineFault}
+use Rattle.run_setup.specs.declared.fault.LineFault.TheVariants as line
 use Rattle.suite_top.specs.Texts.{joined, too_long_tail, refusal_tail}
 use Rattle.suite_top.specs.Texts.Listing.{flat_tail}
 

@@ -1,6 +1,6 @@
 //! Laws over every run. No code runs.
 ghost use Rattle.suite_top.specs.Run.Laws.{RunsWhereItOpens, OpensWhereItStops, RunsStopOrEndEarly};
-ghost use Rattle.suite_top.specs.Originals.{OriginalsAreSame};
+ghost use Rattle.run_setup.specs.Originals.{OriginalsAreSame};
 
 /// A run reaches its machine exactly where all files are there and nothing has a fault.
 pub fn run_law()

@@ -2,12 +2,12 @@
 ghost use Rattle.std.specs.Prelude.{◌≡◌, IfOk, IsErr, string_bytes};
 ghost use Rattle.suite_top.specs.Texts.{refused_line};
 ghost use Rattle.suite_top.specs.Texts.Refusals.{manifest_fault_words, manifest_tail, line_fault_words, line_tail};
-ghost use Rattle.suite_top.specs.Making.{IsMemory};
+ghost use Rattle.run_setup.specs.Making.{IsMemory};
 
-use crate::line_fault::LineFault;
 use crate::texts::listing::flat_tail;
 use crate::texts::{conversion_tail, refused};
 use manifest_text::ManifestFault;
+use run_setup::LineFault;
 use std::alloc::{AllocError, Global};
 
 fn manifest_fault_words(fault: ManifestFault) -> &'static str

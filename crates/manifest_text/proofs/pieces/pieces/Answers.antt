@@ -31,4 +31,4 @@ returns c =
     let outs = texts c.loop-place.pieces.items in
     ap texts c.in_ok-push-2.ensures.items
     ∙ map-append (λ s. s.now) c.loop-place.pieces.items _
-    ∙ last_step c.args.at c.args.text.now c.loop-place.start c.loop-place.place outs c.loop-place.invariant.start c.loop-place.auto.place-end c.loop-place-test.false c.loop-place.invariant.same
+    ∙ last_step c.args.at c.args.text.now c.loop-place.start c.loop-place.place c.loop-place.invariant.start c.loop-place.auto.place-end c.loop-place-test.false outs c.loop-place.invariant.same

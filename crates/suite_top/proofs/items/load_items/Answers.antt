@@ -9,26 +9,23 @@ use Rattle.suite_top.proofs.items.load_items.Goals as goal
 pub loop-item-init : goal.loop-item-init
 loop-item-init g c = rw c.new-files.ensures.items (no_loads _ _)
 
-pub name_of-requires : goal.name_of-requires
-name_of-requires g c = (each_at IsItem item_value _ _ _ c.loop-item-test.true c.item-item.is c.requires).name
+pub load_item-requires : goal.load_item-requires
+load_item-requires g c = each_at IsItem item_value _ _ _ c.loop-item-test.true c.item-item.is c.requires
 
 pub returns-then-is_err : goal.returns-then-is_err
 returns-then-is_err g c =
     let so_far = c.loop-item.invariant in
-    let given = rw (c.load_limit-limit.ensures, c.name_of.ensures) at c.in-Whole.ensures in
-    runs_out_within _ _ _ _ _ _ (loads_more _ _ _ _ _ _ so_far (item_value c.item-item.result) (opened item_value _ _ _ c.loop-item-test.true c.item-item.is) _ _ given)
+    runs_out_within _ _ _ _ _ _ (loads_more _ _ _ _ _ _ so_far (item_value c.item-item.result) (opened item_value _ _ _ c.loop-item-test.true c.item-item.is) _ _ c.in-Whole.ensures)
 
 pub returns-in-Ended : goal.returns-in-Ended
 returns-in-Ended g c =
-    let ends = rw (c.load_limit-limit.ensures, c.name_of.ensures) at c.in-Ended.ensures in
-    ends_within _ _ _ _ _ _ c.loop-item.invariant (item_value c.item-item.result) (opened item_value _ _ _ c.loop-item-test.true c.item-item.is) _ _ ends
+    ends_within _ _ _ _ _ _ c.loop-item.invariant (item_value c.item-item.result) (opened item_value _ _ _ c.loop-item-test.true c.item-item.is) _ _ c.in-Ended.ensures
 
 pub loop-item-preserved : goal.loop-item-preserved
 loop-item-preserved g c =
     let so_far = c.loop-item.invariant in
-    let given = rw (c.load_limit-limit.ensures, c.name_of.ensures) at c.in-Whole.ensures in
     let pushed = rw c.if-is_err.ensures.negation at c.push.ensures.items in
-    let more = loads_more _ _ _ _ _ _ so_far (item_value c.item-item.result) (opened item_value _ _ _ c.loop-item-test.true c.item-item.is) _ _ given in
+    let more = loads_more _ _ _ _ _ _ so_far (item_value c.item-item.result) (opened item_value _ _ _ c.loop-item-test.true c.item-item.is) _ _ c.in-Whole.ensures in
     rw (pushed, map-append, c.len.ensures, c.in-Whole.bytes.ok.0) more
 
 pub returns : goal.returns

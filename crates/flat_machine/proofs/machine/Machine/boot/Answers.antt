@@ -5,30 +5,33 @@ use Rattle.call_log.specs.Programs.{paths_of}
 use Rattle.machine_world.specs.Programs.{AreLoaded}
 use Rattle.flat_machine.proofs.Readers.{programs_count}
 use Rattle.page_runs.specs.Choosers.{kind_of}
-use Rattle.machine_world.specs.Boot.{all_started, empty_world, boot}
+use Rattle.machine_world.specs.Boot.{all_started, boot}
+use Rattle.fd_tables.specs.Files.{OpenFiles}
+use Rattle.syscall_layer.specs.Kept.{Kept}
 use Rattle.syscall_layer.specs.Stands.{world_of}
 use Rattle.flat_machine.specs.State.{about_boot, line_of, lines_of, rest_of}
-use Rattle.flat_machine.proofs.Booted.{more_pids, more_spaces, more_entries, left_on, left_fails, left_none, fails_as, first_world, machine_boots, machine_loads, boot_is}
+use Rattle.flat_machine.proofs.Booted.{more_pids, more_spaces, more_entries, left_on, left_fails, left_none, fails_as, boots_from, machine_boots, machine_loads}
 use Rattle.flat_machine.proofs.machine.Machine.boot.Goals as goal
 
 pub loop-start-init : goal.loop-start-init
 loop-start-init g c =
-    let a = about_boot (kind_of c.args.chooser.now) c.args.setup.paths.items c.args.setup.programs.items in
-    rw c.in_ok-parts.ensures (record {
-      left = ap (λ w. all_started w (lines_of c.deref-start-items.result.now)) (first_world a c.args.setup.pages refl);
-      pids = refl;
-      spaces = refl;
-      entries = refl;
-    })
+    let is = c.in_ok-parts.ensures in
+    record {
+      left = refl;
+      pids = ap (λ (k : Kept). k.procs.next_pid) is;
+      spaces = ap (λ (k : Kept). length k.spaces) is;
+      entries = ap (λ (k : Kept). length k.procs.entries) is;
+    }
 
 pub loop-start-preserved : goal.loop-start-preserved
 loop-start-preserved g c =
     let a = about_boot (kind_of c.args.chooser.now) c.args.setup.paths.items c.args.setup.programs.items in
-    let rest = rest_of c.args.setup.pages (kind_of c.args.chooser.now) c.args.setup.paths.items c.args.setup.programs.items in
+    let rest = rest_of c.args.setup.pages (kind_of c.args.chooser.now) c.args.setup.paths.items c.args.setup.programs.items c.args.setup.tree c.args.setup.stdin.items in
+    let first_is = boots_from a c.args.setup.pages c.args.setup.tree c.in_ok-files.files.open_files rest c.in_ok-parts.parts (lines_of c.deref-start-items.result.now) c.in_ok-parts.ensures (ap (λ (files : OpenFiles). record rest { files = files }) c.in_ok-files.ensures) refl in
     let begins = rw (c.deref.ensures.value, c.deref-in-loop-start.ensures.value) at c.in_ok-begin.ensures in
     let s = line_of c.start-item.result in
     record {
-      left = left_on c.deref-start-items.result.now c.loop-start.start-index c.start-item.result c.loop-start-test.true c.start-item.is a c.loop-start.parts c.begin.new.parts (all_started (empty_world rest) (lines_of c.deref-start-items.result.now)) c.loop-start.invariant.left c.in_ok-begin.field-0 begins;
+      left = left_on c.deref-start-items.result.now c.loop-start.start-index c.start-item.result c.loop-start-test.true c.start-item.is a c.loop-start.parts c.begin.new.parts (all_started (world_of a c.in_ok-parts.parts) (lines_of c.deref-start-items.result.now)) c.loop-start.invariant.left c.in_ok-begin.field-0 begins;
       pids = more_pids a c.loop-start.parts c.begin.new.parts s c.in_ok-begin.field-0 begins ∙ ap (λ n. n + 1) c.loop-start.invariant.pids;
       spaces = more_spaces a c.loop-start.parts c.begin.new.parts s c.in_ok-begin.field-0 begins ∙ ap (λ n. n + 1) c.loop-start.invariant.spaces;
       entries = more_entries a c.loop-start.parts c.begin.new.parts s c.in_ok-begin.field-0 begins ∙ ap (λ n. n + 1) c.loop-start.invariant.entries;
@@ -37,21 +40,23 @@ loop-start-preserved g c =
 pub returns-in_err-begin : goal.returns-in_err-begin
 returns-in_err-begin g c =
     let a = about_boot (kind_of c.args.chooser.now) c.args.setup.paths.items c.args.setup.programs.items in
-    let rest = rest_of c.args.setup.pages (kind_of c.args.chooser.now) c.args.setup.paths.items c.args.setup.programs.items in
+    let rest = rest_of c.args.setup.pages (kind_of c.args.chooser.now) c.args.setup.paths.items c.args.setup.programs.items c.args.setup.tree c.args.setup.stdin.items in
+    let first_is = boots_from a c.args.setup.pages c.args.setup.tree c.in_ok-files.files.open_files rest c.in_ok-parts.parts (lines_of c.deref-start-items.result.now) c.in_ok-parts.ensures (ap (λ (files : OpenFiles). record rest { files = files }) c.in_ok-files.ensures) refl in
     let begins = rw (c.deref.ensures.value, c.deref-in-loop-start.ensures.value) at c.in_err-begin.ensures in
-    let fails = left_fails c.deref-start-items.result.now c.loop-start.start-index c.start-item.result c.loop-start-test.true c.start-item.is a c.loop-start.parts c.begin.new.parts (all_started (empty_world rest) (lines_of c.deref-start-items.result.now)) c.loop-start.invariant.left c.in_err-begin.field-0.0 begins in
-    let told = fails_as (all_started (empty_world rest) (lines_of c.deref-start-items.result.now)) c.from_residual-in_err-begin.result c.in_err-begin.field-0.0
+    let fails = left_fails c.deref-start-items.result.now c.loop-start.start-index c.start-item.result c.loop-start-test.true c.start-item.is a c.loop-start.parts c.begin.new.parts (all_started (world_of a c.in_ok-parts.parts) (lines_of c.deref-start-items.result.now)) c.loop-start.invariant.left c.in_err-begin.field-0.0 begins in
+    let told = fails_as (all_started (world_of a c.in_ok-parts.parts) (lines_of c.deref-start-items.result.now)) c.from_residual-in_err-begin.result c.in_err-begin.field-0.0
     c.from_residual-in_err-begin.ensures.0 c.from_residual-in_err-begin.ensures.1 fails in
-    rw (← c.deref-start-items.ensures.value, ← boot_is rest (lines_of c.deref-start-items.result.now)) told
+    rw (← c.deref-start-items.ensures.value, ← first_is) told
 
 pub invariant_of-result : goal.invariant_of-result
 invariant_of-result g c =
     let a = about_boot (kind_of c.args.chooser.now) c.args.setup.paths.items c.args.setup.programs.items in
-    let rest = rest_of c.args.setup.pages (kind_of c.args.chooser.now) c.args.setup.paths.items c.args.setup.programs.items in
-    let all = left_none c.deref-start-items.result.now c.loop-start.start-index (world_of a c.loop-start.parts) (all_started (empty_world rest) (lines_of c.deref-start-items.result.now))
+    let rest = rest_of c.args.setup.pages (kind_of c.args.chooser.now) c.args.setup.paths.items c.args.setup.programs.items c.args.setup.tree c.args.setup.stdin.items in
+    let first_is = boots_from a c.args.setup.pages c.args.setup.tree c.in_ok-files.files.open_files rest c.in_ok-parts.parts (lines_of c.deref-start-items.result.now) c.in_ok-parts.ensures (ap (λ (files : OpenFiles). record rest { files = files }) c.in_ok-files.ensures) refl in
+    let all = left_none c.deref-start-items.result.now c.loop-start.start-index (world_of a c.loop-start.parts) (all_started (world_of a c.in_ok-parts.parts) (lines_of c.deref-start-items.result.now))
     c.loop-start-test.false c.loop-start.invariant.left in
     let same : length (paths_of c.args.setup.paths.items) ≡ length c.args.setup.programs.items = length-map c.args.setup.paths.items (λ p. p.items) ∙ c.requires.paths in
-    let loads = machine_loads rest (lines_of c.deref-start-items.result.now) a c.loop-start.parts (all ∙ boot_is rest (lines_of c.deref-start-items.result.now)) in
+    let loads = machine_loads rest (lines_of c.deref-start-items.result.now) a c.loop-start.parts (all ∙ first_is) in
     record {
       paths = c.requires.paths;
       loads = subst (λ n. AreLoaded n c.loop-start.parts.notes) (programs_count (paths_of c.args.setup.paths.items) c.args.setup.programs.items same) loads;
@@ -60,11 +65,12 @@ invariant_of-result g c =
 pub returns : goal.returns
 returns g c =
     let a = about_boot (kind_of c.args.chooser.now) c.args.setup.paths.items c.args.setup.programs.items in
-    let rest = rest_of c.args.setup.pages (kind_of c.args.chooser.now) c.args.setup.paths.items c.args.setup.programs.items in
-    let all = left_none c.deref-start-items.result.now c.loop-start.start-index (world_of a c.loop-start.parts) (all_started (empty_world rest) (lines_of c.deref-start-items.result.now))
+    let rest = rest_of c.args.setup.pages (kind_of c.args.chooser.now) c.args.setup.paths.items c.args.setup.programs.items c.args.setup.tree c.args.setup.stdin.items in
+    let first_is = boots_from a c.args.setup.pages c.args.setup.tree c.in_ok-files.files.open_files rest c.in_ok-parts.parts (lines_of c.deref-start-items.result.now) c.in_ok-parts.ensures (ap (λ (files : OpenFiles). record rest { files = files }) c.in_ok-files.ensures) refl in
+    let all = left_none c.deref-start-items.result.now c.loop-start.start-index (world_of a c.loop-start.parts) (all_started (world_of a c.in_ok-parts.parts) (lines_of c.deref-start-items.result.now))
     c.loop-start-test.false c.loop-start.invariant.left in
     let kind = c.kind.ensures in
     rw (← c.deref-start-items.ensures.value, kind)
     (machine_boots (world_of a c.loop-start.parts)
     (record { kept = c.loop-start.parts; kind = kind_of c.args.chooser.now; paths = paths_of c.args.setup.paths.items; programs = c.args.setup.programs.items; events = 0 })
-    (boot rest (lines_of c.deref-start-items.result.now)) (all ∙ boot_is rest (lines_of c.deref-start-items.result.now)) refl)
+    (boot rest (lines_of c.deref-start-items.result.now)) (all ∙ first_is) refl)

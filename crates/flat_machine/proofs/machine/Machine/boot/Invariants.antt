@@ -1,15 +1,15 @@
 -- The start lines that are left give what all give.
 use Rattle.std.proofs.Common.{◌≡◌, ◌+◌, length, drop}
 use Rattle.page_runs.specs.Choosers.{kind_of}
-use Rattle.machine_world.specs.Boot.{all_started, empty_world}
+use Rattle.machine_world.specs.Boot.{all_started}
 use Rattle.syscall_layer.specs.Stands.{world_of}
-use Rattle.flat_machine.specs.State.{about_boot, lines_of, rest_of}
+use Rattle.flat_machine.specs.State.{about_boot, lines_of}
 use Rattle.flat_machine.proofs.machine.Machine.boot.Given as goal
 
 abbrev pub invariant-loop-start : goal.invariant-loop-start
 invariant-loop-start g l = record {
   left : all_started (world_of (about_boot (kind_of l.chooser) l.paths.items l.programs.items) l.parts) (lines_of (drop l.start-index l.start-items))
-      ≡ all_started (empty_world (rest_of l.pages (kind_of l.chooser) l.paths.items l.programs.items)) (lines_of l.start-items);
+      ≡ all_started (world_of (about_boot (kind_of l.chooser) l.paths.items l.programs.items) l.initial.parts) (lines_of l.start-items);
   pids : l.parts.procs.next_pid ≡ l.start-index + 1;
   spaces : length l.parts.spaces ≡ l.start-index;
   entries : length l.parts.procs.entries ≡ l.start-index;

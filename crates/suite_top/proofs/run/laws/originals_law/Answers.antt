@@ -1,5 +1,5 @@
 -- By the image law.
-use Rattle.suite_top.proofs.OriginalsSame.{originals_are_same}
+use Rattle.run_setup.proofs.OriginalsSame.{originals_are_same}
 use Rattle.suite_top.proofs.run.laws.originals_law.Goals as goal
 
 pub returns : goal.returns

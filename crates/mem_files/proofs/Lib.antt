@@ -1,0 +1,6 @@
+mod Naming
+mod Entering
+mod Changing
+mod Walking
+mod Limits
+mod Places

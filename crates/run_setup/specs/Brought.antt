@@ -1,0 +1,96 @@
+-- What the item lines of a manifest bring in: files and folders, programs, and the console's input.
+use Rattle.std.specs.Prelude.{ℕ, List, [], ◌∷◌, ◌++◌, length, Option, Some, None, Result, Ok, Err}
+use Rattle.bflt_format.specs.declared.fault.FlatFault.{FlatFault}
+use Rattle.bflt_format.specs.Header.{flat_values}
+use Rattle.bflt_format.specs.Fault.{flat_fault}
+use Rattle.elf2flt_tool.specs.declared.refusal.Refusal.{Refusal}
+use Rattle.elf2flt_tool.specs.Fault.{fault}
+use Rattle.elf2flt_tool.specs.Converted.{flat}
+use Rattle.call_log.specs.declared.errno.Errno.{Errno}
+use Rattle.mem_files.specs.Inodes.{Inodes, opening}
+use Rattle.mem_files.specs.Changes.{with_file, with_folder}
+use Rattle.flat_loader.specs.Original.{Original, flat_original}
+use Rattle.machine_world.specs.World.{Program}
+use Rattle.manifest_text.specs.declared.manifest.ItemKind.{ItemKind}
+use Rattle.manifest_text.specs.declared.manifest.ItemKind.TheVariants.{Elf, Flat, File, Dir, Stdin}
+use Rattle.manifest_text.specs.Values.{Item}
+use Rattle.run_setup.specs.declared.fault.LineFault.{LineFault}
+use Rattle.run_setup.specs.declared.fault.LineFault.TheVariants as line
+use Rattle.run_setup.specs.Originals.{elf_original}
+
+-- a program is marked in the tree with its place in the list
+pub record Brought : Type 0 where
+  pub tree : Inodes
+  pub programs : List Program
+  pub stdin : List ℕ
+
+abbrev pub nothing_brought : Brought
+nothing_brought = record { tree = opening; programs = []; stdin = [] }
+
+-- ---- programs
+
+-- a program, and the flat file that stands at its path
+pub record Made : Type 0 where
+  pub original : Original
+  pub bytes : List ℕ
+
+abbrev pub elf_made : (e : List ℕ) (stack : ℕ) → Option Refusal → Result Made LineFault
+elf_made e stack (Some first) = Err (line.Elf first)
+elf_made e stack None = Ok (record { original = elf_original e stack; bytes = flat e stack })
+
+abbrev pub flat_made : (y : List ℕ) → Option FlatFault → Result Made LineFault
+flat_made y (Some first) = Err (line.Flat first)
+flat_made y None = Ok (record { original = flat_original (flat_values y); bytes = y })
+
+-- an ELF file is converted, with the stack that its line says; a flat file is taken as it is
+abbrev pub elf_made_of : (e : List ℕ) (stack : ℕ) → Result Made LineFault
+elf_made_of e stack = elf_made e stack (fault e)
+
+abbrev pub flat_made_of : (y : List ℕ) → Result Made LineFault
+flat_made_of y = flat_made y (flat_fault y)
+
+-- ---- one line
+
+-- what is made in the tree, or why it can't stand at its path
+abbrev pub or_errno : Result Inodes Errno → (Inodes → Brought) → Result Brought LineFault
+or_errno (Ok tree) with = Ok (with tree)
+or_errno (Err errno) with = Err (line.Place errno)
+
+abbrev pub with_program : Brought → (path : List ℕ) → Made → Result Brought LineFault
+with_program b path m =
+    or_errno (with_file b.tree path m.bytes (Some (length b.programs)))
+    (λ tree. record b { tree = tree; programs = b.programs ++ record { path = path; original = m.original } ∷ [] })
+
+abbrev pub program_brought : Brought → (path : List ℕ) → Result Made LineFault → Result Brought LineFault
+program_brought b path (Ok m) = with_program b path m
+program_brought b path (Err first) = Err first
+
+abbrev pub with_tree : Brought → Inodes → Brought
+with_tree b tree = record b { tree = tree }
+
+-- with the host's file of the line; a folder has none
+abbrev pub brought_by : ItemKind → Brought → Item → (file : List ℕ) → Result Brought LineFault
+brought_by Elf b i file = program_brought b i.path (elf_made_of file i.stack)
+brought_by Flat b i file = program_brought b i.path (flat_made_of file)
+brought_by File b i file = or_errno (with_file b.tree i.path file None) (with_tree b)
+brought_by Dir b i file = or_errno (with_folder b.tree i.path) (with_tree b)
+brought_by Stdin b i file = Ok (record b { stdin = file })
+
+abbrev pub brought : Brought → Item → (file : List ℕ) → Result Brought LineFault
+brought b i file = brought_by i.kind b i file
+
+-- ---- all lines
+
+-- a fault of the line with this number
+pub record FaultAt : Type 0 where
+  pub line : ℕ
+  pub fault : LineFault
+
+abbrev pub then_brought : Item → Result Brought LineFault → (Brought → Result Brought FaultAt) → Result Brought FaultAt
+then_brought i (Ok b) more = more b
+then_brought i (Err first) more = Err (record { line = i.line; fault = first })
+
+-- each line with its file, in order, up to the first fault
+unfoldable pub all_brought : List Item → List (List ℕ) → Brought → Result Brought FaultAt
+all_brought (i ∷ items) (file ∷ files) b = then_brought i (brought b i file) (all_brought items files)
+all_brought items files b = Ok b

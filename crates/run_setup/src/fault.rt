@@ -1,0 +1,53 @@
+//! The faults of what a manifest's lines bring in and start.
+
+ghost use Rattle.std.specs.Prelude.{◌≡◌};
+ghost use Rattle.run_setup.specs.declared.fault.LineFault.TheVariants.{Memory};
+
+use bflt_format::FlatFault;
+use call_log::Errno;
+use elf2flt_tool::Refusal;
+use std::alloc::{AllocError, AllocFailed};
+
+/// Why a line of a manifest is refused.
+#[derive(Debug, Drop)]
+pub enum LineFault {
+    /// Its file is longer than the limit of its load.
+    TooLong,
+    /// The fault of its ELF file.
+    Elf(Refusal),
+    /// The fault of its flat file.
+    Flat(FlatFault),
+    /// Its file can't stand at its path.
+    Place(Errno),
+    /// Its path is that of no program.
+    BadStart,
+    /// Its start frame doesn't fit into the stack.
+    E2big,
+    /// No free run has the pages of its block.
+    NoRun,
+    /// Out of memory, which is no fault of a line.
+    Memory,
+}
+
+/// A fault of the line with this number.
+#[derive(Debug, Drop)]
+pub struct FaultAt {
+    pub line: u32,
+    pub fault: LineFault,
+}
+
+impl From<AllocError> for LineFault {
+    ghost from_gives = { λ _ e. e ≡ Memory };
+
+    fn from(_error: AllocError) -> LineFault {
+        LineFault::Memory
+    }
+}
+
+impl<T: Drop> From<AllocFailed<T>> for LineFault {
+    ghost from_gives = { λ _ e. e ≡ Memory };
+
+    fn from(_error: AllocFailed<T>) -> LineFault {
+        LineFault::Memory
+    }
+}

@@ -1,0 +1,34 @@
+-- The machine stands for the opening world.
+use Rattle.std.proofs.Common.{refl, sym, subst, ◌∙◌}
+use Rattle.std.proofs.lemmas.List.{length-map}
+use Rattle.page_runs.specs.Choosers.{kind_of}
+use Rattle.manifest_text.specs.Values.{start_value, manifest_value}
+use Rattle.manifest_text.specs.Laws.{HasArgument}
+use Rattle.run_setup.specs.Brought.{FaultAt}
+use Rattle.run_setup.specs.Making.{IsMemory, brought_value}
+use Rattle.suite_top.specs.Ending.{OrMemory}
+use Rattle.suite_top.specs.Answer.{ending_of}
+use Rattle.suite_top.specs.Run.{opening, fault_ending}
+use Rattle.suite_top.proofs.Opened.{each_got}
+use Rattle.suite_top.proofs.Booted.{no_event_yet, events_fit, booted, machine_events, boots_as, refused_as}
+use Rattle.suite_top.proofs.run.run_brought.Goals as goal
+
+pub boot-requires-clause-args : goal.boot-requires-clause-args
+boot-requires-clause-args g c i s is =
+    rw (← length-map s.args.items (λ v. v.items)) (each_got HasArgument start_value c.args.manifest.starts.items i s is c.requires.manifest.each_start)
+
+pub run_machine-requires : goal.run_machine-requires
+run_machine-requires g c =
+    let is = booted _ _ c.in-Ok.ensures in
+    rw c.deref.ensures.value (events_fit (manifest_value c.args.manifest) c.requires.manifest _ (sym (machine_events _) ∙ no_event_yet _ _ _ is))
+
+pub returns-in-Ok : goal.returns-in-Ok
+returns-in-Ok g c =
+    let ends = rw (c.deref.ensures.value, c.deref-in-Ok.ensures.value) at c.run_machine.ensures in
+    boots_as (opening (kind_of c.args.chooser.now) (manifest_value c.args.manifest) (brought_value c.args.files)) c.args.manifest.starts.items _ c.args.log (manifest_value c.args.manifest) _ refl c.in-Ok.ensures ends
+
+pub returns : goal.returns
+returns g c =
+    let ends = subst (λ (at : FaultAt). OrMemory (fault_ending at) (ending_of c.refuse_line.result)) c.boot_fault.ensures c.refuse_line.ensures.ending in
+    refused_as (opening (kind_of c.args.chooser.now) (manifest_value c.args.manifest) (brought_value c.args.files)) c.args.manifest.starts.items _ c.args.log (manifest_value c.args.manifest) _ refl c.in-Err.ensures ends
+    (λ is. c.refuse_line.ensures.memory (subst (λ (at : FaultAt). IsMemory at.fault) (sym c.boot_fault.ensures) is))
