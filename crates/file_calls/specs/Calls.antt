@@ -1,7 +1,6 @@
 -- A call on files as the code has it, and what the code makes of it.
-use Rattle.std.specs.Prelude.{◌≡◌, ℕ, ◌^◌, ◌<◌, ◌≤◌, ◌==◌, Bool, true, ◌||◌, List, [], length, map, Result, Ok, Err}
+use Rattle.std.specs.Prelude.{◌≡◌, ℕ, ◌==◌, Bool, true, ◌||◌, List, [], map, Result, Ok, Err}
 use Rattle.std.specs.declared.alloc.AllocError.{AllocError}
-use Rattle.call_log.specs.declared.note.Got.{Got}
 use Rattle.call_log.specs.Notes.{Written}
 use Rattle.call_log.specs.Values.{written_value}
 use Rattle.mem_files.specs.Inodes.{Inodes}
@@ -11,9 +10,9 @@ use Rattle.fd_tables.specs.Changes.{moved, taken}
 use Rattle.machine_world.specs.World.{Rest}
 use Rattle.machine_world.specs.Asks.{Ask, Row, gives, with_files}
 use Rattle.file_calls.specs.declared.call.Call.{Call}
-use Rattle.file_calls.specs.declared.output.Output.{Output}
-use Rattle.file_calls.specs.declared.output.Then.{Then}
-use Rattle.file_calls.specs.declared.output.Then.TheVariants.{Nothing, Move, Take}
+use Rattle.file_calls.specs.declared.outcome.Outcome.{Outcome}
+use Rattle.file_calls.specs.declared.outcome.Then.{Then}
+use Rattle.file_calls.specs.declared.outcome.Then.TheVariants.{Nothing, Move, Take}
 
 -- the same call, as the world has it
 pub record MadeBy (call : Call) (a : Ask) : Type 0 where
@@ -40,10 +39,10 @@ abbrev pub IsOutput : ℕ → Type 0
 IsOutput number = is_output number ≡ true
 
 -- the files and the console that the world has
-pub record IsRest (rest : Rest) (nodes : Inodes) (kept : Kept) (shown : List ℕ) : Type 0 where
+pub record IsRest (rest : Rest) (nodes : Inodes) (kept : Kept) (text : List ℕ) : Type 0 where
   pub tree : rest.tree ≡ nodes
   pub files : rest.files ≡ kept.open_files
-  pub console : rest.console ≡ shown
+  pub console : rest.console ≡ text
 
 abbrev pub with_all : Rest → Inodes → OpenFiles → List ℕ → Rest
 with_all rest tree files console = record rest { tree = tree; files = files; console = console }
@@ -61,18 +60,8 @@ after Nothing table files = files
 after (Move fd at) table files = moved files table fd at
 after (Take n) table files = taken files n
 
-abbrev pub written_of : Output → List Written
+abbrev pub written_of : Outcome → List Written
 written_of o = map written_value o.got.items
 
--- what follows can: there is as much input as is taken
-abbrev pub CanFollow : Then → OpenFiles → Type 0
-CanFollow Nothing files = Unit {0}
-CanFollow (Move fd at) files = Unit {0}
-CanFollow (Take n) files = n ≤ length files.stdin
-
--- a range that a space may have: some bytes, and no more than an address can count
-abbrev pub IsRange : Got → Type 0
-IsRange got = (0 < length got.bytes.items) × (length got.bytes.items < 2 ^ 32)
-
-abbrev pub Gives : Ask → Row → Output → Type 0
+abbrev pub Gives : Ask → Row → Outcome → Type 0
 Gives a row o = row ≡ gives a o.value (written_of o) (with_files a.rest (after o.then a.process.table a.rest.files))

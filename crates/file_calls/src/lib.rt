@@ -4,9 +4,21 @@
 #![tactic(auto)]
 
 mod call;
-mod changing;
-mod output;
+mod changes;
+mod descriptors;
+mod flags;
+mod listing;
+mod opening;
+mod outcome;
+mod outputs;
+mod paths;
+mod piece;
+mod reading;
+mod records;
+mod seeking;
+mod writing;
 
 pub use call::Call;
-pub use changing::change;
-pub use output::{Output, Then, give};
+pub use changes::change;
+pub use outcome::{Outcome, Then};
+pub use outputs::output;

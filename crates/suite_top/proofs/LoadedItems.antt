@@ -1,6 +1,7 @@
 -- The loads of the item lines' files, one after the other.
 use Rattle.std.proofs.Common.{◌≡◌, ℕ, ◌+◌, ◌-◌, ◌≤◌, Bool, true, false, cond, min, List, [], ◌∷◌, ◌++◌, length, drop, Some, refl, sym, ap, subst, arith, append_assoc, length-append}
 use Rattle.std.proofs.Math.Path.{fun_ext}
+use Rattle.std.proofs.Math.Nat.{min-le_right}
 use Rattle.std.proofs.lemmas.List.{append-nil, drop_all}
 use Rattle.host_io.specs.Host.{Told}
 use Rattle.manifest_text.specs.Values.{Item}
@@ -9,9 +10,12 @@ use Rattle.suite_top.specs.Outcome.{Outcome, Inputs}
 use Rattle.suite_top.specs.Load.{with_load}
 use Rattle.suite_top.specs.Observed.{Observed}
 use Rattle.suite_top.specs.HostCourse.{PerformsCommand}
-use Rattle.suite_top.specs.FileLoad.{GaveFile, EndsWithout}
+use Rattle.suite_top.specs.declared.file_load.FileLoad.{FileLoad}
+use Rattle.suite_top.specs.declared.file_load.FileLoad.TheVariants as file_load
+use Rattle.suite_top.specs.Answer.{ending_of}
+use Rattle.suite_top.specs.FileLoad.{GaveFile, EndsWithout, LoadsFile}
 use Rattle.suite_top.specs.Run.{kind_limit, load_limit, files_limit, has_file, with_item, with_items}
-use Rattle.suite_top.specs.ItemLoads.{GaveItem, GaveFiles, LoadsSoFar}
+use Rattle.suite_top.specs.ItemLoads.{GaveItem, LoadsItem, GaveFiles, LoadsSoFar}
 use Rattle.suite_top.proofs.HostSteps.{performs_rest, memory_now}
 
 -- the load of a line, if it has a file
@@ -34,16 +38,21 @@ no_file now item left is = record {
 }
 
 -- the file of a line that has one
-pub gave_file : (old new : Observed Told) (item : Item) (left : ℕ) (bytes : List ℕ) → has_file item.kind ≡ true → GaveFile (load_limit item.kind left) old new item.name bytes → GaveItem old new item left bytes
+gave_file : (old new : Observed Told) (item : Item) (left : ℕ) (bytes : List ℕ) → has_file item.kind ≡ true → GaveFile (load_limit item.kind left) old new item.name bytes → GaveItem old new item left bytes
 gave_file old new item left bytes is given = record {
   fits = within (kind_limit item.kind) left (length bytes) given.fits;
   goes_on = λ rest last ending performs. subst (λ (b : Bool). PerformsCommand old last (loads_if b item left rest) ending) (sym is)
       (performs_rest (load_limit item.kind left) (Some item.line) item.name rest old new last bytes ending given performs);
 }
 
-pub no_file_given : (old new : Observed Told) (item : Item) (left : ℕ) (ending : Ending) → has_file item.kind ≡ true → EndsWithout (load_limit item.kind left) (Some item.line) old new item.name ending
+no_file_given : (old new : Observed Told) (item : Item) (left : ℕ) (ending : Ending) → has_file item.kind ≡ true → EndsWithout (load_limit item.kind left) (Some item.line) old new item.name ending
     → (rest : List ℕ → Inputs → Outcome) → PerformsCommand old new (with_item left item rest) ending
 no_file_given old new item left ending is ends rest = subst (λ (b : Bool). PerformsCommand old new (loads_if b item left rest) ending) (sym is) (ends rest)
+
+pub loads_item : (old new : Observed Told) (item : Item) (left : ℕ) (r : FileLoad) → has_file item.kind ≡ true → LoadsFile (load_limit item.kind left) (Some item.line) old new item.name r
+    → LoadsItem old new item left r
+loads_item old new item left (file_load.Whole bytes) is loads = gave_file old new item left bytes.items is loads
+loads_item old new item left (file_load.Ended ends) is loads = no_file_given old new item left (ending_of ends) is loads
 
 -- ---- all lines
 

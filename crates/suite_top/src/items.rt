@@ -5,7 +5,7 @@ ghost use Rattle.std.specs.Str.{IsAscii};
 ghost use Rattle.manifest_text.specs.Values.{item_value};
 ghost use Rattle.manifest_text.specs.Laws.{IsItem};
 ghost use Rattle.suite_top.specs.Observed.{observed};
-ghost use Rattle.suite_top.specs.Run.{load_limit};
+ghost use Rattle.suite_top.specs.Run.{has_file, load_limit};
 ghost use Rattle.suite_top.specs.ItemLoads.{LoadsItem, LoadsItems};
 
 use crate::answer::Answer;
@@ -58,11 +58,21 @@ fn load_item<H: Host>(alloc: Global, item: &Item, left: u32, host: &mut H) -> Fi
     requires { IsItem (item_value item.now) }
     ensures { LoadsItem (observed H.told H.faults host.old) (observed H.told H.faults host.new) (item_value item.now) left result }
 {
-    if item.kind == ItemKind::Dir {
+    if !has_file(item.kind) {
         return FileLoad::Whole(Vec::new(alloc));
     }
     let limit = load_limit(item.kind, left);
     load_limited(alloc, name_of(item), limit, Some(item.line), host)
+}
+
+/// Whether a line brings in a file of the host. That of a folder doesn't.
+fn has_file(kind: ItemKind) -> bool
+    ensures { result ≡ has_file kind }
+{
+    match kind {
+        ItemKind::Elf | ItemKind::Flat | ItemKind::File | ItemKind::Stdin => true,
+        ItemKind::Dir => false,
+    }
 }
 
 /// The limit of one load, where so many bytes are left of those of all files.

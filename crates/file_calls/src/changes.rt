@@ -1,0 +1,54 @@
+//! The calls that change files or descriptors, and write nothing into memory.
+
+ghost use Rattle.machine_world.specs.Asks.{Ask};
+ghost use Rattle.machine_world.specs.Rows.{row};
+ghost use Rattle.file_calls.specs.Answers.{Answers};
+ghost use Rattle.file_calls.specs.Calls.{IsChange, MadeBy, IsRest, Changes, with_all};
+
+use crate::call::Call;
+use crate::descriptors::{close, dup, dup3};
+use crate::opening::openat;
+use crate::paths::{mkdirat, unlinkat};
+use crate::writing::{write, writev};
+use fd_tables::Files;
+use mem_files::{FileFault, Tree};
+use std::alloc::AllocError;
+
+/// Carries out a call on files that gives no bytes: dup, dup3, mkdirat, unlinkat, openat, close, write or writev. A refusal is
+/// a reply, and changes nothing.
+pub fn change(
+    tree: &mut Tree,
+    files: &mut Files,
+    console: &mut Vec<u8>,
+    call: &Call,
+) -> Result<u32, AllocError>
+    requires { IsChange call.now.number }
+    ensures { (a : Ask) → MadeBy call.now a → IsRest a.rest tree.old files.old console.old.items → Changes a (row a) tree.old files.old console.old.items tree.new files.new console.new.items result }
+{
+    match carry_out(tree, files, console, call) {
+        Ok(value) => Ok(value),
+        Err(FileFault::Errno(errno)) => Ok(errno.refusal()),
+        Err(FileFault::Memory) => Err(AllocError),
+    }
+}
+
+fn carry_out(
+    tree: &mut Tree,
+    files: &mut Files,
+    console: &mut Vec<u8>,
+    call: &Call,
+) -> Result<u32, FileFault>
+    requires { IsChange call.now.number }
+    ensures { (a : Ask) → MadeBy call.now a → IsRest a.rest tree.old files.old console.old.items → Answers a (row a) (with_all a.rest tree.new files.new.open_files console.new.items) result }
+{
+    match call.number {
+        23 => dup(files, call),
+        24 => dup3(tree, files, call),
+        34 => mkdirat(tree, call),
+        35 => unlinkat(tree, call),
+        56 => openat(tree, files, call),
+        57 => close(tree, files, call),
+        64 => write(tree, files, console, call, &call.sent),
+        _ => writev(tree, files, console, call),
+    }
+}

@@ -1,0 +1,89 @@
+//! The flags of calls.
+
+ghost use Rattle.std.specs.Prelude.{◌≡◌, ◌^◌, ◌<◌, ◌==◌, ◌||◌, ◌&&◌, not};
+ghost use Rattle.machine_world.specs.PathCalls.{has, creates, exclusive, truncates, asks_folder, writes, access, way_of};
+
+use fd_tables::Way;
+
+/// The flags of openat.
+#[derive(Clone, Copy, Debug, PartialEq, Eq)]
+pub(crate) struct OpenFlags {
+    pub bits: u32,
+}
+
+impl OpenFlags {
+    /// Whether openat takes them: no way to open is 3, and no folder is made.
+    pub fn are_valid(self) -> bool
+        ensures { result ≡ not (access self.bits == 3 || (creates self.bits && asks_folder self.bits)) }
+    {
+        self.access() != 3 && !(self.creates() && self.asks_folder())
+    }
+
+    /// O_CREAT
+    pub fn creates(self) -> bool
+        ensures { result ≡ creates self.bits }
+    {
+        self.has(6)
+    }
+
+    /// O_EXCL
+    pub fn is_exclusive(self) -> bool
+        ensures { result ≡ exclusive self.bits }
+    {
+        self.has(7)
+    }
+
+    /// O_TRUNC
+    pub fn truncates(self) -> bool
+        ensures { result ≡ truncates self.bits }
+    {
+        self.has(9)
+    }
+
+    /// O_DIRECTORY
+    pub fn asks_folder(self) -> bool
+        ensures { result ≡ asks_folder self.bits }
+    {
+        self.has(16)
+    }
+
+    /// O_WRONLY or O_RDWR
+    pub fn writes(self) -> bool
+        ensures { result ≡ writes self.bits }
+    {
+        self.access() > 0
+    }
+
+    /// With O_APPEND and O_CLOEXEC.
+    pub fn way(self) -> Way
+        ensures { result ≡ way_of self.bits }
+    {
+        Way {
+            read: self.access() != 1,
+            write: self.writes(),
+            append: self.has(10),
+            cloexec: self.has(19),
+        }
+    }
+
+    /// O_RDONLY is 0, O_WRONLY 1 and O_RDWR 2.
+    fn access(self) -> u32
+        ensures { result ≡ access self.bits }
+    {
+        self.bits % 4
+    }
+
+    fn has(self, bit: u32) -> bool
+        requires { bit < 32 }
+        ensures { result ≡ has self.bits (2 ^ bit) }
+    {
+        (self.bits >> bit) % 2 == 1
+    }
+}
+
+/// Whether flags are none, or this one.
+pub(crate) fn is_none_or(flags: u32, flag: u32) -> bool
+    ensures { result ≡ (flags == 0 || flags == flag) }
+{
+    flags == 0 || flags == flag
+}
