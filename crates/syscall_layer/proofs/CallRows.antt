@@ -122,5 +122,24 @@ module _ (call : Call) (a : Ask) (made : MadeBy call a) where
     unfolding row
     row_other value n29 others n124 n173 n214 says =
         let p = plain call.number change output in
-        rw (made.number, p.n23, p.n24, eqb_other call.number 29 n29, p.n34, p.n35, p.n56, p.n57, p.n61, p.n62, p.n63, p.n64, p.n65, p.n66, others,
-          eqb_other call.number 124 n124, eqb_other call.number 173 n173, eqb_other call.number 214 n214, says) refl
+        rw (
+          made.number,
+          p.n23,
+          p.n24,
+          eqb_other call.number 29 n29,
+          p.n34,
+          p.n35,
+          p.n56,
+          p.n57,
+          p.n61,
+          p.n62,
+          p.n63,
+          p.n64,
+          p.n65,
+          p.n66,
+          others,
+          eqb_other call.number 124 n124,
+          eqb_other call.number 173 n173,
+          eqb_other call.number 214 n214,
+          says,
+        ) refl

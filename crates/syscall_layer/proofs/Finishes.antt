@@ -20,7 +20,7 @@ use Rattle.machine_world.specs.Asks.{replies}
 use Rattle.machine_world.specs.Rows.{row}
 use Rattle.machine_world.specs.Event.{put_got, replied}
 use Rattle.file_calls.specs.declared.call.Call.{Call}
-use Rattle.file_calls.specs.declared.output.Output.{Output}
+use Rattle.file_calls.specs.declared.outcome.Outcome.{Outcome as Output}
 use Rattle.file_calls.specs.Calls.{MadeBy, IsRest, with_all, Changes as FilesChange, after, written_of}
 use Rattle.syscall_layer.specs.declared.task.Task.{Task}
 use Rattle.syscall_layer.specs.declared.effect.Effect.{Effect}

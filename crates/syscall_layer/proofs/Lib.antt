@@ -3,6 +3,7 @@
 -- Finishes  what is kept after a call that has its reply, by what the code did
 -- ReadRanges  what a call reads in one memory, range by range
 -- QuietRows  the calls that change files give no bytes
+-- OutputRanges  the ranges that a call gives are ranges that an access can have
 -- Puts      ranges written into memory, one behind the other
 -- ReadPath  the path that a call reads, byte by byte, and which reading is whose
 -- CallRows  the row of each call, and the effect that the code gives it
@@ -26,6 +27,7 @@ pub mod FreePages
 mod Started
 mod Boots
 pub mod QuietRows
+pub mod OutputRanges
 pub mod Puts
 pub mod CallRows
 pub mod Runs

@@ -2,6 +2,8 @@
 use Rattle.std.proofs.Common.{◌≡◌, ℕ, suc, ◌+◌, ◌-◌, ◌*◌, ◌^◌, ◌<◌, ◌≤◌, Bool, true, false, List, [], ◌∷◌, length, map, drop, get_or, Option, Some, None, arith, refl, sym, ap, subst, ◌∙◌, drop-cons, add-one}
 use Rattle.std.specs.Prelude.{All, option_map, Result, Ok, Err, if◌then◌else◌}
 use Rattle.std.proofs.lemmas.Option.{same_Some}
+use Rattle.std.proofs.lemmas.List.{length-map}
+use Rattle.std.proofs.Math.ListN.{get_or-map}
 use Rattle.std.proofs.lemmas.List.Elements.{All-get_or}
 use Rattle.byte_words.specs.ByteMap.{Bytes, with_bytes}
 use Rattle.byte_words.specs.Patches.{laid}
@@ -16,9 +18,8 @@ use Rattle.mmap_rules.specs.Owners.{owns}
 use Rattle.region_watch.specs.Private.{own_bytes, frozen}
 use Rattle.region_watch.proofs.Accesses.{own_within, own_laid, frozen_laid}
 use Rattle.rv32im_step.specs.declared.access.Access.{Access}
-use Rattle.file_calls.specs.Calls.{IsRange}
 use Rattle.machine_world.specs.Event.{put_got}
-use Rattle.syscall_layer.specs.Puts.{first_stray, access_at, Put}
+use Rattle.syscall_layer.specs.Puts.{first_stray, access_at, IsRange, Put}
 
 -- where no range strays all are written
 pub put_all : (m : Bytes) (w : ℕ → Bool) (gots : List Written) → first_stray w gots ≡ None → (now : Bytes) × (put_got m w gots ≡ Ok now)
@@ -49,8 +50,10 @@ parts_at xs i g within is =
     ∙ ap (λ (x : Got). written_value x ∷ map written_value (drop (suc i) xs)) (sym is)
     ∙ ap (λ (n : ℕ). written_value g ∷ map written_value (drop n xs)) (sym (add-one i))
 
-pub range_at : (xs : List Got) (i : ℕ) (g : Got) → All IsRange xs → i < length xs → g ≡ get_or xs i g → IsRange g
-range_at xs i g all within is = subst IsRange (sym is) (All-get_or IsRange xs i g within all)
+pub range_at : (xs : List Got) (i : ℕ) (g : Got) → All IsRange (map written_value xs) → i < length xs → g ≡ get_or xs i g → IsRange (written_value g)
+range_at xs i g all within is =
+    let inside : i < length (map written_value xs) = omega (arith, length-map xs written_value, within) in
+    subst IsRange (get_or-map written_value xs i g ∙ ap written_value (sym is)) (All-get_or IsRange (map written_value xs) i (written_value g) inside all)
 
 -- no access strays where none of the ranges does
 pub none_strays : (pc : ℕ) (found : Option Span) (o : Option Access) → o ≡ option_map (access_at pc) found → o ≡ None → found ≡ None

@@ -159,25 +159,25 @@ module _ (a : Ask) where
   quiet_row change = elim (decide (a.number == 23)) [
     | inl is ↦ quiet_23 (eqb_is a.number 23 is)
     | inr n23 ↦ elim (decide (a.number == 24)) [
-    | inl is ↦ quiet_24 (eqb_is a.number 24 is)
-    | inr n24 ↦ elim (decide (a.number == 34)) [
-    | inl is ↦ quiet_34 (eqb_is a.number 34 is)
-    | inr n34 ↦ elim (decide (a.number == 35)) [
-    | inl is ↦ quiet_35 (eqb_is a.number 35 is)
-    | inr n35 ↦ elim (decide (a.number == 56)) [
-    | inl is ↦ quiet_56 (eqb_is a.number 56 is)
-    | inr n56 ↦ elim (decide (a.number == 57)) [
-    | inl is ↦ quiet_57 (eqb_is a.number 57 is)
-    | inr n57 ↦ elim (decide (a.number == 64)) [
-    | inl is ↦ quiet_64 (eqb_is a.number 64 is)
-    | inr n64 ↦ elim (decide (a.number == 66)) [
-    | inl is ↦ quiet_66 (eqb_is a.number 66 is)
-    | inr n66 ↦ absurd (false≢true (sym (no_other n23 n24 n34 n35 n56 n57 n64 n66) ∙ change))
-  ]
-  ]
-  ]
-  ]
-  ]
-  ]
-  ]
+      | inl is ↦ quiet_24 (eqb_is a.number 24 is)
+      | inr n24 ↦ elim (decide (a.number == 34)) [
+        | inl is ↦ quiet_34 (eqb_is a.number 34 is)
+        | inr n34 ↦ elim (decide (a.number == 35)) [
+          | inl is ↦ quiet_35 (eqb_is a.number 35 is)
+          | inr n35 ↦ elim (decide (a.number == 56)) [
+            | inl is ↦ quiet_56 (eqb_is a.number 56 is)
+            | inr n56 ↦ elim (decide (a.number == 57)) [
+              | inl is ↦ quiet_57 (eqb_is a.number 57 is)
+              | inr n57 ↦ elim (decide (a.number == 64)) [
+                | inl is ↦ quiet_64 (eqb_is a.number 64 is)
+                | inr n64 ↦ elim (decide (a.number == 66)) [
+                  | inl is ↦ quiet_66 (eqb_is a.number 66 is)
+                  | inr n66 ↦ absurd (false≢true (sym (no_other n23 n24 n34 n35 n56 n57 n64 n66) ∙ change))
+                ]
+              ]
+            ]
+          ]
+        ]
+      ]
+    ]
   ]

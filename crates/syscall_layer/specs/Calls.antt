@@ -15,7 +15,7 @@ use Rattle.machine_world.specs.Rows.{row, next_brk}
 use Rattle.machine_world.specs.Event.{number_of, args_of, ask_of, put_got, replied}
 use Rattle.file_calls.specs.Calls.{with_all, after, written_of}
 use Rattle.file_calls.specs.declared.call.Call.{Call}
-use Rattle.file_calls.specs.declared.output.Output.{Output}
+use Rattle.file_calls.specs.declared.outcome.Outcome.{Outcome}
 use Rattle.syscall_layer.specs.declared.task.Task.{Task}
 use Rattle.syscall_layer.specs.declared.effect.Effect.{Effect}
 use Rattle.syscall_layer.specs.declared.effect.Effect.TheVariants.{Answer, Yield, Break}
@@ -121,7 +121,7 @@ Changes a old e h call new (Ok done) = Changed a old e h call new
 Changes a old e h call new (Err error) = new ≡ old
 
 -- the reply of a call that gives bytes
-abbrev pub given : Ask → Output → Reply
+abbrev pub given : Ask → Outcome → Reply
 given a o = record {
   value = o.value;
   got = written_of o;
@@ -131,12 +131,12 @@ given a o = record {
 }
 
 -- the bytes are in its caller's space, and in no other one
-pub record Gave (a : About) (old : Kept) (e : Entry Task) (h : Held) (call : Call) (o : Output) (new : Kept) : Type 0 where
+pub record Gave (a : About) (old : Kept) (e : Entry Task) (h : Held) (call : Call) (o : Outcome) (new : Kept) : Type 0 where
   pub put : put_got (private_bytes old.mem h) (writable_in h.maps) (written_of o) ≡ Ok (private_bytes new.mem h)
   pub others : OthersSame old e.value.space new.mem
   pub after : new ≡ after_reply old e h call (given (ask_in a old e h call) o) new.mem
 
-abbrev pub Gives : About → Kept → Entry Task → Held → Call → Output → Kept → Result ⊤ AllocError → Type 0
+abbrev pub Gives : About → Kept → Entry Task → Held → Call → Outcome → Kept → Result ⊤ AllocError → Type 0
 Gives a old e h call o new (Ok done) = Gave a old e h call o new
 Gives a old e h call o new (Err error) = new ≡ old
 

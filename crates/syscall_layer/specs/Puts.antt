@@ -1,5 +1,5 @@
 -- What a call writes into its caller's memory, range by range.
-use Rattle.std.specs.Prelude.{◌≡◌, ℕ, Bool, true, if◌then◌else◌, List, [], ◌∷◌, length, map, sum, Option, Some, None, Ok}
+use Rattle.std.specs.Prelude.{◌≡◌, ℕ, ◌^◌, ◌<◌, Bool, true, if◌then◌else◌, List, [], ◌∷◌, length, map, sum, Option, Some, None, Ok}
 use Rattle.rv32im_step.specs.declared.access.Access.{Access}
 use Rattle.rv32im_step.specs.declared.access.AccessKind.TheVariants.{Call}
 use Rattle.call_log.specs.Notes.{Written}
@@ -19,6 +19,10 @@ first_stray w (got ∷ gots) =
 -- the access of a call
 abbrev pub access_at : ℕ → Span → Access
 access_at pc span = record { pc = pc; addr = span.addr; len = span.len; kind = Call }
+
+-- a range that an access can have: some bytes, and fewer than there are addresses
+abbrev pub IsRange : Written → Type 0
+IsRange got = (0 < length got.bytes) × (length got.bytes < 2 ^ 32)
 
 -- how many bytes are written
 abbrev pub bytes_of : List Written → ℕ

@@ -1,6 +1,6 @@
 //! A system call, as a process makes it.
 
-ghost use Rattle.std.specs.Prelude.{◌≡◌, IfOk, slice_get, Some};
+ghost use Rattle.std.specs.Prelude.{◌≡◌, ◌<◌, ◌^◌, IfOk, slice_get, slice_index, Some};
 ghost use Rattle.mmap_rules.specs.Held.{Held};
 ghost use Rattle.vfork_exec.specs.declared.entry.Entry.{Entry};
 ghost use Rattle.vfork_exec.specs.Procs.{Lives};
@@ -40,6 +40,7 @@ pub fn call_of(parts: &Parts, pid: u32) -> Result<Call, Unread>
     requires { Lives parts.now.procs pid }
     ensures made { (e : Entry Task) → (h : Held) → RunsIn parts.now pid e h → Made parts.now.mem e h result }
     ensures pid { IfOk result (λ call. call.pid ≡ pid) }
+    ensures args { IfOk result (λ call. slice_index call.args 2 < 2 ^ 32) }
 {
     let task = parts.procs.get(pid);
     let number = task.regs.x[17];

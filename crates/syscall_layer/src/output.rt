@@ -3,8 +3,9 @@
 ghost use Rattle.std.specs.Prelude.{◌≡◌, ◌*◌, ◌^◌, ◌-◌, All, None, true, length, map, min, option_map};
 ghost use Rattle.call_log.specs.Values.{written_value};
 ghost use Rattle.mmap_rules.specs.Owners.{owns};
-ghost use Rattle.file_calls.specs.Calls.{IsRange, CanFollow, after};
-ghost use Rattle.syscall_layer.specs.Puts.{first_stray, access_at, bytes_of, Put};
+ghost use Rattle.file_calls.specs.Calls.{after};
+ghost use Rattle.file_calls.specs.Outcomes.{CanTake};
+ghost use Rattle.syscall_layer.specs.Puts.{first_stray, access_at, IsRange, bytes_of, Put};
 
 use call_log::Got;
 use fd_tables::Files;
@@ -26,7 +27,7 @@ pub fn got_len(got: &[Got]) -> u64
 
 /// The first range that may not be written, as an access of the call at `pc`.
 pub fn stray_put(owners: &Owners, pc: u32, got: &[Got]) -> Option<Access>
-    requires { All IsRange got.now }
+    requires { All IsRange (map written_value got.now) }
     ensures { result ≡ option_map (access_at pc) (first_stray (owns owners.now true) (map written_value got.now)) }
 {
     for range in got {
@@ -46,7 +47,7 @@ pub fn stray_put(owners: &Owners, pc: u32, got: &[Got]) -> Option<Access>
 /// Writes all ranges, in order.
 pub fn put(mem: &mut PhysMem, owners: &Owners, got: &[Got])
     requires memory { length mem.old ≡ 4096 * length owners.now }
-    requires ranges { All IsRange got.now }
+    requires ranges { All IsRange (map written_value got.now) }
     requires own { first_stray (owns owners.now true) (map written_value got.now) ≡ None }
     ensures { Put owners.now mem.old mem.new (map written_value got.now) }
 {
@@ -57,7 +58,7 @@ pub fn put(mem: &mut PhysMem, owners: &Owners, got: &[Got])
 
 /// What changes once the bytes are given.
 pub fn follow(files: &mut Files, table: u32, next: Then)
-    requires { CanFollow next files.old.open_files }
+    requires { CanTake files.old.open_files next }
     ensures { files.new.open_files ≡ after next table files.old.open_files }
 {
     match next {

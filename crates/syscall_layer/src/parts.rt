@@ -50,12 +50,7 @@ impl Model for Parts {
 
 impl Parts {
     /// A memory of so many pages, in which nothing runs, over these files.
-    pub fn new(
-        alloc: Global,
-        pages: u32,
-        tree: Tree,
-        files: Files,
-    ) -> Result<Parts, AllocError>
+    pub fn new(alloc: Global, pages: u32, tree: Tree, files: Files) -> Result<Parts, AllocError>
         requires some { 1 ≤ pages }
         requires most { pages ≤ 16384 }
         ensures { IfOk result (λ parts. parts ≡ nothing_yet pages tree files.open_files) }

@@ -8,11 +8,12 @@ ghost use Rattle.mmap_rules.specs.Space.{writable_in};
 ghost use Rattle.vfork_exec.specs.declared.entry.Entry.{Entry as Listed};
 ghost use Rattle.vfork_exec.specs.Procs.{Lives, value_at, with_value_at};
 ghost use Rattle.machine_world.specs.Event.{replied};
-ghost use Rattle.file_calls.specs.Calls.{IsChange, IsRange, CanFollow, written_of};
+ghost use Rattle.file_calls.specs.Calls.{IsChange, written_of};
+ghost use Rattle.file_calls.specs.Outcomes.{CanTake};
 ghost use Rattle.syscall_layer.specs.declared.task.Task.{Task};
 ghost use Rattle.syscall_layer.specs.Regular.{HasSpace};
 ghost use Rattle.syscall_layer.specs.Stands.{About};
-ghost use Rattle.syscall_layer.specs.Puts.{first_stray};
+ghost use Rattle.syscall_layer.specs.Puts.{first_stray, IsRange};
 ghost use Rattle.syscall_layer.specs.Calls.{RunsIn, IsCall, value_of, brk_of, noted_call, Replies, Changes, Gives};
 
 use crate::call::home;
@@ -22,7 +23,7 @@ use crate::output::{follow, put};
 use crate::parts::Parts;
 use crate::task::Task;
 use call_log::{Entry, Got, Log, Note};
-use file_calls::{Call, Output};
+use file_calls::{Call, Outcome};
 use mmap_rules::Space;
 use rv32im_step::Regs;
 use std::alloc::AllocError;
@@ -115,28 +116,33 @@ impl Parts {
         ensures { (a : About) → (e : Listed Task) → (h : Held) → RunsIn self.old call.pid e h → IsCall self.old.mem e h call → Changes a self.old e h call self.new result }
     {
         self.log.reserve(1)?;
-        let value =
-            file_calls::change(&mut self.tree, &mut self.files, &mut self.console, &call)?;
+        let value = file_calls::change(&mut self.tree, &mut self.files, &mut self.console, &call)?;
         let got = Vec::new(*self.console.allocator());
         finish(&mut self.procs, &mut self.log, call, value, got);
         Ok(())
     }
 
     /// Gives a call its reply and its bytes, and notes it. There is room for its note.
-    pub(crate) fn give(&mut self, call: Call, output: Output) -> Result<(), AllocError>
+    pub(crate) fn give(&mut self, call: Call, outcome: Outcome) -> Result<(), AllocError>
         requires lives { Lives self.old.procs call.pid }
-        requires room { has_room self.old.notes (weight_of call.sent.items (written_of output)) ≡ true }
-        requires follows { CanFollow output.then self.old.files }
-        requires ranges { All IsRange output.got.items }
-        requires own { (e : Listed Task) → (h : Held) → RunsIn self.old call.pid e h → first_stray (writable_in h.maps) (written_of output) ≡ None }
-        ensures { (a : About) → (e : Listed Task) → (h : Held) → RunsIn self.old call.pid e h → IsCall self.old.mem e h call → Gives a self.old e h call output self.new result }
+        requires room { has_room self.old.notes (weight_of call.sent.items (written_of outcome)) ≡ true }
+        requires fits { CanTake self.old.files outcome.then }
+        requires ranges { All IsRange (written_of outcome) }
+        requires own { (e : Listed Task) → (h : Held) → RunsIn self.old call.pid e h → first_stray (writable_in h.maps) (written_of outcome) ≡ None }
+        ensures { (a : About) → (e : Listed Task) → (h : Held) → RunsIn self.old call.pid e h → IsCall self.old.mem e h call → Gives a self.old e h call outcome self.new result }
     {
         self.log.reserve(1)?;
         let number = self.procs.get(call.pid).space;
         let owners = home(&self.spaces, number).owners();
-        put(&mut self.mem, owners, &output.got);
-        follow(&mut self.files, call.table, output.then);
-        finish(&mut self.procs, &mut self.log, call, output.value, output.got);
+        put(&mut self.mem, owners, &outcome.got);
+        follow(&mut self.files, call.table, outcome.then);
+        finish(
+            &mut self.procs,
+            &mut self.log,
+            call,
+            outcome.value,
+            outcome.got,
+        );
         Ok(())
     }
 }

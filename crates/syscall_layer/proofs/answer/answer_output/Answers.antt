@@ -20,9 +20,9 @@ pub returns-in-Some : goal.returns-in-Some
 returns-in-Some c = λ a e h runs is.
     let k = c.args.parts.now in
     let call = c.args.call in
-    let o = c.in_ok-output.output in
-    let gives = c.in_ok-output.ensures.gives (ask_in a k e h call) (made_by a k e h call runs is)
-    (tree_in a k e h call (ap (λ (x : Kept). x.tree) (sym c.parts.view_is))) (files_in a k e h call (ap (λ (x : Kept). x.files) (sym c.parts.view_is))) in
+    let o = c.in_ok-outcome.outcome in
+    let gives = c.in_ok-outcome.ensures.gives (ask_in a k e h call) (made_by a k e h call runs is)
+    (tree_in a k e h call refl) (files_in a k e h call refl) in
     let found = sym c.in-Some.is ∙ c.stray_of.ensures e h runs
     ∙ ap (λ (xs : List Got). option_map (access_at e.value.regs.pc) (first_stray (writable_in h.maps) (map written_value xs))) c.deref.ensures.value in
     output_strays a k e h call runs is o gives c.in-Some.access found
@@ -31,17 +31,17 @@ pub returns-then-not-has_room_with : goal.returns-then-not-has_room_with
 returns-then-not-has_room_with c = λ a e h runs is.
     let k = c.args.parts.now in
     let call = c.args.call in
-    let o = c.in_ok-output.output in
-    let gives = c.in_ok-output.ensures.gives (ask_in a k e h call) (made_by a k e h call runs is)
-    (tree_in a k e h call (ap (λ (x : Kept). x.tree) (sym c.parts.view_is))) (files_in a k e h call (ap (λ (x : Kept). x.files) (sym c.parts.view_is))) in
+    let o = c.in_ok-outcome.outcome in
+    let gives = c.in_ok-outcome.ensures.gives (ask_in a k e h call) (made_by a k e h call runs is)
+    (tree_in a k e h call refl) (files_in a k e h call refl) in
     let found = c.stray_of.ensures e h runs
     ∙ ap (λ (xs : List Got). option_map (access_at e.value.regs.pc) (first_stray (writable_in h.maps) (map written_value xs))) c.deref.ensures.value in
     let asked = c.has_room_with.ensures ∙ ap (λ (xs : List Got). has_room c.parts.inside.log.notes (weight_of call.sent.items (map written_value xs))) c.deref-2.ensures.value in
     let room = room_is (kept_of c.parts.inside) k c.parts.view_is (weight_of call.sent.items (written_of o)) c.has_room_with.result false asked c.if-not-has_room_with.true in
     output_full a k e h call runs is o gives (none_strays e.value.regs.pc _ _ found c.in_default.is) room
 
-pub give-requires-2-clause-own : goal.give-requires-2-clause-own
-give-requires-2-clause-own c = λ e h runs.
+pub give-requires-clause-own : goal.give-requires-clause-own
+give-requires-clause-own c = λ e h runs.
     let found = c.stray_of.ensures e h runs
     ∙ ap (λ (xs : List Got). option_map (access_at e.value.regs.pc) (first_stray (writable_in h.maps) (map written_value xs))) c.deref.ensures.value in
     none_strays e.value.regs.pc _ _ found c.in_default.is
@@ -55,9 +55,9 @@ pub returns : goal.returns
 returns c = λ a e h runs is.
     let k = c.args.parts.now in
     let call = c.args.call in
-    let o = c.in_ok-output.output in
-    let gives = c.in_ok-output.ensures.gives (ask_in a k e h call) (made_by a k e h call runs is)
-    (tree_in a k e h call (ap (λ (x : Kept). x.tree) (sym c.parts.view_is))) (files_in a k e h call (ap (λ (x : Kept). x.files) (sym c.parts.view_is))) in
+    let o = c.in_ok-outcome.outcome in
+    let gives = c.in_ok-outcome.ensures.gives (ask_in a k e h call) (made_by a k e h call runs is)
+    (tree_in a k e h call refl) (files_in a k e h call refl) in
     let asked = c.has_room_with.ensures ∙ ap (λ (xs : List Got). has_room c.parts.inside.log.notes (weight_of call.sent.items (map written_value xs))) c.deref-2.ensures.value in
     let room = room_is (kept_of c.parts.inside) k c.parts.view_is (weight_of call.sent.items (written_of o)) c.has_room_with.result true asked c.if-not-has_room_with.false in
-    output_serves a k e h call runs is o gives c.give-2.new.self (c.in_ok-give.ensures a e h runs is) room
+    output_serves a k e h call runs is o gives c.give.new.self (c.in_ok-give.ensures a e h runs is) room

@@ -29,14 +29,14 @@ pub invariant_of-self-2 : goal.invariant_of-self-2
 invariant_of-self-2 c =
     let k = kept_of c.self.inside in
     let lives = subst (λ (s : Kept). Lives s.procs c.args.call.pid) (sym c.self.view_is) c.requires.lives in
-    regular_finished k c.args.call.pid c.self.invariant lives c.args.output.value c.put.new.mem k.tree c.follow.new.files.open_files c.finish.new.procs c.finish.new.log.notes k.console
+    regular_finished k c.args.call.pid c.self.invariant lives c.args.outcome.value c.put.new.mem k.tree c.follow.new.files.open_files c.finish.new.procs c.finish.new.log.notes k.console
     c.put.ensures.len c.finish.ensures.procs
 
 pub returns : goal.returns
 returns c = λ a e h.
     let k = kept_of c.self.inside in
     let call = c.args.call in
-    let o = c.args.output in
+    let o = c.args.outcome in
     let noted = c.finish.ensures.notes ∙ ap (λ (ns : List Note). noted_call call o.value (written_of o) ∷ ns) c.reserve.ensures.same in
     let home = sym (ap (λ (ss : List (Option Held)). slice_get ss c.get.result.now.space) c.deref.ensures.value) ∙ c.home.ensures in
     subst (λ (old : Kept). RunsIn old call.pid e h → IsCall old.mem e h call → Gave a old e h call o (new_parts c)) c.self.view_is

@@ -25,7 +25,7 @@ new_parts c = record (kept_of c.self.inside) {
 settled : (c : goal.After-finish) (h : Held) → slice_get c.self.inside.spaces.items c.get.result.now.space ≡ Some (Some h) →
     (c.settle-value.result ≡ value_of (next_brk h) c.args.effect)
     × ((with_items c.self.inside.spaces c.settle-value.new.spaces).items
-      ≡ slice_set c.self.inside.spaces.items c.get.result.now.space (Some (record h { brk = brk_of (next_brk h) h.brk c.args.effect })))
+    ≡ slice_set c.self.inside.spaces.items c.get.result.now.space (Some (record h { brk = brk_of (next_brk h) h.brk c.args.effect })))
 settled c h there =
     let number : ℕ = c.get.result.now.space in
     let home = ap (λ (ss : List (Option Held)). slice_get ss number) c.deref_mut.ensures.value ∙ there in
