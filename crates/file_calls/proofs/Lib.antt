@@ -19,6 +19,6 @@ pub mod Writes
 pub mod Numbers
 mod Asked
 mod Sought
-mod Transferred
-mod Listed
+pub mod Transferred
+pub mod Listed
 mod Numbered

@@ -9,6 +9,8 @@ use Rattle.nommu_regions.specs.declared.region.Source.TheVariants.{Own}
 use Rattle.nommu_regions.specs.Regions.{holds, AreRegions}
 use Rattle.vfork_exec.specs.Keyed.{find}
 use Rattle.call_log.specs.Notes.{Note}
+use Rattle.mem_files.specs.Inodes.{Inodes}
+use Rattle.fd_tables.specs.Files.{OpenFiles}
 use Rattle.syscall_layer.specs.Kept.{Kept, nothing_yet}
 use Rattle.syscall_layer.specs.Regular.{Regular}
 
@@ -32,9 +34,9 @@ no_regions n v gone = record {
 }
 
 -- whatever stands in the log and on the console
-begins_with : (pages : ℕ) (notes : List Note) (console : List ℕ) → 1 ≤ pages → pages ≤ 16384 → Regular (record (nothing_yet pages) { notes = notes; console = console })
+begins_with : (pages : ℕ) (tree : Inodes) (files : OpenFiles) (notes : List Note) (console : List ℕ) → 1 ≤ pages → pages ≤ 16384 → Regular (record (nothing_yet pages tree files) { notes = notes; console = console })
 unfolding find
-begins_with pages notes console some most =
+begins_with pages tree files notes console some most =
     let v : Region = record { first = 0; pages = 0; source = Own; uses = 0 } in
     let len : length (replicate pages v) ≡ pages = length-replicate pages v in
     let bytes = length-replicate {A = ℕ} (4096 * pages) 0 in
@@ -53,5 +55,5 @@ begins_with pages notes console some most =
       few = omega arith;
     }
 
-pub regular_begins : (k : Kept) (pages : ℕ) → 1 ≤ pages → pages ≤ 16384 → k ≡ nothing_yet pages → Regular k
-regular_begins k pages some most is = rw is (begins_with pages [] [] some most)
+pub regular_begins : (k : Kept) (pages : ℕ) (tree : Inodes) (files : OpenFiles) → 1 ≤ pages → pages ≤ 16384 → k ≡ nothing_yet pages tree files → Regular k
+regular_begins k pages tree files some most is = rw is (begins_with pages tree files [] [] some most)

@@ -35,6 +35,8 @@ use Rattle.machine_world.specs.Boot.{StartLine, BootFault, args_too_big, begun, 
 use Rattle.syscall_layer.specs.declared.start.StartRefusal.{StartRefusal}
 use Rattle.syscall_layer.specs.declared.start.StartRefusal.TheVariants as refusal
 use Rattle.syscall_layer.specs.Refusals.{refusal_of}
+use Rattle.fd_tables.specs.Files.{free_number}
+use Rattle.fd_tables.specs.Changes.{with_table}
 use Rattle.syscall_layer.specs.Kept.{Kept}
 use Rattle.syscall_layer.specs.Regular.{Regular}
 use Rattle.syscall_layer.specs.Stands.{About, private_bytes, private_of, live_at, live_from, live_spaces, process_of, world_of}
@@ -48,7 +50,7 @@ use Rattle.syscall_layer.proofs.Started.{with_one, Fits, regular_with}
 -- program number `index` in the block at a page of memory
 abbrev pub with_program : Kept → ℕ → Values → List (List ℕ) → ℕ → List ℕ → Kept
 with_program k index f args page mem = with_one k (block_region page (block_pages (flat_original f))) (held_begin (length k.regions) (page_loading f page args []))
-    (begin_regs (page_loading f page args [])) mem
+    (begin_regs (page_loading f page args [])) (free_number k.files.tables) mem (with_table k.files)
     (load_note (record { pid = k.procs.next_pid; program = index; base = page_address page; pages = block_pages (flat_original f) }) ∷ k.notes)
 
 -- ---- the spaces
@@ -175,7 +177,7 @@ module _ (k : Kept) (regular : Regular k) (f : Values) (args : List (List ℕ)) 
 
   pub regular_program : (index : ℕ) (mem : List ℕ) → Placed mem → length k.procs.entries < most_entries → Regular (with_program k index f args page mem)
   regular_program index mem loaded few =
-      regular_with k (block_region page (block_pages (flat_original f))) held (begin_regs loading) mem
+      regular_with k (block_region page (block_pages (flat_original f))) held (begin_regs loading) (free_number k.files.tables) mem (with_table k.files)
       (load_note (record { pid = k.procs.next_pid; program = index; base = page_address page; pages = block_pages (flat_original f) }) ∷ k.notes)
       regular (fits loaded.free) loaded.len few
 
@@ -188,7 +190,7 @@ module _ (k : Kept) (regular : Regular k) (f : Values) (args : List (List ℕ)) 
   world_begins : (a : About) (index : ℕ) (mem : List ℕ) → Placed mem → begun (world_of a k) index loading ≡ world_of a (with_program k index f args page mem)
   unfolding world_of
   world_begins a index mem loaded = λ i. record {
-    procs = record { pid = k.procs.next_pid; parent = 0; regs = begin_regs loading; space = length k.spaces } ∷ map process_of k.procs.entries;
+    procs = record { pid = k.procs.next_pid; parent = 0; regs = begin_regs loading; space = length k.spaces; table = free_number k.files.tables } ∷ map process_of k.procs.entries;
     spaces = spaces_begin mem loaded i;
     loads = sym (length-append k.spaces (Some held ∷ [])) i;
     next_pid = k.procs.next_pid + 1;
@@ -196,6 +198,8 @@ module _ (k : Kept) (regular : Regular k) (f : Values) (args : List (List ℕ)) 
       pages = sym (length-set k.regions page (block_region page (block_pages (flat_original f)))) i;
       kind = a.kind;
       programs = a.programs;
+      tree = k.tree;
+      files = with_table k.files;
       console = k.console;
     };
     notes = load_note (record { pid = k.procs.next_pid; program = index; base = page_address page; pages = block_pages (flat_original f) }) ∷ k.notes;
@@ -221,8 +225,10 @@ module _ (a : About) (k : Kept) (regular : Regular k) (kind : Kind) (s : StartLi
 
 -- ---- what the start leaves
 
-pub same_parts : (k n : Kept) → n.mem ≡ k.mem → n.regions ≡ k.regions → n.spaces ≡ k.spaces → n.procs ≡ k.procs → n.notes ≡ k.notes → n.console ≡ k.console → n ≡ k
-same_parts k n mem regions spaces procs notes console = λ i. record {
+pub same_parts : (k n : Kept) → n.mem ≡ k.mem → n.regions ≡ k.regions → n.spaces ≡ k.spaces → n.tree ≡ k.tree → n.files ≡ k.files → n.procs ≡ k.procs → n.notes ≡ k.notes → n.console ≡ k.console → n ≡ k
+same_parts k n mem regions spaces tree files procs notes console = λ i. record {
+  tree = tree i;
+  files = files i;
   mem = mem i;
   regions = regions i;
   spaces = spaces i;
@@ -273,10 +279,10 @@ refuses k n regular kind index f args Memory why all = record {
 
 -- the same by what is known of a call
 pub refuses_by : (old k n : Kept) (r : Result ⊤ StartRefusal) → k ≡ old → Regular k → (kind : Kind) (index : ℕ) (f : Values) (args : List (List ℕ)) (e : LoadRefusal)
-    → Loads kind f args [] k.regions k.mem n.regions n.mem (Err e) → n.spaces ≡ k.spaces → n.procs ≡ k.procs → n.notes ≡ k.notes → n.console ≡ k.console
+    → Loads kind f args [] k.regions k.mem n.regions n.mem (Err e) → n.spaces ≡ k.spaces → n.tree ≡ k.tree → n.files ≡ k.files → n.procs ≡ k.procs → n.notes ≡ k.notes → n.console ≡ k.console
     → r ≡ Err (refusal_of e) → Starts kind index (flat_original f) args old n r
-refuses_by old k n r view regular kind index f args e why spaces procs notes console is =
-    rw (is, ← view) (refuses k n regular kind index f args e why (λ regions mem. same_parts k n mem regions spaces procs notes console))
+refuses_by old k n r view regular kind index f args e why spaces tree files procs notes console is =
+    rw (is, ← view) (refuses k n regular kind index f args e why (λ regions mem. same_parts k n mem regions spaces tree files procs notes console))
 
 -- ---- what the calls left
 
@@ -297,17 +303,19 @@ pub record Begun (k n : Kept) (kind : Kind) (index : ℕ) (f : Values) (args : L
   pub new : n ≡ with_program k index f args is.page n.mem
 
 -- by what the calls left
-pub begun_by : (k n : Kept) (kind : Kind) (index : ℕ) (f : Values) (args : List (List ℕ)) (loaded : Loaded) (pid number : ℕ)
+pub begun_by : (k n : Kept) (kind : Kind) (index : ℕ) (f : Values) (args : List (List ℕ)) (loaded : Loaded) (pid number table : ℕ)
     → IsLoaded kind f args [] k.regions k.mem n.regions n.mem loaded → n.spaces ≡ k.spaces ++ Some loaded.space ∷ [] → number ≡ length k.spaces
-    → (pid ≡ k.procs.next_pid) × (n.procs ≡ with_start k.procs (record { regs = loaded.regs; space = number }))
+    → (pid ≡ k.procs.next_pid) × (n.procs ≡ with_start k.procs (record { regs = loaded.regs; space = number; table = table }))
+    → table ≡ free_number k.files.tables → n.tree ≡ k.tree → n.files ≡ with_table k.files
     → n.notes ≡ load_note (record { pid = pid; program = index; base = loaded.base; pages = loaded.pages }) ∷ k.notes
     → n.console ≡ k.console → Begun k n kind index f args
-begun_by k n kind index f args loaded pid number is spaces number_is procs notes console = record {
+begun_by k n kind index f args loaded pid number table is spaces number_is procs table_is tree files notes console = record {
   loaded = loaded;
   is = is;
   new = same_parts (with_program k index f args is.page n.mem) n refl is.regions
       (spaces ∙ ap (λ (h : Held). k.spaces ++ Some h ∷ []) is.space)
-      (procs.1 ∙ (λ i. with_start k.procs (record { regs = is.regs i; space = number_is i })))
+      tree files
+      (procs.1 ∙ (λ i. with_start k.procs (record { regs = is.regs i; space = number_is i; table = table_is i })))
       (notes ∙ (λ i. load_note (record { pid = procs.0 i; program = index; base = is.base i; pages = is.pages i }) ∷ k.notes))
       console;
 }

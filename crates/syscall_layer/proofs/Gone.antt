@@ -169,7 +169,7 @@ module _ (k : Kept) (pid : ℕ) (e : Entry Task) (h : Held) (regular : Regular k
         (ne, sym (find_beside_without pid_of pid p ne k.procs.entries) ∙ is)
   ]
 
-  regular_then : Regular (gone k pid e.value.space h)
+  regular_then : Regular (gone k pid e h)
   regular_then =
       let len = length_released k.regions h.maps in
       record {
@@ -208,6 +208,6 @@ module _ (k : Kept) (pid : ℕ) (e : Entry Task) (h : Held) (regular : Regular k
       }
 
 pub regular_gone : (k : Kept) (pid : ℕ) (e : Entry Task) (h : Held) → Regular k → process k.procs pid ≡ Some e → slice_get k.spaces e.value.space ≡ Some (Some h)
-    → CanRelease k.regions h.maps × Regular (gone k pid e.value.space h)
+    → CanRelease k.regions h.maps × Regular (gone k pid e h)
 regular_gone k pid e h regular lives space =
     (can_release k.regions h.maps (enough k pid e h regular lives space), regular_then k pid e h regular lives space)

@@ -11,12 +11,15 @@ use Rattle.vfork_exec.specs.Keyed.{find, change, without}
 use Rattle.vfork_exec.specs.Procs.{process, Lives, with_value, with_value_at, with_end}
 use Rattle.vfork_exec.specs.Procs.{pid_of as entry_pid}
 use Rattle.vfork_exec.proofs.Keyed.{find_head, find_changed, find_gone}
+use Rattle.mem_files.specs.Inodes.{Inodes}
+use Rattle.fd_tables.specs.Files.{OpenFiles}
+use Rattle.file_calls.specs.Calls.{with_all}
 use Rattle.machine_world.specs.World.{Process, LiveSpace, World, pid_of, id_of}
 use Rattle.machine_world.specs.Event.{with_state, departed}
 use Rattle.syscall_layer.specs.declared.task.Task.{Task}
 use Rattle.syscall_layer.specs.Kept.{Kept}
-use Rattle.syscall_layer.specs.Gone.{gone}
-use Rattle.syscall_layer.specs.Stands.{About, later, private_bytes, live_spaces, process_of, world_of}
+use Rattle.syscall_layer.specs.Gone.{closed_in, gone}
+use Rattle.syscall_layer.specs.Stands.{About, later, private_bytes, live_spaces, process_of, world_of, OthersSame}
 use Rattle.syscall_layer.specs.Calls.{RunsIn, with_task}
 use Rattle.syscall_layer.proofs.Worlds.{change_space, without_space, change_process, without_process}
 use Rattle.syscall_layer.proofs.Runs.{pid_found}
@@ -47,23 +50,14 @@ same_world : (ps qs : List Process) (ss ts : List LiveSpace) (m n pages more : �
     ps ≡ qs → ss ≡ ts → m ≡ n → pages ≡ more → ns ≡ ms →
     record w { procs = ps; spaces = ss; loads = m; rest = record w.rest { pages = pages }; notes = ns }
     ≡ record w { procs = qs; spaces = ts; loads = n; rest = record w.rest { pages = more }; notes = ms }
-same_world ps qs ss ts m n pages more ns ms w p s l g t =
-    ap (λ (x : List Process). record w { procs = x; spaces = ss; loads = m; rest = record w.rest { pages = pages }; notes = ns }) p
-    ∙ ap (λ (x : List LiveSpace). record w { procs = qs; spaces = x; loads = m; rest = record w.rest { pages = pages }; notes = ns }) s
-    ∙ ap (λ (x : ℕ). record w { procs = qs; spaces = ts; loads = x; rest = record w.rest { pages = pages }; notes = ns }) l
-    ∙ ap (λ (x : ℕ). record w { procs = qs; spaces = ts; loads = n; rest = record w.rest { pages = x }; notes = ns }) g
-    ∙ ap (λ (x : List Note). record w { procs = qs; spaces = ts; loads = n; rest = record w.rest { pages = more }; notes = x }) t
-
--- the other spaces have the bytes that they had
-abbrev pub OthersSame : Kept → ℕ → List ℕ → Type 0
-OthersSame k number now = (j : ℕ) (o : Held) → j ≢ number → slice_get k.spaces j ≡ Some (Some o) → private_bytes now o ≡ private_bytes k.mem o
+same_world ps qs ss ts m n pages more ns ms w p s l g t = λ i. record w { procs = p i; spaces = s i; loads = l i; rest = record w.rest { pages = g i }; notes = t i }
 
 module _ (k : Kept) (pid : ℕ) (e : Entry Task) (h : Held) (runs : RunsIn k pid e h) where
   -- ---- a process goes on
 
   module _ (regs : Regs) (brk : ℕ) (now : List ℕ) where
     abbrev value : Task
-    value = record { regs = regs; space = e.value.space }
+    value = record e.value { regs = regs }
 
     procs_moved : map process_of (with_value_at k.procs pid value).entries ≡ change pid_of e.pid (λ (q : Process). record q { regs = regs }) (map process_of k.procs.entries)
     procs_moved =
@@ -79,12 +73,12 @@ module _ (k : Kept) (pid : ℕ) (e : Entry Task) (h : Held) (runs : RunsIn k pid
         sym (change_space (λ (s : LiveSpace). record s { space = record s.space { bytes = private_bytes now h; brk = brk } }) k.mem now k.spaces e.value.space h (record h { brk = brk }) runs.home refl others)
 
     -- and with other notes and more events
-    pub moved_world : OthersSame k e.value.space now → (a : About) (n : ℕ) (notes : List Note) (console : List ℕ) →
-        world_of (later n a) (record (with_task k pid e h now regs brk) { notes = notes; console = console })
-        ≡ record (with_state (record (world_of a k) { rest = record (world_of a k).rest { console = console } }) (process_of e) regs (private_bytes now h) brk) { notes = notes; events = a.events + n }
+    pub moved_world : OthersSame k e.value.space now → (a : About) (n : ℕ) (notes : List Note) (tree : Inodes) (files : OpenFiles) (console : List ℕ) →
+        world_of (later n a) (record (with_task k pid e h now regs brk) { notes = notes; tree = tree; files = files; console = console })
+        ≡ record (with_state (record (world_of a k) { rest = with_all (world_of a k).rest tree files console }) (process_of e) regs (private_bytes now h) brk) { notes = notes; events = a.events + n }
     unfolding world_of
-    moved_world others a n notes console =
-        same_world _ _ _ _ _ _ (length k.regions) (length k.regions) notes notes (world_of (later n a) (record k { console = console }))
+    moved_world others a n notes tree files console =
+        same_world _ _ _ _ _ _ (length k.regions) (length k.regions) notes notes (world_of (later n a) (record k { tree = tree; files = files; console = console }))
         procs_moved (spaces_moved others) (length-set k.spaces e.value.space (Some (record h { brk = brk }))) refl refl
 
     pub moved_lives : Lives (with_value_at k.procs pid value) pid
@@ -101,11 +95,11 @@ module _ (k : Kept) (pid : ℕ) (e : Entry Task) (h : Held) (runs : RunsIn k pid
   procs_gone = without_process pid k.procs.entries ∙ ap (λ n. without pid_of n (map process_of k.procs.entries)) (pid_found k.procs pid e runs.lives)
 
   pub gone_world : (a : About) (n : ℕ) (notes : List Note) →
-      world_of (later n a) (record (gone k pid e.value.space h) { notes = notes })
+      world_of (later n a) (record (gone k pid e h) { notes = notes })
       ≡ record (departed (world_of a k) (process_of e)) { notes = notes; events = a.events + n }
   unfolding world_of
   gone_world a n notes =
-      same_world _ _ _ _ _ _ _ _ notes notes (world_of (later n a) k)
+      same_world _ _ _ _ _ _ _ _ notes notes (world_of (later n a) (record k { tree = (closed_in k e.value.table).nodes; files = (closed_in k e.value.table).files }))
       procs_gone (sym (without_space k.mem k.spaces e.value.space h runs.home)) (length-set k.spaces e.value.space None) (length_released k.regions h.maps) refl
 
   pub gone_dead : process (with_end k.procs pid) pid ≡ None

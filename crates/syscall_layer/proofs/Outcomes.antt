@@ -1,5 +1,5 @@
 -- What comes of a call and of an end, in the world and in the parts.
-use Rattle.std.proofs.Common.{◌≡◌, ℕ, ◌+◌, Bool, true, false, List, [], ◌∷◌, length, Option, Some, refl, sym, ap, subst, ◌∙◌, add-zero}
+use Rattle.std.proofs.Common.{◌≡◌, ℕ, ◌+◌, Bool, true, false, List, [], ◌∷◌, length, Option, Some, None, refl, sym, ap, subst, ◌∙◌, add-zero}
 use Rattle.std.specs.Prelude.{◌%◌, option_map, Result, Ok, Err, slice_index}
 use Rattle.std.specs.declared.alloc.AllocError.{AllocError}
 use Rattle.byte_words.specs.ByteMap.{Bytes}
@@ -8,28 +8,37 @@ use Rattle.rv32im_step.specs.declared.access.AccessKind.TheVariants as access_ki
 use Rattle.rv32im_step.specs.Registers.{register}
 use Rattle.call_log.specs.declared.how.How.{How}
 use Rattle.call_log.specs.declared.how.How.TheVariants.{Exit, Signal}
-use Rattle.call_log.specs.Notes.{Note, call_note, end_note, weight_of, has_room}
+use Rattle.call_log.specs.Notes.{Written, Note, call_note, end_note, weight_of, has_room}
 use Rattle.call_log.specs.Sent.{Span, sent}
 use Rattle.mmap_rules.specs.Held.{Held}
-use Rattle.mmap_rules.specs.Space.{Space}
+use Rattle.mmap_rules.specs.Space.{Space, writable_in}
+use Rattle.mem_files.specs.Inodes.{Inodes}
+use Rattle.fd_tables.specs.Files.{OpenFiles}
 use Rattle.vfork_exec.specs.declared.entry.Entry.{Entry}
 use Rattle.vfork_exec.specs.Keyed.{find}
 use Rattle.vfork_exec.specs.Procs.{Lives, value_at}
 use Rattle.machine_world.specs.World.{Process, LiveSpace, World, pid_of, id_of}
-use Rattle.machine_world.specs.Rows.{Ask, Reply, Row, row, replies}
-use Rattle.machine_world.specs.Event.{Trace, Outcome, went, strays, full, with_state, counted, noted, departed, ended, number_of, args_of, entry_of, call_access, replied, served, answered, exit_code, exited, is_exit, classed, answer, asked, trapped, called, died, at_process, by_process, in_space}
+use Rattle.machine_world.specs.Asks.{Ask, Reply, Row, replies, waits}
+use Rattle.machine_world.specs.Rows.{row}
+use Rattle.machine_world.specs.Event.{Trace, Outcome, went, strays, full, with_state, counted, noted, departed, ended, number_of, args_of, entry_of, call_access, replied, served, put, put_got, answered, exit_code, exited, is_exit, classed, answer, asked, trapped, called, died, at_process, by_process, in_space}
 use Rattle.syscall_layer.specs.declared.task.Task.{Task}
-use Rattle.syscall_layer.specs.declared.call.Call.{Call}
+use Rattle.file_calls.specs.declared.call.Call.{Call}
+use Rattle.file_calls.specs.declared.outcome.Outcome.{Outcome as Output}
+use Rattle.file_calls.specs.Calls.{MadeBy, with_all, after, written_of}
 use Rattle.syscall_layer.specs.declared.effect.Effect.{Effect}
-use Rattle.syscall_layer.specs.declared.effect.Effect.TheVariants.{Answer, Yield, Show, Break}
+use Rattle.syscall_layer.specs.declared.effect.Effect.TheVariants.{Answer, Yield, Break}
 use Rattle.syscall_layer.specs.declared.answer.Served.{Served}
-use Rattle.syscall_layer.specs.declared.answer.Served.TheVariants.{Ended, LogFull, Stray}
+use Rattle.syscall_layer.specs.declared.answer.Served.TheVariants.{Replied, Ended, LogFull, Stray}
 use Rattle.syscall_layer.specs.Kept.{Kept}
 use Rattle.syscall_layer.specs.Regular.{Regular}
-use Rattle.syscall_layer.specs.Stands.{About, later, private_bytes, private_of, process_of, world_of}
+use Rattle.syscall_layer.specs.Stands.{About, later, private_bytes, private_of, process_of, world_of, OthersSame}
+use Rattle.syscall_layer.specs.Puts.{first_stray, access_at}
 use Rattle.syscall_layer.specs.Serves.{Went, Answered, Serves, Died}
 use Rattle.syscall_layer.specs.Gone.{gone}
-use Rattle.syscall_layer.specs.Calls.{RunsIn, IsCall, MadeBy, ends_turn, reply_of, ask_in, served_by, call_value, after_call, after_exit}
+use Rattle.syscall_layer.specs.Calls.{RunsIn, IsCall, Changed, given, Gave, reply_of, ask_in, served_by, noted_call, after_reply, after_exit}
+use Rattle.std.proofs.lemmas.Option.{same_Some}
+use Rattle.syscall_layer.proofs.Puts.{put_all, put_strays}
+use Rattle.syscall_layer.proofs.QuietRows.{Quiet}
 use Rattle.syscall_layer.proofs.Worlds.{find_space, find_process}
 use Rattle.syscall_layer.proofs.Runs.{pid_found, value_found, runs_in}
 use Rattle.syscall_layer.proofs.Moves.{moved_world, moved_lives, gone_world, gone_dead}
@@ -101,9 +110,9 @@ exited_full : (w : World) (a : Ask) → has_room w.notes (weight_of a.sent []) �
 unfolding exited
 exited_full w a room = rw room refl
 
-room_in : (a : About) (k : Kept) (bytes : List ℕ) (b : Bool) → has_room k.notes (length bytes) ≡ b → has_room (world_of a k).notes (weight_of bytes []) ≡ b
+room_in : (a : About) (k : Kept) (bytes : List ℕ) (got : List Written) (b : Bool) → has_room k.notes (weight_of bytes got) ≡ b → has_room (world_of a k).notes (weight_of bytes got) ≡ b
 unfolding world_of
-room_in a k bytes b room = ap (has_room k.notes) (add-zero (length bytes)) ∙ room
+room_in a k bytes got b room = room
 
 -- ---- what the parts are after it
 
@@ -111,59 +120,172 @@ room_in a k bytes b room = ap (has_room k.notes) (add-zero (length bytes)) ∙ r
 it_went : (a : About) (o : Outcome) (w : World) (t : Trace) (old new : Kept) (pid : ℕ) (s : Served) → o ≡ went w t → world_of (later 1 a) new ≡ w → Went t new pid s → Answered a o old new pid s
 it_went a o w t old new pid s is now done = subst (λ (x : Outcome). Answered a x old new pid s) (sym is) (sym now, done)
 
-went_by : (f : Effect) (t : Trace) (new : Kept) (pid : ℕ) → t.over ≡ ends_turn f → Lives new.procs pid → Went t new pid (served_by f)
-went_by (Answer value) t new pid over lives = (over, lives)
-went_by Yield t new pid over lives = (over, lives)
-went_by (Show from) t new pid over lives = (over, lives)
-went_by (Break to) t new pid over lives = (over, lives)
+went_by : (f : Effect) (ask : Ask) (t : Trace) (new : Kept) (pid : ℕ) → t.over ≡ (reply_of ask f).over → Lives new.procs pid → Went t new pid (served_by f)
+went_by (Answer value) ask t new pid over lives = (over, lives)
+went_by Yield ask t new pid over lives = (over, lives)
+went_by (Break to) ask t new pid over lives = (over, lives)
 
-same_entry : (p q n m : ℕ) (xs ys : List ℕ) (bytes : List ℕ) (value : ℕ) → p ≡ q → n ≡ m → xs ≡ ys →
-    call_note (record { pid = p; call = n; args = xs; sent = bytes; reply = value; got = [] }) ≡ call_note (record { pid = q; call = m; args = ys; sent = bytes; reply = value; got = [] })
-same_entry p q n m xs ys bytes value e f g = cc
+same_entry : (p q n m : ℕ) (xs ys : List ℕ) (bytes : List ℕ) (value : ℕ) (got : List Written) → p ≡ q → n ≡ m → xs ≡ ys →
+    call_note (record { pid = p; call = n; args = xs; sent = bytes; reply = value; got = got }) ≡ call_note (record { pid = q; call = m; args = ys; sent = bytes; reply = value; got = got })
+same_entry p q n m xs ys bytes value got e f g = cc
+
+-- the files of the call are those of the parts
+pub files_in : (a : About) (k : Kept) (e : Entry Task) (h : Held) (call : Call) {files : OpenFiles} → k.files ≡ files → (ask_in a k e h call).rest.files ≡ files
+unfolding world_of
+files_in a k e h call is = is
+
+pub tree_in : (a : About) (k : Kept) (e : Entry Task) (h : Held) (call : Call) {tree : Inodes} → k.tree ≡ tree → (ask_in a k e h call).rest.tree ≡ tree
+unfolding world_of
+tree_in a k e h call is = is
 
 module _ (a : About) (k : Kept) (e : Entry Task) (h : Held) (call : Call) (runs : RunsIn k call.pid e h) (is : IsCall k.mem e h call) where
-  note_is : (value : ℕ) →
-      call_note (record { pid = call.pid; call = call.number; args = call.args; sent = call.sent.items; reply = value; got = [] })
-      ≡ call_note (entry_of (ask_in a k e h call) value [])
-  note_is value = same_entry call.pid e.pid call.number (number_of e.value.regs) call.args (args_of e.value.regs) call.sent.items value is.pid is.number is.args
+  -- a call without bytes weighs what it sends
+  weighs : (bytes : List ℕ) (b : Bool) → has_room k.notes (length bytes) ≡ b → has_room k.notes (weight_of bytes []) ≡ b
+  weighs bytes b room = ap (has_room k.notes) (add-zero (length bytes)) ∙ room
+
+  note_is : (value : ℕ) (got : List Written) → noted_call call value got ≡ call_note (entry_of (ask_in a k e h call) value got)
+  note_is value got = same_entry call.pid e.pid call.number (number_of e.value.regs) call.args (args_of e.value.regs) call.sent.items value got is.pid is.number is.args
 
   pub call_answer : called (world_of a k) call.pid ≡ classed (world_of a k) (ask_in a k e h call)
   call_answer = called_is a k call.pid e h runs ∙ answer_is (world_of a k) (process_of e) (private_of k.mem h) (Ok call.sent.items) is.sent
 
   -- ---- a reply
 
-  module _ (f : Effect) where
-    abbrev ask : Ask
-    ask = ask_in a k e h call
+  abbrev ask : Ask
+  ask = ask_in a k e h call
 
+  -- which changes tree, files and console, and nothing else outside
+  module _ (value : ℕ) (got : List Written) (tree : Inodes) (files : OpenFiles) (console : List ℕ) (brk : ℕ) (over : Bool) where
     abbrev reply : Reply
-    reply = reply_of ask f
+    reply = record { value = value; got = got; rest = with_all ask.rest tree files console; brk = brk; over = over }
 
-    abbrev value : ℕ
-    value = call_value h call f
+    answered_is : (found : Result Bytes Span) → put_got (private_bytes k.mem h) (writable_in h.maps) got ≡ found →
+        answered (world_of a k) ask (replies reply) ≡ put (world_of a k) ask reply found
+    answered_is found = ap (put (world_of a k) ask reply)
 
-    abbrev then_state : World
-    then_state = with_state (record (world_of a k) { rest = reply.rest }) (process_of e) (replied e.value.regs value) (private_bytes k.mem h) reply.brk
+    module _ (mem : List ℕ) (puts : put_got (private_bytes k.mem h) (writable_in h.maps) got ≡ Ok (private_bytes mem h)) where
+      abbrev then_state : World
+      then_state = with_state (record (world_of a k) { rest = reply.rest }) (process_of e) (replied e.value.regs value) (private_bytes mem h) brk
 
-    after_call_world : world_of (later 1 a) (after_call k e h call f) ≡ noted (call_note (entry_of ask value [])) (counted then_state)
+      after_world : OthersSame k e.value.space mem → world_of (later 1 a) (after_reply k e h call reply mem) ≡ noted (call_note (entry_of ask value got)) (counted then_state)
+      unfolding world_of
+      after_world others =
+          moved_world k call.pid e h runs (replied e.value.regs value) brk mem others a 1 (noted_call call value got ∷ k.notes) tree files console
+          ∙ ap (λ (note : Note). record then_state { notes = note ∷ k.notes; events = a.events + 1 }) (note_is value got)
+
+      pub reply_serves : OthersSame k e.value.space mem → has_room k.notes (weight_of call.sent.items got) ≡ true →
+          (s : Served) → ((t : Trace) (new : Kept) → t.over ≡ over → Lives new.procs call.pid → Went t new call.pid s) →
+          Answered a (answered (world_of a k) ask (replies reply)) k (after_reply k e h call reply mem) call.pid s
+      reply_serves others room s goes =
+          let t : Trace = record { space = e.value.space; events = 1; entries = entry_of ask value got ∷ []; over = over } in
+          it_went a (answered (world_of a k) ask (replies reply)) (noted (call_note (entry_of ask value got)) (counted then_state)) t k (after_reply k e h call reply mem) call.pid s
+          (answered_is (Ok (private_bytes mem h)) puts ∙ served_when (world_of a k) ask reply (private_bytes mem h) (room_in a k call.sent.items got true room))
+          (after_world others)
+          (goes t (after_reply k e h call reply mem) refl (moved_lives k call.pid e h runs (replied e.value.regs value) 0 k.mem))
+
+    pub reply_full : (bytes : Bytes) → put_got (private_bytes k.mem h) (writable_in h.maps) got ≡ Ok bytes → has_room k.notes (weight_of call.sent.items got) ≡ false →
+        Answered a (answered (world_of a k) ask (replies reply)) k k call.pid LogFull
+    reply_full bytes puts room = subst (λ (o : Outcome). Answered a o k k call.pid LogFull)
+        (sym (answered_is (Ok bytes) puts ∙ served_full (world_of a k) ask reply bytes (room_in a k call.sent.items got false room))) refl
+
+    pub reply_strays : (span : Span) → put_got (private_bytes k.mem h) (writable_in h.maps) got ≡ Err span →
+        Answered a (answered (world_of a k) ask (replies reply)) k k call.pid (Stray (access_at e.value.regs.pc span))
+    reply_strays span puts = subst (λ (o : Outcome). Answered a o k k call.pid (Stray (access_at e.value.regs.pc span))) (sym (answered_is (Err span) puts)) (refl, refl)
+
+  -- ---- by an effect
+
+  module _ (f : Effect) where
+    abbrev effect_reply : Reply
+    effect_reply = reply_of ask f
+
+    effect_shape : effect_reply ≡ reply effect_reply.value [] k.tree k.files k.console effect_reply.brk effect_reply.over
     unfolding world_of
-    after_call_world =
-        moved_world k call.pid e h runs (replied e.value.regs value) reply.brk k.mem (λ j o other there. refl) a 1
-        (call_note (record { pid = call.pid; call = call.number; args = call.args; sent = call.sent.items; reply = value; got = [] }) ∷ k.notes) reply.rest.console
-        ∙ ap (λ (note : Note). record then_state { notes = note ∷ k.notes; events = a.events + 1 }) (note_is value)
+    effect_shape = shape f
+      where
+        shape : (g : Effect) → reply_of ask g ≡ reply (reply_of ask g).value [] k.tree k.files k.console (reply_of ask g).brk (reply_of ask g).over
+        shape (Answer value) = refl
+        shape Yield = refl
+        shape (Break to) = refl
 
-    pub reply_serves : has_room k.notes (length call.sent.items) ≡ true →
-        Answered a (answered (world_of a k) ask (replies reply)) k (after_call k e h call f) call.pid (served_by f)
-    reply_serves room =
-        let t : Trace = record { space = e.value.space; events = 1; entries = entry_of ask value [] ∷ []; over = ends_turn f } in
-        it_went a (answered (world_of a k) ask (replies reply)) (noted (call_note (entry_of ask value [])) (counted then_state)) t k (after_call k e h call f) call.pid (served_by f)
-        (served_when (world_of a k) ask reply (private_bytes k.mem h) (room_in a k call.sent.items true room))
-        after_call_world
-        (went_by f t (after_call k e h call f) call.pid refl (moved_lives k call.pid e h runs (replied e.value.regs value) 0 k.mem))
+    pub effect_serves : has_room k.notes (length call.sent.items) ≡ true →
+        Answered a (answered (world_of a k) ask (replies effect_reply)) k (after_reply k e h call effect_reply k.mem) call.pid (served_by f)
+    effect_serves room =
+        subst (λ (r : Reply). Answered a (answered (world_of a k) ask (replies r)) k (after_reply k e h call r k.mem) call.pid (served_by f)) (sym effect_shape)
+        (reply_serves effect_reply.value [] k.tree k.files k.console effect_reply.brk effect_reply.over k.mem refl (λ j o other there. refl)
+        (weighs call.sent.items true room) (served_by f) (λ t n. went_by f ask t n call.pid))
 
-    pub reply_full : has_room k.notes (length call.sent.items) ≡ false → Answered a (answered (world_of a k) ask (replies reply)) k k call.pid LogFull
-    reply_full room = subst (λ (o : Outcome). Answered a o k k call.pid LogFull)
-        (sym (served_full (world_of a k) ask reply (private_bytes k.mem h) (room_in a k call.sent.items false room))) refl
+    pub effect_full : has_room k.notes (length call.sent.items) ≡ false → Answered a (answered (world_of a k) ask (replies effect_reply)) k k call.pid LogFull
+    effect_full room =
+        subst (λ (r : Reply). Answered a (answered (world_of a k) ask (replies r)) k k call.pid LogFull) (sym effect_shape)
+        (reply_full effect_reply.value [] k.tree k.files k.console effect_reply.brk effect_reply.over (private_bytes k.mem h) refl (weighs call.sent.items false room))
+
+  -- ---- by a change of files
+
+  pub change_serves : (new : Kept) → Changed a k e h call new → has_room k.notes (length call.sent.items) ≡ true →
+      Answered a (answered (world_of a k) ask (row ask)) k new call.pid Replied
+  change_serves new c room =
+      let r = c.reply in
+      let shape : r ≡ reply r.value [] r.rest.tree r.rest.files r.rest.console r.brk false =
+      (λ i. record { value = r.value; got = c.got i; rest = c.rest i; brk = r.brk; over = c.over i }) in
+      let served = reply_serves r.value [] r.rest.tree r.rest.files r.rest.console r.brk false k.mem refl (λ j o other there. refl)
+      (weighs call.sent.items true room) Replied (λ t n over lives. (over, lives)) in
+      let by_reply = subst (λ (x : Reply). Answered a (answered (world_of a k) ask (replies x)) k (after_reply k e h call x k.mem) call.pid Replied) (sym shape) served in
+      let by_new = subst (λ (x : Kept). Answered a (answered (world_of a k) ask (replies r)) k x call.pid Replied) (sym c.after) by_reply in
+      subst (λ (x : Row). Answered a (answered (world_of a k) ask x) k new call.pid Replied) (sym c.replies) by_new
+
+  pub quiet_full : Quiet (row ask) → has_room k.notes (length call.sent.items) ≡ false → Answered a (answered (world_of a k) ask (row ask)) k k call.pid LogFull
+  quiet_full quiet room = by_row (row ask) quiet
+    where
+      by_row : (x : Row) → Quiet x → Answered a (answered (world_of a k) ask x) k k call.pid LogFull
+      by_row (replies r) got = subst (λ (o : Outcome). Answered a o k k call.pid LogFull) (sym (is_full r got)) refl
+        where
+          is_full : (r : Reply) → r.got ≡ [] → answered (world_of a k) ask (replies r) ≡ full
+          is_full r got =
+              ap (λ (gots : List Written). put (world_of a k) ask r (put_got (private_bytes k.mem h) (writable_in h.maps) gots)) got
+              ∙ served_full (world_of a k) ask r (private_bytes k.mem h) (ap (λ (gots : List Written). has_room (world_of a k).notes (weight_of call.sent.items gots)) got ∙ room_in a k call.sent.items [] false (weighs call.sent.items false room))
+      by_row waits quiet = absurd quiet
+
+  -- ---- by an output
+
+  module _ (o : Output) (gives : row ask ≡ replies (given ask o)) where
+    by_given : (new : Kept) (s : Served) → Answered a (answered (world_of a k) ask (replies (given ask o))) k new call.pid s → Answered a (answered (world_of a k) ask (row ask)) k new call.pid s
+    by_given new s = subst (λ (x : Row). Answered a (answered (world_of a k) ask x) k new call.pid s) (sym gives)
+
+    abbrev files_then : OpenFiles
+    files_then = after o.then e.value.table k.files
+
+    given_shape : given ask o ≡ reply o.value (written_of o) k.tree files_then k.console h.brk false
+    unfolding world_of
+    given_shape = refl
+
+    pub output_serves : (new : Kept) → Gave a k e h call o new → has_room k.notes (weight_of call.sent.items (written_of o)) ≡ true →
+        Answered a (answered (world_of a k) ask (row ask)) k new call.pid Replied
+    output_serves new c room =
+        let served = reply_serves o.value (written_of o) k.tree files_then k.console h.brk false new.mem c.put c.others room Replied (λ t n over lives. (over, lives)) in
+        let by_reply = subst (λ (x : Reply). Answered a (answered (world_of a k) ask (replies x)) k (after_reply k e h call x new.mem) call.pid Replied) (sym given_shape) served in
+        by_given new Replied (subst (λ (x : Kept). Answered a (answered (world_of a k) ask (replies (given ask o))) k x call.pid Replied) (sym c.after) by_reply)
+
+    pub output_full : first_stray (writable_in h.maps) (written_of o) ≡ None → has_room k.notes (weight_of call.sent.items (written_of o)) ≡ false →
+        Answered a (answered (world_of a k) ask (row ask)) k k call.pid LogFull
+    output_full fits room =
+        let all = put_all (private_bytes k.mem h) (writable_in h.maps) (written_of o) fits in
+        by_given k LogFull
+        (subst (λ (x : Reply). Answered a (answered (world_of a k) ask (replies x)) k k call.pid LogFull) (sym given_shape)
+        (reply_full o.value (written_of o) k.tree files_then k.console h.brk false all.0 all.1 room))
+
+    pub output_strays : (access : Access) → Some access ≡ option_map (access_at e.value.regs.pc) (first_stray (writable_in h.maps) (written_of o)) →
+        Answered a (answered (world_of a k) ask (row ask)) k k call.pid (Stray access)
+    output_strays access is = by_span (first_stray (writable_in h.maps) (written_of o)) refl is
+      where
+        by_span : (found : Option Span) → first_stray (writable_in h.maps) (written_of o) ≡ found → Some access ≡ option_map (access_at e.value.regs.pc) found →
+            Answered a (answered (world_of a k) ask (row ask)) k k call.pid (Stray access)
+        by_span None there is = absurd cc
+        by_span (Some span) there is =
+            let seen : access_at e.value.regs.pc span ≡ access = same_Some _ _ (sym is) in
+            subst (λ (x : Access). Answered a (answered (world_of a k) ask (row ask)) k k call.pid (Stray x)) seen
+            (by_given k (Stray (access_at e.value.regs.pc span))
+            (subst (λ (x : Reply). Answered a (answered (world_of a k) ask (replies x)) k k call.pid (Stray (access_at e.value.regs.pc span))) (sym given_shape)
+            (reply_strays o.value (written_of o) k.tree files_then k.console h.brk false span (put_strays (private_bytes k.mem h) (writable_in h.maps) (written_of o) span there))))
 
   -- ---- an exit
 
@@ -178,8 +300,8 @@ module _ (a : About) (k : Kept) (e : Entry Task) (h : Held) (call : Call) (runs 
       ≡ ended (noted (call_note (entry_of (ask_in a k e h call) 0 [])) (counted (world_of a k))) (process_of e) (Exit (exit_code (ask_in a k e h call)))
   unfolding world_of ended
   after_exit_world =
-      gone_world k call.pid e h runs a 1 (end_note call.pid exit_how ∷ call_note (record { pid = call.pid; call = call.number; args = call.args; sent = call.sent.items; reply = 0; got = [] }) ∷ k.notes)
-      ∙ ap (λ (note : Note). record (departed (world_of a k) (process_of e)) { notes = end_note call.pid exit_how ∷ note ∷ k.notes; events = a.events + 1 }) (note_is 0)
+      gone_world k call.pid e h runs a 1 (end_note call.pid exit_how ∷ noted_call call 0 [] ∷ k.notes)
+      ∙ ap (λ (note : Note). record (departed (world_of a k) (process_of e)) { notes = end_note call.pid exit_how ∷ note ∷ k.notes; events = a.events + 1 }) (note_is 0 [])
       ∙ ap (λ (pid : ℕ). record (departed (world_of a k) (process_of e)) { notes = end_note pid exit_how ∷ call_note (entry_of (ask_in a k e h call) 0 []) ∷ k.notes; events = a.events + 1 }) is.pid
       ∙ ap (λ (how : How). record (departed (world_of a k) (process_of e)) { notes = end_note e.pid how ∷ call_note (entry_of (ask_in a k e h call) 0 []) ∷ k.notes; events = a.events + 1 }) exit_how_is
 
@@ -188,17 +310,17 @@ module _ (a : About) (k : Kept) (e : Entry Task) (h : Held) (call : Call) (runs 
       it_went a (exited (world_of a k) (ask_in a k e h call)) _
       (record { space = e.value.space; events = 1; entries = entry_of (ask_in a k e h call) 0 [] ∷ []; over = true })
       k (after_exit k e h call) call.pid Ended
-      (exited_when (world_of a k) (ask_in a k e h call) (room_in a k call.sent.items true room))
+      (exited_when (world_of a k) (ask_in a k e h call) (room_in a k call.sent.items [] true (weighs call.sent.items true room)))
       after_exit_world
       (refl, gone_dead k call.pid e h runs)
 
   pub exit_full : has_room k.notes (length call.sent.items) ≡ false → Answered a (exited (world_of a k) (ask_in a k e h call)) k k call.pid LogFull
-  exit_full room = subst (λ (o : Outcome). Answered a o k k call.pid LogFull) (sym (exited_full (world_of a k) (ask_in a k e h call) (room_in a k call.sent.items false room))) refl
+  exit_full room = subst (λ (o : Outcome). Answered a o k k call.pid LogFull) (sym (exited_full (world_of a k) (ask_in a k e h call) (room_in a k call.sent.items [] false (weighs call.sent.items false room)))) refl
 
   -- ---- either
 
-  made_by : MadeBy call (ask_in a k e h call)
-  made_by = record { pid = sym is.pid; parent = sym is.parent; number = sym is.number; args = sym is.args; sent = refl }
+  pub made_by : MadeBy call (ask_in a k e h call)
+  made_by = record { pid = sym is.pid; parent = sym is.parent; table = sym is.table; number = sym is.number; args = sym is.args; sent = refl }
 
   module _ (new : Kept) (result : Result Served AllocError) where
     by_outcome : (o : Outcome) → classed (world_of a k) (ask_in a k e h call) ≡ o → Serves a o k new call.pid result → Serves a (classed (world_of a k) (ask_in a k e h call)) k new call.pid result
@@ -207,10 +329,13 @@ module _ (a : About) (k : Kept) (e : Entry Task) (h : Held) (call : Call) (runs 
     pub exit_classed : is_exit call.number ≡ true → Serves a (exited (world_of a k) (ask_in a k e h call)) k new call.pid result → Serves a (classed (world_of a k) (ask_in a k e h call)) k new call.pid result
     exit_classed exits = by_outcome (exited (world_of a k) (ask_in a k e h call)) (class_exit (world_of a k) (ask_in a k e h call) (ap is_exit (sym is.number) ∙ exits))
 
-    pub effect_classed : (f : Effect) → is_exit call.number ≡ false → ((b : Ask) → MadeBy call b → row b ≡ replies (reply_of b f)) →
+    pub row_classed : is_exit call.number ≡ false → Serves a (answered (world_of a k) ask (row ask)) k new call.pid result → Serves a (classed (world_of a k) (ask_in a k e h call)) k new call.pid result
+    row_classed goes = by_outcome (answered (world_of a k) ask (row ask)) (class_row (world_of a k) ask (row ask) (ap is_exit (sym is.number) ∙ goes) refl)
+
+    pub effect_classed : (f : Effect) → is_exit call.number ≡ false → row ask ≡ replies (reply_of ask f) →
         Serves a (answered (world_of a k) (ask_in a k e h call) (replies (reply_of (ask_in a k e h call) f))) k new call.pid result → Serves a (classed (world_of a k) (ask_in a k e h call)) k new call.pid result
     effect_classed f goes rows = by_outcome (answered (world_of a k) (ask_in a k e h call) (replies (reply_of (ask_in a k e h call) f)))
-        (class_row (world_of a k) (ask_in a k e h call) (replies (reply_of (ask_in a k e h call) f)) (ap is_exit (sym is.number) ∙ goes) (rows (ask_in a k e h call) made_by))
+        (class_row (world_of a k) (ask_in a k e h call) (replies (reply_of (ask_in a k e h call) f)) (ap is_exit (sym is.number) ∙ goes) rows)
 
 -- ---- the whole call
 
@@ -243,7 +368,7 @@ module _ (a : About) (k : Kept) (pid : ℕ) (regular : Regular k) (lives : Lives
 
 module _ (a : About) (k : Kept) (pid : ℕ) (e : Entry Task) (h : Held) (runs : RunsIn k pid e h) (signal : ℕ) where
   abbrev after_end : Kept
-  after_end = record (gone k pid e.value.space h) { notes = end_note pid (Signal signal) ∷ k.notes }
+  after_end = record (gone k pid e h) { notes = end_note pid (Signal signal) ∷ k.notes }
 
   after_end_world : world_of (later 1 a) after_end ≡ counted (ended (world_of a k) (process_of e) (Signal signal))
   unfolding world_of ended
@@ -260,13 +385,13 @@ module _ (a : About) (k : Kept) (pid : ℕ) (e : Entry Task) (h : Held) (runs : 
 
 -- the same of the parts that are left, where the end was noted before the process went
 pub end_done : (a : About) (k : Kept) (pid signal : ℕ) → Regular k → Lives k.procs pid → (new : Kept) (notes : List Note) → notes ≡ end_note pid (Signal signal) ∷ k.notes →
-    ((e : Entry Task) → (h : Held) → RunsIn (record k { notes = notes }) pid e h → new ≡ gone (record k { notes = notes }) pid e.value.space h) → Died a (died (world_of a k) pid signal) new pid
+    ((e : Entry Task) → (h : Held) → RunsIn (record k { notes = notes }) pid e h → new ≡ gone (record k { notes = notes }) pid e h) → Died a (died (world_of a k) pid signal) new pid
 end_done a k pid signal regular lives new notes is_noted departs =
     let r = runs_in k pid regular lives in
     let e : Entry Task = r.0 in
     let h : Held = r.1.0 in
     let runs : RunsIn k pid e h = r.1.1 in
-    let is = departs e h (record { lives = runs.lives; home = runs.home }) ∙ ap (λ (ns : List Note). record (gone k pid e.value.space h) { notes = ns }) is_noted in
+    let is = departs e h (record { lives = runs.lives; home = runs.home }) ∙ ap (λ (ns : List Note). record (gone k pid e h) { notes = ns }) is_noted in
     subst (λ (now : Kept). Died a (died (world_of a k) pid signal) now pid) (sym is) (end_serves a k pid e h runs signal)
 
 -- ---- a note alone

@@ -105,7 +105,7 @@ appended_length m span old new is = by_cases (read_span m span) (read_length m s
 
 -- ---- ranges one behind the other
 
-appended_all : (front back : List ℕ) (rest : Result (List ℕ) Span) → appended front (appended back rest) ≡ appended (front ++ back) rest
+pub appended_all : (front back : List ℕ) (rest : Result (List ℕ) Span) → appended front (appended back rest) ≡ appended (front ++ back) rest
 appended_all front back (Ok bytes) = let done : List ℕ → Result (List ℕ) Span = λ x. Ok x in ap done (sym (append_assoc front back bytes))
 appended_all front back (Err span) = refl
 
@@ -113,7 +113,7 @@ pub appended_strays : (front : List ℕ) (found : Result (List ℕ) Span) (stray
 appended_strays front (Ok bytes) stray e = absurd (cc)
 appended_strays front (Err span) stray e = e
 
-followed_is : (back : List ℕ) (rest : List ℕ → Result (List ℕ) Span) → followed (Ok back) rest ≡ appended back (rest back)
+pub followed_is : (back : List ℕ) (rest : List ℕ → Result (List ℕ) Span) → followed (Ok back) rest ≡ appended back (rest back)
 followed_is back rest = by_cases (rest back)
   where
     by_cases : (r : Result (List ℕ) Span) → followed (Ok back) (λ b. r) ≡ appended back r

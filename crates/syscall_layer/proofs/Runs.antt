@@ -58,6 +58,12 @@ has_space k pid t regular lives is =
 pub memory_fits : (k : Kept) (i : ℕ) (h : Held) → Regular k → slice_get k.spaces i ≡ Some (Some h) → length k.mem ≡ 4096 * h.pages
 memory_fits k i h regular there = regular.memory ∙ ap (λ n. 4096 * n) (sym (regular.pages i h there))
 
+-- the space of a process is the one that stands at its number
+pub home_is : (k : Kept) (pid : ℕ) (e : Entry Task) (h : Held) → RunsIn k pid e h → (t : Task) → value_at k.procs pid ≡ Some t → (g : Held) → slice_get k.spaces t.space ≡ Some (Some g) → g ≡ h
+home_is k pid e h runs t kept g home =
+    let both : Some (Some g) ≡ Some (Some h) = sym home ∙ ap (λ (x : Task). slice_get k.spaces x.space) (value_found k.procs pid e runs.lives t kept) ∙ runs.home in
+    same_Some g h (same_Some (Some g) (Some h) both)
+
 -- ---- the call
 
 sent_same : (n m : ℕ) (xs ys : List ℕ) (b c : Bytes) → n ≡ m → xs ≡ ys → b ≡ c → sent n xs b ≡ sent m ys c
@@ -69,9 +75,7 @@ module _ (k : Kept) (pid : ℕ) (e : Entry Task) (h : Held) (runs : RunsIn k pid
   same_task = value_found k.procs pid e runs.lives t kept
 
   same_space : g ≡ h
-  same_space =
-      let both : Some (Some g) ≡ Some (Some h) = sym home ∙ ap (λ (x : Task). slice_get k.spaces x.space) same_task ∙ runs.home in
-      same_Some g h (same_Some (Some g) (Some h) both)
+  same_space = home_is k pid e h runs t kept g home
 
   same_number : slice_index t.regs.x 17 ≡ number_of e.value.regs
   unfolding register
@@ -84,10 +88,11 @@ module _ (k : Kept) (pid : ℕ) (e : Entry Task) (h : Held) (runs : RunsIn k pid
   sent_is = sent_same _ _ _ _ _ _ (sym same_number) (sym same_args) (ap (private_bytes k.mem) (sym same_space))
 
   pub call_is : (parent : ℕ) → parent_at k.procs pid ≡ Some parent → (bytes : Vec ℕ _) → sent (slice_index t.regs.x 17) args (private_bytes k.mem g) ≡ Ok bytes.items →
-      IsCall k.mem e h (record { pid = pid; parent = parent; number = slice_index t.regs.x 17; args = args; sent = bytes })
+      IsCall k.mem e h (record { pid = pid; parent = parent; table = t.table; number = slice_index t.regs.x 17; args = args; sent = bytes })
   call_is parent is bytes reads = record {
     pid = pid_found k.procs pid e runs.lives;
     parent = parent_found k.procs pid e runs.lives parent is;
+    table = ap (λ (x : Task). x.table) same_task;
     number = same_number;
     args = same_args;
     sent = sent_is ∙ reads;

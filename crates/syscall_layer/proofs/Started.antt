@@ -16,18 +16,20 @@ use Rattle.vfork_exec.specs.Procs.{process, pid_of, with_start, most_entries}
 use Rattle.vfork_exec.proofs.Keyed.{find_head}
 use Rattle.call_log.specs.Notes.{Note}
 use Rattle.syscall_layer.specs.declared.task.Task.{Task}
+use Rattle.fd_tables.specs.Files.{OpenFiles}
 use Rattle.syscall_layer.specs.Kept.{Kept}
 use Rattle.syscall_layer.specs.Regular.{Names, HasSpace, Regular, named_in, uses_in}
 use Rattle.syscall_layer.proofs.Counts.{decide, eqb_is, get_set, get_other, after_set, get_pushed, get_before, pushed_cases, named_yes, named_no, uses_pushed}
 use Rattle.syscall_layer.proofs.Apart.{is_used}
 
 -- a region more, a space more, and a process of its own in it
-abbrev pub with_one : Kept → Region → Held → Regs → List ℕ → List Note → Kept
-with_one k v h regs mem notes = record k {
+abbrev pub with_one : Kept → Region → Held → Regs → ℕ → List ℕ → OpenFiles → List Note → Kept
+with_one k v h regs table mem files notes = record k {
+  files = files;
   mem = mem;
   regions = slice_set k.regions v.first v;
   spaces = k.spaces ++ Some h ∷ [];
-  procs = with_start k.procs (record { regs = regs; space = length k.spaces });
+  procs = with_start k.procs (record { regs = regs; space = length k.spaces; table = table });
   notes = notes;
 }
 
@@ -52,7 +54,7 @@ named_one id maps m is names = ap (named_in id) is ∙ named_yes id m [] names �
 named_none : (id : ℕ) (maps : List Mapping) (m : Mapping) → maps ≡ m ∷ [] → m.first ≢ id → named_in id maps ≡ 0
 named_none id maps m is other = ap (named_in id) is ∙ named_no id m [] other
 
-module _ (k : Kept) (v : Region) (h : Held) (regs : Regs) (mem : List ℕ) (notes : List Note) (regular : Regular k) (fits : Fits k.regions v h) where
+module _ (k : Kept) (v : Region) (h : Held) (regs : Regs) (table : ℕ) (mem : List ℕ) (files : OpenFiles) (notes : List Note) (regular : Regular k) (fits : Fits k.regions v h) where
   -- no live region stood at the new one's place
   unused : (r : Region) → slice_get k.regions v.first ≡ Some r → r.uses ≡ 0
   unused r there = elim (cases_lt 0 r.uses) [
@@ -121,10 +123,10 @@ module _ (k : Kept) (v : Region) (h : Held) (regs : Regs) (mem : List ℕ) (note
   -- ---- the processes
 
   -- a process is the new one, or one that lived
-  runner : (pid : ℕ) (e : Entry Task) → process (with_start k.procs (record { regs = regs; space = length k.spaces })) pid ≡ Some e →
+  runner : (pid : ℕ) (e : Entry Task) → process (with_start k.procs (record { regs = regs; space = length k.spaces; table = table })) pid ≡ Some e →
       ((pid ≡ k.procs.next_pid) × (e.value.space ≡ length k.spaces)) ⊎ (process k.procs pid ≡ Some e)
   runner pid e is =
-      let new : Entry Task = record { pid = k.procs.next_pid; parent = 0; value = record { regs = regs; space = length k.spaces } } in
+      let new : Entry Task = record { pid = k.procs.next_pid; parent = 0; value = record { regs = regs; space = length k.spaces; table = table } } in
       elim (decide (k.procs.next_pid == pid)) [
         | inl same ↦
             let found : new ≡ e = same_Some _ _ (sym (find_head pid_of pid new k.procs.entries true same) ∙ is) in
@@ -135,15 +137,15 @@ module _ (k : Kept) (v : Region) (h : Held) (regs : Regs) (mem : List ℕ) (note
   below : (pid : ℕ) (e : Entry Task) → process k.procs pid ≡ Some e → e.value.space < length k.spaces
   below pid e is = let space = regular.runs pid e is in slice_get_within k.spaces e.value.space (Some space.held) space.there
 
-  space_of : (pid : ℕ) (e : Entry Task) → process (with_start k.procs (record { regs = regs; space = length k.spaces })) pid ≡ Some e →
+  space_of : (pid : ℕ) (e : Entry Task) → process (with_start k.procs (record { regs = regs; space = length k.spaces; table = table })) pid ≡ Some e →
       HasSpace (k.spaces ++ Some h ∷ []) e.value.space
   space_of pid e is = elim (runner pid e is) [
     | inl new ↦ record { held = h; there = ap (slice_get (k.spaces ++ Some h ∷ [])) new.1 ∙ get_pushed k.spaces (Some h) }
     | inr old ↦ let had = regular.runs pid e old in record { held = had.held; there = get_before k.spaces (Some h) e.value.space (Some had.held) had.there }
   ]
 
-  alone_now : (p q : ℕ) (e f : Entry Task) → process (with_start k.procs (record { regs = regs; space = length k.spaces })) p ≡ Some e
-      → process (with_start k.procs (record { regs = regs; space = length k.spaces })) q ≡ Some f → e.value.space ≡ f.value.space → p ≡ q
+  alone_now : (p q : ℕ) (e f : Entry Task) → process (with_start k.procs (record { regs = regs; space = length k.spaces; table = table })) p ≡ Some e
+      → process (with_start k.procs (record { regs = regs; space = length k.spaces; table = table })) q ≡ Some f → e.value.space ≡ f.value.space → p ≡ q
   alone_now p q e f is it same = elim (runner p e is) [
     | inl new ↦ elim (runner q f it) [
       | inl too ↦ new.0 ∙ sym too.0
@@ -167,7 +169,7 @@ module _ (k : Kept) (v : Region) (h : Held) (regs : Regs) (mem : List ℕ) (note
     | inr other ↦ regular.one_use id r other.1 own
   ]
 
-  pub regular_with : length mem ≡ length k.mem → length k.procs.entries < most_entries → Regular (with_one k v h regs mem notes)
+  pub regular_with : length mem ≡ length k.mem → length k.procs.entries < most_entries → Regular (with_one k v h regs table mem files notes)
   regular_with same few =
       let len = length-set k.regions v.first v in
       record {

@@ -12,6 +12,8 @@ use Rattle.vfork_exec.specs.declared.entry.Entry.{Entry}
 use Rattle.vfork_exec.specs.Procs.{Listed, process, pid_of, with_value, with_value_at, most_entries}
 use Rattle.vfork_exec.proofs.Keyed.{find_changed, find_beside_change, falls_change, length_change}
 use Rattle.syscall_layer.specs.declared.task.Task.{Task}
+use Rattle.mem_files.specs.Inodes.{Inodes}
+use Rattle.fd_tables.specs.Files.{OpenFiles}
 use Rattle.syscall_layer.specs.Kept.{Kept}
 use Rattle.syscall_layer.specs.Regular.{Regular, HasSpace, named_in, uses_in}
 use Rattle.syscall_layer.proofs.Counts.{decide, eqb_is}
@@ -92,16 +94,18 @@ ran s pid e value lives same q x there = elim (decide (q == pid)) [
 -- ---- both
 
 pub regular_stays : (k : Kept) (pid : ℕ) (e : Entry Task) (h : Held) → Regular k → process k.procs pid ≡ Some e → slice_get k.spaces e.value.space ≡ Some (Some h) →
-    (regs : Regs) (brk : ℕ) (mem : List ℕ) → length mem ≡ length k.mem → (notes : List Note) (console : List ℕ) →
+    (regs : Regs) (brk : ℕ) (mem : List ℕ) → length mem ≡ length k.mem → (notes : List Note) (tree : Inodes) (files : OpenFiles) (console : List ℕ) →
     Regular (record k {
       mem = mem;
-      procs = with_value_at k.procs pid (record { regs = regs; space = e.value.space });
+      tree = tree;
+      files = files;
+      procs = with_value_at k.procs pid (record e.value { regs = regs });
       spaces = slice_set k.spaces e.value.space (Some (record h { brk = brk }));
       notes = notes;
       console = console;
     })
-regular_stays k pid e h regular lives home regs brk mem same notes console =
-    let value : Task = record { regs = regs; space = e.value.space } in
+regular_stays k pid e h regular lives home regs brk mem same notes tree files console =
+    let value : Task = record e.value { regs = regs } in
     let number : ℕ = e.value.space in
     record {
       memory = same ∙ regular.memory;

@@ -5,13 +5,17 @@ use Rattle.call_log.specs.Notes.{Written, Note, call_note, end_note}
 use Rattle.call_log.specs.Sent.{sent}
 use Rattle.call_log.specs.declared.how.How.TheVariants.{Exit}
 use Rattle.mmap_rules.specs.Held.{Held}
+use Rattle.mmap_rules.specs.Space.{writable_in}
 use Rattle.rv32im_step.specs.declared.regs.Regs.{Regs}
 use Rattle.vfork_exec.specs.declared.entry.Entry.{Entry}
 use Rattle.vfork_exec.specs.Procs.{process, with_value_at}
-use Rattle.machine_world.specs.Asks.{Ask, Reply, replies}
+use Rattle.machine_world.specs.Asks
+use Rattle.machine_world.specs.Asks.{Ask, Reply, with_files}
 use Rattle.machine_world.specs.Rows.{row, next_brk}
-use Rattle.machine_world.specs.Event.{number_of, args_of, ask_of, replied}
+use Rattle.machine_world.specs.Event.{number_of, args_of, ask_of, put_got, replied}
+use Rattle.file_calls.specs.Calls.{with_all, after, written_of}
 use Rattle.file_calls.specs.declared.call.Call.{Call}
+use Rattle.file_calls.specs.declared.outcome.Outcome.{Outcome}
 use Rattle.syscall_layer.specs.declared.task.Task.{Task}
 use Rattle.syscall_layer.specs.declared.effect.Effect.{Effect}
 use Rattle.syscall_layer.specs.declared.effect.Effect.TheVariants.{Answer, Yield, Break}
@@ -20,7 +24,7 @@ use Rattle.syscall_layer.specs.declared.reading.Unread.TheVariants.{Stray, Memor
 use Rattle.syscall_layer.specs.declared.answer.Served.{Served}
 use Rattle.syscall_layer.specs.declared.answer.Served.TheVariants.{Replied, TurnEnds}
 use Rattle.syscall_layer.specs.Kept.{Kept}
-use Rattle.syscall_layer.specs.Stands.{About, private_bytes, private_of, process_of, world_of}
+use Rattle.syscall_layer.specs.Stands.{About, private_bytes, private_of, process_of, world_of, OthersSame}
 use Rattle.syscall_layer.specs.Gone.{gone}
 
 -- a process lives, in a live space
@@ -56,6 +60,17 @@ abbrev pub reply_of : Ask → Effect → Reply
 reply_of a (Answer value) = record { value = value; got = []; rest = a.rest; brk = a.space.brk; over = false }
 reply_of a Yield = record { value = 0; got = []; rest = a.rest; brk = a.space.brk; over = true }
 reply_of a (Break to) = record { value = next_brk a.space to; got = []; rest = a.rest; brk = next_brk a.space to; over = false }
+
+-- its value, and the break, by how the break moves
+abbrev pub value_of : (ℕ → ℕ) → Effect → ℕ
+value_of next (Answer value) = value
+value_of next Yield = 0
+value_of next (Break to) = next to
+
+abbrev pub brk_of : (ℕ → ℕ) → ℕ → Effect → ℕ
+brk_of next brk (Answer value) = brk
+brk_of next brk Yield = brk
+brk_of next brk (Break to) = next to
 
 -- what comes of it, where the process lives
 abbrev pub served_by : Effect → Served
@@ -95,14 +110,35 @@ Replies a old e h call f new (Err error) = new ≡ old
 -- the reply of a call on files that writes nothing into memory
 pub record Changed (a : About) (old : Kept) (e : Entry Task) (h : Held) (call : Call) (new : Kept) : Type 0 where
   pub reply : Reply
-  pub row : row (ask_in a old e h call) ≡ replies reply
+  pub replies : row (ask_in a old e h call) ≡ Asks.replies reply
   pub got : reply.got ≡ []
+  pub rest : reply.rest ≡ with_all (ask_in a old e h call).rest reply.rest.tree reply.rest.files reply.rest.console
   pub over : reply.over ≡ false
-  pub new : new ≡ after_reply old e h call reply old.mem
+  pub after : new ≡ after_reply old e h call reply old.mem
 
 abbrev pub Changes : About → Kept → Entry Task → Held → Call → Kept → Result ⊤ AllocError → Type 0
 Changes a old e h call new (Ok done) = Changed a old e h call new
 Changes a old e h call new (Err error) = new ≡ old
+
+-- the reply of a call that gives bytes
+abbrev pub given : Ask → Outcome → Reply
+given a o = record {
+  value = o.value;
+  got = written_of o;
+  rest = with_files a.rest (after o.then a.process.table a.rest.files);
+  brk = a.space.brk;
+  over = false;
+}
+
+-- the bytes are in its caller's space, and in no other one
+pub record Gave (a : About) (old : Kept) (e : Entry Task) (h : Held) (call : Call) (o : Outcome) (new : Kept) : Type 0 where
+  pub put : put_got (private_bytes old.mem h) (writable_in h.maps) (written_of o) ≡ Ok (private_bytes new.mem h)
+  pub others : OthersSame old e.value.space new.mem
+  pub after : new ≡ after_reply old e h call (given (ask_in a old e h call) o) new.mem
+
+abbrev pub Gives : About → Kept → Entry Task → Held → Call → Outcome → Kept → Result ⊤ AllocError → Type 0
+Gives a old e h call o new (Ok done) = Gave a old e h call o new
+Gives a old e h call o new (Err error) = new ≡ old
 
 -- a call ends its process: it is noted, and then the end
 abbrev pub after_exit : Kept → Entry Task → Held → Call → Kept

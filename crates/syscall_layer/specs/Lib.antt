@@ -7,6 +7,7 @@
 -- Reading  what the reading of a call's bytes answers
 -- Gone     the parts without a process and its space
 -- Calls    a system call by its parts, and what is kept after it
+-- Puts     what a call writes into its caller's memory, range by range
 -- Refusals  why a program doesn't start, by the loader's reason
 pub mod Kept
 pub mod Regular
@@ -18,3 +19,4 @@ pub mod Reading
 pub mod Gone
 pub mod Calls
 pub mod Refusals
+pub mod Puts

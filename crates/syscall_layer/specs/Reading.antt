@@ -1,5 +1,5 @@
 -- What the reading of a call's bytes answers.
-use Rattle.std.specs.Prelude.{◌≡◌, ℕ, List, ◌++◌, Vec, Result, Ok, Err, ⊤}
+use Rattle.std.specs.Prelude.{◌≡◌, ℕ, List, [], ◌∷◌, ◌++◌, Vec, Result, Ok, Err, ⊤}
 use Rattle.call_log.specs.Sent.{Span}
 use Rattle.syscall_layer.specs.declared.reading.Unread.{Unread}
 use Rattle.syscall_layer.specs.declared.reading.Unread.TheVariants.{Stray, Memory}
@@ -9,6 +9,12 @@ abbrev pub Reads : {Y : Type 0} → Result (List ℕ) Span → Result (Vec ℕ Y
 Reads found (Ok bytes) = found ≡ Ok bytes.items
 Reads found (Err (Stray addr len)) = found ≡ Err (record { addr = addr; len = len })
 Reads found (Err Memory) = Unit {0}
+
+-- a byte alone
+abbrev pub ReadsByte : Result (List ℕ) Span → Result ℕ Unread → Type 0
+ReadsByte found (Ok byte) = found ≡ Ok (byte ∷ [])
+ReadsByte found (Err (Stray addr len)) = found ≡ Err (record { addr = addr; len = len })
+ReadsByte found (Err Memory) = Unit {0}
 
 -- what is read, behind what was read before
 abbrev pub appended : List ℕ → Result (List ℕ) Span → Result (List ℕ) Span

@@ -1,5 +1,5 @@
 -- The world that the parts stand for: every live space has, as bytes of its own, what the one memory has in its own ranges.
-use Rattle.std.specs.Prelude.{ℕ, ◌+◌, List, [], ◌∷◌, ◌++◌, length, map, Option, Some, None}
+use Rattle.std.specs.Prelude.{◌≡◌, ◌≢◌, ℕ, ◌+◌, List, [], ◌∷◌, ◌++◌, length, map, Option, Some, None, slice_get}
 use Rattle.byte_words.specs.ByteMap.{Bytes}
 use Rattle.page_runs.specs.declared.place.Kind.{Kind}
 use Rattle.mmap_rules.specs.Space.{Space, own_in}
@@ -23,6 +23,11 @@ later n a = record a { events = a.events + n }
 -- the own bytes of a space
 unfoldable pub private_bytes : List ℕ → Held → Bytes
 private_bytes mem h = only (own_in h.maps) (physical mem)
+
+-- the other spaces have the bytes that they had
+abbrev pub OthersSame : Kept → ℕ → List ℕ → Type 0
+OthersSame k number now =
+    (j : ℕ) (o : Held) → j ≢ number → slice_get k.spaces j ≡ Some (Some o) → private_bytes now o ≡ private_bytes k.mem o
 
 abbrev pub private_of : List ℕ → Held → Space
 private_of mem h = record { maps = h.maps; brk = h.brk; brk_low = h.brk_low; brk_high = h.brk_high; bytes = private_bytes mem h }

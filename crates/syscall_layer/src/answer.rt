@@ -1,22 +1,31 @@
 //! A system call.
 
-ghost use Rattle.std.specs.Prelude.{◌≡◌, length};
-ghost use Rattle.call_log.specs.Notes.{has_room};
+ghost use Rattle.std.specs.Prelude.{◌≡◌, ◌<◌, ◌^◌, All, IfOk, length, slice_index, map, option_map};
+ghost use Rattle.call_log.specs.Notes.{has_room, weight_of};
+ghost use Rattle.call_log.specs.Values.{written_value};
 ghost use Rattle.mmap_rules.specs.Held.{Held};
 ghost use Rattle.vfork_exec.specs.declared.entry.Entry.{Entry};
 ghost use Rattle.vfork_exec.specs.Procs.{Lives};
-ghost use Rattle.machine_world.specs.Rows.{replies};
-ghost use Rattle.machine_world.specs.Event.{called, classed, answered, exited, is_exit};
+ghost use Rattle.mmap_rules.specs.Space.{writable_in};
+ghost use Rattle.machine_world.specs.Asks.{replies};
+ghost use Rattle.machine_world.specs.Rows.{row};
+ghost use Rattle.machine_world.specs.Event.{called, classed, answered, exited};
+ghost use Rattle.file_calls.specs.Calls.{IsChange, IsOutput, written_of};
+ghost use Rattle.file_calls.specs.Outcomes.{GivesRow, CanTake};
 ghost use Rattle.syscall_layer.specs.declared.task.Task.{Task};
 ghost use Rattle.syscall_layer.specs.Stands.{About, world_of};
 ghost use Rattle.syscall_layer.specs.Serves.{Serves};
+ghost use Rattle.syscall_layer.specs.Puts.{first_stray, access_at, IsRange};
 ghost use Rattle.syscall_layer.specs.Calls.{RunsIn, IsCall, ask_in, reply_of, served_by};
 
-use crate::call::{Call, call_of};
+use crate::call::{call_of, home};
+use crate::classes::{is_change, is_exit, is_output};
 use crate::effect::{Effect, effect_of};
+use crate::output::{got_len, stray_put};
 use crate::parts::Parts;
 use crate::reading::Unread;
-use call_log::Log;
+use call_log::{Got, Log};
+use file_calls::{Call, Outcome, output};
 use rv32im_step::{Access, AccessKind};
 use std::alloc::AllocError;
 
@@ -35,13 +44,6 @@ pub enum Served {
     LogFull,
 }
 
-/// exit and exit_group.
-fn is_exit(number: u32) -> bool
-    ensures { result ≡ is_exit number }
-{
-    number == 93 || number == 94
-}
-
 /// What came of a call that was carried out.
 fn served_by(effect: Effect) -> Served
     ensures { result ≡ served_by effect }
@@ -52,11 +54,18 @@ fn served_by(effect: Effect) -> Served
     }
 }
 
-/// Whether the log has room for a call.
+/// Whether the log has room for a call that gets no bytes.
 fn has_room(log: &Log, call: &Call) -> bool
     ensures { result ≡ has_room log.now.notes (length call.now.sent.items) }
 {
     log.room(call.sent.len() as u64)
+}
+
+/// Whether it has room for a call that gets these.
+fn has_room_with(log: &Log, call: &Call, got: &[Got]) -> bool
+    ensures { result ≡ has_room log.now.notes (weight_of call.now.sent.items (map written_value got.now)) }
+{
+    log.room(got_len(got).saturating_add(call.sent.len() as u64))
 }
 
 /// Carries out an exit, where the log has room for it.
@@ -85,16 +94,80 @@ fn answer_effect(parts: &mut Parts, call: Call, effect: Effect) -> Result<Served
     Ok(served_by(effect))
 }
 
+/// Carries out a call that changes files, where the log has room for it.
+fn answer_change(parts: &mut Parts, call: Call) -> Result<Served, AllocError>
+    requires lives { Lives parts.old.procs call.pid }
+    requires change { IsChange call.number }
+    ensures { (a : About) → (e : Entry Task) → (h : Held) → RunsIn parts.old call.pid e h → IsCall parts.old.mem e h call →
+        Serves a (answered (world_of a parts.old) (ask_in a parts.old e h call) (row (ask_in a parts.old e h call))) parts.old parts.new call.pid result }
+{
+    if !has_room(&parts.log, &call) {
+        return Ok(Served::LogFull);
+    }
+    parts.change(call)?;
+    Ok(Served::Replied)
+}
+
+/// The first range that a process may not write.
+fn stray_of(parts: &Parts, pid: u32, got: &[Got]) -> Option<Access>
+    requires lives { Lives parts.now.procs pid }
+    requires ranges { All IsRange (map written_value got.now) }
+    ensures { (e : Entry Task) → (h : Held) → RunsIn parts.now pid e h →
+        result ≡ option_map (access_at e.value.regs.pc) (first_stray (writable_in h.maps) (map written_value got.now)) }
+{
+    let task = parts.procs.get(pid);
+    let owners = home(&parts.spaces, task.space).owners();
+    stray_put(owners, task.regs.pc, got)
+}
+
+/// What a call gives. Each of its ranges is one that an access can have.
+fn outcome_of(parts: &Parts, call: &Call) -> Result<Outcome, AllocError>
+    requires output { IsOutput call.now.number }
+    requires room { slice_index call.now.args 2 < 2 ^ 32 }
+    ensures gives { IfOk result (GivesRow row call.now parts.now.tree parts.now.files) }
+    ensures fits { IfOk result (λ o. CanTake parts.now.files o.then) }
+    ensures ranges { IfOk result (λ o. All IsRange (written_of o)) }
+{
+    let alloc = *parts.console.allocator();
+    output(alloc, &parts.tree, &parts.files, call)
+}
+
+/// Carries out a call that gives bytes, where they may be written and the log has room for them.
+fn answer_output(parts: &mut Parts, call: Call) -> Result<Served, AllocError>
+    requires lives { Lives parts.old.procs call.pid }
+    requires output { IsOutput call.number }
+    requires room { slice_index call.args 2 < 2 ^ 32 }
+    ensures { (a : About) → (e : Entry Task) → (h : Held) → RunsIn parts.old call.pid e h → IsCall parts.old.mem e h call →
+        Serves a (answered (world_of a parts.old) (ask_in a parts.old e h call) (row (ask_in a parts.old e h call))) parts.old parts.new call.pid result }
+{
+    let outcome = outcome_of(parts, &call)?;
+    if let Some(access) = stray_of(parts, call.pid, &outcome.got) {
+        return Ok(Served::Stray(access));
+    }
+    if !has_room_with(&parts.log, &call, &outcome.got) {
+        return Ok(Served::LogFull);
+    }
+    parts.give(call, outcome)?;
+    Ok(Served::Replied)
+}
+
 /// Carries out a call that is read.
 fn answer(parts: &mut Parts, call: Call) -> Result<Served, AllocError>
-    requires { Lives parts.old.procs call.pid }
+    requires lives { Lives parts.old.procs call.pid }
+    requires room { slice_index call.args 2 < 2 ^ 32 }
     ensures { (a : About) → (e : Entry Task) → (h : Held) → RunsIn parts.old call.pid e h → IsCall parts.old.mem e h call →
         Serves a (classed (world_of a parts.old) (ask_in a parts.old e h call)) parts.old parts.new call.pid result }
 {
     if is_exit(call.number) {
         return answer_exit(parts, call);
     }
-    let effect = effect_of(&call);
+    if is_change(call.number) {
+        return answer_change(parts, call);
+    }
+    if is_output(call.number) {
+        return answer_output(parts, call);
+    }
+    let effect = effect_of(&call, &parts.files);
     answer_effect(parts, call, effect)
 }
 

@@ -1,6 +1,6 @@
 //! A system call, as a process makes it.
 
-ghost use Rattle.std.specs.Prelude.{◌≡◌, IfOk, slice_get, Some};
+ghost use Rattle.std.specs.Prelude.{◌≡◌, ◌<◌, ◌^◌, IfOk, slice_get, slice_index, Some};
 ghost use Rattle.mmap_rules.specs.Held.{Held};
 ghost use Rattle.vfork_exec.specs.declared.entry.Entry.{Entry};
 ghost use Rattle.vfork_exec.specs.Procs.{Lives};
@@ -11,19 +11,9 @@ ghost use Rattle.syscall_layer.specs.Regular.{HasSpace};
 
 use crate::parts::Parts;
 use crate::reading::{Unread, read_sent};
+use file_calls::Call;
 use mmap_rules::Space;
 use rv32im_step::Regs;
-
-/// Who calls, with which number and arguments, and the bytes that the call read.
-#[derive(Drop)]
-pub struct Call {
-    pub pid: u32,
-    /// The pid of its parent, or 0.
-    pub parent: u32,
-    pub number: u32,
-    pub args: [u32; 6],
-    pub sent: Vec<u8>,
-}
 
 /// The arguments of the call at which these registers stand.
 #[tactic(auto, unfolding(rv32im_step::specs::Registers::register))]
@@ -35,7 +25,7 @@ fn args_of(regs: &Regs) -> [u32; 6]
 }
 
 /// The space of a number, which lives.
-fn home(spaces: &[Option<Space>], number: u32) -> &Space
+pub fn home(spaces: &[Option<Space>], number: u32) -> &Space
     requires { HasSpace spaces.now number }
     ensures { slice_get spaces.now number ≡ Some (Some result.now) }
 {
@@ -50,6 +40,7 @@ pub fn call_of(parts: &Parts, pid: u32) -> Result<Call, Unread>
     requires { Lives parts.now.procs pid }
     ensures made { (e : Entry Task) → (h : Held) → RunsIn parts.now pid e h → Made parts.now.mem e h result }
     ensures pid { IfOk result (λ call. call.pid ≡ pid) }
+    ensures args { IfOk result (λ call. slice_index call.args 2 < 2 ^ 32) }
 {
     let task = parts.procs.get(pid);
     let number = task.regs.x[17];
@@ -60,6 +51,7 @@ pub fn call_of(parts: &Parts, pid: u32) -> Result<Call, Unread>
         Ok(sent) => Ok(Call {
             pid,
             parent: parts.procs.parent(pid),
+            table: task.table,
             number,
             args,
             sent,

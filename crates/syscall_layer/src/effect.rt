@@ -1,14 +1,16 @@
-//! What a system call does (Linux, include/uapi/asm-generic/unistd.h, in this project's profile).
+//! What a system call does that touches neither files nor memory (Linux, include/uapi/asm-generic/unistd.h, in this project's
+//! profile).
 
-ghost use Rattle.std.specs.Prelude.{◌≡◌, drop};
-ghost use Rattle.machine_world.specs.Rows.{Ask, arg, is_console, asks_pid, asks_pid, replies, row, write_row};
-ghost use Rattle.syscall_layer.specs.Calls.{MadeBy, reply_of};
+ghost use Rattle.std.specs.Prelude.{◌≡◌, false};
+ghost use Rattle.machine_world.specs.Asks.{Ask, arg, answers, replies};
+ghost use Rattle.machine_world.specs.Descriptors.{ioctl_row};
+ghost use Rattle.machine_world.specs.Rows.{asks_pid, row};
+ghost use Rattle.file_calls.specs.Calls.{MadeBy, is_change, is_output};
+ghost use Rattle.syscall_layer.specs.Calls.{reply_of};
 
-use crate::call::Call;
 use call_log::Errno;
-
-/// The most pieces of one writev, Linux's UIO_MAXIOV.
-const MOST_PIECES: u32 = 1024;
+use fd_tables::Files;
+use file_calls::Call;
 
 /// What a call does that the process lives after.
 #[derive(Clone, Copy, Debug, PartialEq, Eq)]
@@ -17,27 +19,17 @@ pub enum Effect {
     Answer(u32),
     /// The turn ends.
     Yield,
-    /// The bytes that it read, from this one on, go to the console.
-    Show(u32),
     /// The break is asked to go to this address.
     Break(u32),
 }
 
-/// Descriptors 1 and 2 are the console.
-fn is_console(fd: u32) -> bool
-    ensures { result ≡ is_console fd }
+/// What ioctl is refused with: no descriptor that is open is a terminal.
+fn ioctl_reply(files: &Files, table: u32, fd: u32) -> u32
+    ensures { (a : Ask) → a.process.table ≡ table → arg a 0 ≡ fd → a.rest.files ≡ files.now.open_files → ioctl_row a ≡ answers a result }
 {
-    fd == 1 || fd == 2
-}
-
-/// Data for a descriptor: the bytes that the call read, from this one on.
-fn write_effect(fd: u32, from: u32) -> Effect
-    ensures { (a : Ask) → arg a 0 ≡ fd → write_row a (drop from a.sent) ≡ replies (reply_of a result) }
-{
-    if is_console(fd) {
-        Effect::Show(from)
-    } else {
-        Effect::Answer(Errno::Ebadf.refusal())
+    match files.view(table, fd) {
+        Ok(_) => Errno::Enotty.refusal(),
+        Err(errno) => errno.refusal(),
     }
 }
 
@@ -48,18 +40,17 @@ fn asks_pid(number: u32) -> bool
     number == 96 || number == 172 || number == 178
 }
 
-/// What a call does.
-pub fn effect_of(call: &Call) -> Effect
-    ensures { (a : Ask) → MadeBy call.now a → row a ≡ replies (reply_of a result) }
+/// What a call does that is no call on files but ioctl.
+pub fn effect_of(call: &Call, files: &Files) -> Effect
+    requires change { is_change call.now.number ≡ false }
+    requires output { is_output call.now.number ≡ false }
+    ensures { (a : Ask) → MadeBy call.now a → a.rest.files ≡ files.now.open_files → row a ≡ replies (reply_of a result) }
 {
-    let args = &call.args;
     match call.number {
-        64 => write_effect(args[0], 0),
-        66 if args[2] > MOST_PIECES => Effect::Answer(Errno::Einval.refusal()),
-        66 => write_effect(args[0], 8 * args[2]),
+        29 => Effect::Answer(ioctl_reply(files, call.table, call.args[0])),
         124 => Effect::Yield,
         173 => Effect::Answer(call.parent),
-        214 => Effect::Break(args[0]),
+        214 => Effect::Break(call.args[0]),
         number if asks_pid(number) => Effect::Answer(call.pid),
         _ => Effect::Answer(Errno::Enosys.refusal()),
     }

@@ -13,10 +13,11 @@ ghost use Rattle.syscall_layer.specs.Serves.{Dies};
 ghost use Rattle.syscall_layer.specs.Gone.{gone};
 ghost use Rattle.syscall_layer.specs.Calls.{RunsIn, Exits};
 
-use crate::call::Call;
 use crate::keep::keep;
 use crate::parts::Parts;
+use crate::task::Task;
 use call_log::{Entry, How, Note};
+use file_calls::Call;
 use mmap_rules::Space;
 use std::alloc::AllocError;
 
@@ -33,14 +34,15 @@ fn take_space(spaces: &mut [Option<Space>], number: u32) -> Space
 }
 
 impl Parts {
-    /// A process goes, and its space with all its mappings.
+    /// A process goes, its space with all its mappings, and its table with all that it has open.
     fn depart(&mut self, pid: u32)
         requires { Lives self.old.procs pid }
-        ensures { (e : Listed Task) → (h : Held) → RunsIn self.old pid e h → self.new ≡ gone self.old pid e.value.space h }
+        ensures { (e : Listed Task) → (h : Held) → RunsIn self.old pid e h → self.new ≡ gone self.old pid e h }
     {
-        let number = self.procs.get(pid).space;
-        let space = take_space(&mut self.spaces, number);
-        space.release(&mut self.regions);
+        let Task { space, table, .. } = *self.procs.get(pid);
+        let held = take_space(&mut self.spaces, space);
+        held.release(&mut self.regions);
+        self.files.drop_table(&mut self.tree, table);
         self.procs.end(pid);
     }
 

@@ -7,9 +7,11 @@
 
 mod answer;
 mod call;
+mod classes;
 mod effect;
 mod ending;
 mod keep;
+mod output;
 mod parts;
 mod reading;
 mod reply;

@@ -5,6 +5,8 @@ ghost use Rattle.syscall_layer.specs.Kept.{nothing_yet};
 
 use crate::task::Task;
 use call_log::Log;
+use fd_tables::Files;
+use mem_files::Tree;
 use mmap_rules::Space;
 use nommu_regions::Regions;
 use phys_mem::PhysMem;
@@ -21,6 +23,10 @@ pub struct Parts {
     pub regions: Regions,
     /// By the number of their load note; None where the space is gone.
     pub spaces: Vec<Option<Space>>,
+    /// The files and folders.
+    pub tree: Tree,
+    /// What is open.
+    pub files: Files,
     /// The processes that live.
     pub procs: Procs<Task>,
     /// The notes.
@@ -43,16 +49,18 @@ impl Model for Parts {
 }
 
 impl Parts {
-    /// A memory of so many pages, in which nothing runs.
-    pub fn new(alloc: Global, pages: u32) -> Result<Parts, AllocError>
+    /// A memory of so many pages, in which nothing runs, over these files.
+    pub fn new(alloc: Global, pages: u32, tree: Tree, files: Files) -> Result<Parts, AllocError>
         requires some { 1 ≤ pages }
         requires most { pages ≤ 16384 }
-        ensures { IfOk result (λ parts. parts ≡ nothing_yet pages) }
+        ensures { IfOk result (λ parts. parts ≡ nothing_yet pages tree files.open_files) }
     {
         Ok(Parts {
             mem: PhysMem::new(alloc, pages)?,
             regions: Regions::new(alloc, pages)?,
             spaces: Vec::new(alloc),
+            tree,
+            files,
             procs: Procs::new(alloc)?,
             log: Log::new(alloc)?,
             console: Vec::new(alloc),

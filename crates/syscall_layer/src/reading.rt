@@ -1,9 +1,9 @@
 //! The bytes that a system call reads.
 
 ghost use Rattle.std.specs.Prelude.{◌≡◌, ◌*◌, ◌≤◌, IfOk, length};
-ghost use Rattle.call_log.specs.Sent.{read_span, read_spans, piece_spans, data_spans, write_sent, writev_sent, sent};
+ghost use Rattle.call_log.specs.Sent.{read_span, read_spans, piece_spans, data_spans, write_sent, writev_sent, readv_sent, path_sent, has_path, sent};
 ghost use Rattle.syscall_layer.specs.Stands.{private_bytes};
-ghost use Rattle.syscall_layer.specs.Reading.{Reads, Appends};
+ghost use Rattle.syscall_layer.specs.Reading.{Reads, ReadsByte, Appends};
 
 use byte_words::word;
 use mmap_rules::Space;
@@ -15,6 +15,9 @@ const MOST_MOVED: u32 = 16_777_216;
 
 /// The most pieces of one call, Linux's UIO_MAXIOV.
 const MOST_PIECES: u32 = 1024;
+
+/// The most bytes that are read of a path.
+const MOST_PATH: u32 = 4096;
 
 /// Why the bytes of a call are not read.
 #[derive(Clone, Copy, Debug, PartialEq, Eq)]
@@ -75,7 +78,7 @@ fn read_write(
     Ok(bytes)
 }
 
-/// The structs that say where a writev's data stands. Each is an access of its own.
+/// The structs that say where the data of a writev or a readv stands. Each is an access of its own.
 fn read_pieces(
     alloc: Global,
     mem: &PhysMem,
@@ -93,6 +96,36 @@ fn read_pieces(
         read_range(mem, space, at.wrapping_add(8 * i), 8, &mut pieces)?;
     }
     Ok(pieces)
+}
+
+/// A byte of its own.
+fn read_byte(mem: &PhysMem, space: &Space, addr: u32) -> Result<u8, Unread>
+    requires memory { length mem.now ≡ 4096 * space.now.pages }
+    ensures { ReadsByte (read_span (private_bytes mem.now space.now) (record { addr = addr; len = 1 })) result }
+{
+    let owners = space.owners();
+    if !owners.own(addr, 1, false) {
+        return Err(Unread::Stray { addr, len: 1 });
+    }
+    Ok(mem.get8(addr))
+}
+
+/// A path, up to its zero. Each byte is an access of its own, and none is read behind the zero.
+fn read_path(alloc: Global, mem: &PhysMem, space: &Space, at: u32) -> Result<Vec<u8>, Unread>
+    requires memory { length mem.now ≡ 4096 * space.now.pages }
+    ensures { Reads (path_sent (private_bytes mem.now space.now) at) result }
+{
+    let mut path = Vec::new(alloc);
+    for i in 0..MOST_PATH {
+        let byte = read_byte(mem, space, at.wrapping_add(i))?;
+        if path.push(byte).is_err() {
+            return Err(Unread::Memory);
+        }
+        if byte == 0 {
+            return Ok(path);
+        }
+    }
+    Ok(path)
 }
 
 /// Adds the data of a writev: its pieces, cut where their sum would pass the most that a call moves.
@@ -138,8 +171,31 @@ fn read_writev(
     Ok(bytes)
 }
 
+/// What a readv reads: its pieces.
+fn read_readv(
+    alloc: Global,
+    mem: &PhysMem,
+    space: &Space,
+    at: u32,
+    count: u32,
+) -> Result<Vec<u8>, Unread>
+    requires memory { length mem.now ≡ 4096 * space.now.pages }
+    ensures { Reads (readv_sent (private_bytes mem.now space.now) at count) result }
+{
+    if count > MOST_PIECES {
+        return Ok(Vec::new(alloc));
+    }
+    read_pieces(alloc, mem, space, at, count)
+}
+
+/// mkdirat, unlinkat and openat.
+fn has_path(number: u32) -> bool
+    ensures { result ≡ has_path number }
+{
+    number == 34 || number == 35 || number == 56
+}
+
 /// The bytes that the call of this number reads, in the order read.
-#[tactic(auto, unfolding(call_log::specs::Sent::sent))]
 pub fn read_sent(
     alloc: Global,
     mem: &PhysMem,
@@ -153,6 +209,8 @@ pub fn read_sent(
     match number {
         64 => read_write(alloc, mem, space, args[1], args[2]),
         66 => read_writev(alloc, mem, space, args[1], args[2]),
+        65 => read_readv(alloc, mem, space, args[1], args[2]),
+        number if has_path(number) => read_path(alloc, mem, space, args[1]),
         _ => Ok(Vec::new(alloc)),
     }
 }

@@ -1,23 +1,33 @@
 //! The reply of a system call after which its process lives.
 
-ghost use Rattle.std.specs.Prelude.{◌≡◌, ℕ, ◌<◌, ◌^◌, true, length, Some, slice_get, slice_set};
-ghost use Rattle.call_log.specs.Notes.{has_room};
+ghost use Rattle.std.specs.Prelude.{◌≡◌, ◌≤◌, ◌∷◌, All, None, Some, true, length, map, slice_get, slice_set};
+ghost use Rattle.call_log.specs.Notes.{has_room, weight_of};
+ghost use Rattle.call_log.specs.Values.{written_value};
 ghost use Rattle.mmap_rules.specs.Held.{Held, next_brk};
+ghost use Rattle.mmap_rules.specs.Space.{writable_in};
 ghost use Rattle.vfork_exec.specs.declared.entry.Entry.{Entry as Listed};
-ghost use Rattle.vfork_exec.specs.Procs.{Lives};
+ghost use Rattle.vfork_exec.specs.Procs.{Lives, value_at, with_value_at};
 ghost use Rattle.machine_world.specs.Event.{replied};
+ghost use Rattle.file_calls.specs.Calls.{IsChange, written_of};
+ghost use Rattle.file_calls.specs.Outcomes.{CanTake};
 ghost use Rattle.syscall_layer.specs.declared.task.Task.{Task};
 ghost use Rattle.syscall_layer.specs.Regular.{HasSpace};
-ghost use Rattle.syscall_layer.specs.Calls.{RunsIn, shown, value_of, brk_of, Replies};
+ghost use Rattle.syscall_layer.specs.Stands.{About};
+ghost use Rattle.syscall_layer.specs.Puts.{first_stray, IsRange};
+ghost use Rattle.syscall_layer.specs.Calls.{RunsIn, IsCall, value_of, brk_of, noted_call, Replies, Changes, Gives};
 
-use crate::call::Call;
+use crate::call::home;
 use crate::effect::Effect;
 use crate::keep::keep;
+use crate::output::{follow, put};
 use crate::parts::Parts;
-use call_log::{Entry, Note};
+use crate::task::Task;
+use call_log::{Entry, Got, Log, Note};
+use file_calls::{Call, Outcome};
 use mmap_rules::Space;
 use rv32im_step::Regs;
 use std::alloc::AllocError;
+use vfork_exec::Procs;
 
 /// The reply goes to a0, and the instruction after the call follows.
 #[tactic(auto, unfolding(rv32im_step::specs::Registers::with_register))]
@@ -26,16 +36,6 @@ fn set_reply(regs: &mut Regs, value: u32)
 {
     regs.x[10] = value;
     regs.pc = regs.pc.wrapping_add(4);
-}
-
-/// The bytes that a call shows.
-fn shown(sent: &[u8], effect: Effect) -> &[u8]
-    ensures { result.now ≡ shown sent.now effect }
-{
-    match effect {
-        Effect::Show(from) => &sent[sent.len().min(from as usize)..],
-        _ => &[],
-    }
 }
 
 /// Moves the break of a space that lives, if it may go there, and gives it as it is then.
@@ -50,18 +50,47 @@ fn move_break(spaces: &mut [Option<Space>], number: u32, to: u32) -> u32
     }
 }
 
-/// The reply of a call, of which so many bytes are shown. The break moves, if it is asked to.
-fn settle(spaces: &mut [Option<Space>], number: u32, effect: Effect, count: u32) -> u32
+/// The reply of a call. The break moves, if it is asked to.
+fn settle(spaces: &mut [Option<Space>], number: u32, effect: Effect) -> u32
     requires { HasSpace spaces.old number }
     ensures { (h : Held) → slice_get spaces.old number ≡ Some (Some h) →
-        (result ≡ value_of (next_brk h) count effect) × (spaces.new ≡ slice_set spaces.old number (Some (record h { brk = brk_of (next_brk h) h.brk effect }))) }
+        (result ≡ value_of (next_brk h) effect) × (spaces.new ≡ slice_set spaces.old number (Some (record h { brk = brk_of (next_brk h) h.brk effect }))) }
 {
     match effect {
         Effect::Answer(value) => value,
         Effect::Yield => 0,
-        Effect::Show(_) => count,
         Effect::Break(to) => move_break(spaces, number, to),
     }
+}
+
+/// A call has its reply, and is noted. There is room and memory for its note.
+fn finish(procs: &mut Procs<Task>, log: &mut Log, call: Call, value: u32, got: Vec<Got>)
+    requires lives { Lives procs.old call.pid }
+    requires spare { 1 ≤ log.old.spare }
+    requires room { has_room log.old.notes (weight_of call.sent.items (map written_value got.items)) ≡ true }
+    ensures procs { (t : Task) → value_at procs.old call.pid ≡ Some t → procs.new ≡ with_value_at procs.old call.pid (record t { regs = replied t.regs value }) }
+    ensures notes { log.new.notes ≡ noted_call call value (map written_value got.items) ∷ log.old.notes }
+{
+    let task = procs.get_mut(call.pid);
+    set_reply(&mut task.regs, value);
+    let Call {
+        pid,
+        number,
+        args,
+        sent,
+        ..
+    } = call;
+    keep(
+        log,
+        Note::Call(Entry {
+            pid,
+            call: number,
+            args,
+            sent,
+            reply: value,
+            got,
+        }),
+    );
 }
 
 impl Parts {
@@ -69,33 +98,50 @@ impl Parts {
     pub(crate) fn reply(&mut self, call: Call, effect: Effect) -> Result<(), AllocError>
         requires lives { Lives self.old.procs call.pid }
         requires room { has_room self.old.notes (length call.sent.items) ≡ true }
-        ensures { (e : Listed Task) → (h : Held) → RunsIn self.old call.pid e h → Replies self.old e h call effect self.new result }
+        ensures { (a : About) → (e : Listed Task) → (h : Held) → RunsIn self.old call.pid e h → Replies a self.old e h call effect self.new result }
     {
         self.log.reserve(1)?;
-        let data = shown(&call.sent, effect);
-        let count = data.len() as u32;
-        self.console.extend_from_slice(data)?;
         let got = Vec::new(*self.console.allocator());
-        let task = self.procs.get_mut(call.pid);
-        let reply = settle(&mut self.spaces, task.space, effect, count);
-        set_reply(&mut task.regs, reply);
-        let Call {
-            pid,
-            number,
-            args,
-            sent,
-            ..
-        } = call;
-        keep(
+        let number = self.procs.get(call.pid).space;
+        let value = settle(&mut self.spaces, number, effect);
+        finish(&mut self.procs, &mut self.log, call, value, got);
+        Ok(())
+    }
+
+    /// Carries out a call that changes files, and notes it. There is room for its note.
+    pub(crate) fn change(&mut self, call: Call) -> Result<(), AllocError>
+        requires lives { Lives self.old.procs call.pid }
+        requires room { has_room self.old.notes (length call.sent.items) ≡ true }
+        requires change { IsChange call.number }
+        ensures { (a : About) → (e : Listed Task) → (h : Held) → RunsIn self.old call.pid e h → IsCall self.old.mem e h call → Changes a self.old e h call self.new result }
+    {
+        self.log.reserve(1)?;
+        let value = file_calls::change(&mut self.tree, &mut self.files, &mut self.console, &call)?;
+        let got = Vec::new(*self.console.allocator());
+        finish(&mut self.procs, &mut self.log, call, value, got);
+        Ok(())
+    }
+
+    /// Gives a call its reply and its bytes, and notes it. There is room for its note.
+    pub(crate) fn give(&mut self, call: Call, outcome: Outcome) -> Result<(), AllocError>
+        requires lives { Lives self.old.procs call.pid }
+        requires room { has_room self.old.notes (weight_of call.sent.items (written_of outcome)) ≡ true }
+        requires fits { CanTake self.old.files outcome.then }
+        requires ranges { All IsRange (written_of outcome) }
+        requires own { (e : Listed Task) → (h : Held) → RunsIn self.old call.pid e h → first_stray (writable_in h.maps) (written_of outcome) ≡ None }
+        ensures { (a : About) → (e : Listed Task) → (h : Held) → RunsIn self.old call.pid e h → IsCall self.old.mem e h call → Gives a self.old e h call outcome self.new result }
+    {
+        self.log.reserve(1)?;
+        let number = self.procs.get(call.pid).space;
+        let owners = home(&self.spaces, number).owners();
+        put(&mut self.mem, owners, &outcome.got);
+        follow(&mut self.files, call.table, outcome.then);
+        finish(
+            &mut self.procs,
             &mut self.log,
-            Note::Call(Entry {
-                pid,
-                call: number,
-                args,
-                sent,
-                reply,
-                got,
-            }),
+            call,
+            outcome.value,
+            outcome.got,
         );
         Ok(())
     }

@@ -53,7 +53,10 @@ impl Parts {
         requires spaces { length self.old.spaces < 2 ^ 32 }
         ensures { Starts (kind_of chooser.now) index (flat_original flat.now) (texts args.now) self.old self.new result }
     {
-        if self.spaces.reserve(1).is_err() || self.log.reserve(1).is_err() {
+        if self.spaces.reserve(1).is_err()
+            || self.log.reserve(1).is_err()
+            || self.files.ready().is_err()
+        {
             return Err(StartRefusal::Memory);
         }
         let alloc = *self.spaces.allocator();
@@ -73,9 +76,11 @@ impl Parts {
         )?;
         let number = self.spaces.len() as u32;
         self.spaces.push_reserved(Some(space));
+        let table = self.files.new_table().unwrap();
         let task = Task {
             regs,
             space: number,
+            table,
         };
         let pid = self.procs.start(task).unwrap();
         let note = Note::Load {

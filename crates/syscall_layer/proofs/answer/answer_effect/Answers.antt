@@ -1,6 +1,7 @@
 -- A reply, or a log without room.
 use Rattle.std.proofs.Common.{true, false, length, sym, subst}
-use Rattle.machine_world.specs.Rows.{replies}
+use Rattle.std.proofs.lemmas.Result.{err_from_is_err_and}
+use Rattle.machine_world.specs.Asks.{replies}
 use Rattle.machine_world.specs.Event.{answered}
 use Rattle.syscall_layer.specs.declared.answer.Served.{Served}
 use Rattle.syscall_layer.specs.Kept.{Kept}
@@ -9,14 +10,19 @@ use Rattle.syscall_layer.specs.Stands.{world_of}
 use Rattle.syscall_layer.specs.Serves.{Answered}
 use Rattle.syscall_layer.specs.Calls.{ask_in, reply_of, served_by}
 use Rattle.syscall_layer.proofs.Settled.{room_is}
-use Rattle.syscall_layer.proofs.Outcomes.{reply_serves, reply_full}
+use Rattle.syscall_layer.proofs.Outcomes.{effect_serves, effect_full}
 use Rattle.syscall_layer.proofs.answer.answer_effect.Goals as goal
 
 pub returns-then-not-has_room : goal.returns-then-not-has_room
 returns-then-not-has_room c = λ a e h runs is.
     let k = c.args.parts.now in
     let call = c.args.call in
-    reply_full a k e h call runs is c.args.effect (room_is (kept_of c.parts.inside) k c.parts.view_is (length call.sent.items) c.has_room.result false c.has_room.ensures c.if-not-has_room.true)
+    effect_full a k e h call runs is c.args.effect (room_is (kept_of c.parts.inside) k c.parts.view_is (length call.sent.items) c.has_room.result false c.has_room.ensures c.if-not-has_room.true)
+
+pub returns-in_err-reply : goal.returns-in_err-reply
+returns-in_err-reply c = λ a e h runs is.
+    let p = err_from_is_err_and c.from_residual.result c.from_residual.ensures.1 in
+    rw p.1 (c.in_err-reply.ensures a e h runs)
 
 pub returns : goal.returns
 returns c = λ a e h runs is.
@@ -24,7 +30,7 @@ returns c = λ a e h runs is.
     let call = c.args.call in
     let f = c.args.effect in
     let room = room_is (kept_of c.parts.inside) k c.parts.view_is (length call.sent.items) c.has_room.result true c.has_room.ensures c.if-not-has_room.false in
-    let done = reply_serves a k e h call runs is f room in
+    let done = effect_serves a k e h call runs is f room in
     let outcome = answered (world_of a k) (ask_in a k e h call) (replies (reply_of (ask_in a k e h call) f)) in
     subst (λ (served : Served). Answered a outcome k c.reply.new.self call.pid served) (sym c.served_by.ensures)
-    (subst (λ (new : Kept). Answered a outcome k new call.pid (served_by f)) (sym (c.in_ok-reply.ensures e h runs)) done)
+    (subst (λ (new : Kept). Answered a outcome k new call.pid (served_by f)) (sym (c.in_ok-reply.ensures a e h runs)) done)

@@ -2,7 +2,7 @@
 use Rattle.std.proofs.Common.{sym, ap, subst, ◌∙◌, List, Option, Err}
 use Rattle.std.specs.Prelude.{slice_get, slice_index}
 use Rattle.mmap_rules.specs.Held.{Held}
-use Rattle.syscall_layer.specs.declared.call.Call.{Call}
+use Rattle.file_calls.specs.declared.call.Call.{Call}
 use Rattle.syscall_layer.specs.Kept.{Kept}
 use Rattle.syscall_layer.specs.Inside.{kept_of}
 use Rattle.syscall_layer.specs.Calls.{RunsIn, IsCall, Made}
@@ -16,6 +16,7 @@ returns-in-Ok-clause-made c = λ e h runs.
     let from : Call = record {
       pid = c.args.pid;
       parent = c.parent.result;
+      table = c.get-task.result.now.table;
       number = slice_index c.get-task.result.now.regs.x 17;
       args = c.args_of-args.result;
       sent = c.in-Ok.sent;

@@ -7,6 +7,3 @@ returns-in-Answer c = λ h there. rw c.in-Answer.is (stays_with c.args.spaces.no
 
 pub returns-in-Yield : goal.returns-in-Yield
 returns-in-Yield c = λ h there. rw c.in-Yield.is (stays_with c.args.spaces.now c.args.number h there 0)
-
-pub returns-in-Show : goal.returns-in-Show
-returns-in-Show c = λ h there. rw c.in-Show.is (stays_with c.args.spaces.now c.args.number h there c.args.count)

@@ -1,0 +1,147 @@
+-- What is kept after a call that has its reply, by what the code did.
+use Rattle.std.proofs.Common.{◌≡◌, ◌≢◌, ℕ, true, false, List, [], ◌∷◌, length, map, Some, Ok, Err, refl, sym, ap, subst, ◌∙◌}
+use Rattle.std.specs.Prelude.{Bool, not, option_map, Option, slice_get, slice_set}
+use Rattle.byte_words.specs.ByteMap.{Bytes}
+use Rattle.call_log.specs.declared.note.Got.{Got}
+use Rattle.call_log.specs.Values.{written_value}
+use Rattle.call_log.specs.Notes.{Written, Note}
+use Rattle.mmap_rules.specs.declared.owners.PageOwner.{PageOwner}
+use Rattle.mmap_rules.specs.Space.{own_in, writable_in}
+use Rattle.mmap_rules.specs.Held.{Held, next_brk}
+use Rattle.mmap_rules.specs.Owners.{owns}
+use Rattle.region_watch.specs.Private.{only, physical}
+use Rattle.mem_files.specs.Inodes.{Inodes}
+use Rattle.fd_tables.specs.Files.{OpenFiles}
+use Rattle.fd_tables.specs.Kept.{Kept as FilesKept}
+use Rattle.vfork_exec.specs.declared.entry.Entry.{Entry}
+use Rattle.vfork_exec.specs.Procs.{Listed, Lives, value_at, with_value_at}
+use Rattle.machine_world.specs.World.{Rest}
+use Rattle.machine_world.specs.Asks.{replies}
+use Rattle.machine_world.specs.Rows.{row}
+use Rattle.machine_world.specs.Event.{put_got, replied}
+use Rattle.file_calls.specs.declared.call.Call.{Call}
+use Rattle.file_calls.specs.declared.outcome.Outcome.{Outcome as Output}
+use Rattle.file_calls.specs.Calls.{MadeBy, IsRest, with_all, Changes as FilesChange, after, written_of}
+use Rattle.syscall_layer.specs.declared.task.Task.{Task}
+use Rattle.syscall_layer.specs.declared.effect.Effect.{Effect}
+use Rattle.syscall_layer.specs.declared.effect.Effect.TheVariants.{Answer, Yield, Break}
+use Rattle.syscall_layer.specs.Kept.{Kept}
+use Rattle.syscall_layer.specs.Regular.{Regular}
+use Rattle.syscall_layer.specs.Stands.{About, private_bytes, world_of, OthersSame}
+use Rattle.syscall_layer.specs.Puts.{Put}
+use Rattle.syscall_layer.specs.Calls.{RunsIn, IsCall, ask_in, reply_of, value_of, brk_of, noted_call, after_reply, Changed, given, Gave}
+use Rattle.syscall_layer.proofs.Apart.{others_keep}
+use Rattle.syscall_layer.proofs.Outcomes.{made_by}
+use Rattle.syscall_layer.proofs.Runs.{runs_in, has_space}
+use Rattle.syscall_layer.proofs.Settled.{regular_replied}
+use Rattle.syscall_layer.proofs.Stays.{set_kept}
+
+-- the process that called has its reply
+abbrev pub Finishes : Kept → ℕ → ℕ → Listed Task → Type 0
+Finishes k pid value procs = (t : Task) → value_at k.procs pid ≡ Some t → procs ≡ with_value_at k.procs pid (record t { regs = replied t.regs value })
+
+-- what holds of the parts still holds
+pub regular_finished : (k : Kept) (pid : ℕ) → Regular k → Lives k.procs pid → (value : ℕ) (mem : List ℕ) (tree : Inodes) (files : OpenFiles) (procs : Listed Task) (notes : List Note) (console : List ℕ) →
+    length mem ≡ length k.mem → Finishes k pid value procs →
+    Regular (record k { mem = mem; tree = tree; files = files; procs = procs; notes = notes; console = console })
+regular_finished k pid regular lives value mem tree files procs notes console same finishes =
+    let r = runs_in k pid regular lives in
+    let t : Task = r.0.value in
+    let h : Held = r.1.0 in
+    let kept = ap (option_map (λ (x : Entry Task). x.value)) r.1.1.lives in
+    regular_replied k pid t h regular lives kept r.1.1.home (replied t.regs value) h.brk mem k.spaces tree files procs notes console
+    same (sym (set_kept k.spaces t.space (Some h) r.1.1.home)) (finishes t kept)
+
+-- the same where the break of its space moves
+pub regular_settled : (k : Kept) (pid : ℕ) → Regular k → Lives k.procs pid → (t : Task) → value_at k.procs pid ≡ Some t → (value : ℕ) (brk : Held → ℕ) (spaces : List (Option Held)) (procs : Listed Task) (notes : List Note) →
+    ((h : Held) → slice_get k.spaces t.space ≡ Some (Some h) → spaces ≡ slice_set k.spaces t.space (Some (record h { brk = brk h }))) → Finishes k pid value procs →
+    Regular (record k { spaces = spaces; procs = procs; notes = notes })
+regular_settled k pid regular lives t kept value brk spaces procs notes moves finishes =
+    let live = has_space k pid t regular lives kept in
+    let h = live.held in
+    regular_replied k pid t h regular lives kept live.there (replied t.regs value) (brk h) k.mem spaces k.tree k.files procs notes k.console
+    refl (moves h live.there) (finishes t kept)
+
+module _ (a : About) (k : Kept) (e : Entry Task) (h : Held) (call : Call) (runs : RunsIn k call.pid e h) where
+  kept_value : value_at k.procs call.pid ≡ Some e.value
+  kept_value = ap (option_map (λ (x : Entry Task). x.value)) runs.lives
+
+  space_stays : k.spaces ≡ slice_set k.spaces e.value.space (Some (record h { brk = h.brk }))
+  space_stays = sym (set_kept k.spaces e.value.space (Some h) runs.home)
+
+  -- ---- by an effect
+
+  value_is : (f : Effect) → value_of (next_brk h) f ≡ (reply_of (ask_in a k e h call) f).value
+  value_is (Answer value) = refl
+  value_is Yield = refl
+  value_is (Break to) = refl
+
+  brk_is : (f : Effect) → brk_of (next_brk h) h.brk f ≡ (reply_of (ask_in a k e h call) f).brk
+  brk_is (Answer value) = refl
+  brk_is Yield = refl
+  brk_is (Break to) = refl
+
+  rest_stays : (f : Effect) → (reply_of (ask_in a k e h call) f).rest ≡ (world_of a k).rest
+  rest_stays (Answer value) = refl
+  rest_stays Yield = refl
+  rest_stays (Break to) = refl
+
+  got_none : (f : Effect) → (reply_of (ask_in a k e h call) f).got ≡ []
+  got_none (Answer value) = refl
+  got_none Yield = refl
+  got_none (Break to) = refl
+
+  pub replied_by : (f : Effect) (value : ℕ) (spaces : List (Option Held)) (procs : Listed Task) (notes : List Note) →
+      value ≡ value_of (next_brk h) f → spaces ≡ slice_set k.spaces e.value.space (Some (record h { brk = brk_of (next_brk h) h.brk f })) →
+      Finishes k call.pid value procs → notes ≡ noted_call call value [] ∷ k.notes →
+      record k { spaces = spaces; procs = procs; notes = notes } ≡ after_reply k e h call (reply_of (ask_in a k e h call) f) k.mem
+  unfolding world_of
+  replied_by f value spaces procs notes says moves finishes noted = λ i. record k {
+    spaces = (moves ∙ ap (λ (brk : ℕ). slice_set k.spaces e.value.space (Some (record h { brk = brk }))) (brk_is f)) i;
+    tree = ap (λ (r : Rest). r.tree) (sym (rest_stays f)) i;
+    files = ap (λ (r : Rest). r.files) (sym (rest_stays f)) i;
+    procs = (finishes e.value kept_value ∙ ap (λ (v : ℕ). with_value_at k.procs call.pid (record e.value { regs = replied e.value.regs v })) (says ∙ value_is f)) i;
+    notes = (noted ∙ (λ j. noted_call call ((says ∙ value_is f) j) (sym (got_none f) j) ∷ k.notes)) i;
+    console = ap (λ (r : Rest). r.console) (sym (rest_stays f)) i;
+  }
+
+  -- ---- by a change of files
+
+  module _ (is : IsCall k.mem e h call) where
+    pub is_rest : (files : FilesKept) → files.open_files ≡ k.files → IsRest (ask_in a k e h call).rest k.tree files k.console
+    unfolding world_of
+    is_rest files open_now = record { tree = refl; files = sym open_now; console = refl }
+
+    pub changed_by : (tree : Inodes) (files : OpenFiles) (console : List ℕ) (value : ℕ) (procs : Listed Task) (notes : List Note) →
+        row (ask_in a k e h call) ≡ replies (record { value = value; got = []; rest = with_all (ask_in a k e h call).rest tree files console; brk = h.brk; over = false }) →
+        Finishes k call.pid value procs → notes ≡ noted_call call value [] ∷ k.notes →
+        Changed a k e h call (record k { tree = tree; files = files; procs = procs; notes = notes; console = console })
+    changed_by tree files console value procs notes rows finishes noted = record {
+      reply = record { value = value; got = []; rest = with_all (ask_in a k e h call).rest tree files console; brk = h.brk; over = false };
+      replies = rows;
+      got = refl;
+      rest = refl;
+      over = refl;
+      after = λ i. record k { spaces = space_stays i; tree = tree; files = files; procs = finishes e.value kept_value i; notes = noted i; console = console };
+    }
+
+    -- ---- by an output
+
+    pub gave_by : Regular k → (o : Output) (table : List PageOwner) (mem : List ℕ) (files : OpenFiles) (procs : Listed Task) (notes : List Note) →
+        owns table false ≡ own_in h.maps → owns table true ≡ writable_in h.maps → Put table k.mem mem (written_of o) → files ≡ after o.then call.table k.files →
+        Finishes k call.pid o.value procs → notes ≡ noted_call call o.value (written_of o) ∷ k.notes →
+        Gave a k e h call o (record k { mem = mem; files = files; procs = procs; notes = notes })
+    unfolding world_of private_bytes
+    gave_by regular o table mem files procs notes own writes p follows finishes noted = record {
+      put = subst (λ (w : ℕ → Bool). put_got (only (own_in h.maps) (physical k.mem)) w (written_of o) ≡ Ok (only (own_in h.maps) (physical mem))) writes
+          (subst (λ (t : ℕ → Bool). put_got (only t (physical k.mem)) (owns table true) (written_of o) ≡ Ok (only t (physical mem))) own p.put);
+      others = λ j x other there. others_keep k regular e.value.space h runs.home mem
+          (subst (λ (w : ℕ → Bool). only (λ at. not (w at)) (physical mem) ≡ only (λ at. not (w at)) (physical k.mem)) writes p.frozen) j x other there;
+      after = λ i. record k {
+        mem = mem;
+        spaces = space_stays i;
+        files = (follows ∙ ap (λ (t : ℕ). after o.then t k.files) is.table) i;
+        procs = finishes e.value kept_value i;
+        notes = noted i;
+      };
+    }

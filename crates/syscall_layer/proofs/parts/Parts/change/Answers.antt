@@ -1,0 +1,54 @@
+-- The files are changed, and the call has its reply.
+use Rattle.std.proofs.Common.{List, ◌∷◌, [], refl, sym, ap, subst, ◌∙◌}
+use Rattle.std.specs.Prelude.{map, Err}
+use Rattle.std.proofs.lemmas.Result.{err_from_is_err_and}
+use Rattle.call_log.specs.declared.note.Got.{Got}
+use Rattle.call_log.specs.Notes.{Note}
+use Rattle.call_log.specs.Values.{written_value}
+use Rattle.vfork_exec.specs.Procs.{Lives}
+use Rattle.syscall_layer.specs.Kept.{Kept}
+use Rattle.syscall_layer.specs.Inside.{kept_of}
+use Rattle.syscall_layer.specs.Calls.{RunsIn, IsCall, ask_in, noted_call, Changed, Changes}
+use Rattle.syscall_layer.proofs.Outcomes.{made_by}
+use Rattle.syscall_layer.proofs.Finishes.{regular_finished, is_rest, changed_by}
+use Rattle.syscall_layer.proofs.parts.Parts.change.Goals as goal
+
+abbrev left : goal.After-drop-call-in_err-value → Kept
+left c = record (kept_of c.self.inside) { tree = c.change.new.tree; files = c.change.new.files.open_files; notes = c.reserve.new.self.notes; console = c.change.new.console.items }
+
+abbrev new_parts : goal.After-finish → Kept
+new_parts c = record (kept_of c.self.inside) {
+  tree = c.change.new.tree;
+  files = c.change.new.files.open_files;
+  procs = c.finish.new.procs;
+  notes = c.finish.new.log.notes;
+  console = c.change.new.console.items;
+}
+
+pub returns-in_err-value : goal.returns-in_err-value
+returns-in_err-value c = λ a e h.
+    let k = kept_of c.self.inside in
+    let call = c.args.call in
+    let p = err_from_is_err_and c.from_residual-in_err-value.result c.from_residual-in_err-value.ensures.1 in
+    subst (λ (old : Kept). RunsIn old call.pid e h → IsCall old.mem e h call → Changes a old e h call (left c) c.from_residual-in_err-value.result) c.self.view_is
+    (λ runs is.
+    let same = c.in_err-value.ensures (ask_in a k e h call) (made_by a k e h call runs is) (is_rest a k e h call runs is c.self.inside.files refl) in
+    rw p.1 (λ i. record k { tree = same.0 i; files = same.1 i; console = same.2 i; notes = c.reserve.ensures.same i }))
+
+pub invariant_of-self-2 : goal.invariant_of-self-2
+invariant_of-self-2 c =
+    let k = kept_of c.self.inside in
+    let lives = subst (λ (s : Kept). Lives s.procs c.args.call.pid) (sym c.self.view_is) c.requires.lives in
+    regular_finished k c.args.call.pid c.self.invariant lives c.in_ok-value.value k.mem c.change.new.tree c.change.new.files.open_files c.finish.new.procs c.finish.new.log.notes c.change.new.console.items
+    refl c.finish.ensures.procs
+
+pub returns : goal.returns
+returns c = λ a e h.
+    let k = kept_of c.self.inside in
+    let call = c.args.call in
+    let noted = c.finish.ensures.notes
+    ∙ (λ i. noted_call call c.in_ok-value.value (map written_value (c.new-got.ensures.items i)) ∷ c.reserve.ensures.same i) in
+    subst (λ (old : Kept). RunsIn old call.pid e h → IsCall old.mem e h call → Changed a old e h call (new_parts c)) c.self.view_is
+    (λ runs is. changed_by a k e h call runs is c.change.new.tree c.change.new.files.open_files c.change.new.console.items c.in_ok-value.value c.finish.new.procs c.finish.new.log.notes
+    (c.in_ok-value.ensures (ask_in a k e h call) (made_by a k e h call runs is) (is_rest a k e h call runs is c.self.inside.files refl))
+    c.finish.ensures.procs noted)
