@@ -17,8 +17,8 @@ pub mod Named
 pub mod Opens
 pub mod Writes
 pub mod Numbers
-mod Asked
-mod Sought
+pub mod Asked
+pub mod Sought
 pub mod Transferred
 pub mod Listed
-mod Numbered
+pub mod Numbered

@@ -27,7 +27,6 @@ use Rattle.file_calls.specs.declared.outcome.Outcome.{Outcome}
 use Rattle.file_calls.specs.Calls.{MadeBy, IsOutput, is_output, written_of}
 use Rattle.file_calls.specs.Outcomes.{GivesRow}
 use Rattle.file_calls.proofs.Listed.{listing_fits}
-use Rattle.file_calls.proofs.Transferred.{filled_none, filled_some}
 use Rattle.syscall_layer.specs.Puts.{IsRange}
 use Rattle.syscall_layer.proofs.Counts.{decide, eqb_is}
 
@@ -49,6 +48,20 @@ ranged_view a None rows each = none_ranged
 ranged_if : (b : Bool) (x y : Row) → Ranged x → Ranged y → Ranged (if b then x else y)
 ranged_if true x y is other = is
 ranged_if false x y other is = is
+
+-- ---- bytes filled into pieces
+
+-- nothing is left for a piece, or it is of no length
+filled_none : (bytes : List ℕ) (span : Span) (spans : List Span) → take span.len bytes ≡ [] → scattered bytes (span ∷ spans) ≡ scattered (drop span.len bytes) spans
+filled_none bytes span spans none = rw none refl
+
+filled_some : (bytes : List ℕ) (span : Span) (spans : List Span) → 0 < length (take span.len bytes) →
+    scattered bytes (span ∷ spans) ≡ record { addr = span.addr; bytes = take span.len bytes } ∷ scattered (drop span.len bytes) spans
+filled_some bytes span spans some = by (take span.len bytes) refl
+  where
+    by : (front : List ℕ) → take span.len bytes ≡ front → scattered bytes (span ∷ spans) ≡ record { addr = span.addr; bytes = take span.len bytes } ∷ scattered (drop span.len bytes) spans
+    by [] is = absurd (let e : 0 < 0 = rw is at some in omega arith)
+    by (b ∷ front) is = rw is refl
 
 -- ---- llseek
 
