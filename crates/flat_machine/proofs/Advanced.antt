@@ -61,7 +61,7 @@ module _ (k : Kept) (pid count : ℕ) (e : Entry Task) (h : Held) (table : List 
   pub after_regular : Regular (after k pid e.value regs now)
   after_regular =
       let P : List (Option Held) → Type 0 = λ spaces. Regular (record (after k pid e.value regs now) { spaces = spaces }) in
-      subst P (set_kept k.spaces e.value.space (Some h) r.home) (regular_stays k pid e h r.regular r.lives r.home regs h.brk now r.length k.notes k.console)
+      subst P (set_kept k.spaces e.value.space (Some h) r.home) (regular_stays k pid e h r.regular r.lives r.home regs h.brk now r.length k.notes k.tree k.files k.console)
 
   pub after_lives : Lives (after k pid e.value regs now).procs pid
   after_lives =

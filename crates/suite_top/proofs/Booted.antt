@@ -17,7 +17,7 @@ use Rattle.flat_machine.specs.declared.boot.BootRefusal.TheVariants as refusal
 use Rattle.flat_machine.specs.State.{State, world, lines_of}
 use Rattle.flat_machine.specs.Boots.{Boots}
 use Rattle.suite_top.specs.Ending.{Ending, memory_ending, OrMemory}
-use Rattle.run_setup.specs.Making.{IsMemory}
+use Rattle.run_setup.specs.Faults.{IsMemory}
 use Rattle.suite_top.specs.Refusing.{told_fault}
 use Rattle.suite_top.specs.Run.{start_line, boot_fault, fault_ending, booted_ending}
 

@@ -15,7 +15,7 @@ use Rattle.suite_top.specs.Observed.{Observed}
 use Rattle.suite_top.specs.HostCourse.{PerformsCommand}
 use Rattle.suite_top.specs.Report.{status_of_end}
 use Rattle.run_setup.specs.Brought.{Brought, FaultAt, nothing_brought, all_brought}
-use Rattle.run_setup.specs.Making.{IsMemory}
+use Rattle.run_setup.specs.Faults.{IsMemory}
 use Rattle.suite_top.specs.ItemLoads.{GaveFiles}
 use Rattle.suite_top.specs.Load.{at_once}
 use Rattle.suite_top.specs.Run.{fault_ending, booted_ending, brought_ending, files_ending, items_outcome, manifest_outcome, start_line, opening}

@@ -2,7 +2,7 @@
 ghost use Rattle.std.specs.Prelude.{◌≡◌, IfOk, IsErr, string_bytes};
 ghost use Rattle.suite_top.specs.Texts.{refused_line};
 ghost use Rattle.suite_top.specs.Texts.Refusals.{manifest_fault_words, manifest_tail, line_fault_words, line_tail};
-ghost use Rattle.run_setup.specs.Making.{IsMemory};
+ghost use Rattle.run_setup.specs.Faults.{IsMemory};
 
 use crate::texts::listing::flat_tail;
 use crate::texts::{conversion_tail, refused};

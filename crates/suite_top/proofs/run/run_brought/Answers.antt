@@ -5,7 +5,8 @@ use Rattle.page_runs.specs.Choosers.{kind_of}
 use Rattle.manifest_text.specs.Values.{start_value, manifest_value}
 use Rattle.manifest_text.specs.Laws.{HasArgument}
 use Rattle.run_setup.specs.Brought.{FaultAt}
-use Rattle.run_setup.specs.Making.{IsMemory, brought_value}
+use Rattle.run_setup.specs.Faults.{IsMemory}
+use Rattle.run_setup.specs.Making.{brought_value}
 use Rattle.suite_top.specs.Ending.{OrMemory}
 use Rattle.suite_top.specs.Answer.{ending_of}
 use Rattle.suite_top.specs.Run.{opening, fault_ending}
