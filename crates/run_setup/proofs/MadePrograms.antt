@@ -1,5 +1,5 @@
 -- The program of one line.
-use Rattle.std.proofs.Common.{◌≡◌, ℕ, ◌≤◌, Fits, w8, get_or, List, Some, None, Result, Ok, Err, sym, ap, subst, ◌∙◌, arith, inl, inr}
+use Rattle.std.proofs.Common.{◌≡◌, ℕ, ◌≤◌, Fits, w8, get_or, List, Some, None, Ok, Err, sym, ap, subst, ◌∙◌, arith, inl, inr}
 use Rattle.std.specs.Prelude.{◌⊎◌}
 use Rattle.byte_words.specs.Numbers.{IsBytes}
 use Rattle.bflt_format.specs.declared.fault.FlatFault.{FlatFault}
@@ -13,7 +13,6 @@ use Rattle.elf2flt_tool.specs.declared.refusal.Refusal.TheVariants as refusal
 use Rattle.elf2flt_tool.specs.Fault.{fault}
 use Rattle.elf2flt_tool.specs.Converted.{converted, flat}
 use Rattle.flat_loader.specs.Original.{Original, flat_original}
-use Rattle.run_setup.specs.declared.fault.LineFault.{LineFault}
 use Rattle.run_setup.specs.declared.fault.LineFault.TheVariants as line
 use Rattle.run_setup.specs.Originals.{elf_original}
 use Rattle.run_setup.specs.Brought.{elf_made, elf_made_of, flat_made, flat_made_of}

@@ -1,10 +1,10 @@
 -- What a few lines bring in, computed from the definitions.
-use Rattle.std.proofs.Common.{◌≡◌, ℕ, List, [], ◌∷◌, None, Result, Ok, Err, refl}
+use Rattle.std.proofs.Common.{◌≡◌, ℕ, List, [], ◌∷◌, Result, Ok, Err, refl}
 use Rattle.std.specs.Prelude.{codes}
 use Rattle.byte_words.specs.Pieces.{pieces}
 use Rattle.call_log.specs.declared.errno.Errno.TheVariants.{Enoent, Eexist, Enotdir}
-use Rattle.mem_files.specs.Inodes.{Inodes, bytes_of}
-use Rattle.mem_files.specs.Paths.{names, is_too_long, walked, place_of, id_in}
+use Rattle.mem_files.specs.Inodes.{bytes_of}
+use Rattle.mem_files.specs.Paths.{names, is_too_long, walked, place_of}
 use Rattle.mem_files.specs.Changes.{with_folder, with_file}
 use Rattle.manifest_text.specs.declared.manifest.ItemKind.{ItemKind}
 use Rattle.manifest_text.specs.declared.manifest.ItemKind.TheVariants.{File, Dir, Stdin}

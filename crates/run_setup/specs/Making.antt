@@ -1,5 +1,5 @@
 -- What the code brings in, as that of the definition.
-use Rattle.std.specs.Prelude.{◌≡◌, ◌⊎◌, ⊤, ℕ, ◌+◌, ◌≤◌, List, drop, length, Vec, Result, Ok, Err}
+use Rattle.std.specs.Prelude.{◌≡◌, ◌⊎◌, ⊤, ℕ, ◌+◌, ◌≤◌, List, drop, length, Result, Ok, Err}
 use Rattle.call_log.specs.Programs.{paths_of}
 use Rattle.machine_world.specs.Programs.{programs_of}
 use Rattle.manifest_text.specs.Values.{Item}

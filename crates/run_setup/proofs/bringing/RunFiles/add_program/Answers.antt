@@ -1,5 +1,5 @@
 -- The place is refused, or the program stands behind the others.
-use Rattle.std.proofs.Common.{◌≡◌, length, rules, refl, ◌∙◌}
+use Rattle.std.proofs.Common.{◌≡◌, length, rules, refl}
 use Rattle.run_setup.proofs.OneLine.{program_refused, program_added, paths_more}
 use Rattle.run_setup.proofs.bringing.RunFiles.add_program.Goals as goal
 
