@@ -11,10 +11,9 @@ use Rattle.std.proofs.lemmas.Bool.{false≢true}
 use Rattle.vfork_exec.proofs.Keyed.{eqb_other}
 use Rattle.machine_world.specs.Asks.{Ask, arg, replies, answers, refuses, view_of, with_view}
 use Rattle.machine_world.specs.Descriptors.{ioctl_row}
-use Rattle.machine_world.specs.Rows.{yield_row, brk_row, next_brk, asks_pid, row}
+use Rattle.machine_world.specs.Rows.{yield_row, brk_row, asks_pid, row}
 use Rattle.file_calls.specs.declared.call.Call.{Call}
 use Rattle.file_calls.specs.Calls.{MadeBy, is_change, is_output}
-use Rattle.syscall_layer.specs.declared.effect.Effect.{Effect}
 use Rattle.syscall_layer.specs.declared.effect.Effect.TheVariants.{Answer, Yield, Break}
 use Rattle.syscall_layer.specs.Calls.{reply_of}
 use Rattle.syscall_layer.proofs.Counts.{eqb_is}

@@ -1,10 +1,7 @@
 -- What is kept after a call that has its reply, by what the code did.
-use Rattle.std.proofs.Common.{◌≡◌, ◌≢◌, ℕ, true, false, List, [], ◌∷◌, length, map, Some, Ok, Err, refl, sym, ap, subst, ◌∙◌}
+use Rattle.std.proofs.Common.{◌≡◌, ℕ, true, false, List, [], ◌∷◌, length, Some, Ok, refl, sym, ap, subst, ◌∙◌}
 use Rattle.std.specs.Prelude.{Bool, not, option_map, Option, slice_get, slice_set}
-use Rattle.byte_words.specs.ByteMap.{Bytes}
-use Rattle.call_log.specs.declared.note.Got.{Got}
-use Rattle.call_log.specs.Values.{written_value}
-use Rattle.call_log.specs.Notes.{Written, Note}
+use Rattle.call_log.specs.Notes.{Note}
 use Rattle.mmap_rules.specs.declared.owners.PageOwner.{PageOwner}
 use Rattle.mmap_rules.specs.Space.{own_in, writable_in}
 use Rattle.mmap_rules.specs.Held.{Held, next_brk}
@@ -21,17 +18,16 @@ use Rattle.machine_world.specs.Rows.{row}
 use Rattle.machine_world.specs.Event.{put_got, replied}
 use Rattle.file_calls.specs.declared.call.Call.{Call}
 use Rattle.file_calls.specs.declared.outcome.Outcome.{Outcome as Output}
-use Rattle.file_calls.specs.Calls.{MadeBy, IsRest, with_all, Changes as FilesChange, after, written_of}
+use Rattle.file_calls.specs.Calls.{IsRest, with_all, after, written_of}
 use Rattle.syscall_layer.specs.declared.task.Task.{Task}
 use Rattle.syscall_layer.specs.declared.effect.Effect.{Effect}
 use Rattle.syscall_layer.specs.declared.effect.Effect.TheVariants.{Answer, Yield, Break}
 use Rattle.syscall_layer.specs.Kept.{Kept}
 use Rattle.syscall_layer.specs.Regular.{Regular}
-use Rattle.syscall_layer.specs.Stands.{About, private_bytes, world_of, OthersSame}
+use Rattle.syscall_layer.specs.Stands.{About, private_bytes, world_of}
 use Rattle.syscall_layer.specs.Puts.{Put}
-use Rattle.syscall_layer.specs.Calls.{RunsIn, IsCall, ask_in, reply_of, value_of, brk_of, noted_call, after_reply, Changed, given, Gave}
+use Rattle.syscall_layer.specs.Calls.{RunsIn, IsCall, ask_in, reply_of, value_of, brk_of, noted_call, after_reply, Changed, Gave}
 use Rattle.syscall_layer.proofs.Apart.{others_keep}
-use Rattle.syscall_layer.proofs.Outcomes.{made_by}
 use Rattle.syscall_layer.proofs.Runs.{runs_in, has_space}
 use Rattle.syscall_layer.proofs.Settled.{regular_replied}
 use Rattle.syscall_layer.proofs.Stays.{set_kept}

@@ -1,5 +1,5 @@
 -- The ranges that a call gives are ranges that an access can have.
-use Rattle.std.proofs.Common.{◌≡◌, ◌≢◌, ℕ, zero, suc, ◌+◌, ◌-◌, ◌*◌, ◌^◌, ◌<◌, ◌≤◌, min, length, take, drop, map, Bool, true, false, List, [], ◌∷◌, Option, Some, None, Ok, inl, inr, arith, refl, sym, ap, subst, ◌∙◌, length-take, length-drop}
+use Rattle.std.proofs.Common.{◌≡◌, ℕ, ◌+◌, ◌*◌, ◌^◌, ◌<◌, min, length, take, drop, map, Bool, true, false, List, [], ◌∷◌, Option, Some, None, inl, inr, arith, refl, sym, ap, subst, ◌∙◌, length-take, length-drop}
 use Rattle.std.specs.Prelude.{◌==◌, slice_index, nat_lt, sum, All, if◌then◌else◌}
 use Rattle.std.specs.List.{range_with_len}
 use Rattle.std.proofs.lemmas.Bool.{false≢true}
@@ -16,10 +16,9 @@ use Rattle.fd_tables.specs.declared.view.View.{View}
 use Rattle.fd_tables.specs.declared.view.Target.{Target}
 use Rattle.fd_tables.specs.declared.view.Target.TheVariants.{Console, Node as a_node}
 use Rattle.fd_tables.specs.Files.{OpenFiles}
-use Rattle.fd_tables.specs.Changes.{moved, taken}
-use Rattle.machine_world.specs.Asks.{Ask, arg, Row, replies, waits, gives, refuses, view_of, with_view, with_files}
-use Rattle.machine_world.specs.Descriptors.{position_from, base_of, sought, seek_row, llseek_row, Listing, listing, written_at, is_short, listed, list_row, folder_row, dents_row, getdents_row}
-use Rattle.machine_world.specs.Transfers.{scattered, moved_bytes, read_reply, node_read, target_read, read_into, read_row, readv_row}
+use Rattle.machine_world.specs.Asks.{Ask, arg, Row, replies, waits, refuses, view_of, with_view}
+use Rattle.machine_world.specs.Descriptors.{position_from, base_of, sought, seek_row, llseek_row, listing, written_at, is_short, listed, list_row, folder_row, dents_row, getdents_row}
+use Rattle.machine_world.specs.Transfers.{scattered, moved_bytes, node_read, target_read, read_into, read_row, readv_row}
 use Rattle.machine_world.specs.Rows.{row}
 use Rattle.page_runs.specs.declared.place.Kind.TheVariants.{First}
 use Rattle.file_calls.specs.declared.call.Call.{Call}

@@ -1,14 +1,13 @@
 -- Small facts of a call's reply and of an end.
-use Rattle.std.proofs.Common.{◌≡◌, ℕ, ◌+◌, ◌<◌, ◌≤◌, Bool, true, false, List, length, Option, Some, None, refl, sym, ap, subst, ◌∙◌, arith, length-drop}
-use Rattle.std.specs.Prelude.{◌^◌, ◌&&◌, nat_le, slice_get, slice_set, map, sum, Vec}
-use Rattle.std.proofs.lemmas.Bool.Decides.{nat_tests}
+use Rattle.std.proofs.Common.{◌≡◌, ℕ, Bool, List, length, Option, Some, None, refl, sym, ap, subst, ◌∙◌}
+use Rattle.std.specs.Prelude.{slice_get, slice_set, Vec}
 use Rattle.std.specs.Vec.{with_items}
 use Rattle.std.proofs.lemmas.List.{with_items_is, length-set}
-use Rattle.call_log.specs.Notes.{Note, calls_in, bytes_in, has_room, most_calls, most_bytes}
+use Rattle.call_log.specs.Notes.{Note, has_room}
 use Rattle.mmap_rules.specs.Held.{Held}
 use Rattle.mem_files.specs.Inodes.{Inodes}
 use Rattle.fd_tables.specs.Files.{OpenFiles}
-use Rattle.fd_tables.specs.Changes.{Storage, storage, without_table}
+use Rattle.fd_tables.specs.Changes.{storage, without_table}
 use Rattle.mmap_rules.specs.Held.{CanRelease, released}
 use Rattle.nommu_regions.specs.declared.region.Region.{Region}
 use Rattle.rv32im_step.specs.declared.regs.Regs.{Regs}

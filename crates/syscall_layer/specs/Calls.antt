@@ -1,5 +1,5 @@
 -- A system call by its parts, and what the parts of a run are after it.
-use Rattle.std.specs.Prelude.{◌≡◌, ℕ, Bool, true, false, List, [], ◌∷◌, map, Some, Result, Ok, Err, ⊤, ◌%◌, slice_index, slice_get, slice_set}
+use Rattle.std.specs.Prelude.{◌≡◌, ℕ, true, false, List, [], ◌∷◌, Some, Result, Ok, Err, ⊤, ◌%◌, slice_index, slice_get, slice_set}
 use Rattle.std.specs.declared.alloc.AllocError.{AllocError}
 use Rattle.call_log.specs.Notes.{Written, Note, call_note, end_note}
 use Rattle.call_log.specs.Sent.{sent}

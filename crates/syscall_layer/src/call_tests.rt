@@ -4,6 +4,8 @@ ghost use Rattle.vfork_exec.specs.Procs.{Lives};
 
 use super::*;
 use bflt_format::Flat;
+use fd_tables::Files;
+use mem_files::Tree;
 use page_runs::{Chooser, Kind, Run, first_fit};
 use rv32im_step::{Access, AccessKind};
 use std::test::*;
@@ -21,6 +23,9 @@ const HI: [u8; 96] = [
 /// The address of the text.
 const TEXT: u32 = 0x8000_0040;
 
+/// AT_FDCWD, -100.
+const HERE: u32 = 0xffff_ff9c;
+
 /// A memory of two pages in which process 1 has started.
 fn begun(rt: HostRuntime) -> Result<Parts, Fail> {
     let flat = Flat::read(rt.alloc(), &HI)?;
@@ -28,7 +33,9 @@ fn begun(rt: HostRuntime) -> Result<Parts, Fail> {
     let chooser = Chooser::new(Kind::First, |runs: &[Run], need: u32| {
         first_fit(runs, need)
     });
-    let mut parts = Parts::new(rt.alloc(), 2)?;
+    let tree = Tree::new(rt.alloc())?;
+    let files = Files::new(rt.alloc(), Vec::from_slice(rt.alloc(), b"in")?)?;
+    let mut parts = Parts::new(rt.alloc(), 2, tree, files)?;
     if parts.start(0, &flat, &args, &chooser).is_err() {
         return Err(Fail::from("not started"));
     }
@@ -93,6 +100,42 @@ fn calls_are_answered(rt: HostRuntime) -> Result<(), Fail> {
     }
     assert_eq!(rt; parts.console.as_slice(), b"hi".as_slice());
     assert_eq!(rt; parts.log.notes().len(), 9);
+    Ok(())
+}
+
+/// A file comes, is written and read; the last row strays, and reads nothing.
+#[test]
+fn files_are_written_and_read(rt: HostRuntime) -> Result<(), Fail> {
+    let mut parts = begun(rt)?;
+    let stray = Access {
+        pc: TEXT + 44,
+        addr: 64,
+        len: 1,
+        kind: AccessKind::Call,
+    };
+    for (number, args, served, value) in [
+        (56, [HERE, TEXT, 0], Served::Replied, Some(0xffff_fffe)),
+        (56, [HERE, TEXT, 0x42], Served::Replied, Some(3)),
+        (64, [3, TEXT, 2], Served::Replied, Some(2)),
+        (23, [3, 0, 0], Served::Replied, Some(4)),
+        (63, [4, TEXT + 8, 2], Served::Replied, Some(0)),
+        (56, [HERE, TEXT, 0], Served::Replied, Some(5)),
+        (63, [5, TEXT + 8, 9], Served::Replied, Some(2)),
+        (64, [1, TEXT + 8, 2], Served::Replied, Some(2)),
+        (57, [5, 0, 0], Served::Replied, Some(0)),
+        (29, [5, 0, 0], Served::Replied, Some(0xffff_fff7)),
+        (29, [0, 0, 0], Served::Replied, Some(0xffff_ffe7)),
+        (63, [0, 64, 1], Served::Stray(stray), Some(0)),
+    ] {
+        assert_eq!(rt;
+            call(&mut parts, number, args)?,
+            (Some(served), value),
+            "{number}"
+        );
+    }
+    assert_eq!(rt; parts.console.as_slice(), b"hi".as_slice());
+    assert_eq!(rt; parts.files.stdin_left(), b"in".as_slice());
+    assert_eq!(rt; parts.log.notes().len(), 12);
     Ok(())
 }
 

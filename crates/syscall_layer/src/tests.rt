@@ -2,6 +2,8 @@ ghost use Rattle.std.specs.Prelude.{◌≤◌};
 
 use super::*;
 use bflt_format::Flat;
+use fd_tables::Files;
+use mem_files::Tree;
 use page_runs::{Chooser, Kind, Run, first_fit};
 use std::test::*;
 
@@ -29,7 +31,9 @@ fn started(
     let chooser = Chooser::new(Kind::First, |runs: &[Run], need: u32| {
         first_fit(runs, need)
     });
-    let mut parts = Parts::new(rt.alloc(), pages)?;
+    let tree = Tree::new(rt.alloc())?;
+    let files = Files::new(rt.alloc(), Vec::new(rt.alloc()))?;
+    let mut parts = Parts::new(rt.alloc(), pages, tree, files)?;
     if let Err(refusal) = parts.start(0, &flat, &args, &chooser) {
         return Ok(Err(refusal));
     }

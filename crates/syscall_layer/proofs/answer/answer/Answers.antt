@@ -1,5 +1,5 @@
 -- Each class of calls.
-use Rattle.std.proofs.Common.{refl, sym, ap, ◌∙◌}
+use Rattle.std.proofs.Common.{sym, ap, ◌∙◌}
 use Rattle.syscall_layer.specs.Kept.{Kept}
 use Rattle.syscall_layer.specs.Calls.{ask_in}
 use Rattle.syscall_layer.proofs.Outcomes.{made_by, files_in, exit_classed, row_classed, effect_classed}

@@ -1,5 +1,5 @@
 -- The bytes stray, find no room, or are given.
-use Rattle.std.proofs.Common.{◌≡◌, List, Option, Some, None, true, false, length, refl, sym, ap, ◌∙◌}
+use Rattle.std.proofs.Common.{List, true, false, refl, sym, ap, ◌∙◌}
 use Rattle.std.specs.Prelude.{map, option_map}
 use Rattle.std.proofs.lemmas.Result.{err_from_is_err_and}
 use Rattle.call_log.specs.declared.note.Got.{Got}
@@ -7,7 +7,6 @@ use Rattle.call_log.specs.Notes.{weight_of, has_room}
 use Rattle.call_log.specs.Values.{written_value}
 use Rattle.mmap_rules.specs.Space.{writable_in}
 use Rattle.file_calls.specs.Calls.{written_of}
-use Rattle.syscall_layer.specs.Kept.{Kept}
 use Rattle.syscall_layer.specs.Inside.{kept_of}
 use Rattle.syscall_layer.specs.Puts.{first_stray, access_at}
 use Rattle.syscall_layer.specs.Calls.{ask_in}

@@ -1,6 +1,6 @@
 -- A count of bytes that is cut has no room either.
 use Rattle.std.proofs.Common.{◌≡◌, ◌+◌, ◌-◌, ◌^◌, min, length, map, ap, ◌∙◌, arith}
-use Rattle.call_log.specs.Notes.{has_room, weight_of}
+use Rattle.call_log.specs.Notes.{has_room}
 use Rattle.call_log.specs.Values.{written_value}
 use Rattle.call_log.proofs.Room.{many_bytes}
 use Rattle.syscall_layer.specs.Puts.{bytes_of}

@@ -1,5 +1,5 @@
 -- Which ranges there are follows from the row.
-use Rattle.std.proofs.Common.{◌≡◌, Ok, Err}
+use Rattle.std.proofs.Common.{Ok, Err}
 use Rattle.std.specs.Prelude.{Result, IfOk, All, slice_index, ◌<◌, ◌^◌}
 use Rattle.std.specs.declared.alloc.AllocError.{AllocError}
 use Rattle.mem_files.specs.Inodes.{Inodes}

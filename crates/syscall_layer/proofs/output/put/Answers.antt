@@ -1,5 +1,5 @@
 -- Each range is written in its turn.
-use Rattle.std.proofs.Common.{◌≡◌, ◌+◌, ◌-◌, map, drop, ◌^◌, ℕ, List, length, sym, ap, subst, ◌∙◌, arith}
+use Rattle.std.proofs.Common.{◌+◌, ◌-◌, map, drop, ◌^◌, ℕ, List, length, sym, ap, subst, ◌∙◌, arith}
 use Rattle.byte_words.specs.Patches.{laid}
 use Rattle.call_log.specs.Values.{written_value}
 use Rattle.syscall_layer.proofs.Puts.{parts_at, range_at, range_within, Putting, putting_on}

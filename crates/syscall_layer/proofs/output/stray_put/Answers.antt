@@ -1,5 +1,5 @@
 -- A range is shorter than there are addresses.
-use Rattle.std.proofs.Common.{◌∙◌, arith}
+use Rattle.std.proofs.Common.{arith}
 use Rattle.std.proofs.Math.Facts.{Fits-of_lt}
 use Rattle.syscall_layer.proofs.Puts.{range_at}
 use Rattle.syscall_layer.proofs.output.stray_put.Goals as goal

@@ -1,7 +1,6 @@
 -- What the call of each number reads.
-use Rattle.std.proofs.Common.{◌≢◌, List, [], Ok, sym, ap, subst, ◌∙◌, arith}
+use Rattle.std.proofs.Common.{◌≢◌, List, Ok, sym, ap, subst, ◌∙◌, arith}
 use Rattle.std.specs.Prelude.{ℕ, Result}
-use Rattle.std.specs.declared.alloc.Global.{Global}
 use Rattle.call_log.specs.Sent.{Span}
 use Rattle.syscall_layer.specs.Stands.{private_bytes}
 use Rattle.syscall_layer.specs.Reading.{Reads}

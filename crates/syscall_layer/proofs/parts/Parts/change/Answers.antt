@@ -1,9 +1,7 @@
 -- The files are changed, and the call has its reply.
-use Rattle.std.proofs.Common.{List, ◌∷◌, [], refl, sym, ap, subst, ◌∙◌}
-use Rattle.std.specs.Prelude.{map, Err}
+use Rattle.std.proofs.Common.{◌∷◌, refl, sym, subst, ◌∙◌}
+use Rattle.std.specs.Prelude.{map}
 use Rattle.std.proofs.lemmas.Result.{err_from_is_err_and}
-use Rattle.call_log.specs.declared.note.Got.{Got}
-use Rattle.call_log.specs.Notes.{Note}
 use Rattle.call_log.specs.Values.{written_value}
 use Rattle.vfork_exec.specs.Procs.{Lives}
 use Rattle.syscall_layer.specs.Kept.{Kept}

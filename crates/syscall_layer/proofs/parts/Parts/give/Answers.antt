@@ -1,9 +1,8 @@
 -- The bytes are given, and the call has its reply.
-use Rattle.std.proofs.Common.{◌≡◌, List, Option, ◌∷◌, Ok, Some, refl, sym, ap, subst, ◌∙◌}
-use Rattle.std.specs.Prelude.{ℕ, map, slice_get}
+use Rattle.std.proofs.Common.{◌≡◌, List, Option, ◌∷◌, sym, ap, subst, ◌∙◌}
+use Rattle.std.specs.Prelude.{map, slice_get}
 use Rattle.mmap_rules.specs.Held.{Held}
 use Rattle.mmap_rules.specs.Space.{own_in, writable_in}
-use Rattle.mmap_rules.specs.Owners.{owns}
 use Rattle.call_log.specs.declared.note.Got.{Got}
 use Rattle.call_log.specs.Notes.{Note}
 use Rattle.call_log.specs.Values.{written_value}

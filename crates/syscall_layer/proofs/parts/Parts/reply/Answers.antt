@@ -1,5 +1,5 @@
 -- The break may move, and the call has its reply.
-use Rattle.std.proofs.Common.{◌≡◌, List, Option, ◌∷◌, refl, Ok, sym, ap, subst, ◌∙◌}
+use Rattle.std.proofs.Common.{◌≡◌, List, Option, ◌∷◌, Ok, sym, ap, subst, ◌∙◌}
 use Rattle.std.specs.Prelude.{ℕ, map, slice_get, slice_set, Some}
 use Rattle.std.specs.Vec.{with_items}
 use Rattle.call_log.specs.Values.{written_value}
