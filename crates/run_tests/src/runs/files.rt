@@ -124,7 +124,10 @@ stop done events 150
             [0, 0x8000_0050, 9, 0, 0, 0, 63],
             [0, 0, 0, 0, 0, 0, 93],
         ],
-        files: &[("x", Content::Bytes(b"abc")), ("i", Content::Bytes(b"input"))],
+        files: &[
+            ("x", Content::Bytes(b"abc")),
+            ("i", Content::Bytes(b"input")),
+        ],
         manifest: "flat /p p\nfile /f x\nstdin i\nstart /p\nquanta 0:1000\n",
         out: "inbc",
         report: "load 1 /p base 0x80000000 pages 2
