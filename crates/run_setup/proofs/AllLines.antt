@@ -1,5 +1,5 @@
 -- The lines one after the other.
-use Rattle.std.proofs.Common.{◌≡◌, ℕ, ◌+◌, ◌≤◌, List, [], ◌∷◌, length, drop, length-drop, Result, Ok, Err, sym, ap, ◌∙◌, arith, inl, inr}
+use Rattle.std.proofs.Common.{◌≡◌, ℕ, ◌+◌, ◌≤◌, List, ◌∷◌, length, drop, length-drop, Result, Ok, Err, sym, ap, ◌∙◌, arith, inl, inr}
 use Rattle.std.specs.Prelude.{◌⊎◌}
 use Rattle.std.proofs.lemmas.List.{drop_all}
 use Rattle.manifest_text.specs.Values.{Item}
@@ -7,7 +7,7 @@ use Rattle.run_setup.specs.declared.fault.LineFault.{LineFault}
 use Rattle.run_setup.specs.declared.bringing.RunFiles.{RunFiles}
 use Rattle.run_setup.specs.Brought.{Brought, FaultAt, brought, then_brought, all_brought, nothing_brought}
 use Rattle.run_setup.specs.Faults.{IsMemory}
-use Rattle.run_setup.specs.Making.{HasPaths, brought_value, Added, BroughtSoFar}
+use Rattle.run_setup.specs.Making.{brought_value, Added, BroughtSoFar}
 
 -- before the first line
 pub begins : (items : List Item) (files : List (List ℕ)) (run : RunFiles) → brought_value run ≡ nothing_brought → (length run.paths.items ≡ 0) × (length run.flats.items ≡ 0)

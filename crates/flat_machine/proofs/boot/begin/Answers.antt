@@ -1,15 +1,13 @@
 -- The start of the program to which the path leads.
-use Rattle.std.proofs.Common.{◌≡◌, ◌<◌, ◌≤◌, length, nat_lt, refl, sym, ap, ◌∙◌, arith}
+use Rattle.std.proofs.Common.{◌<◌, ◌≤◌, length, refl, sym, ap, ◌∙◌, arith}
 use Rattle.std.proofs.lemmas.Bool.Decides.{nat_tests}
 use Rattle.page_runs.specs.Choosers.{kind_of}
 use Rattle.flat_loader.specs.Original.{flat_original}
-use Rattle.mem_files.specs.Paths.{lookup}
 use Rattle.machine_world.specs.World.{Rest}
 use Rattle.machine_world.specs.Boot.{found}
 use Rattle.syscall_layer.specs.Kept.{Kept}
 use Rattle.syscall_layer.specs.Stands.{world_of}
 use Rattle.flat_machine.specs.State.{line_of, about_boot}
-use Rattle.flat_machine.specs.Boots.{marked}
 use Rattle.flat_machine.proofs.Found.{rest_tree, rest_programs, program_found, program_past, program_none, path_is, stands_at, none_stands, no_program, program_begins, program_too_big, program_no_run}
 use Rattle.flat_machine.proofs.boot.begin.Goals as goal
 
