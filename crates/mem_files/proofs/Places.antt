@@ -2,13 +2,12 @@
 use Rattle.std.proofs.Common.{◌≡◌, ℕ, Bool, true, false, cond, List, [], ◌∷◌, length, Option, None, Some, Result, Ok, Err, refl, sym, ap, subst, ◌∙◌}
 use Rattle.std.specs.Prelude.{◌==◌, ⊤}
 use Rattle.call_log.specs.declared.errno.Errno.{Errno as log}
-use Rattle.call_log.specs.declared.errno.Errno.TheVariants.{Enoent, Eexist, Einval, Enotempty}
-use Rattle.mem_files.specs.declared.node.Node.{Node}
-use Rattle.mem_files.specs.declared.node.Node.TheVariants.{Dir, File}
+use Rattle.call_log.specs.declared.errno.Errno.TheVariants.{Enoent, Eexist, Einval}
+use Rattle.mem_files.specs.declared.node.Node.TheVariants.{Dir}
 use Rattle.mem_files.specs.Inodes.{Inodes, Content, file, folder, inode_at, content_in, entries_in, kind_in, kind_of, size_of, entries_of}
 use Rattle.mem_files.specs.Paths.{Place, start, names, named, is_too_long, looked_up, next_place, then_walked, walked, place_of}
-use Rattle.mem_files.specs.Changes.{made_at, made_in, unnamed, unnamed_as, unnamed_at, may_be_entry}
-use Rattle.mem_files.specs.Walks.{vacant_at, vacant_in, may_go_as}
+use Rattle.mem_files.specs.Changes.{made_at, made_in, naming_fault, unless_fault, unnamed, unnamed_at, may_be_entry}
+use Rattle.mem_files.specs.Walks.{vacant_at, vacant_in}
 use Rattle.mem_files.proofs.Walking.{before, place_by}
 
 -- nothing there has the name
@@ -102,16 +101,9 @@ gone_invalid dir ns r p e bad = sym (ap (unnamed_at dir ns) e ∙ (rw bad refl))
 pub gone_missing : (dir : Bool) (ns : Inodes) (r : Result Place log) (p : Place) → r ≡ Ok p → may_be_entry p.name ≡ true → p.id ≡ None → Err Enoent ≡ unnamed_at dir ns r
 gone_missing dir ns r p e good none = sym (ap (unnamed_at dir ns) e ∙ (rw (good, none) refl))
 
-pub gone_as : (dir : Bool) (ns : Inodes) (r : Result Place log) (p : Place) (id : ℕ) → r ≡ Ok p → may_be_entry p.name ≡ true → p.id ≡ Some id → unnamed_as dir (kind_of ns id) ns p id ≡ unnamed_at dir ns r
+pub gone_as : (dir : Bool) (ns : Inodes) (r : Result Place log) (p : Place) (id : ℕ) → r ≡ Ok p → may_be_entry p.name ≡ true → p.id ≡ Some id → unless_fault (naming_fault dir (kind_of ns id) (size_of ns id)) (unnamed ns p id) ≡ unnamed_at dir ns r
 gone_as dir ns r p id e good some = sym (ap (unnamed_at dir ns) e ∙ (rw (good, some) refl))
 
-cases : (ns : Inodes) (p : Place) (id : ℕ) (empty : Bool) (r : Result ⊤ log) → cond empty (Ok tt) (Err Enotempty) ≡ r
-    → goes_as r (unnamed ns p id) ≡ cond empty (Ok (unnamed ns p id)) (Err Enotempty)
-cases ns p id true r e = ap (λ x. goes_as x (unnamed ns p id)) (sym e)
-cases ns p id false r e = ap (λ x. goes_as x (unnamed ns p id)) (sym e)
-
-pub goes : (dir : Bool) (kind : Node) (ns : Inodes) (p : Place) (id : ℕ) (r : Result ⊤ log) → r ≡ may_go_as dir kind (size_of ns id) → goes_as r (unnamed ns p id) ≡ unnamed_as dir kind ns p id
-goes false Dir ns p id r e = ap (λ x. goes_as x (unnamed ns p id)) e
-goes true Dir ns p id r e = cases ns p id (size_of ns id == 0) r (sym e)
-goes true File ns p id r e = ap (λ x. goes_as x (unnamed ns p id)) e
-goes false File ns p id r e = ap (λ x. goes_as x (unnamed ns p id)) e
+pub goes : (fault : Option log) (ns : Inodes) (r : Result ⊤ log) → r ≡ unless_fault fault tt → goes_as r ns ≡ unless_fault fault ns
+goes None ns r e = ap (λ x. goes_as x ns) e
+goes (Some errno) ns r e = ap (λ x. goes_as x ns) e

@@ -112,19 +112,23 @@ without_link ns id = with_change (λ n. kept (record n { linked = false })) ns i
 abbrev pub unnamed : Inodes → Place → ℕ → Inodes
 unnamed ns p id = without_link (without_entry ns p.folder p.name) id
 
--- a folder goes only by `rmdir`, and only where it is empty; a file only by `unlink`
-abbrev pub unnamed_as : Bool → Node → Inodes → Place → ℕ → Result Inodes Errno
-unnamed_as false Dir ns p id = Err Eisdir
-unnamed_as true Dir ns p id = if size_of ns id == 0 then Ok (unnamed ns p id) else Err Enotempty
-unnamed_as true File ns p id = Err Enotdir
-unnamed_as false File ns p id = Ok (unnamed ns p id)
+-- why a node's name may not go: that of a folder goes only by `rmdir`, and only where it is empty; that of a file only by `unlink`
+abbrev pub naming_fault : Bool → Node → ℕ → Option Errno
+naming_fault false Dir size = Some Eisdir
+naming_fault true Dir size = if size == 0 then None else Some Enotempty
+naming_fault true File size = Some Enotdir
+naming_fault false File size = None
+
+abbrev pub unless_fault : {A : Type 0} → Option Errno → A → Result A Errno
+unless_fault (Some errno) x = Err errno
+unless_fault None x = Ok x
 
 abbrev pub unnamed_at : Bool → Inodes → Result Place Errno → Result Inodes Errno
 unnamed_at dir ns (Err errno) = Err errno
 unnamed_at dir ns (Ok p) = if may_be_entry p.name then by_id p.id else Err Einval
   where
     by_id : Option ℕ → Result Inodes Errno
-    by_id (Some id) = unnamed_as dir (kind_of ns id) ns p id
+    by_id (Some id) = unless_fault (naming_fault dir (kind_of ns id) (size_of ns id)) (unnamed ns p id)
     by_id None = Err Enoent
 
 unfoldable pub unlinked : Inodes → List ℕ → Bool → Result Inodes Errno

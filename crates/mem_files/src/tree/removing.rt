@@ -2,9 +2,9 @@
 
 ghost use Rattle.std.specs.Prelude.{◌≡◌};
 ghost use Rattle.mem_files.specs.Calls.{Changes};
-ghost use Rattle.mem_files.specs.Changes.{unlinked, unnamed, without_entry, without_link, may_be_entry};
+ghost use Rattle.mem_files.specs.Changes.{unlinked, unnamed, without_entry, without_link, may_be_entry, naming_fault, unless_fault};
 ghost use Rattle.mem_files.specs.Inodes.{kind_of, size_of};
-ghost use Rattle.mem_files.specs.Walks.{place_value, may_go_as};
+ghost use Rattle.mem_files.specs.Walks.{place_value};
 
 use super::Tree;
 use crate::node::Node;
@@ -30,7 +30,7 @@ impl Tree {
 
     /// Whether a node's name may go: that of an empty folder, if `dir`, or of a file.
     fn may_go(&self, id: u32, dir: bool) -> Result<(), Errno>
-        ensures { result ≡ may_go_as dir (kind_of self.now id) (size_of self.now id) }
+        ensures { result ≡ unless_fault (naming_fault dir (kind_of self.now id) (size_of self.now id)) tt }
     {
         match (self.kind(id), dir) {
             (Node::Dir, false) => Err(Errno::Eisdir),

@@ -1,11 +1,11 @@
 -- The refusals one after the other, and then the name goes.
 use Rattle.std.proofs.Common.{◌≡◌, true, false, Ok, Err, refl, sym, ap, subst, ◌∙◌, rules}
 use Rattle.call_log.specs.declared.errno.Errno.TheVariants.{Enoent, Einval}
-use Rattle.mem_files.specs.Inodes.{kind_of}
+use Rattle.mem_files.specs.Inodes.{kind_of, size_of}
 use Rattle.mem_files.specs.Paths.{place_of}
 use Rattle.mem_files.specs.Walks.{place_value, place_answer}
 use Rattle.mem_files.specs.Calls.{Changes}
-use Rattle.mem_files.specs.Changes.{unlinked, unnamed, may_be_entry}
+use Rattle.mem_files.specs.Changes.{unlinked, unnamed, naming_fault, may_be_entry}
 use Rattle.mem_files.proofs.Places.{gone_refused, gone_invalid, gone_missing, gone_as, goes, goes_as}
 use Rattle.mem_files.proofs.tree.Tree.unlink.Goals as goal
 
@@ -42,7 +42,7 @@ returns-in_err-may_go c =
     let err : c.from_residual-in_err-may_go.result ≡ Err c.in_err-may_go.field-0.0 = search rules in
     let ok = sym c.place.ensures ∙ ap place_answer c.in_ok-place.was in
     let good : may_be_entry c.in_ok-place.place.name.now ≡ true = sym c.may_be_entry.ensures ∙ c.if-not-may_be_entry.false in
-    let so = ap (λ r. goes_as r (unnamed ns p c.in-Some.id)) (sym c.in_err-may_go.was) ∙ goes c.args.dir (kind_of ns c.in-Some.id) ns p c.in-Some.id c.may_go.result c.may_go.ensures ∙ gone_as c.args.dir ns (place_of ns c.args.path.now) p c.in-Some.id ok good c.in-Some.is in
+    let so = ap (λ r. goes_as r (unnamed ns p c.in-Some.id)) (sym c.in_err-may_go.was) ∙ goes (naming_fault c.args.dir (kind_of ns c.in-Some.id) (size_of ns c.in-Some.id)) (unnamed ns p c.in-Some.id) c.may_go.result c.may_go.ensures ∙ gone_as c.args.dir ns (place_of ns c.args.path.now) p c.in-Some.id ok good c.in-Some.is in
     subst (λ r. Changes r ns ns c.from_residual-in_err-may_go.result) so
     (subst (λ r. Changes (Err c.in_err-may_go.field-0.0) ns ns r) (sym err) (refl, refl))
 
@@ -53,5 +53,5 @@ returns c =
     let p = place_value c.in_ok-place.place in
     let ok = sym c.place.ensures ∙ ap place_answer c.in_ok-place.was in
     let good : may_be_entry c.in_ok-place.place.name.now ≡ true = sym c.may_be_entry.ensures ∙ c.if-not-may_be_entry.false in
-    let so = ap (λ r. goes_as r (unnamed ns p c.in-Some.id)) (sym c.in_ok-may_go.was) ∙ goes c.args.dir (kind_of ns c.in-Some.id) ns p c.in-Some.id c.may_go.result c.may_go.ensures ∙ gone_as c.args.dir ns (place_of ns c.args.path.now) p c.in-Some.id ok good c.in-Some.is in
+    let so = ap (λ r. goes_as r (unnamed ns p c.in-Some.id)) (sym c.in_ok-may_go.was) ∙ goes (naming_fault c.args.dir (kind_of ns c.in-Some.id) (size_of ns c.in-Some.id)) (unnamed ns p c.in-Some.id) c.may_go.result c.may_go.ensures ∙ gone_as c.args.dir ns (place_of ns c.args.path.now) p c.in-Some.id ok good c.in-Some.is in
     subst (λ r. Changes r ns c.take_name.new.self (Ok tt)) so c.take_name.ensures
