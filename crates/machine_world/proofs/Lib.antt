@@ -6,7 +6,10 @@
 -- Steps     instructions of one process, one after the other
 -- Loads     the programs that load notes name
 -- Signals   the signals of instructions
--- Beside    what an event leaves of all other processes and spaces
+-- Kept      each change that a row may make outside of the space
+-- ByRows    what holds after each of them holds of what every row leaves
+-- OtherTables  the tables of descriptors beside one that changes
+-- Beside    what an event leaves of all other processes, spaces and tables of descriptors
 mod Samples
 mod FileSamples
 pub mod States
@@ -15,4 +18,7 @@ pub mod RunLaws
 pub mod Steps
 pub mod Loads
 pub mod Signals
+pub mod Kept
+pub mod ByRows
+pub mod OtherTables
 pub mod Beside

@@ -11,7 +11,7 @@
 -- Programs the programs that load notes name
 -- Courses  how far a turn or a run came
 -- Laws     instructions are events, and what a refused call changes
--- Others   what an event leaves of all other processes and spaces
+-- Others   what an event leaves of all other processes, spaces and tables of descriptors
 pub mod World
 pub mod Free
 pub mod Asks

@@ -21,7 +21,8 @@ pub fn refused_calls_law()
     ensures { RefusalsChangeNothingElse }
 {}
 
-/// An event of a process changes that process and its own space, and leaves every other process and space as it was.
+/// An event of a process leaves every other process, space and table of descriptors as it was. Open files, which tables
+/// share, may change.
 pub fn others_law()
     ensures { EventsLeaveOthers }
 {}
