@@ -6,6 +6,7 @@
 -- Programs  the paths of programs, and the notes that have one
 -- Lines     the line of each note
 -- Sent      the bytes that a call reads from its caller's memory
+-- Flags     a flag among others
 pub mod Errno
 pub mod Notes
 pub mod Values
@@ -14,3 +15,4 @@ pub mod Inside
 pub mod Programs
 pub mod Lines
 pub mod Sent
+pub mod Flags

@@ -4,6 +4,7 @@
 #![tactic(auto)]
 
 mod errno;
+mod flags;
 mod how;
 mod laws;
 mod lines;
@@ -11,6 +12,7 @@ mod log;
 mod note;
 
 pub use errno::Errno;
+pub use flags::has_flag;
 pub use how::{How, Seen, SeenKind};
 pub use laws::refusals_are_words;
 pub use lines::line;

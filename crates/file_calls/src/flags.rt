@@ -1,8 +1,9 @@
 //! The flags of calls.
 
 ghost use Rattle.std.specs.Prelude.{◌≡◌, ◌^◌, ◌<◌, ◌==◌, ◌||◌, ◌&&◌, not};
-ghost use Rattle.machine_world.specs.PathCalls.{has, creates, exclusive, truncates, asks_folder, writes, access, way_of};
+ghost use Rattle.machine_world.specs.PathCalls.{creates, exclusive, truncates, asks_folder, writes, access, way_of};
 
+use call_log::has_flag;
 use fd_tables::Way;
 
 /// The flags of openat.
@@ -23,28 +24,28 @@ impl OpenFlags {
     pub fn creates(self) -> bool
         ensures { result ≡ creates self.bits }
     {
-        self.has(6)
+        has_flag(self.bits, 6)
     }
 
     /// O_EXCL
     pub fn is_exclusive(self) -> bool
         ensures { result ≡ exclusive self.bits }
     {
-        self.has(7)
+        has_flag(self.bits, 7)
     }
 
     /// O_TRUNC
     pub fn truncates(self) -> bool
         ensures { result ≡ truncates self.bits }
     {
-        self.has(9)
+        has_flag(self.bits, 9)
     }
 
     /// O_DIRECTORY
     pub fn asks_folder(self) -> bool
         ensures { result ≡ asks_folder self.bits }
     {
-        self.has(16)
+        has_flag(self.bits, 16)
     }
 
     /// O_WRONLY or O_RDWR
@@ -61,8 +62,8 @@ impl OpenFlags {
         Way {
             read: self.access() != 1,
             write: self.writes(),
-            append: self.has(10),
-            cloexec: self.has(19),
+            append: has_flag(self.bits, 10),
+            cloexec: has_flag(self.bits, 19),
         }
     }
 
@@ -71,13 +72,6 @@ impl OpenFlags {
         ensures { result ≡ access self.bits }
     {
         self.bits % 4
-    }
-
-    fn has(self, bit: u32) -> bool
-        requires { bit < 32 }
-        ensures { result ≡ has self.bits (2 ^ bit) }
-    {
-        (self.bits >> bit) % 2 == 1
     }
 }
 

@@ -1,8 +1,9 @@
 -- The calls that take a path (Linux, open(2), mkdir(2), unlink(2), include/uapi/asm-generic/fcntl.h, in this project's profile).
-use Rattle.std.specs.Prelude.{ℕ, ◌-◌, ◌/◌, ◌%◌, ◌^◌, ◌==◌, Bool, true, false, not, ◌&&◌, ◌||◌, nat_lt, if◌then◌else◌, List, [], ◌∷◌, length, take_while, slice_index, Option, Some, None, is_some}
+use Rattle.std.specs.Prelude.{ℕ, ◌-◌, ◌%◌, ◌^◌, ◌==◌, Bool, true, false, not, ◌&&◌, ◌||◌, nat_lt, if◌then◌else◌, List, [], ◌∷◌, length, take_while, slice_index, Option, Some, None, is_some}
 use Rattle.byte_words.specs.Search.{first}
 use Rattle.call_log.specs.declared.errno.Errno.{Errno}
 use Rattle.call_log.specs.declared.errno.Errno.TheVariants.{Enoent, Ebadf, Eacces, Eexist, Enotdir, Eisdir, Einval, Enametoolong}
+use Rattle.call_log.specs.Flags.{has_flag}
 use Rattle.mem_files.specs.declared.node.Node.{Node}
 use Rattle.mem_files.specs.declared.node.Node.TheVariants.{Dir, File}
 use Rattle.mem_files.specs.Inodes.{Inodes, kind_of, program_of}
@@ -52,24 +53,20 @@ unlinkat_row a =
 
 -- ---- openat(folder, path, flags)
 
--- a flag of one bit
-abbrev pub has : ℕ → ℕ → Bool
-has flags bit = (flags / bit) % 2 == 1
-
 abbrev pub creates : ℕ → Bool
-creates flags = has flags 0x40
+creates flags = has_flag flags 0x40
 
 abbrev pub exclusive : ℕ → Bool
-exclusive flags = has flags 0x80
+exclusive flags = has_flag flags 0x80
 
 abbrev pub truncates : ℕ → Bool
-truncates flags = has flags 0x200
+truncates flags = has_flag flags 0x200
 
 abbrev pub appends : ℕ → Bool
-appends flags = has flags 0x400
+appends flags = has_flag flags 0x400
 
 abbrev pub asks_folder : ℕ → Bool
-asks_folder flags = has flags 0x10000
+asks_folder flags = has_flag flags 0x10000
 
 -- the lowest two bits: 0 reads, 1 writes, 2 does both
 abbrev pub access : ℕ → ℕ
@@ -83,7 +80,7 @@ way_of flags = record {
   read = not (access flags == 1);
   write = writes flags;
   append = appends flags;
-  cloexec = has flags 0x80000;
+  cloexec = has_flag flags 0x80000;
 }
 
 -- a node opens as the lowest descriptor that is free
