@@ -1,15 +1,12 @@
--- Which pages are held after a change of one region.
-use Rattle.std.proofs.Common.{◌≡◌, ◌≢◌, ℕ, zero, suc, ◌+◌, ◌-◌, ◌≤◌, ◌<◌, ◌⊎◌, inl, inr, Bool, true, false, List, [], ◌∷◌, length, replicate, get_or, arith, refl, ap, ◌∙◌, sym, length-set}
-use Rattle.std.proofs.lemmas.List.{length-replicate}
+-- Which pages are held after a change of one region, and that the regions are still regions.
+use Rattle.std.proofs.Common.{◌≡◌, ◌≢◌, ℕ, zero, suc, ◌≤◌, ◌<◌, ◌⊎◌, inl, inr, Bool, true, false, List, [], ◌∷◌, arith, refl, ap, ◌∙◌, sym, length-set}
 use Rattle.std.specs.Prelude.{Some, slice_get, slice_set, ◌&&◌, ◌||◌, not}
 use Rattle.std.proofs.lemmas.Bool.{cases_lt, false≢true}
 use Rattle.std.proofs.lemmas.Bool.Decides.{nat_tests}
-use Rattle.std.proofs.lemmas.Option.{same_Some, none-some, slice_get_within, slice_get_read, slice_get-get_or}
-use Rattle.page_runs.specs.Free.{Free, free_runs, is_free, with_free, without}
+use Rattle.std.proofs.lemmas.Option.{same_Some, none-some}
 use Rattle.page_runs.specs.Pages.{in_run}
-use Rattle.page_runs.proofs.Maximal.{has_page-free_runs, free_runs-spaced, is_free_runs}
 use Rattle.nommu_regions.specs.declared.region.Region.{Region}
-use Rattle.nommu_regions.specs.Regions.{holds, is_held, AreRegions, AreFree, IsLive, free_of, with_uses}
+use Rattle.nommu_regions.specs.Regions.{holds, is_held, AreRegions, AreFree}
 
 -- ---- a list with one place changed
 
@@ -56,77 +53,44 @@ is_false : (b : Bool) → (b ≡ true → ⊥) → b ≡ false
 is_false true never = absurd (never refl)
 is_false false never = refl
 
--- the only one that has a page goes
-pub is_held-gone : (rs : List Region) (i : ℕ) (r v : Region) (p : ℕ) → AreRegions rs → slice_get rs i ≡ Some r → 0 < r.uses → v.uses ≡ 0 →
-    is_held (slice_set rs i v) p ≡ (is_held rs p && not (in_run r.first r.pages p))
-is_held-gone rs i r v p regions is live gone = by_page (in_run r.first r.pages p) refl
+all_held : (h a b : Bool) → a ≡ false → h ≡ (h && (not a || b))
+all_held true true b none = absurd (false≢true (sym none))
+all_held true false b none = refl
+all_held false a b none = refl
+
+part_held : (h a b : Bool) → b ≡ true → h ≡ (h && (not a || b))
+part_held true true true left = refl
+part_held true true false left = absurd (false≢true left)
+part_held true false b left = refl
+part_held false a b left = refl
+
+pub not_held : (h a b : Bool) → a ≡ true → b ≡ false → false ≡ (h && (not a || b))
+not_held true true true has lost = absurd (false≢true (sym lost))
+not_held true true false has lost = refl
+not_held true false b has lost = absurd (false≢true has)
+not_held false a b has lost = refl
+
+-- a region that gets other pages, all of which it had
+pub is_held-part : (rs : List Region) (i : ℕ) (r v : Region) (p : ℕ) → AreRegions rs → slice_get rs i ≡ Some r → (holds v p ≡ true → holds r p ≡ true) →
+    is_held (slice_set rs i v) p ≡ (is_held rs p && (not (holds r p) || holds v p))
+is_held-part rs i r v p regions is part = by_page (holds r p) (holds v p) refl refl
   where
-    no_other : holds r p ≡ true → (j : ℕ) (s : Region) → slice_get (slice_set rs i v) j ≡ Some s → holds s p ≡ false
-    no_other has j s there = elim (after_set rs i j v s there) [
-      | inl here ↦ ap (λ (q : Region). holds q p) here.1 ∙ grind (arith, nat_tests)
+    no_other : holds r p ≡ true → holds v p ≡ false → (j : ℕ) (s : Region) → slice_get (slice_set rs i v) j ≡ Some s → holds s p ≡ false
+    no_other has lost j s there = elim (after_set rs i j v s there) [
+      | inl here ↦ ap (λ (q : Region). holds q p) here.1 ∙ lost
       | inr other ↦ is_false (holds s p) (λ s_has. other.0 (sym (regions.apart i j r s p is other.1 has s_has)))
     ]
 
-    by_page : (b : Bool) → in_run r.first r.pages p ≡ b → is_held (slice_set rs i v) p ≡ (is_held rs p && not (in_run r.first r.pages p))
-    by_page true eq =
-        let has : holds r p ≡ true = grind (arith, nat_tests) in
-        none_held (slice_set rs i v) p (no_other has) ∙ grind (arith, nat_tests)
-    by_page false eq =
-        let has : holds r p ≡ holds v p = grind (arith, nat_tests) in
-        is_held-same rs i r v p is has ∙ grind (arith, nat_tests)
+    by_page : (a b : Bool) → holds r p ≡ a → holds v p ≡ b → is_held (slice_set rs i v) p ≡ (is_held rs p && (not (holds r p) || holds v p))
+    by_page true true has left = is_held-same rs i r v p is (has ∙ sym left) ∙ part_held (is_held rs p) (holds r p) (holds v p) left
+    by_page true false has lost = none_held (slice_set rs i v) p (no_other has lost) ∙ not_held (is_held rs p) (holds r p) (holds v p) has lost
+    by_page false true none left = absurd (false≢true (sym none ∙ part left))
+    by_page false false none lost = is_held-same rs i r v p is (none ∙ sym lost) ∙ all_held (is_held rs p) (holds r p) (holds v p) none
 
--- ---- the free runs
-
-same_free : (pages : ℕ) (f g : ℕ → Bool) → ((p : ℕ) → p < pages → f p ≡ g p) → free_runs pages f ≡ free_runs pages g
-same_free pages f g same = is_free_runs pages g (free_runs pages f) (free_runs-spaced pages f)
-    (λ p inside. has_page-free_runs pages f p ∙ grind (arith, nat_tests, same p inside))
-
-free_record : ℕ → List Region → (ℕ → Bool) → Free
-free_record pages rs f = record { pages = pages; runs = free_runs pages f }
-
--- with pages that are held no more
-pub free_with : (rs new : List Region) (first count : ℕ) → length new ≡ length rs →
-    ((p : ℕ) → is_held new p ≡ (is_held rs p && not (in_run first count p))) → with_free (free_of rs) first count ≡ free_of new
-unfolding free_record
-free_with rs new first count len held =
-    let runs = same_free (length rs) (λ p. is_free (free_of rs) p || in_run first count p) (λ p. not (is_held new p))
-    (λ p inside. grind (arith, nat_tests, held p, has_page-free_runs (length rs) (λ q. not (is_held rs q)) p)) in
-    let e : with_free (free_of rs) first count ≡ free_record (length rs) rs (λ p. not (is_held new p)) = ap (λ (x : List _). record { pages = length rs; runs = x }) runs in
-    e ∙ ap (λ (n : ℕ). free_record n rs (λ p. not (is_held new p))) (sym len)
-
--- with more pages held
-pub free_without : (rs new : List Region) (first count : ℕ) → length new ≡ length rs →
-    ((p : ℕ) → is_held new p ≡ (is_held rs p || in_run first count p)) → without (free_of rs) first count ≡ free_of new
-unfolding free_record
-free_without rs new first count len held =
-    let runs = same_free (length rs) (λ p. is_free (free_of rs) p && not (in_run first count p)) (λ p. not (is_held new p))
-    (λ p inside. grind (arith, nat_tests, held p, has_page-free_runs (length rs) (λ q. not (is_held rs q)) p)) in
-    let e : without (free_of rs) first count ≡ free_record (length rs) rs (λ p. not (is_held new p)) = ap (λ (x : List _). record { pages = length rs; runs = x }) runs in
-    e ∙ ap (λ (n : ℕ). free_record n rs (λ p. not (is_held new p))) (sym len)
-
--- with the same ones held
-pub free_same : (rs new : List Region) → length new ≡ length rs → ((p : ℕ) → is_held new p ≡ is_held rs p) → free_of rs ≡ free_of new
-unfolding free_record
-free_same rs new len held =
-    let runs = same_free (length rs) (λ p. not (is_held rs p)) (λ p. not (is_held new p)) (λ p inside. ap not (sym (held p))) in
-    let e : free_of rs ≡ free_record (length rs) rs (λ p. not (is_held new p)) = ap (λ (x : List _). record { pages = length rs; runs = x }) runs in
-    e ∙ ap (λ (n : ℕ). free_record n rs (λ p. not (is_held new p))) (sym len)
-
--- pages that a free run has
-pub are_free : (rs : List Region) (first count : ℕ) → 0 < count → ((p : ℕ) → in_run first count p ≡ true → is_free (free_of rs) p ≡ true) → AreFree rs first count
-are_free rs first count some free = record {
-  inside = last (first + count - 1) refl (is_inside (first + count - 1) (grind (arith, nat_tests)));
-  free = λ p has. not_held p (free p has);
-}
-  where
-    is_inside : (p : ℕ) → in_run first count p ≡ true → p < length rs
-    is_inside p has = let h = free p has in grind (arith, nat_tests, h, has_page-free_runs (length rs) (λ q. not (is_held rs q)) p)
-
-    last : (p : ℕ) → p ≡ first + count - 1 → p < length rs → first + count ≤ length rs
-    last p is less = omega arith
-
-    not_held : (p : ℕ) → is_free (free_of rs) p ≡ true → is_held rs p ≡ false
-    not_held p h = grind (arith, nat_tests, h, has_page-free_runs (length rs) (λ q. not (is_held rs q)) p)
+-- the only one that has a page goes
+pub is_held-gone : (rs : List Region) (i : ℕ) (r v : Region) (p : ℕ) → AreRegions rs → slice_get rs i ≡ Some r → 0 < r.uses → v.uses ≡ 0 →
+    is_held (slice_set rs i v) p ≡ (is_held rs p && not (in_run r.first r.pages p))
+is_held-gone rs i r v p regions is live gone = is_held-part rs i r v p regions is (λ has. grind (arith, nat_tests, has)) ∙ grind (arith, nat_tests)
 
 -- ---- the regions after a change
 
@@ -171,16 +135,18 @@ was_gone rs first count r p regions free some there = elim (cases_lt 0 r.uses) [
   | inr gone ↦ grind (arith, nat_tests)
 ]
 
--- the uses of one
-pub regions_used : (rs : List Region) (id : ℕ) (r v : Region) → AreRegions rs → slice_get rs id ≡ Some r → 0 < r.uses → v.first ≡ r.first → v.pages ≡ r.pages →
+-- one that has as many pages, or keeps some from its first on
+pub regions_part : (rs : List Region) (id : ℕ) (r v : Region) → AreRegions rs → slice_get rs id ≡ Some r → 0 < r.uses → v.first ≡ r.first → v.pages ≤ r.pages → (0 < v.uses → 0 < v.pages) →
     AreRegions (slice_set rs id v)
-regions_used rs id r v regions there live first pages = record {
+regions_part rs id r v regions there live first pages some = record {
   begins = λ k s is s_live. elim (after_set rs id k v s is) [
     | inl here ↦ omega (arith, ap (λ (q : Region). q.first) here.1, here.0, regions.begins id r there live)
     | inr other ↦ regions.begins k s other.1 s_live
   ];
   some = λ k s is s_live. elim (after_set rs id k v s is) [
-    | inl here ↦ omega (arith, ap (λ (q : Region). q.pages) here.1, regions.some id r there live)
+    | inl here ↦ let same : s.pages ≡ v.pages = ap (λ (q : Region). q.pages) here.1 in
+        let uses : s.uses ≡ v.uses = ap (λ (q : Region). q.uses) here.1 in
+        rw same (some (omega arith))
     | inr other ↦ regions.some k s other.1 s_live
   ];
   inside = λ k s is s_live. elim (after_set rs id k v s is) [
@@ -201,108 +167,3 @@ regions_used rs id r v regions there live first pages = record {
   where
     was : (p : ℕ) → holds v p ≡ true → holds r p ≡ true
     was p has = grind (arith, nat_tests)
-
--- ---- what is kept of the regions and the free runs
-
--- the facts that each value keeps
-abbrev pub Kept : List Region → Free → Type 0
-Kept rs free = AreRegions rs × (free ≡ free_of rs) × (1 ≤ length rs) × (length rs ≤ 16384)
-
-pub kept_used : (rs : List Region) (free : Free) (id : ℕ) (r v : Region) → Kept rs free → slice_get rs id ≡ Some r → 0 < r.uses →
-    v.first ≡ r.first → v.pages ≡ r.pages → 0 < v.uses → Kept (slice_set rs id v) free
-kept_used rs free id r v kept there live first pages v_live =
-    let len = length-set rs id v in (
-      regions_used rs id r v kept.0 there live first pages,
-      kept.1 ∙ free_same rs (slice_set rs id v) len (λ p. is_held-same rs id r v p there (grind (arith, nat_tests))),
-      omega (arith, kept.2),
-      omega (arith, kept.3),
-    )
-
-pub kept_gone : (rs : List Region) (free new : Free) (id : ℕ) (r v : Region) → Kept rs free → slice_get rs id ≡ Some r → 0 < r.uses →
-    v.first ≡ r.first → v.pages ≡ r.pages → v.uses ≡ 0 → new ≡ with_free free r.first r.pages → Kept (slice_set rs id v) new
-kept_gone rs free new id r v kept there live first pages gone given =
-    let len = length-set rs id v in (
-      regions_used rs id r v kept.0 there live first pages,
-      given ∙ (ap (λ (f : Free). with_free f r.first r.pages) kept.1 ∙
-          free_with rs (slice_set rs id v) r.first r.pages len (λ p. is_held-gone rs id r v p kept.0 there live gone)),
-      omega (arith, kept.2),
-      omega (arith, kept.3),
-    )
-
-pub kept_fresh : (rs : List Region) (free new : Free) (v : Region) → Kept rs free → AreFree rs v.first v.pages → 0 < v.pages → v.uses ≡ 1 →
-    new ≡ without free v.first v.pages → Kept (slice_set rs v.first v) new
-kept_fresh rs free new v kept are some one taken =
-    let len = length-set rs v.first v in
-    let there = slice_get-get_or rs v.first v (omega (arith, are.inside)) in (
-      regions_fresh rs v (get_or rs v.first v) kept.0 are some one there,
-      taken ∙ (ap (λ (f : Free). without f v.first v.pages) kept.1 ∙ free_without rs (slice_set rs v.first v) v.first v.pages len (λ p.
-          is_held-set rs v.first (get_or rs v.first v) v p there (was_gone rs v.first v.pages (get_or rs v.first v) p kept.0 are some there) ∙
-          grind (arith, nat_tests))),
-      omega (arith, kept.2),
-      omega (arith, kept.3),
-    )
-
-get-replicate : (n i : ℕ) (v r : Region) → slice_get (replicate n v) i ≡ Some r → r ≡ v
-get-replicate zero i v r is = absurd (none-some r is)
-get-replicate (suc n) zero v r is = sym (same_Some _ _ is)
-get-replicate (suc n) (suc i) v r is = get-replicate n i v r is
-
-not_held-replicate : (n : ℕ) (v : Region) (p : ℕ) → v.uses ≡ 0 → is_held (replicate n v) p ≡ false
-not_held-replicate zero v p gone = refl
-not_held-replicate (suc n) v p gone = grind (arith, nat_tests, not_held-replicate n v p gone)
-
-no_use : (n i : ℕ) (v r : Region) → v.uses ≡ 0 → slice_get (replicate n v) i ≡ Some r → 0 < r.uses → ⊥
-no_use n i v r gone is live = omega (arith, ap (λ (q : Region). q.uses) (get-replicate n i v r is))
-
-no_page : (n i : ℕ) (v r : Region) (p : ℕ) → v.uses ≡ 0 → slice_get (replicate n v) i ≡ Some r → holds r p ≡ true → ⊥
-no_page n i v r p gone is has = let uses = ap (λ (q : Region). q.uses) (get-replicate n i v r is) in grind (arith, nat_tests, uses)
-
-pub kept_new : (n : ℕ) (v : Region) → 1 ≤ n → n ≤ 16384 → v.uses ≡ 0 →
-    Kept (replicate n v) (record { pages = n; runs = record { first = 0; count = n } ∷ [] })
-kept_new n v some most gone =
-    let runs : record { first = 0; count = n } ∷ [] ≡ free_runs n (λ p. not (is_held (replicate n v) p)) =
-    is_free_runs n _ (record { first = 0; count = n } ∷ []) (omega arith, (omega arith, omega arith))
-    (λ p inside. grind (arith, nat_tests, not_held-replicate n v p gone)) in
-    let len : length (replicate n v) ≡ n = length-replicate n v in (
-      record {
-        begins = λ id r is live. absurd (no_use n id v r gone is live);
-        some = λ id r is live. absurd (no_use n id v r gone is live);
-        inside = λ id r is live. absurd (no_use n id v r gone is live);
-        apart = λ i j r s p is it has. absurd (no_page n i v r p gone is has);
-      },
-      rw (len, runs),
-      omega arith,
-      omega arith,
-    )
-
--- ---- from a value that is known by its view
-
-pub live_at : (rs now : List Region) (id len : ℕ) (x : Region) → rs ≡ now → IsLive now id → len ≡ length rs → x ≡ get_or rs id x →
-    (slice_get rs id ≡ Some x) × (0 < x.uses)
-live_at rs now id len x same live is_len value =
-    let there : slice_get rs id ≡ Some live.region = rw same live.there in
-    let read : slice_get rs id ≡ Some x = slice_get_read rs len id x is_len (omega (arith, slice_get_within rs id live.region there)) value in
-    let one : live.region ≡ x = same_Some _ _ (sym there ∙ read) in
-    (read, omega (arith, live.live, ap (λ (q : Region). q.uses) one))
-
-pub with_uses_is : (rs now : List Region) (id : ℕ) (x : Region) (change : ℕ → ℕ) → rs ≡ now → slice_get rs id ≡ Some x →
-    slice_set rs id (record x { uses = change x.uses }) ≡ with_uses now id change
-with_uses_is rs now id x change same there = rw (← same, there) refl
-
-pub taken_by : (rs : List Region) (free : Free) (id : ℕ) (x : Region) → Kept rs free → slice_get rs id ≡ Some x → 0 < x.uses →
-    (p : ℕ) → in_run x.first x.pages p ≡ true → is_free free p ≡ false
-taken_by rs free id x kept there live p inside =
-    let held = held_by rs id x p there (grind (arith, nat_tests)) in
-    rw kept.1 (has_page-free_runs (length rs) (λ q. not (is_held rs q)) p ∙ grind (arith, nat_tests, held))
-
-pub are_free_now : (rs now : List Region) (free : Free) (first count : ℕ) → rs ≡ now → Kept rs free → 0 < count →
-    ((p : ℕ) → in_run first count p ≡ true → is_free free p ≡ true) → AreFree now first count
-are_free_now rs now free first count same kept some free_is = rw (← same) (are_free rs first count some (rw kept.1 at free_is))
-
-get_set : (rs : List Region) (id : ℕ) (v : Region) → id < length rs → slice_get (slice_set rs id v) id ≡ Some v
-get_set [] id v less = absurd (omega arith)
-get_set (x ∷ rs) zero v less = refl
-get_set (x ∷ rs) (suc id) v less = get_set rs id v (omega arith)
-
-pub live_set : (rs : List Region) (id : ℕ) (v : Region) → id < length rs → 0 < v.uses → IsLive (slice_set rs id v) id
-live_set rs id v less live = record { region = v; there = get_set rs id v less; live = live }

@@ -1,3 +1,4 @@
 -- Regions of pages with counts of their uses.
--- Regions  which regions a memory has, the pages that they hold, the free runs, one region changed
+-- Regions  which regions a memory has, the pages that they hold, the free runs, one region changed, copies of files,
+--          pages that are cut out
 pub mod Regions

@@ -1,9 +1,11 @@
 -- The regions of a memory, as a list with one place per page. A region stands at the number of its first
 -- page, which is its id. A place whose region has no use is empty.
-use Rattle.std.specs.Prelude.{ℕ, ◌≡◌, ◌+◌, ◌<◌, ◌≤◌, Bool, true, false, ◌&&◌, ◌||◌, not, nat_lt, List, [], ◌∷◌, length, slice_get, slice_set, Option, Some, None}
+use Rattle.std.specs.Prelude.{ℕ, ◌≡◌, ◌+◌, ◌-◌, ◌==◌, ◌<◌, ◌≤◌, Bool, true, false, ◌&&◌, ◌||◌, not, nat_le, nat_lt, if◌then◌else◌, List, [], ◌∷◌, length, position, slice_get, slice_set, Option, Some, None}
 use Rattle.page_runs.specs.Free.{Free, free_runs}
 use Rattle.page_runs.specs.Pages.{in_run}
 use Rattle.nommu_regions.specs.declared.region.Region.{Region}
+use Rattle.nommu_regions.specs.declared.region.Source.{Source}
+use Rattle.nommu_regions.specs.declared.region.Source.TheVariants.{Own, Copy}
 
 -- the region is live and has page p
 abbrev pub holds : Region → ℕ → Bool
@@ -52,3 +54,62 @@ uses_in (Some r) = r.uses
 
 abbrev pub uses_of : List Region → ℕ → ℕ
 uses_of rs id = uses_in (slice_get rs id)
+
+-- ---- copies of files
+
+-- a copy of so many pages has the pages of a file that are asked for, as the file is at this change count
+abbrev pub copy_covers : (file change first pages : ℕ) → Source → (held : ℕ) → Bool
+copy_covers file change first pages Own held = false
+copy_covers file change first pages (Copy f c from) held =
+    f == file && c == change && nat_le from first && nat_le (first + pages) (from + held)
+
+-- a live region is such a copy
+abbrev pub covers : (file change first pages : ℕ) → Region → Bool
+covers file change first pages r = nat_lt 0 r.uses && copy_covers file change first pages r.source r.pages
+
+-- the lowest live copy that covers the pages
+unfoldable pub copy_of : List Region → (file change first pages : ℕ) → Option ℕ
+copy_of rs file change first pages = position (covers file change first pages) rs
+
+-- ---- pages that are cut out of a region
+
+-- pages of a region of one use, and not all of its pages. A copy of a file is never cut: what is left behind the cut would begin at
+-- another page of the file
+pub record CanCut (rs : List Region) (id from count : ℕ) : Type 0 where
+  pub region : Region
+  pub there : slice_get rs id ≡ Some region
+  pub own : region.source ≡ Own
+  pub one : region.uses ≡ 1
+  pub inside : (region.first ≤ from) × (from + count ≤ region.first + region.pages)
+  pub some : 0 < count
+  pub less : count < region.pages
+
+-- what is left of a region before a page; without a page it has no use
+abbrev pub before : Region → ℕ → Region
+before r from = record r { pages = from - r.first; uses = if from == r.first then 0 else r.uses }
+
+-- what is left of it from a page on
+abbrev pub behind : Region → ℕ → Region
+behind r from = record r { first = from; pages = r.first + r.pages - from }
+
+-- a page of it is left from a page on
+abbrev pub is_left : Region → ℕ → Bool
+is_left r from = nat_lt from (r.first + r.pages)
+
+-- what is left behind the cut comes to the place of its first page
+abbrev pub with_behind : List Region → Region → ℕ → List Region
+with_behind rs r from = if is_left r from then slice_set rs from (behind r from) else rs
+
+abbrev pub cut_out : List Region → ℕ → Option Region → (from count : ℕ) → List Region
+cut_out rs id None from count = rs
+cut_out rs id (Some r) from count = with_behind (slice_set rs id (before r from)) r (from + count)
+
+-- the regions after pages were cut out of one: what is left before them keeps the id, and what is left behind them is a region of
+-- its own, at its first page
+unfoldable pub with_cut : List Region → (id from count : ℕ) → List Region
+with_cut rs id from count = cut_out rs id (slice_get rs id) from count
+
+-- the number of the region behind the cut, if a page is left there
+abbrev pub back_id : Option Region → ℕ → Option ℕ
+back_id None from = None
+back_id (Some r) from = if is_left r from then Some from else None

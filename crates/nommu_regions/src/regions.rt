@@ -1,10 +1,11 @@
 //! The regions of a memory.
 
-ghost use Rattle.std.specs.Prelude.{◌≡◌, ◌+◌, ◌-◌, ◌*◌, ◌^◌, ◌<◌, ◌≤◌, List, ℕ, Some, IfOk, IfSome, MatchOption, length, replicate, slice_get, slice_set};
+ghost use Rattle.std.specs.Prelude.{◌≡◌, ◌+◌, ◌-◌, ◌*◌, ◌^◌, ◌<◌, ◌≤◌, List, ℕ, Some, IfOk, IfSome, MatchOption, length, replicate, slice_get, slice_set, true};
 ghost use Rattle.byte_words.specs.Patches.{laid};
 ghost use Rattle.page_runs.specs.Choosers.{IsChooser, kind_of};
+ghost use Rattle.page_runs.specs.Free.{with_free};
 ghost use Rattle.page_runs.specs.Place.{Placed, place, first_of};
-ghost use Rattle.nommu_regions.specs.Regions.{AreRegions, AreFree, IsLive, free_of, is_held, with_uses, uses_of};
+ghost use Rattle.nommu_regions.specs.Regions.{AreRegions, AreFree, IsLive, CanCut, back_id, copy_of, covers, free_of, is_held, with_cut, with_uses, uses_of};
 
 use crate::region::{Region, Source};
 use page_runs::{Chooser, Run, Runs};
@@ -104,6 +105,16 @@ impl Regions {
         Some(first)
     }
 
+    /// The lowest live copy that has `pages` pages of a file from its page `first` on, made at this change count of the file.
+    pub fn find(&self, file: u32, change: u64, first: u32, pages: u32) -> Option<u32>
+        ensures lowest { result ≡ copy_of self.now file change first pages }
+        ensures live { IfSome result (λ id. IsLive self.now id) }
+        ensures copy { (id : ℕ) → (r : Region) → result ≡ Some id → slice_get self.now id ≡ Some r → covers file change first pages r ≡ true }
+    {
+        let place = first_copy(&self.regions, file, change, first, pages)?;
+        Some(place as u32)
+    }
+
     /// One use more.
     pub fn add_use(&mut self, id: u32)
         requires live { IsLive self.old id }
@@ -128,4 +139,35 @@ impl Regions {
             self.free.give(region.first, region.pages);
         }
     }
+
+    /// Frees `count` pages of a region from page `from` on. What is left before them keeps the id; what is left behind them is a
+    /// region of its own, whose id is the answer; None where no page is left behind them. The bytes stay as they are.
+    pub fn cut(&mut self, id: u32, from: u32, count: u32) -> Option<u32>
+        requires { CanCut self.old id from count }
+        ensures regions { self.new ≡ with_cut self.old id from count }
+        ensures back { result ≡ back_id (slice_get self.old id) (from + count) }
+        ensures free { free_of self.new ≡ with_free (free_of self.old) from count }
+        ensures front_lives { id < from → IsLive self.new id }
+        ensures back_lives { IfSome result (λ back. IsLive self.new back) }
+    {
+        let region = self.regions[id as usize];
+        let end = from + count;
+        self.regions[id as usize] = region.before(from);
+        self.free.give(from, count);
+        if end == region.first + region.pages {
+            return None;
+        }
+        self.regions[end as usize] = region.behind(end);
+        Some(end)
+    }
+}
+
+/// The place of the first live copy that has these pages.
+#[tactic(auto, unfolding(crate::specs::Regions::copy_of))]
+fn first_copy(regions: &[Region], file: u32, change: u64, first: u32, pages: u32) -> Option<usize>
+    ensures { result ≡ copy_of regions.now file change first pages }
+{
+    regions
+        .iter()
+        .position(|region| region.covers(file, change, first, pages))
 }

@@ -1,6 +1,6 @@
 use Rattle.std.proofs.Common.{◌+◌, ℕ, refl, arith}
 use Rattle.std.proofs.lemmas.Option.{slice_get_within}
-use Rattle.nommu_regions.proofs.Held.{kept_used, live_at, with_uses_is, live_set}
+use Rattle.nommu_regions.proofs.Kept.{kept_used, live_at, with_uses_is, live_set}
 use Rattle.nommu_regions.proofs.regions.Regions.add_use.Goals as goal
 
 pub invariant_of-self : goal.invariant_of-self

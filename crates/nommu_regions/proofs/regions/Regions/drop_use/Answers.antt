@@ -1,5 +1,5 @@
 use Rattle.std.proofs.Common.{◌-◌, ℕ, refl, arith}
-use Rattle.nommu_regions.proofs.Held.{kept_used, kept_gone, live_at, with_uses_is, taken_by}
+use Rattle.nommu_regions.proofs.Kept.{kept_used, kept_gone, live_at, with_uses_is, taken_by}
 use Rattle.nommu_regions.proofs.regions.Regions.drop_use.Goals as goal
 
 pub give-requires-clause-taken : goal.give-requires-clause-taken

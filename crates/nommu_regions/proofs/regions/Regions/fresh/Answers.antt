@@ -1,6 +1,6 @@
 use Rattle.std.proofs.Common.{◌≡◌, List, length, refl, arith, ap}
 use Rattle.nommu_regions.specs.declared.region.Region.{Region}
-use Rattle.nommu_regions.proofs.Held.{kept_fresh, are_free_now, live_set}
+use Rattle.nommu_regions.proofs.Kept.{kept_fresh, are_free_now, live_set}
 use Rattle.nommu_regions.proofs.regions.Regions.fresh.Goals as goal
 
 pub index_mut-requires : goal.index_mut-requires

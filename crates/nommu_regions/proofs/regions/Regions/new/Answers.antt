@@ -1,6 +1,6 @@
 use Rattle.std.proofs.Common.{◌≡◌, replicate, rules, refl}
 use Rattle.nommu_regions.specs.declared.region.Source.TheVariants.{Own}
-use Rattle.nommu_regions.proofs.Held.{kept_new}
+use Rattle.nommu_regions.proofs.Kept.{kept_new}
 use Rattle.nommu_regions.proofs.regions.Regions.new.Goals as goal
 
 pub invariant_of-result : goal.invariant_of-result

@@ -1,0 +1,202 @@
+-- What is kept where pages are cut out of a region.
+use Rattle.std.proofs.Common.{◌≡◌, ℕ, ◌+◌, ◌-◌, ◌≤◌, ◌<◌, Bool, true, false, List, length, get_or, arith, refl, ap, ◌∙◌, sym, length-set}
+use Rattle.std.specs.Prelude.{Some, None, slice_get, slice_set, ◌&&◌, ◌||◌, not}
+use Rattle.std.proofs.lemmas.Bool.Decides.{nat_tests}
+use Rattle.std.proofs.lemmas.Option.{same_Some, slice_get_within, slice_get_read, slice_get-get_or}
+use Rattle.page_runs.specs.Free.{Free, with_free}
+use Rattle.page_runs.specs.Pages.{in_run}
+use Rattle.nommu_regions.specs.declared.region.Region.{Region}
+use Rattle.nommu_regions.specs.Regions.{holds, is_held, AreRegions, AreFree, IsLive, CanCut, free_of, before, behind, is_left, with_behind, back_id, with_cut}
+use Rattle.nommu_regions.proofs.Held.{is_held-set, is_held-part, held_by, not_held, was_gone, regions_fresh, regions_part}
+use Rattle.nommu_regions.proofs.FreeRuns.{free_with}
+use Rattle.nommu_regions.proofs.Kept.{Kept, live_set, live_other}
+
+-- pages of the region x, and not all of its pages
+pub record IsCut (rs : List Region) (id : ℕ) (x : Region) (from count : ℕ) : Type 0 where
+  pub there : slice_get rs id ≡ Some x
+  pub one : x.uses ≡ 1
+  pub first : x.first ≤ from
+  pub last : from + count ≤ x.first + x.pages
+  pub some : 0 < count
+  pub less : count < x.pages
+
+pub is_cut : (rs now : List Region) (id from count len : ℕ) (x : Region) → rs ≡ now → CanCut now id from count → len ≡ length rs → x ≡ get_or rs id x →
+    IsCut rs id x from count
+is_cut rs now id from count len x same can is_len value =
+    let there : slice_get rs id ≡ Some can.region = rw same can.there in
+    let read : slice_get rs id ≡ Some x = slice_get_read rs len id x is_len (omega (arith, slice_get_within rs id can.region there)) value in
+    let is : can.region ≡ x = same_Some _ _ (sym there ∙ read) in
+    let uses : can.region.uses ≡ x.uses = ap (λ (q : Region). q.uses) is in
+    let first : can.region.first ≡ x.first = ap (λ (q : Region). q.first) is in
+    let pages : can.region.pages ≡ x.pages = ap (λ (q : Region). q.pages) is in
+    record {
+      there = read;
+      one = omega (arith, can.one);
+      first = omega (arith, can.inside);
+      last = omega (arith, can.inside);
+      some = can.some;
+      less = omega (arith, can.less);
+    }
+
+-- ---- the pages that are held
+
+front_part : (x : Region) (from p : ℕ) → from ≤ x.first + x.pages → holds (before x from) p ≡ true → holds x p ≡ true
+front_part x from p last has = grind (arith, nat_tests)
+
+held_front : (rs : List Region) (id : ℕ) (x : Region) (from count p : ℕ) → AreRegions rs → IsCut rs id x from count →
+    is_held (slice_set rs id (before x from)) p ≡ (is_held rs p && (not (holds x p) || holds (before x from) p))
+held_front rs id x from count p regions cut =
+    is_held-part rs id x (before x from) p regions cut.there (λ has. front_part x from p (omega (arith, cut.last)) has)
+
+-- what is held before a cut or behind it is what was held but the pages that go
+both_parts : (x : Region) (from count p : ℕ) (h : Bool) → x.uses ≡ 1 → x.first ≤ from → from + count ≤ x.first + x.pages → (holds x p ≡ true → h ≡ true) →
+    ((h && (not (holds x p) || holds (before x from) p)) || holds (behind x (from + count)) p) ≡ (h && not (in_run from count p))
+both_parts x from count p true one first last held = grind (arith, nat_tests)
+both_parts x from count p false one first last held = grind (arith, nat_tests, held)
+
+-- no page behind the cut is held once the region has what is before it
+free_back : (rs : List Region) (id : ℕ) (x : Region) (from count : ℕ) → AreRegions rs → IsCut rs id x from count →
+    AreFree (slice_set rs id (before x from)) (from + count) (behind x (from + count)).pages
+free_back rs id x from count regions cut = record {
+  inside = omega (arith, cut.last, cut.one, regions.inside id x cut.there (omega (arith, cut.one)), length-set rs id (before x from));
+  free = λ p inside. held_front rs id x from count p regions cut ∙ gone p inside;
+}
+  where
+    gone : (p : ℕ) → in_run (from + count) (x.first + x.pages - (from + count)) p ≡ true →
+        (is_held rs p && (not (holds x p) || holds (before x from) p)) ≡ false
+    gone p inside =
+        let has : holds x p ≡ true = grind (arith, nat_tests, cut.one, cut.first, cut.last, cut.some) in
+        let lost : holds (before x from) p ≡ false = grind (arith, nat_tests, cut.one, cut.first, cut.last, cut.some) in
+        sym (not_held (is_held rs p) (holds x p) (holds (before x from) p) has lost)
+
+-- ---- the regions and the free runs
+
+regions_front : (rs : List Region) (id : ℕ) (x : Region) (from count : ℕ) → AreRegions rs → IsCut rs id x from count →
+    AreRegions (slice_set rs id (before x from))
+regions_front rs id x from count regions cut =
+    regions_part rs id x (before x from) regions cut.there (omega (arith, cut.one)) refl (omega (arith, cut.last))
+    (λ live. grind (arith, nat_tests, live, cut.first))
+
+pub kept_front : (rs : List Region) (free new : Free) (id : ℕ) (x : Region) (from count : ℕ) → Kept rs free → IsCut rs id x from count →
+    new ≡ with_free free from count → from + count ≡ x.first + x.pages → Kept (slice_set rs id (before x from)) new
+kept_front rs free new id x from count kept cut given ends =
+    let len = length-set rs id (before x from) in (
+      regions_front rs id x from count kept.0 cut,
+      given ∙ (ap (λ (f : Free). with_free f from count) kept.1 ∙ free_with rs (slice_set rs id (before x from)) from count len held),
+      omega (arith, kept.2),
+      omega (arith, kept.3),
+    )
+  where
+    held : (p : ℕ) → is_held (slice_set rs id (before x from)) p ≡ (is_held rs p && not (in_run from count p))
+    held p = held_front rs id x from count p kept.0 cut ∙ grind (arith, nat_tests, held_by rs id x p cut.there, cut.one, cut.first, cut.some)
+
+pub kept_back : (rs : List Region) (free new : Free) (id : ℕ) (x : Region) (from count : ℕ) → Kept rs free → IsCut rs id x from count →
+    new ≡ with_free free from count → from + count < x.first + x.pages →
+    Kept (slice_set (slice_set rs id (before x from)) (from + count) (behind x (from + count))) new
+kept_back rs free new id x from count kept cut given more = by_place (slice_get-get_or front (from + count) back (omega (arith, are.inside, more)))
+  where
+    front : List Region
+    front = slice_set rs id (before x from)
+
+    back : Region
+    back = behind x (from + count)
+
+    are : AreFree front (from + count) back.pages
+    are = free_back rs id x from count kept.0 cut
+
+    front_held : (p : ℕ) → is_held front p ≡ (is_held rs p && (not (holds x p) || holds (before x from) p))
+    front_held p = held_front rs id x from count p kept.0 cut
+
+    by_place : slice_get front (from + count) ≡ Some (get_or front (from + count) back) → Kept (slice_set front (from + count) back) new
+    by_place there =
+        let regions : AreRegions front = regions_front rs id x from count kept.0 cut in
+        let one : length front ≡ length rs = length-set rs id (before x from) in
+        let two : length (slice_set front (from + count) back) ≡ length front = length-set front (from + count) back in (
+          regions_fresh front back (get_or front (from + count) back) regions are (omega (arith, more)) (omega (arith, cut.one)) there,
+          given ∙ (ap (λ (f : Free). with_free f from count) kept.1 ∙ free_with rs (slice_set front (from + count) back) from count (omega arith) (held there)),
+          omega (arith, kept.2),
+          omega (arith, kept.3),
+        )
+      where
+        held : slice_get front (from + count) ≡ Some (get_or front (from + count) back) → (p : ℕ) →
+            is_held (slice_set front (from + count) back) p ≡ (is_held rs p && not (in_run from count p))
+        held there p =
+            let gone = was_gone front (from + count) back.pages (get_or front (from + count) back) p (regions_front rs id x from count kept.0 cut) are (omega (arith, more)) there in
+            is_held-set front (from + count) (get_or front (from + count) back) back p there gone ∙
+            (ap (λ (h : Bool). h || holds back p) (front_held p) ∙
+            both_parts x from count p (is_held rs p) cut.one cut.first cut.last (held_by rs id x p cut.there))
+
+-- ---- from a value that is known by its view
+
+without_behind : (rs : List Region) (x : Region) (from : ℕ) → is_left x from ≡ false → with_behind rs x from ≡ rs
+without_behind rs x from none = rw none refl
+
+put_behind : (rs : List Region) (x : Region) (from : ℕ) → is_left x from ≡ true → with_behind rs x from ≡ slice_set rs from (behind x from)
+put_behind rs x from some = rw some refl
+
+id_of_none : (x : Region) (from : ℕ) → is_left x from ≡ false → back_id (Some x) from ≡ None
+id_of_none x from none = rw none refl
+
+id_of_some : (x : Region) (from : ℕ) → is_left x from ≡ true → back_id (Some x) from ≡ Some from
+id_of_some x from some = rw some refl
+
+-- the places lie in memory
+pub cut_inside : (rs : List Region) (free : Free) (id : ℕ) (x : Region) (from count : ℕ) → Kept rs free → IsCut rs id x from count →
+    x.first + x.pages ≤ length rs
+cut_inside rs free id x from count kept cut = kept.0.inside id x cut.there (omega (arith, cut.one))
+
+pub begins_at : (rs : List Region) (free : Free) (id : ℕ) (x : Region) (from count : ℕ) → Kept rs free → IsCut rs id x from count → x.first ≡ id
+begins_at rs free id x from count kept cut = kept.0.begins id x cut.there (omega (arith, cut.one))
+
+pub is_front : (rs now : List Region) (id : ℕ) (x : Region) (from count : ℕ) → rs ≡ now → IsCut rs id x from count → from + count ≡ x.first + x.pages →
+    slice_set rs id (before x from) ≡ with_cut now id from count
+unfolding with_cut
+is_front rs now id x from count same cut ends =
+    let there : slice_get rs id ≡ Some x = cut.there in
+    let none : is_left x (from + count) ≡ false = grind (arith, nat_tests) in
+    rw (← same, there) (sym (without_behind (slice_set rs id (before x from)) x (from + count) none))
+
+pub is_front_and_back : (rs now : List Region) (id : ℕ) (x : Region) (from count : ℕ) → rs ≡ now → IsCut rs id x from count → from + count < x.first + x.pages →
+    slice_set (slice_set rs id (before x from)) (from + count) (behind x (from + count)) ≡ with_cut now id from count
+unfolding with_cut
+is_front_and_back rs now id x from count same cut more =
+    let there : slice_get rs id ≡ Some x = cut.there in
+    let some : is_left x (from + count) ≡ true = grind (arith, nat_tests) in
+    rw (← same, there) (sym (put_behind (slice_set rs id (before x from)) x (from + count) some))
+
+pub no_back : (rs now : List Region) (id : ℕ) (x : Region) (from count : ℕ) → rs ≡ now → IsCut rs id x from count → from + count ≡ x.first + x.pages →
+    None ≡ back_id (slice_get now id) (from + count)
+no_back rs now id x from count same cut ends =
+    let there : slice_get rs id ≡ Some x = cut.there in
+    let none : is_left x (from + count) ≡ false = grind (arith, nat_tests) in
+    rw (← same, there) (sym (id_of_none x (from + count) none))
+
+pub some_back : (rs now : List Region) (id : ℕ) (x : Region) (from count : ℕ) → rs ≡ now → IsCut rs id x from count → from + count < x.first + x.pages →
+    Some (from + count) ≡ back_id (slice_get now id) (from + count)
+some_back rs now id x from count same cut more =
+    let there : slice_get rs id ≡ Some x = cut.there in
+    let some : is_left x (from + count) ≡ true = grind (arith, nat_tests) in
+    rw (← same, there) (sym (id_of_some x (from + count) some))
+
+-- the free runs are those before the cut, with its pages
+pub freed : (rs now new : List Region) (free given : Free) (from count : ℕ) → rs ≡ now → Kept rs free → Kept new given → given ≡ with_free free from count →
+    free_of new ≡ with_free (free_of now) from count
+freed rs now new free given from count same kept after is =
+    sym after.1 ∙ (is ∙ (ap (λ (f : Free). with_free f from count) kept.1 ∙ ap (λ (l : List Region). with_free (free_of l) from count) same))
+
+pub front_lives : (rs : List Region) (free : Free) (id : ℕ) (x : Region) (from count : ℕ) → Kept rs free → IsCut rs id x from count → id < from →
+    IsLive (slice_set rs id (before x from)) id
+front_lives rs free id x from count kept cut less =
+    let begin : x.first ≡ id = begins_at rs free id x from count kept cut in
+    live_set rs id (before x from) (slice_get_within rs id x cut.there) (grind (arith, nat_tests, cut.one))
+
+pub front_lives_on : (rs : List Region) (free : Free) (id : ℕ) (x : Region) (from count : ℕ) → Kept rs free → IsCut rs id x from count → id < from →
+    IsLive (slice_set (slice_set rs id (before x from)) (from + count) (behind x (from + count))) id
+front_lives_on rs free id x from count kept cut less =
+    live_other (slice_set rs id (before x from)) (from + count) id (behind x (from + count)) (front_lives rs free id x from count kept cut less) (omega arith)
+
+pub back_lives : (rs : List Region) (free : Free) (id : ℕ) (x : Region) (from count : ℕ) → Kept rs free → IsCut rs id x from count → from + count < x.first + x.pages →
+    IsLive (slice_set (slice_set rs id (before x from)) (from + count) (behind x (from + count))) (from + count)
+back_lives rs free id x from count kept cut more =
+    live_set (slice_set rs id (before x from)) (from + count) (behind x (from + count))
+    (omega (arith, more, cut_inside rs free id x from count kept cut, length-set rs id (before x from))) (omega (arith, cut.one))
