@@ -57,6 +57,10 @@ uses_of rs id = uses_in (slice_get rs id)
 
 -- ---- copies of files
 
+abbrev pub is_copy : Source → Bool
+is_copy Own = false
+is_copy (Copy file change first) = true
+
 -- a copy of so many pages has the pages of a file that are asked for, as the file is at this change count
 abbrev pub copy_covers : (file change first pages : ℕ) → Source → (held : ℕ) → Bool
 copy_covers file change first pages Own held = false
