@@ -1,0 +1,75 @@
+-- Each call, and each change of the tree, keeps the counts exact.
+use Rattle.std.specs.Prelude.{ℕ, ◌≡◌, ◌<◌, ◌≤◌, ◌^◌, Bool, true, List, Option, Some, None, is_some, nat_lt, Result, Ok}
+use Rattle.call_log.specs.declared.errno.Errno.{Errno}
+use Rattle.mem_files.specs.Inodes.{Inodes, inode_at}
+use Rattle.mem_files.specs.Changes as tree
+use Rattle.fd_tables.specs.declared.view.Way.{Way}
+use Rattle.fd_tables.specs.Files.{most_descriptors, nothing_open, at_number, free_number, descriptor, lowest_free}
+use Rattle.fd_tables.specs.Changes.{Storage, storage, closed, opened, duplicated, replaced, moved, taken, with_table, with_copy, exec_closed, without_table}
+use Rattle.fd_tables.specs.Counts.{holds_in, opens_of, shares_of, Counted}
+
+-- ---- what the counts mean
+
+-- an open file is there exactly while a descriptor shares it
+abbrev pub StaysWhileShared : Type 0
+StaysWhileShared = (s : Storage) (n : ℕ) → Counted s → is_some (at_number s.files.files n) ≡ nat_lt 0 (shares_of s.files n)
+
+-- a node is there while an open file holds it
+abbrev pub StaysWhileOpen : Type 0
+StaysWhileOpen = (s : Storage) (id : ℕ) → Counted s → 1 ≤ opens_of s.files id → is_some (inode_at s.nodes id) ≡ true
+
+-- ---- the calls
+
+-- over nodes of which none is held
+abbrev pub BeginsCounted : Type 0
+BeginsCounted = (nodes : Inodes) (stdin : List ℕ) → ((id : ℕ) → holds_in (inode_at nodes id) ≡ 0) → Counted (storage nodes (nothing_open stdin))
+
+-- where the node is there, and the open file's number fits the answer of `open`
+abbrev pub OpeningKeepsCounts : Type 0
+OpeningKeepsCounts =
+    (s : Storage) (t fd node : ℕ) (way : Way) → Counted s → lowest_free s.files t ≡ Some fd → is_some (inode_at s.nodes node) ≡ true →
+    free_number s.files.files < 2 ^ 32 → Counted (opened s t fd node way)
+
+abbrev pub ClosingKeepsCounts : Type 0
+ClosingKeepsCounts = (s : Storage) (t fd : ℕ) → Counted s → Counted (closed s t fd)
+
+-- as a descriptor that isn't open yet
+abbrev pub DuplicatingKeepsCounts : Type 0
+DuplicatingKeepsCounts =
+    (s : Storage) (t old new : ℕ) (cloexec : Bool) → Counted s → new < most_descriptors → descriptor s.files t new ≡ None →
+    Counted (storage s.nodes (duplicated s.files t old new cloexec))
+
+-- as one that is closed first
+abbrev pub ReplacingKeepsCounts : Type 0
+ReplacingKeepsCounts = (s : Storage) (t old new : ℕ) (cloexec : Bool) → Counted s → new < most_descriptors → Counted (replaced s t old new cloexec)
+
+abbrev pub MovingKeepsCounts : Type 0
+MovingKeepsCounts = (s : Storage) (t fd at : ℕ) → Counted s → Counted (storage s.nodes (moved s.files t fd at))
+
+abbrev pub TakingKeepsCounts : Type 0
+TakingKeepsCounts = (s : Storage) (n : ℕ) → Counted s → Counted (storage s.nodes (taken s.files n))
+
+-- where the table's number fits the answer
+abbrev pub TableKeepsCounts : Type 0
+TableKeepsCounts = (s : Storage) → Counted s → free_number s.files.tables < 2 ^ 32 → Counted (storage s.nodes (with_table s.files))
+
+abbrev pub CopyKeepsCounts : Type 0
+CopyKeepsCounts = (s : Storage) (t : ℕ) → Counted s → free_number s.files.tables < 2 ^ 32 → Counted (storage s.nodes (with_copy s.files t))
+
+abbrev pub ExecKeepsCounts : Type 0
+ExecKeepsCounts = (s : Storage) (t : ℕ) → Counted s → Counted (exec_closed s t)
+
+abbrev pub TableGoesCounted : Type 0
+TableGoesCounted = (s : Storage) (t : ℕ) → Counted s → Counted (without_table s t)
+
+-- ---- the tree's own changes: what is held stays, with its count, and nothing is open at the number of a new node
+
+abbrev pub KeepsCounts : (Inodes → Result Inodes Errno) → Type 0
+KeepsCounts change = (s : Storage) (new : Inodes) → Counted s → change s.nodes ≡ Ok new → Counted (storage new s.files)
+
+pub record TreeKeepsCounts : Type 0 where
+  pub folder : (path : List ℕ) → KeepsCounts (λ nodes. tree.with_folder nodes path)
+  pub file : (path bytes : List ℕ) (program : Option ℕ) → KeepsCounts (λ nodes. tree.with_file nodes path bytes program)
+  pub unlink : (path : List ℕ) (dir : Bool) → KeepsCounts (λ nodes. tree.unlinked nodes path dir)
+  pub write : (id at : ℕ) (bytes : List ℕ) → KeepsCounts (λ nodes. tree.written nodes id at bytes)
+  pub truncate : (id : ℕ) → KeepsCounts (λ nodes. Ok (tree.truncated nodes id))

@@ -1,0 +1,22 @@
+//! Laws over the definitions. They hold for all tables and trees, and no code runs.
+
+ghost use Rattle.fd_tables.specs.CountLaws.{StaysWhileShared, StaysWhileOpen, BeginsCounted, OpeningKeepsCounts, ClosingKeepsCounts, DuplicatingKeepsCounts, ReplacingKeepsCounts, MovingKeepsCounts, TakingKeepsCounts, TableKeepsCounts, CopyKeepsCounts, ExecKeepsCounts, TableGoesCounted, TreeKeepsCounts};
+
+/// An open file counts the descriptors that share it, and a node the open files that hold it. So an open file goes exactly when
+/// its last descriptor closes, and a node is held exactly while it is open.
+pub fn counts_law()
+    ensures shared { StaysWhileShared }
+    ensures held { StaysWhileOpen }
+    ensures begins { BeginsCounted }
+    ensures opens { OpeningKeepsCounts }
+    ensures closes { ClosingKeepsCounts }
+    ensures duplicates { DuplicatingKeepsCounts }
+    ensures replaces { ReplacingKeepsCounts }
+    ensures moves { MovingKeepsCounts }
+    ensures takes { TakingKeepsCounts }
+    ensures makes_table { TableKeepsCounts }
+    ensures copies_table { CopyKeepsCounts }
+    ensures closes_at_exec { ExecKeepsCounts }
+    ensures drops_table { TableGoesCounted }
+    ensures tree_changes { TreeKeepsCounts }
+{}
