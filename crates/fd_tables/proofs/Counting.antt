@@ -10,7 +10,7 @@ use Rattle.fd_tables.specs.declared.open_file.Handle.TheVariants.{Open}
 use Rattle.fd_tables.specs.declared.open_file.Descriptor.{Descriptor}
 use Rattle.fd_tables.specs.Files.{Table, most_descriptors, OpenFiles, at_number, free_number, table_at, descriptor_in, descriptor, free_in, lowest_free}
 use Rattle.fd_tables.specs.Changes.{Storage, storage, with_descriptor, with_open_file, new_file, shared, dropped, closed, closed_descriptor, opened, copied_descriptor, with_cloexec, duplicated, replaced}
-use Rattle.fd_tables.specs.Counts.{is_open, stands_for, shares_in, shares_of, uses_in, opens_of, holds_in, Counted}
+use Rattle.fd_tables.specs.Counts.{leads_to, stands_for, shares_in, shares_of, uses_in, opens_of, holds_in, Counted}
 use Rattle.fd_tables.proofs.AtNumbers.{made, item_at, emptied_place, empty_stays}
 use Rattle.fd_tables.proofs.NextNumbers.{first_there, next_there, next_other, free_nothing}
 use Rattle.fd_tables.proofs.TablesThere.{tables-shared, tables-dropped}
@@ -49,7 +49,7 @@ closing s t fd (Some d) is c =
     let now : Storage = storage s.nodes (with_descriptor s.files t fd None) in
     counted (dropped now d.handle) (sound-dropped now d.handle (sound-place s t fd None (sound s c)))
     (λ n.
-    let fewer : shares_of now.files n + one (is_open n d.handle) ≡ shares_of s.files n =
+    let fewer : shares_of now.files n + one (leads_to n d.handle) ≡ shares_of s.files n =
     omega (arith, shares-place s.files t fd None n (λ past. refl), ap (λ o. one (stands_for n o)) is) in
     let same : shares_of (dropped now d.handle).files n ≡ shares_of now.files n = ap (sum_by (shares_in n)) (tables-dropped now d.handle) in
     omega (arith, c.uses n, fewer, same, uses-dropped now d.handle n (omega (arith, c.uses n, fewer))))
@@ -105,9 +105,9 @@ duplicating s t old new cloexec (Some d) is low free c =
     let place : new < places_in (table_at s.files t) = has_place (table_at s.files t) old new d (c.whole t) is low in
     counted (storage s.nodes (shared now.files d.handle)) (sound-shared now d.handle (sound-place s t new (Some copy) (sound s c)))
     (λ n.
-    let there : one (is_open n d.handle) ≤ shares_of s.files n =
+    let there : one (leads_to n d.handle) ≤ shares_of s.files n =
     omega (arith, descriptor_counts s.files t old n, ap (λ o. one (stands_for n o)) is) in
-    let more : shares_of now.files n ≡ shares_of s.files n + one (is_open n d.handle) =
+    let more : shares_of now.files n ≡ shares_of s.files n + one (leads_to n d.handle) =
     omega (arith, shares-place s.files t new (Some copy) n (λ past. absurd (omega arith)), ap (λ o. one (stands_for n o)) free) in
     let same : shares_of (shared now.files d.handle) n ≡ shares_of now.files n = ap (sum_by (shares_in n)) (tables-shared now.files d.handle) in
     omega (arith, c.uses n, more, same, uses-shared now.files d.handle n (omega (arith, c.uses n, there)) (few_uses s n c)))
@@ -126,14 +126,14 @@ free_there : (o : Option Table) (fd : ℕ) → free_in o ≡ Some fd → (fd < p
 free_there None fd is = let no : ⊥ = cc in absurd no
 free_there (Some table) fd is = first_there table fd is
 
-uses-opened : (fs : OpenFiles) (f : OpenFile) (n : ℕ) → f.uses ≡ 1 → uses_at (with_open_file fs f) n ≡ uses_at fs n + one (is_open n (Open (free_number fs.files)))
+uses-opened : (fs : OpenFiles) (f : OpenFile) (n : ℕ) → f.uses ≡ 1 → uses_at (with_open_file fs f) n ≡ uses_at fs n + one (leads_to n (Open (free_number fs.files)))
 uses-opened fs f n once = by (cases_eq n (free_number fs.files))
   where
-    by : (n ≡ free_number fs.files) ⊎ (n ≡ free_number fs.files → ⊥) → uses_at (with_open_file fs f) n ≡ uses_at fs n + one (is_open n (Open (free_number fs.files)))
+    by : (n ≡ free_number fs.files) ⊎ (n ≡ free_number fs.files → ⊥) → uses_at (with_open_file fs f) n ≡ uses_at fs n + one (leads_to n (Open (free_number fs.files)))
     by (inl e) =
         let new : uses_at (with_open_file fs f) (free_number fs.files) ≡ f.uses = ap uses_in (next_there f fs.files) in
         let old : uses_at fs (free_number fs.files) ≡ 0 = ap uses_in (free_nothing fs.files) in
-        subst (λ (j : ℕ). uses_at (with_open_file fs f) j ≡ uses_at fs j + one (is_open j (Open (free_number fs.files)))) (sym e) (omega (arith, new, old, itself (free_number fs.files), once))
+        subst (λ (j : ℕ). uses_at (with_open_file fs f) j ≡ uses_at fs j + one (leads_to j (Open (free_number fs.files)))) (sym e) (omega (arith, new, old, itself (free_number fs.files), once))
     by (inr other) =
         omega (arith, ap uses_in (next_other f fs.files n other), another n (free_number fs.files) other)
 
@@ -145,6 +145,6 @@ counted-opened s t fd node way c lowest there room =
     let now : Storage = storage (held s.nodes node) (with_open_file s.files (new_file node way)) in
     counted (storage now.nodes (with_descriptor now.files t fd (Some d))) (sound-place now t fd (Some d) (sound-opened s (new_file node way) (omega arith) there room (sound s c)))
     (λ n.
-    let more : shares_of (with_descriptor now.files t fd (Some d)) n ≡ shares_of s.files n + one (is_open n d.handle) =
+    let more : shares_of (with_descriptor now.files t fd (Some d)) n ≡ shares_of s.files n + one (leads_to n d.handle) =
     omega (arith, shares-place now.files t fd (Some d) n (λ past. absurd (omega (arith, place.0))), ap (λ o. one (stands_for n o)) place.1) in
     omega (arith, c.uses n, more, uses-opened s.files (new_file node way) n refl))

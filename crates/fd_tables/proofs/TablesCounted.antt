@@ -5,7 +5,7 @@ use Rattle.std.proofs.lemmas.List.Sums.{sum_by-cons}
 use Rattle.fd_tables.specs.declared.open_file.Descriptor.{Descriptor}
 use Rattle.fd_tables.specs.Files.{Table, most_descriptors, free_number, with_next, table_at}
 use Rattle.fd_tables.specs.Changes.{Storage, storage, shared, first_table, with_table, all_shared, copied_table, with_copy}
-use Rattle.fd_tables.specs.Counts.{is_open, stands_for, shares_in, shares_of, Counted}
+use Rattle.fd_tables.specs.Counts.{leads_to, stands_for, shares_in, shares_of, Counted}
 use Rattle.fd_tables.proofs.TablesThere.{tables-shared}
 use Rattle.fd_tables.proofs.Sharing.{one, IsWhole, few_shares, shares-next, table_counts}
 use Rattle.fd_tables.proofs.Uses.{uses_at, uses-shared}
@@ -34,12 +34,12 @@ sharing [] s b few owed there = counted s b (λ n. let e : uses_at s.files n + 0
 sharing (None ∷ ds) s b few owed there =
     sharing ds s b few (λ n. omega (arith, owed n, sum_by-cons (λ o. cond (stands_for n o) 1 0) None ds)) (λ n some. there n (omega (arith, sum_by-cons (λ o. cond (stands_for n o) 1 0) None ds)))
 sharing (Some d ∷ ds) s b few owed there =
-    let count : (n : ℕ) → count_by (stands_for n) (Some d ∷ ds) ≡ one (is_open n d.handle) + count_by (stands_for n) ds =
+    let count : (n : ℕ) → count_by (stands_for n) (Some d ∷ ds) ≡ one (leads_to n d.handle) + count_by (stands_for n) ds =
     λ n. sum_by-cons (λ o. cond (stands_for n o) 1 0) (Some d) ds in
     let same : (n : ℕ) → shares_of (shared s.files d.handle) n ≡ shares_of s.files n = λ n. ap (sum_by (shares_in n)) (tables-shared s.files d.handle) in
-    let open_file : (n : ℕ) → one (is_open n d.handle) ≤ uses_at s.files n =
-    λ n. first_of_many (is_open n d.handle) (count_by (stands_for n) ds) (uses_at s.files n) (λ some. there n (omega (arith, count n))) in
-    let more : (n : ℕ) → uses_at (shared s.files d.handle) n ≡ uses_at s.files n + one (is_open n d.handle) =
+    let open_file : (n : ℕ) → one (leads_to n d.handle) ≤ uses_at s.files n =
+    λ n. first_of_many (leads_to n d.handle) (count_by (stands_for n) ds) (uses_at s.files n) (λ some. there n (omega (arith, count n))) in
+    let more : (n : ℕ) → uses_at (shared s.files d.handle) n ≡ uses_at s.files n + one (leads_to n d.handle) =
     λ n. uses-shared s.files d.handle n (open_file n) (omega (arith, owed n, few n)) in
     sharing ds (storage s.nodes (shared s.files d.handle)) (sound-shared s d.handle b) (λ n. omega (arith, same n, few n))
     (λ n. omega (arith, same n, more n, count n, owed n))

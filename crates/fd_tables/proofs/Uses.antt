@@ -8,17 +8,17 @@ use Rattle.fd_tables.specs.declared.open_file.Handle.{Handle}
 use Rattle.fd_tables.specs.declared.open_file.Handle.TheVariants.{Input, Output, Open}
 use Rattle.fd_tables.specs.Files.{OpenFiles, at_number}
 use Rattle.fd_tables.specs.Changes.{Storage, with_item, shared, dropped, dropped_file}
-use Rattle.fd_tables.specs.Counts.{is_open, uses_in}
+use Rattle.fd_tables.specs.Counts.{leads_to, uses_in}
 use Rattle.fd_tables.proofs.AtNumbers.{made, item_at, item_other}
 use Rattle.fd_tables.proofs.Sharing.{one}
 
 abbrev pub uses_at : OpenFiles → ℕ → ℕ
 uses_at fs n = uses_in (at_number fs.files n)
 
-pub itself : (n : ℕ) → one (is_open n (Open n)) ≡ 1
+pub itself : (n : ℕ) → one (leads_to n (Open n)) ≡ 1
 itself n = ap (λ b. cond b 1 0) (eq-eqb n n refl)
 
-pub another : (n k : ℕ) → n ≢ k → one (is_open n (Open k)) ≡ 0
+pub another : (n k : ℕ) → n ≢ k → one (leads_to n (Open k)) ≡ 0
 another n k other = ap (λ b. cond b 1 0) (ne_eqb k n (λ e. other (sym e)))
 
 -- ---- one more
@@ -27,15 +27,15 @@ one_more : (o : Option OpenFile) → 1 ≤ uses_in o → uses_in o < 2 ^ 40 → 
 one_more None there few = absurd (omega arith)
 one_more (Some f) there few = omega arith
 
-pub uses-shared : (fs : OpenFiles) (h : Handle) (n : ℕ) → (one (is_open n h) ≤ uses_at fs n) → uses_at fs n < 2 ^ 40 → uses_at (shared fs h) n ≡ uses_at fs n + one (is_open n h)
+pub uses-shared : (fs : OpenFiles) (h : Handle) (n : ℕ) → (one (leads_to n h) ≤ uses_at fs n) → uses_at fs n < 2 ^ 40 → uses_at (shared fs h) n ≡ uses_at fs n + one (leads_to n h)
 uses-shared fs Input n there few = omega arith
 uses-shared fs Output n there few = omega arith
 uses-shared fs (Open k) n there few = by (cases_eq n k)
   where
-    by : (n ≡ k) ⊎ (n ≡ k → ⊥) → uses_at (shared fs (Open k)) n ≡ uses_at fs n + one (is_open n (Open k))
+    by : (n ≡ k) ⊎ (n ≡ k → ⊥) → uses_at (shared fs (Open k)) n ≡ uses_at fs n + one (leads_to n (Open k))
     by (inl e) =
-        subst (λ (j : ℕ). uses_at (shared fs (Open j)) n ≡ uses_at fs n + one (is_open n (Open j))) e
-        (ap uses_in (item_at (λ f. Some (record f { uses = raised f.uses })) fs.files n) ∙ one_more (at_number fs.files n) (let at : one (is_open n (Open n)) ≤ uses_at fs n = subst (λ (j : ℕ). one (is_open n (Open j)) ≤ uses_at fs n) (sym e) there in omega (arith, itself n)) few ∙ sym (ap (λ m. uses_at fs n + m) (itself n)))
+        subst (λ (j : ℕ). uses_at (shared fs (Open j)) n ≡ uses_at fs n + one (leads_to n (Open j))) e
+        (ap uses_in (item_at (λ f. Some (record f { uses = raised f.uses })) fs.files n) ∙ one_more (at_number fs.files n) (let at : one (leads_to n (Open n)) ≤ uses_at fs n = subst (λ (j : ℕ). one (leads_to n (Open j)) ≤ uses_at fs n) (sym e) there in omega (arith, itself n)) few ∙ sym (ap (λ m. uses_at fs n + m) (itself n)))
     by (inr other) = omega (arith, ap uses_in (item_other (λ f. Some (record f { uses = raised f.uses })) fs.files k n other), another n k other)
 
 -- ---- one fewer
@@ -60,14 +60,14 @@ dropped_here : (s : Storage) (k : ℕ) (o : Option OpenFile) → at_number s.fil
 dropped_here s k None is there = absurd (omega arith)
 dropped_here s k (Some f) is there = here_by_last s k f _ refl is there
 
-pub uses-dropped : (s : Storage) (h : Handle) (n : ℕ) → (one (is_open n h) ≤ uses_at s.files n) → uses_at (dropped s h).files n + one (is_open n h) ≡ uses_at s.files n
+pub uses-dropped : (s : Storage) (h : Handle) (n : ℕ) → (one (leads_to n h) ≤ uses_at s.files n) → uses_at (dropped s h).files n + one (leads_to n h) ≡ uses_at s.files n
 uses-dropped s Input n there = omega arith
 uses-dropped s Output n there = omega arith
 uses-dropped s (Open k) n there = by (cases_eq n k)
   where
-    by : (n ≡ k) ⊎ (n ≡ k → ⊥) → uses_at (dropped s (Open k)).files n + one (is_open n (Open k)) ≡ uses_at s.files n
+    by : (n ≡ k) ⊎ (n ≡ k → ⊥) → uses_at (dropped s (Open k)).files n + one (leads_to n (Open k)) ≡ uses_at s.files n
     by (inl e) =
-        subst (λ (j : ℕ). uses_at (dropped s (Open j)).files n + one (is_open n (Open j)) ≡ uses_at s.files n) e
-        (let at : one (is_open n (Open n)) ≤ uses_at s.files n = subst (λ (j : ℕ). one (is_open n (Open j)) ≤ uses_at s.files n) (sym e) there in
+        subst (λ (j : ℕ). uses_at (dropped s (Open j)).files n + one (leads_to n (Open j)) ≡ uses_at s.files n) e
+        (let at : one (leads_to n (Open n)) ≤ uses_at s.files n = subst (λ (j : ℕ). one (leads_to n (Open j)) ≤ uses_at s.files n) (sym e) there in
         omega (arith, itself n, dropped_here s n (at_number s.files.files n) refl (omega (arith, itself n))))
     by (inr other) = omega (arith, dropped_other s k n (at_number s.files.files k) other, another n k other)

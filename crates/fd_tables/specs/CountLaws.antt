@@ -24,7 +24,7 @@ StaysWhileOpen = (s : Storage) (id : ℕ) → Counted s → 1 ≤ opens_of s.fil
 abbrev pub BeginsCounted : Type 0
 BeginsCounted = (nodes : Inodes) (stdin : List ℕ) → ((id : ℕ) → holds_in (inode_at nodes id) ≡ 0) → Counted (storage nodes (nothing_open stdin))
 
--- where the node is there, and the open file's number fits the answer of `open`
+-- where the node is there, and the open file's number fits its type, as `open` says that it does
 abbrev pub OpeningKeepsCounts : Type 0
 OpeningKeepsCounts =
     (s : Storage) (t fd node : ℕ) (way : Way) → Counted s → lowest_free s.files t ≡ Some fd → is_some (inode_at s.nodes node) ≡ true →
@@ -50,8 +50,8 @@ abbrev pub TakingKeepsCounts : Type 0
 TakingKeepsCounts = (s : Storage) (n : ℕ) → Counted s → Counted (storage s.nodes (taken s.files n))
 
 -- where the table's number fits the answer
-abbrev pub TableKeepsCounts : Type 0
-TableKeepsCounts = (s : Storage) → Counted s → free_number s.files.tables < 2 ^ 32 → Counted (storage s.nodes (with_table s.files))
+abbrev pub NewTableKeepsCounts : Type 0
+NewTableKeepsCounts = (s : Storage) → Counted s → free_number s.files.tables < 2 ^ 32 → Counted (storage s.nodes (with_table s.files))
 
 abbrev pub CopyKeepsCounts : Type 0
 CopyKeepsCounts = (s : Storage) (t : ℕ) → Counted s → free_number s.files.tables < 2 ^ 32 → Counted (storage s.nodes (with_copy s.files t))
@@ -59,8 +59,8 @@ CopyKeepsCounts = (s : Storage) (t : ℕ) → Counted s → free_number s.files.
 abbrev pub ExecKeepsCounts : Type 0
 ExecKeepsCounts = (s : Storage) (t : ℕ) → Counted s → Counted (exec_closed s t)
 
-abbrev pub TableGoesCounted : Type 0
-TableGoesCounted = (s : Storage) (t : ℕ) → Counted s → Counted (without_table s t)
+abbrev pub DroppingKeepsCounts : Type 0
+DroppingKeepsCounts = (s : Storage) (t : ℕ) → Counted s → Counted (without_table s t)
 
 -- ---- the tree's own changes: what is held stays, with its count, and nothing is open at the number of a new node
 

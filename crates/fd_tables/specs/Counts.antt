@@ -11,13 +11,14 @@ use Rattle.fd_tables.specs.Changes.{Storage}
 
 -- ---- descriptors that share an open file
 
-abbrev pub is_open : ℕ → Handle → Bool
-is_open n (Open k) = k == n
-is_open n Input = false
-is_open n Output = false
+-- a handle is that of the open file of a number
+abbrev pub leads_to : ℕ → Handle → Bool
+leads_to n (Open k) = k == n
+leads_to n Input = false
+leads_to n Output = false
 
 abbrev pub stands_for : ℕ → Option Descriptor → Bool
-stands_for n (Some d) = is_open n d.handle
+stands_for n (Some d) = leads_to n d.handle
 stands_for n None = false
 
 abbrev pub shares_in : ℕ → Option Table → ℕ

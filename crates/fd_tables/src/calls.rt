@@ -1,6 +1,6 @@
 //! Files open, and descriptors are duplicated and closed.
 
-ghost use Rattle.std.specs.Prelude.{◌≡◌, ◌≤◌, IfOk, OnErr};
+ghost use Rattle.std.specs.Prelude.{◌≡◌, ◌^◌, ◌<◌, ◌≤◌, IfOk, OnErr};
 ghost use Rattle.fd_tables.specs.Kept.{KeepsSpare, UsesOneFile};
 ghost use Rattle.fd_tables.specs.Files.{free_number, lowest_free, view};
 ghost use Rattle.fd_tables.specs.Changes.{storage, with_open_file, closed, dropped, duplicated, replaced};
@@ -34,6 +34,7 @@ impl Files {
     pub fn open(&mut self, tree: &mut Tree, table: u32, node: u32, way: Way) -> Result<u32, FdFault>
         ensures opens { Opens (lowest_free self.old.open_files table) (storage tree.old self.old.open_files) table node way (storage tree.new self.new.open_files) result }
         ensures ready { 1 ≤ self.old.spare → IsNotMemory result }
+        ensures number { IfOk result (λ _. free_number self.old.open_files.files < 2 ^ 32) }
         ensures uses { UsesOneFile self.old self.new }
         ensures refused { OnErr result (KeepsSpare self.old self.new) }
     {

@@ -1,6 +1,6 @@
-//! Laws over the definitions. They hold for all tables and trees, and no code runs.
+//! Laws over the definitions. They hold for all tables and nodes, and no code runs.
 
-ghost use Rattle.fd_tables.specs.CountLaws.{StaysWhileShared, StaysWhileOpen, BeginsCounted, OpeningKeepsCounts, ClosingKeepsCounts, DuplicatingKeepsCounts, ReplacingKeepsCounts, MovingKeepsCounts, TakingKeepsCounts, TableKeepsCounts, CopyKeepsCounts, ExecKeepsCounts, TableGoesCounted, TreeKeepsCounts};
+ghost use Rattle.fd_tables.specs.CountLaws.{StaysWhileShared, StaysWhileOpen, BeginsCounted, OpeningKeepsCounts, ClosingKeepsCounts, DuplicatingKeepsCounts, ReplacingKeepsCounts, MovingKeepsCounts, TakingKeepsCounts, NewTableKeepsCounts, CopyKeepsCounts, ExecKeepsCounts, DroppingKeepsCounts, TreeKeepsCounts};
 
 /// An open file counts the descriptors that share it, and a node the open files that hold it. So an open file goes exactly when
 /// its last descriptor closes, and a node is held exactly while it is open.
@@ -14,9 +14,9 @@ pub fn counts_law()
     ensures replaces { ReplacingKeepsCounts }
     ensures moves { MovingKeepsCounts }
     ensures takes { TakingKeepsCounts }
-    ensures makes_table { TableKeepsCounts }
+    ensures makes_table { NewTableKeepsCounts }
     ensures copies_table { CopyKeepsCounts }
     ensures closes_at_exec { ExecKeepsCounts }
-    ensures drops_table { TableGoesCounted }
+    ensures drops_table { DroppingKeepsCounts }
     ensures tree_changes { TreeKeepsCounts }
 {}
