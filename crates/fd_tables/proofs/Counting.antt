@@ -1,8 +1,8 @@
 -- Descriptors open, are duplicated and close, and the counts stay exact.
 use Rattle.std.proofs.Common.{◌≡◌, ℕ, ◌+◌, ◌<◌, ◌≤◌, ◌^◌, Bool, true, List, Option, Some, None, refl, sym, ap, ◌∙◌, subst, ◌⊎◌, inl, inr, arith}
-use Rattle.std.specs.Prelude.{is_some, nat_lt, slice_set, sum_by}
-use Rattle.std.proofs.lemmas.Bool.{cases_eq, lt-ltb, le-ltb}
-use Rattle.mem_files.specs.Inodes.{Inode, inode_at}
+use Rattle.std.specs.Prelude.{is_some, slice_set, sum_by}
+use Rattle.std.proofs.lemmas.Bool.{cases_eq}
+use Rattle.mem_files.specs.Inodes.{inode_at}
 use Rattle.mem_files.specs.Changes.{held}
 use Rattle.fd_tables.specs.declared.view.Way.{Way}
 use Rattle.fd_tables.specs.declared.open_file.OpenFile.{OpenFile}
@@ -10,36 +10,20 @@ use Rattle.fd_tables.specs.declared.open_file.Handle.TheVariants.{Open}
 use Rattle.fd_tables.specs.declared.open_file.Descriptor.{Descriptor}
 use Rattle.fd_tables.specs.Files.{Table, most_descriptors, OpenFiles, at_number, free_number, table_at, descriptor_in, descriptor, free_in, lowest_free}
 use Rattle.fd_tables.specs.Changes.{Storage, storage, with_descriptor, with_open_file, new_file, shared, dropped, closed, closed_descriptor, opened, copied_descriptor, with_cloexec, duplicated, replaced}
-use Rattle.fd_tables.specs.Counts.{leads_to, stands_for, shares_in, shares_of, uses_in, opens_of, holds_in, Counted}
+use Rattle.fd_tables.specs.Counts.{leads_to, stands_for, shares_in, shares_of, uses_in, Counted}
 use Rattle.fd_tables.proofs.AtNumbers.{made, item_at, emptied_place, empty_stays}
 use Rattle.fd_tables.proofs.NextNumbers.{first_there, next_there, next_other, free_nothing}
 use Rattle.fd_tables.proofs.TablesThere.{tables-shared, tables-dropped}
 use Rattle.fd_tables.proofs.Sharing.{one, places_in, IsWhole, shares-place, few_shares, descriptor_counts}
 use Rattle.fd_tables.proofs.Uses.{uses_at, itself, another, uses-shared, uses-dropped}
-use Rattle.fd_tables.proofs.Sound.{Sound, IsUsed, sound, sound-place, sound-shared, sound-dropped, sound-opened}
+use Rattle.fd_tables.proofs.Sound.{Sound, sound, sound-place, sound-shared, sound-dropped, sound-opened}
 
 pub counted : (s : Storage) → Sound s → ((n : ℕ) → uses_at s.files n ≡ shares_of s.files n) → Counted s
-counted s b uses = record { uses = uses; used = b.used; holds = b.holds; whole = b.whole; few_files = b.few_files; few_tables = b.few_tables }
+counted s b uses = record { uses = uses; used = b.used; holds = b.holds; stays = b.stays; whole = b.whole; few_files = b.few_files; few_tables = b.few_tables }
 
 -- no open file counts near its type's end
 pub few_uses : (s : Storage) (n : ℕ) → Counted s → uses_at s.files n < 2 ^ 40
 few_uses s n c = omega (arith, c.uses n, few_shares s.files n c.whole c.few_tables)
-
--- ---- what the counts mean
-
-there_by : (o : Option OpenFile) (count : ℕ) → uses_in o ≡ count → IsUsed o → is_some o ≡ nat_lt 0 count
-there_by None count is used = sym (le-ltb 0 count (omega arith))
-there_by (Some f) count is used = sym (lt-ltb 0 count (omega (arith, used)))
-
-pub stays_while_shared : (s : Storage) (n : ℕ) → Counted s → is_some (at_number s.files.files n) ≡ nat_lt 0 (shares_of s.files n)
-stays_while_shared s n c = there_by (at_number s.files.files n) (shares_of s.files n) (c.uses n) (c.used n)
-
-held_by : (o : Option Inode) → 1 ≤ holds_in o → is_some o ≡ true
-held_by None held = absurd (omega arith)
-held_by (Some n) held = refl
-
-pub stays_while_open : (s : Storage) (id : ℕ) → Counted s → 1 ≤ opens_of s.files id → is_some (inode_at s.nodes id) ≡ true
-stays_while_open s id c open_files = held_by (inode_at s.nodes id) (omega (arith, c.holds id))
 
 -- ---- closing
 

@@ -7,7 +7,9 @@
 -- Sharing           how many descriptors share an open file after a change
 -- Uses              what an open file counts when one descriptor more or fewer shares it
 -- Holds             what a node counts when one open file more or fewer holds it
+-- KeptNodes         which nodes are kept then
 -- Sound             all of the law of counts but what open files count
+-- CountsMean        what the counts mean, and that they are exact while nothing is open
 -- Counting          descriptors open, are duplicated and close, and the counts stay exact
 -- TablesCounted     the same of a new table and of a copy
 -- ManyClosed        of an execve, and of a table that goes
@@ -22,7 +24,9 @@ pub mod Items
 pub mod Sharing
 pub mod Uses
 pub mod Holds
+pub mod KeptNodes
 pub mod Sound
+pub mod CountsMean
 pub mod Counting
 pub mod TablesCounted
 pub mod ManyClosed

@@ -42,4 +42,4 @@ counted-moved s t fd at c = by_descriptor s at (descriptor s.files t fd) c
 
 pub counted-taken : (s : Storage) (n : ℕ) → Counted s → Counted (storage s.nodes (taken s.files n))
 unfolding taken
-counted-taken s n c = record { uses = c.uses; used = c.used; holds = c.holds; whole = c.whole; few_files = c.few_files; few_tables = c.few_tables }
+counted-taken s n c = record { uses = c.uses; used = c.used; holds = c.holds; stays = c.stays; whole = c.whole; few_files = c.few_files; few_tables = c.few_tables }

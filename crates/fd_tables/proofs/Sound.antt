@@ -17,6 +17,7 @@ use Rattle.fd_tables.proofs.AtNumbers.{made}
 use Rattle.fd_tables.proofs.NextNumbers.{length-next}
 use Rattle.fd_tables.proofs.Items.{item_each, next_each, length-item, sum-item, sum-item_same, sum-next}
 use Rattle.fd_tables.proofs.Sharing.{one, IsWhole}
+use Rattle.fd_tables.proofs.KeptNodes.{IsKept, kept-held, kept-let_go}
 use Rattle.fd_tables.proofs.Holds.{holds_at, holds-held, holds-let_go}
 
 abbrev pub IsUsed : Option OpenFile → Type 0
@@ -25,12 +26,13 @@ IsUsed o = IfSome o (λ f. 1 ≤ f.uses)
 pub record Sound (s : Storage) : Type 0 where
   pub used : (n : ℕ) → IsUsed (at_number s.files.files n)
   pub holds : (id : ℕ) → holds_at s.nodes id ≡ opens_of s.files id
+  pub stays : (id : ℕ) → IsKept (inode_at s.nodes id)
   pub whole : (t : ℕ) → IsWhole (table_at s.files t)
   pub few_files : length s.files.files ≤ 2 ^ 32
   pub few_tables : length s.files.tables ≤ 2 ^ 32
 
 pub sound : (s : Storage) → Counted s → Sound s
-sound s c = record { used = c.used; holds = c.holds; whole = c.whole; few_files = c.few_files; few_tables = c.few_tables }
+sound s c = record { used = c.used; holds = c.holds; stays = c.stays; whole = c.whole; few_files = c.few_files; few_tables = c.few_tables }
 
 -- ---- tables
 
@@ -42,6 +44,7 @@ pub sound-place : (s : Storage) (t fd : ℕ) (d : Option Descriptor) → Sound s
 sound-place s t fd d b = record {
   used = b.used;
   holds = b.holds;
+  stays = b.stays;
   whole = item_each IsWhole (λ table. Some (slice_set table fd d)) s.files.tables t (set_whole (table_at s.files t) fd d (b.whole t)) b.whole;
   few_files = b.few_files;
   few_tables = omega (arith, b.few_tables, length-item (λ table. Some (slice_set table fd d)) s.files.tables t);
@@ -55,6 +58,7 @@ pub sound-gone_table : (s : Storage) (t : ℕ) → Sound s → Sound (storage s.
 sound-gone_table s t b = record {
   used = b.used;
   holds = b.holds;
+  stays = b.stays;
   whole = item_each IsWhole (λ table. None) s.files.tables t (gone_whole (table_at s.files t)) b.whole;
   few_files = b.few_files;
   few_tables = omega (arith, b.few_tables, length-item (λ table. None) s.files.tables t);
@@ -64,6 +68,7 @@ pub sound-next_table : (s : Storage) (table : Table) → length table ≡ most_d
 sound-next_table s table whole room b = record {
   used = b.used;
   holds = b.holds;
+  stays = b.stays;
   whole = next_each IsWhole table s.files.tables whole b.whole;
   few_files = b.few_files;
   few_tables = length-next table s.files.tables (2 ^ 32) b.few_tables room;
@@ -87,6 +92,7 @@ module _ (u : OpenFile → OpenFile) (same : (f : OpenFile) → (u f).node ≡ f
   sound-file s n used b = record {
     used = item_each IsUsed (λ f. Some (u f)) s.files.files n (used_by (at_number s.files.files n) used) b.used;
     holds = λ id. b.holds id ∙ sym (sum-item_same (opens_one id) (λ f. Some (u f)) s.files.files n (same_node (at_number s.files.files n) id));
+    stays = b.stays;
     whole = b.whole;
     few_files = omega (arith, b.few_files, length-item (λ f. Some (u f)) s.files.files n);
     few_tables = b.few_tables;
@@ -111,6 +117,7 @@ sound-gone s n f there b = record {
       let e = sum-item (opens_one id) (λ f. None) s.files.files n in
       omega (arith, e, ap (opens_one id) there, ap (λ o. opens_one id (made (λ f. None) o)) there) in
       omega (arith, b.holds id, holds-let_go s.nodes f.node id (omega (arith, b.holds id)));
+  stays = kept-let_go s.nodes f.node b.stays;
   whole = b.whole;
   few_files = omega (arith, b.few_files, length-item (λ f. None) s.files.files n);
   few_tables = b.few_tables;
@@ -137,6 +144,7 @@ sound-opened s f used there room b = record {
   holds = λ id.
       let more : opens_of (with_open_file s.files f) id ≡ opens_of s.files id + one (f.node == id) = sum-next (opens_one id) refl f s.files.files in
       omega (arith, b.holds id, holds-held s.nodes f.node id there (omega (arith, b.holds f.node, b.few_files, count_by-le-length (opens_node f.node) s.files.files)));
+  stays = kept-held s.nodes f.node b.stays;
   whole = b.whole;
   few_files = length-next f s.files.files (2 ^ 32) b.few_files room;
   few_tables = b.few_tables;

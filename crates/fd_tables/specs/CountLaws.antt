@@ -1,12 +1,12 @@
 -- Each call, and each change of the tree, keeps the counts exact.
-use Rattle.std.specs.Prelude.{ℕ, ◌≡◌, ◌<◌, ◌≤◌, ◌^◌, Bool, true, List, Option, Some, None, is_some, nat_lt, Result, Ok}
+use Rattle.std.specs.Prelude.{ℕ, ◌≡◌, ◌<◌, ◌≤◌, ◌^◌, Bool, true, false, List, Option, Some, None, is_some, IfSome, nat_lt, Result, Ok}
 use Rattle.call_log.specs.declared.errno.Errno.{Errno}
 use Rattle.mem_files.specs.Inodes.{Inodes, inode_at}
 use Rattle.mem_files.specs.Changes as tree
 use Rattle.fd_tables.specs.declared.view.Way.{Way}
 use Rattle.fd_tables.specs.Files.{most_descriptors, nothing_open, at_number, free_number, descriptor, lowest_free}
 use Rattle.fd_tables.specs.Changes.{Storage, storage, closed, opened, duplicated, replaced, moved, taken, with_table, with_copy, exec_closed, without_table}
-use Rattle.fd_tables.specs.Counts.{holds_in, opens_of, shares_of, Counted}
+use Rattle.fd_tables.specs.Counts.{opens_of, shares_of, Counted}
 
 -- ---- what the counts mean
 
@@ -18,11 +18,17 @@ StaysWhileShared = (s : Storage) (n : ℕ) → Counted s → is_some (at_number 
 abbrev pub StaysWhileOpen : Type 0
 StaysWhileOpen = (s : Storage) (id : ℕ) → Counted s → 1 ≤ opens_of s.files id → is_some (inode_at s.nodes id) ≡ true
 
+-- and one that no folder names only then
+abbrev pub UnnamedWhileOpen : Type 0
+UnnamedWhileOpen = (s : Storage) (id : ℕ) → Counted s → IfSome (inode_at s.nodes id) (λ n. n.linked ≡ false → 1 ≤ opens_of s.files id)
+
 -- ---- the calls
 
--- over nodes of which none is held
+-- over nodes of which each is named and none is held
 abbrev pub BeginsCounted : Type 0
-BeginsCounted = (nodes : Inodes) (stdin : List ℕ) → ((id : ℕ) → holds_in (inode_at nodes id) ≡ 0) → Counted (storage nodes (nothing_open stdin))
+BeginsCounted =
+    (nodes : Inodes) (stdin : List ℕ) → ((id : ℕ) → IfSome (inode_at nodes id) (λ n. (n.linked ≡ true) × (n.holds ≡ 0))) →
+    Counted (storage nodes (nothing_open stdin))
 
 -- where the node is there, and the open file's number fits its type, as `open` says that it does
 abbrev pub OpeningKeepsCounts : Type 0

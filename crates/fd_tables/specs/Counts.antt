@@ -2,6 +2,7 @@
 -- (POSIX.1-2017, close).
 use Rattle.std.specs.Prelude.{ℕ, ◌≡◌, ◌≤◌, ◌^◌, ◌==◌, Bool, false, length, count_by, sum_by, Option, Some, None, IfSome}
 use Rattle.mem_files.specs.Inodes.{Inode, inode_at}
+use Rattle.mem_files.specs.Changes as tree
 use Rattle.fd_tables.specs.declared.open_file.OpenFile.{OpenFile}
 use Rattle.fd_tables.specs.declared.open_file.Handle.{Handle}
 use Rattle.fd_tables.specs.declared.open_file.Handle.TheVariants.{Input, Output, Open}
@@ -51,12 +52,13 @@ holds_in None = 0
 
 -- ---- the law's invariant
 
--- both counts are exact, and no open file is left that no descriptor shares. Numbers are below 2 ^ 32, so that no count stands
--- still at its type's end
+-- both counts are exact, no open file is left that no descriptor shares, and no node that no folder names and no open file
+-- holds. Numbers are below 2 ^ 32, so that no count stands still at its type's end
 pub record Counted (s : Storage) : Type 0 where
   pub uses : (n : ℕ) → uses_in (at_number s.files.files n) ≡ shares_of s.files n
   pub used : (n : ℕ) → IfSome (at_number s.files.files n) (λ f. 1 ≤ f.uses)
   pub holds : (id : ℕ) → holds_in (inode_at s.nodes id) ≡ opens_of s.files id
+  pub stays : (id : ℕ) → IfSome (inode_at s.nodes id) (λ n. tree.kept n ≡ Some n)
   pub whole : (t : ℕ) → IfSome (table_at s.files t) (λ table. length table ≡ most_descriptors)
   pub few_files : length s.files.files ≤ 2 ^ 32
   pub few_tables : length s.files.tables ≤ 2 ^ 32

@@ -1,5 +1,6 @@
 -- By the changes, one after the other.
-use Rattle.fd_tables.proofs.Counting.{stays_while_shared, stays_while_open, counted-closed, counted-duplicated, counted-replaced, counted-opened}
+use Rattle.fd_tables.proofs.CountsMean.{stays_while_shared, stays_while_open, unnamed_while_open, counted-nothing_open}
+use Rattle.fd_tables.proofs.Counting.{counted-closed, counted-duplicated, counted-replaced, counted-opened}
 use Rattle.fd_tables.proofs.TablesCounted.{counted-with_table, counted-with_copy}
 use Rattle.fd_tables.proofs.ManyClosed.{counted-exec_closed, counted-without_table}
 use Rattle.fd_tables.proofs.PositionsCounted.{counted-moved, counted-taken}
@@ -11,6 +12,12 @@ returns-clause-shared c = stays_while_shared
 
 pub returns-clause-held : goal.returns-clause-held
 returns-clause-held c = stays_while_open
+
+pub returns-clause-unnamed : goal.returns-clause-unnamed
+returns-clause-unnamed c = unnamed_while_open
+
+pub returns-clause-begins : goal.returns-clause-begins
+returns-clause-begins c = counted-nothing_open
 
 pub returns-clause-opens : goal.returns-clause-opens
 returns-clause-opens c = counted-opened
