@@ -12,32 +12,34 @@ use Rattle.fd_tables.specs.declared.open_file.Descriptor.{Descriptor}
 use Rattle.fd_tables.specs.Files.{Table, OpenFiles, at_number, free_number, with_next, table_at, descriptor}
 use Rattle.fd_tables.specs.Changes.{Storage, with_descriptor, shared, dropped, dropped_file, closed, closed_descriptor, opened, copied_descriptor, with_cloexec, duplicated, replaced, moved, moved_handle, taken, first_table, with_table, all_shared, with_copy, all_closed, all_descriptors, exec_closed, without_table}
 use Rattle.fd_tables.specs.Calls.{Opens, Duplicates, Does}
-use Rattle.fd_tables.proofs.AtNumbers.{item_there, gone_there, others_there, next_there, next_keeps}
+use Rattle.fd_tables.proofs.AtNumbers.{item_there, gone_there, others_there}
+use Rattle.fd_tables.proofs.NextNumbers.{next_there, next_keeps}
 
 abbrev pub has_table : OpenFiles → ℕ → Bool
 has_table fs t = is_some (table_at fs t)
 
+-- the tables stay where an open file is shared or let go
+pub tables-shared : (fs : OpenFiles) (h : Handle) → (shared fs h).tables ≡ fs.tables
+tables-shared fs (Open n) = refl
+tables-shared fs Input = refl
+tables-shared fs Output = refl
+
+by_last : (s : Storage) (n : ℕ) (f : OpenFile) (b : Bool) → nat_le f.uses 1 ≡ b → (dropped_file s n (Some f)).files.tables ≡ s.files.tables
+by_last s n f true e = rw e refl
+by_last s n f false e = rw e refl
+
+tables-dropped_file : (s : Storage) (n : ℕ) (o : Option OpenFile) → (dropped_file s n o).files.tables ≡ s.files.tables
+tables-dropped_file s n None = refl
+tables-dropped_file s n (Some f) = by_last s n f _ refl
+
+pub tables-dropped : (s : Storage) (h : Handle) → (dropped s h).files.tables ≡ s.files.tables
+tables-dropped s (Open n) = tables-dropped_file s n (at_number s.files.files n)
+tables-dropped s Input = refl
+tables-dropped s Output = refl
+
 module _ (t : ℕ) where
   pub has-with_descriptor : (fs : OpenFiles) (u fd : ℕ) (d : Option Descriptor) → has_table (with_descriptor fs u fd d) t ≡ has_table fs t
   has-with_descriptor fs u fd d = item_there (λ table. slice_set table fd d) fs.tables u t
-
-  tables-shared : (fs : OpenFiles) (h : Handle) → (shared fs h).tables ≡ fs.tables
-  tables-shared fs (Open n) = refl
-  tables-shared fs Input = refl
-  tables-shared fs Output = refl
-
-  by_last : (s : Storage) (n : ℕ) (f : OpenFile) (b : Bool) → nat_le f.uses 1 ≡ b → (dropped_file s n (Some f)).files.tables ≡ s.files.tables
-  by_last s n f true e = rw e refl
-  by_last s n f false e = rw e refl
-
-  tables-dropped_file : (s : Storage) (n : ℕ) (o : Option OpenFile) → (dropped_file s n o).files.tables ≡ s.files.tables
-  tables-dropped_file s n None = refl
-  tables-dropped_file s n (Some f) = by_last s n f _ refl
-
-  tables-dropped : (s : Storage) (h : Handle) → (dropped s h).files.tables ≡ s.files.tables
-  tables-dropped s (Open n) = tables-dropped_file s n (at_number s.files.files n)
-  tables-dropped s Input = refl
-  tables-dropped s Output = refl
 
   has-closed_descriptor : (s : Storage) (u fd : ℕ) (o : Option Descriptor) → has_table (closed_descriptor s u fd o).files t ≡ has_table s.files t
   has-closed_descriptor s u fd None = refl
@@ -133,7 +135,7 @@ module _ (t : ℕ) where
 
 tables-all_shared : (ds : List (Option Descriptor)) (fs : OpenFiles) → (all_shared fs ds).tables ≡ fs.tables
 tables-all_shared [] fs = refl
-tables-all_shared (Some d ∷ ds) fs = tables-all_shared ds (shared fs d.handle) ∙ tables-shared 0 fs d.handle
+tables-all_shared (Some d ∷ ds) fs = tables-all_shared ds (shared fs d.handle) ∙ tables-shared fs d.handle
 tables-all_shared (None ∷ ds) fs = tables-all_shared ds fs
 
 tables-with_copy : (fs : OpenFiles) (u : ℕ) (table : Table) → table_at fs u ≡ Some table → (with_copy fs u).tables ≡ with_next table fs.tables

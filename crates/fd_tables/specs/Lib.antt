@@ -1,10 +1,14 @@
--- Files    open files and tables of descriptors: what a descriptor shows, and which numbers are free
--- Kept     open files as contracts see them, with what memory is kept for
--- Inside   what the fields of `Files` say
--- Changes  how descriptors, open files and tables come and go
--- Calls    what the calls of `Files` answer
+-- Files      open files and tables of descriptors: what a descriptor shows, and which numbers are free
+-- Kept       open files as contracts see them, with what memory is kept for
+-- Inside     what the fields of `Files` say
+-- Changes    how descriptors, open files and tables come and go
+-- Calls      what the calls of `Files` answer
+-- Counts     how many descriptors share an open file, and how many open files hold a node
+-- CountLaws  that each change keeps both counts exact
 pub mod Files
 pub mod Kept
 pub mod Inside
 pub mod Changes
 pub mod Calls
+pub mod Counts
+pub mod CountLaws

@@ -1,6 +1,7 @@
 //! Files open, and descriptors are duplicated and closed.
 
-ghost use Rattle.std.specs.Prelude.{◌≡◌, ◌≤◌, IfOk, OnErr};
+ghost use Rattle.std.specs.Prelude.{◌≡◌, ◌^◌, ◌<◌, ◌≤◌, IfOk, OnErr};
+ghost use Rattle.fd_tables.specs.Kept.{KeepsSpare, UsesOneFile};
 ghost use Rattle.fd_tables.specs.Files.{free_number, lowest_free, view};
 ghost use Rattle.fd_tables.specs.Changes.{storage, with_open_file, closed, dropped, duplicated, replaced};
 ghost use Rattle.fd_tables.specs.Calls.{Opens, IsNotMemory, dup_number, Duplicates, dup3_fault, close_fault, Does};
@@ -22,6 +23,7 @@ impl Files {
         ensures same { self.new.open_files ≡ self.old.open_files }
         ensures spare { IfOk result (λ _. 1 ≤ self.new.spare) }
         ensures spare_tables { IfOk result (λ _. 1 ≤ self.new.spare_tables) }
+        ensures keeps { KeepsSpare self.old self.new }
     {
         ready_place(&mut self.files)?;
         ready_place(&mut self.tables)
@@ -32,6 +34,9 @@ impl Files {
     pub fn open(&mut self, tree: &mut Tree, table: u32, node: u32, way: Way) -> Result<u32, FdFault>
         ensures opens { Opens (lowest_free self.old.open_files table) (storage tree.old self.old.open_files) table node way (storage tree.new self.new.open_files) result }
         ensures ready { 1 ≤ self.old.spare → IsNotMemory result }
+        ensures number { IfOk result (λ _. free_number self.old.open_files.files < 2 ^ 32) }
+        ensures uses { UsesOneFile self.old self.new }
+        ensures refused { OnErr result (KeepsSpare self.old self.new) }
     {
         let Some(fd) = self.lowest_free(table) else {
             return Err(FdFault::Errno(Errno::Emfile));
@@ -51,13 +56,15 @@ impl Files {
         ensures added { IfOk result (λ _. self.new.open_files ≡ with_open_file self.old.open_files file) }
         ensures same { OnErr result (self.new.open_files ≡ self.old.open_files) }
         ensures full { OnErr result (self.old.spare ≡ 0) }
+        ensures uses { UsesOneFile self.old self.new }
     {
         put_next(&mut self.files, file)
     }
 
     /// Makes the lowest descriptor that is free what another one is. The two share their position.
     pub fn dup(&mut self, table: u32, fd: u32) -> Result<u32, Errno>
-        ensures { Duplicates (dup_number (view self.old.open_files table fd) (lowest_free self.old.open_files table)) self.old.open_files table fd self.new.open_files result }
+        ensures duplicates { Duplicates (dup_number (view self.old.open_files table fd) (lowest_free self.old.open_files table)) self.old.open_files table fd self.new.open_files result }
+        ensures spare { KeepsSpare self.old self.new }
     {
         self.view(table, fd)?;
         let Some(free) = self.lowest_free(table) else {
@@ -77,7 +84,8 @@ impl Files {
         new: u32,
         cloexec: bool,
     ) -> Result<(), Errno>
-        ensures { Does (dup3_fault (view self.old.open_files table old) old new) (storage tree.old self.old.open_files) (replaced (storage tree.old self.old.open_files) table old new cloexec) (storage tree.new self.new.open_files) result }
+        ensures replaces { Does (dup3_fault (view self.old.open_files table old) old new) (storage tree.old self.old.open_files) (replaced (storage tree.old self.old.open_files) table old new cloexec) (storage tree.new self.new.open_files) result }
+        ensures spare { KeepsSpare self.old self.new }
     {
         if old == new {
             return Err(Errno::Einval);
@@ -93,7 +101,8 @@ impl Files {
 
     #[tactic(auto, unfolding(crate::specs::Changes::duplicated))]
     fn duplicate(&mut self, table: u32, old: u32, new: u32, cloexec: bool)
-        ensures { self.new.open_files ≡ duplicated self.old.open_files table old new cloexec }
+        ensures files { self.new.open_files ≡ duplicated self.old.open_files table old new cloexec }
+        ensures spare { KeepsSpare self.old self.new }
     {
         if let Some(descriptor) = self.descriptor(table, old) {
             let duplicate = Descriptor {
@@ -107,7 +116,8 @@ impl Files {
 
     /// Closes a descriptor; EBADF where it isn't open.
     pub fn close(&mut self, tree: &mut Tree, table: u32, fd: u32) -> Result<(), Errno>
-        ensures { Does (close_fault (view self.old.open_files table fd)) (storage tree.old self.old.open_files) (closed (storage tree.old self.old.open_files) table fd) (storage tree.new self.new.open_files) result }
+        ensures closes { Does (close_fault (view self.old.open_files table fd)) (storage tree.old self.old.open_files) (closed (storage tree.old self.old.open_files) table fd) (storage tree.new self.new.open_files) result }
+        ensures spare { KeepsSpare self.old self.new }
     {
         self.view(table, fd)?;
         self.close_descriptor(tree, table, fd);
@@ -117,7 +127,8 @@ impl Files {
     /// Closes a descriptor, if it is open.
     #[tactic(auto, unfolding(crate::specs::Changes::closed))]
     pub(crate) fn close_descriptor(&mut self, tree: &mut Tree, table: u32, fd: u32)
-        ensures { storage tree.new self.new.open_files ≡ closed (storage tree.old self.old.open_files) table fd }
+        ensures storage { storage tree.new self.new.open_files ≡ closed (storage tree.old self.old.open_files) table fd }
+        ensures spare { KeepsSpare self.old self.new }
     {
         if let Some(descriptor) = self.descriptor(table, fd) {
             self.set_descriptor(table, fd, None);
@@ -127,7 +138,8 @@ impl Files {
 
     /// One fewer descriptor shares an open file. With the last one it goes, and lets its node go.
     fn drop_use(&mut self, tree: &mut Tree, handle: Handle)
-        ensures { storage tree.new self.new.open_files ≡ dropped (storage tree.old self.old.open_files) handle }
+        ensures storage { storage tree.new self.new.open_files ≡ dropped (storage tree.old self.old.open_files) handle }
+        ensures spare { KeepsSpare self.old self.new }
     {
         let Handle::Open(number) = handle else {
             return;

@@ -1,6 +1,7 @@
 //! All open files, and the tables of descriptors that share them.
 
 ghost use Rattle.std.specs.Prelude.{◌≡◌, ◌≤◌, length, IfOk};
+ghost use Rattle.fd_tables.specs.Kept.{KeepsSpare};
 ghost use Rattle.fd_tables.specs.Files.{nothing_open, lowest_free, descriptor, handle_view, view};
 ghost use Rattle.fd_tables.specs.Changes.{moved, taken, with_descriptor};
 ghost use Rattle.fd_tables.specs.Calls.{view_or_errno};
@@ -62,7 +63,8 @@ impl Files {
     #[tactic(auto, using(crate::proofs::Numbers::drop_more), unfolding(crate::specs::Changes::taken))]
     pub fn take_stdin(&mut self, n: u32)
         requires { n ≤ length self.old.open_files.stdin }
-        ensures { self.new.open_files ≡ taken self.old.open_files n }
+        ensures taken { self.new.open_files ≡ taken self.old.open_files n }
+        ensures spare { KeepsSpare self.old self.new }
     {
         self.taken += n as usize;
     }
@@ -107,7 +109,8 @@ impl Files {
 
     /// Opens or closes a descriptor of a table, if that is there.
     pub(crate) fn set_descriptor(&mut self, table: u32, fd: u32, descriptor: Option<Descriptor>)
-        ensures { self.new.open_files ≡ with_descriptor self.old.open_files table fd descriptor }
+        ensures files { self.new.open_files ≡ with_descriptor self.old.open_files table fd descriptor }
+        ensures spare { KeepsSpare self.old self.new }
     {
         table::set_descriptor(&mut self.tables, table, fd, descriptor);
     }
@@ -123,7 +126,8 @@ impl Files {
     /// Moves the position of an open file, in bytes or entries; the console has none.
     #[tactic(auto, unfolding(crate::specs::Changes::moved))]
     pub fn move_to(&mut self, table: u32, fd: u32, at: u64)
-        ensures { self.new.open_files ≡ moved self.old.open_files table fd at }
+        ensures moved { self.new.open_files ≡ moved self.old.open_files table fd at }
+        ensures spare { KeepsSpare self.old self.new }
     {
         if let Some(
             Descriptor {

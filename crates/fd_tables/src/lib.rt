@@ -7,6 +7,7 @@
 mod calls;
 mod fault;
 mod files;
+mod laws;
 mod open_file;
 mod places;
 mod shares;
@@ -17,6 +18,7 @@ mod view;
 
 pub use fault::FdFault;
 pub use files::Files;
+pub use laws::counts_law;
 pub use view::{Target, View, Way};
 
 #[cfg(test)]

@@ -1,6 +1,6 @@
 //! Lists in which a thing stands at the place of its number.
 
-ghost use Rattle.std.specs.Prelude.{◌≡◌, ◌≤◌, IfOk, OnErr, slice_set};
+ghost use Rattle.std.specs.Prelude.{◌≡◌, ◌+◌, ◌≤◌, IfOk, OnErr, slice_set};
 ghost use Rattle.fd_tables.specs.Files.{at_number, first_free, free_number, with_next};
 ghost use Rattle.fd_tables.specs.Kept.{spare_places};
 
@@ -37,6 +37,7 @@ pub(crate) fn first_free<T>(places: &[Option<T>]) -> Option<usize>
 pub(crate) fn ready_place<T>(places: &mut Vec<Option<T>>) -> Result<(), AllocError>
     ensures same { places.new.items ≡ places.old.items }
     ensures spare { IfOk result (λ _. 1 ≤ spare_places places.new) }
+    ensures keeps { spare_places places.old ≤ spare_places places.new }
 {
     if places.len() > u32::MAX as usize {
         return Err(AllocError);
@@ -51,6 +52,7 @@ pub(crate) fn put_next<T: Drop>(places: &mut Vec<Option<T>>, item: T) -> Result<
     ensures items { IfOk result (λ _. places.new.items ≡ with_next item places.old.items) }
     ensures same { OnErr result (places.new.items ≡ places.old.items) }
     ensures full { OnErr result (spare_places places.old ≡ 0) }
+    ensures uses { spare_places places.old ≤ spare_places places.new + 1 }
 {
     let free = first_free(places);
     let Ok(number) = u32::try_from(free.unwrap_or(places.len())) else {

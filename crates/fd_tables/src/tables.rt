@@ -1,6 +1,7 @@
 //! Tables come and go.
 
 ghost use Rattle.std.specs.Prelude.{◌≡◌, ◌||◌, [], ◌∷◌, ◌≤◌, IfOk, IsOk, OnErr, IsSome};
+ghost use Rattle.fd_tables.specs.Kept.{KeepsSpare, UsesOneTable};
 ghost use Rattle.fd_tables.specs.Files.{free_number, table_at};
 ghost use Rattle.fd_tables.specs.Changes.{storage, with_table, with_copy, exec_closed, without_table, shared, all_shared, all_closed, all_descriptors};
 
@@ -20,6 +21,8 @@ impl Files {
         ensures added { IfOk result (λ _. self.new.open_files ≡ with_table self.old.open_files) }
         ensures same { OnErr result (self.new.open_files ≡ self.old.open_files) }
         ensures ready { 1 ≤ self.old.spare_tables → IsOk result }
+        ensures uses { UsesOneTable self.old self.new }
+        ensures refused { OnErr result (KeepsSpare self.old self.new) }
     {
         put_next(&mut self.tables, first_table())
     }
@@ -31,6 +34,9 @@ impl Files {
         ensures table { IfOk result (λ t. t ≡ free_number self.old.open_files.tables) }
         ensures added { IfOk result (λ _. self.new.open_files ≡ with_copy self.old.open_files table) }
         ensures same { OnErr result (self.new.open_files ≡ self.old.open_files) }
+        ensures ready { 1 ≤ self.old.spare_tables → IsOk result }
+        ensures uses { UsesOneTable self.old self.new }
+        ensures refused { OnErr result (KeepsSpare self.old self.new) }
     {
         let copy = at_number(&self.tables, table).unwrap();
         let number = put_next(&mut self.tables, copy)?;
@@ -40,7 +46,8 @@ impl Files {
 
     #[tactic(auto, using(crate::proofs::Walked::shared_more))]
     fn share_all(&mut self, table: &Table)
-        ensures { self.new.open_files ≡ all_shared self.old.open_files table.now }
+        ensures files { self.new.open_files ≡ all_shared self.old.open_files table.now }
+        ensures spare { KeepsSpare self.old self.new }
     {
         for place in table {
             if let Some(descriptor) = place {
@@ -51,7 +58,8 @@ impl Files {
 
     /// One more descriptor shares what this one stands for.
     pub(crate) fn share(&mut self, handle: Handle)
-        ensures { self.new.open_files ≡ shared self.old.open_files handle }
+        ensures files { self.new.open_files ≡ shared self.old.open_files handle }
+        ensures spare { KeepsSpare self.old self.new }
     {
         if let Handle::Open(number) = handle {
             share(&mut self.files, number);
@@ -61,7 +69,8 @@ impl Files {
     /// A table goes, and all its descriptors close.
     #[tactic(auto, unfolding(crate::specs::Changes::without_table))]
     pub fn drop_table(&mut self, tree: &mut Tree, table: u32)
-        ensures { storage tree.new self.new.open_files ≡ without_table (storage tree.old self.old.open_files) table }
+        ensures storage { storage tree.new self.new.open_files ≡ without_table (storage tree.old self.old.open_files) table }
+        ensures spare { KeepsSpare self.old self.new }
     {
         self.close_all(tree, table, true);
         if at_number(&self.tables, table).is_some() {
@@ -72,7 +81,8 @@ impl Files {
     /// Closes what closes at an execve.
     #[tactic(auto, unfolding(crate::specs::Changes::exec_closed))]
     pub fn exec_close(&mut self, tree: &mut Tree, table: u32)
-        ensures { storage tree.new self.new.open_files ≡ exec_closed (storage tree.old self.old.open_files) table }
+        ensures storage { storage tree.new self.new.open_files ≡ exec_closed (storage tree.old self.old.open_files) table }
+        ensures spare { KeepsSpare self.old self.new }
     {
         self.close_all(tree, table, false);
     }
@@ -80,7 +90,8 @@ impl Files {
     /// Closes all descriptors, or just those that close at an execve.
     #[tactic(auto, using(crate::proofs::Walked::closed_more, crate::proofs::Walked::all_of))]
     fn close_all(&mut self, tree: &mut Tree, table: u32, all: bool)
-        ensures { storage tree.new self.new.open_files ≡ all_closed (λ d. all || d.cloexec) (storage tree.old self.old.open_files) table all_descriptors }
+        ensures storage { storage tree.new self.new.open_files ≡ all_closed (λ d. all || d.cloexec) (storage tree.old self.old.open_files) table all_descriptors }
+        ensures spare { KeepsSpare self.old self.new }
     {
         for fd in 0..MOST_DESCRIPTORS {
             self.close_if(tree, table, fd, all);
@@ -88,7 +99,8 @@ impl Files {
     }
 
     fn close_if(&mut self, tree: &mut Tree, table: u32, fd: u32, all: bool)
-        ensures { storage tree.new self.new.open_files ≡ all_closed (λ d. all || d.cloexec) (storage tree.old self.old.open_files) table (fd ∷ []) }
+        ensures storage { storage tree.new self.new.open_files ≡ all_closed (λ d. all || d.cloexec) (storage tree.old self.old.open_files) table (fd ∷ []) }
+        ensures spare { KeepsSpare self.old self.new }
     {
         if let Some(descriptor) = self.descriptor(table, fd) {
             if all || descriptor.cloexec {

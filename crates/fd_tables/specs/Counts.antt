@@ -1,0 +1,64 @@
+-- Counts are exact: an open file goes when all its descriptors are closed, and a node is held exactly while it is open
+-- (POSIX.1-2017, close).
+use Rattle.std.specs.Prelude.{ℕ, ◌≡◌, ◌≤◌, ◌^◌, ◌==◌, Bool, false, length, count_by, sum_by, Option, Some, None, IfSome}
+use Rattle.mem_files.specs.Inodes.{Inode, inode_at}
+use Rattle.mem_files.specs.Changes as tree
+use Rattle.fd_tables.specs.declared.open_file.OpenFile.{OpenFile}
+use Rattle.fd_tables.specs.declared.open_file.Handle.{Handle}
+use Rattle.fd_tables.specs.declared.open_file.Handle.TheVariants.{Input, Output, Open}
+use Rattle.fd_tables.specs.declared.open_file.Descriptor.{Descriptor}
+use Rattle.fd_tables.specs.Files.{Table, most_descriptors, OpenFiles, at_number, table_at}
+use Rattle.fd_tables.specs.Changes.{Storage}
+
+-- ---- descriptors that share an open file
+
+-- a handle is that of the open file of a number
+abbrev pub leads_to : ℕ → Handle → Bool
+leads_to n (Open k) = k == n
+leads_to n Input = false
+leads_to n Output = false
+
+abbrev pub stands_for : ℕ → Option Descriptor → Bool
+stands_for n (Some d) = leads_to n d.handle
+stands_for n None = false
+
+abbrev pub shares_in : ℕ → Option Table → ℕ
+shares_in n (Some table) = count_by (stands_for n) table
+shares_in n None = 0
+
+-- how many descriptors of all tables stand for the open file of a number
+abbrev pub shares_of : OpenFiles → ℕ → ℕ
+shares_of fs n = sum_by (shares_in n) fs.tables
+
+-- how many an open file counts
+abbrev pub uses_in : Option OpenFile → ℕ
+uses_in (Some f) = f.uses
+uses_in None = 0
+
+-- ---- open files that hold a node
+
+abbrev pub opens_node : ℕ → Option OpenFile → Bool
+opens_node id (Some f) = f.node == id
+opens_node id None = false
+
+-- how many open files are of a node
+abbrev pub opens_of : OpenFiles → ℕ → ℕ
+opens_of fs id = count_by (opens_node id) fs.files
+
+-- how many a node counts
+abbrev pub holds_in : Option Inode → ℕ
+holds_in (Some n) = n.holds
+holds_in None = 0
+
+-- ---- the law's invariant
+
+-- both counts are exact, no open file is left that no descriptor shares, and no node that no folder names and no open file
+-- holds. Numbers are below 2 ^ 32, so that no count stands still at its type's end
+pub record Counted (s : Storage) : Type 0 where
+  pub uses : (n : ℕ) → uses_in (at_number s.files.files n) ≡ shares_of s.files n
+  pub used : (n : ℕ) → IfSome (at_number s.files.files n) (λ f. 1 ≤ f.uses)
+  pub holds : (id : ℕ) → holds_in (inode_at s.nodes id) ≡ opens_of s.files id
+  pub stays : (id : ℕ) → IfSome (inode_at s.nodes id) (λ n. tree.kept n ≡ Some n)
+  pub whole : (t : ℕ) → IfSome (table_at s.files t) (λ table. length table ≡ most_descriptors)
+  pub few_files : length s.files.files ≤ 2 ^ 32
+  pub few_tables : length s.files.tables ≤ 2 ^ 32
