@@ -3,11 +3,9 @@ use Rattle.std.proofs.Common.{◌≡◌, ℕ, zero, suc, ◌+◌, Bool, true, fa
 use Rattle.std.specs.Prelude.{◌==◌, ◌&&◌, nat_le, nat_lt}
 use Rattle.std.proofs.lemmas.Bool.{cases_eq}
 use Rattle.call_log.specs.declared.errno.Errno.{Errno}
-use Rattle.mem_files.specs.declared.node.Node.{Node}
-use Rattle.mem_files.specs.declared.node.Node.TheVariants.{Dir, File}
 use Rattle.mem_files.specs.Inodes.{Entry, Content, file, folder, Inode, Inodes, new_inode, inode_at, kind_of, size_of, bytes_in, most_nodes, most_of_one, most_of_all, node_count, byte_count}
 use Rattle.mem_files.specs.Paths.{Place, place_of}
-use Rattle.mem_files.specs.Changes.{with_change, kept, with_bytes, with_entries, overwritten, or_no_space, written, truncated, with_entry, with_new, made_in, made_at, with_folder, with_file, may_be_entry, without_entry, unnamed, unnamed_as, unnamed_at, unlinked}
+use Rattle.mem_files.specs.Changes.{with_change, kept, with_bytes, with_entries, overwritten, or_no_space, written, truncated, with_entry, with_new, made_in, made_at, with_folder, with_file, may_be_entry, without_entry, naming_fault, unless_fault, unnamed, unnamed_at, unlinked}
 use Rattle.fd_tables.specs.Changes.{Storage, storage}
 use Rattle.fd_tables.specs.Counts.{holds_in, Counted}
 use Rattle.fd_tables.specs.CountLaws.{TreeKeepsCounts}
@@ -116,14 +114,12 @@ keeps-made_at content program ns (Ok p) = by p.id refl
     by (Some id) e = rw e (refused ns _)
     by None e = rw e (keeps-made_in ns p (content p.folder) program)
 
-keeps-unnamed_as : (dir : Bool) (node : Node) (ns : Inodes) (p : Place) (id : ℕ) → Keeps ns (unnamed_as dir node ns p id)
-keeps-unnamed_as false Dir ns p id = refused ns _
-keeps-unnamed_as true Dir ns p id = either ns (size_of ns id == 0) _ _ (done ns _ (unnamed_same ns p id)) (refused ns _)
-keeps-unnamed_as true File ns p id = refused ns _
-keeps-unnamed_as false File ns p id = done ns _ (unnamed_same ns p id)
+keeps-unless : (ns now : Inodes) (fault : Option Errno) → Same ns now → Keeps ns (unless_fault fault now)
+keeps-unless ns now None same = done ns now same
+keeps-unless ns now (Some errno) same = refused ns errno
 
 by_node : (dir : Bool) (ns : Inodes) (id : Option ℕ) (at : ℕ) (name : List ℕ) → Keeps ns (unnamed_at dir ns (Ok (record { id = id; folder = at; name = name })))
-by_node dir ns (Some id) at name = either ns (may_be_entry name) _ _ (keeps-unnamed_as dir (kind_of ns id) ns (record { id = Some id; folder = at; name = name }) id) (refused ns _)
+by_node dir ns (Some id) at name = either ns (may_be_entry name) _ _ (keeps-unless ns _ (naming_fault dir (kind_of ns id) (size_of ns id)) (unnamed_same ns (record { id = Some id; folder = at; name = name }) id)) (refused ns _)
 by_node dir ns None at name = either ns (may_be_entry name) _ _ (refused ns _) (refused ns _)
 
 keeps-unnamed_at : (dir : Bool) (ns : Inodes) (r : Result Place Errno) → Keeps ns (unnamed_at dir ns r)

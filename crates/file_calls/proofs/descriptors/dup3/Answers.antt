@@ -12,8 +12,8 @@ returns-then-not-is_none_or c = λ a made e. (dup3_flags a (rw made.args (sym c.
 pub returns-in_err-dup3 : goal.returns-in_err-dup3
 returns-in_err-dup3 c = λ a made e.
     by_fault a _ _ _ (Errno c.in_err-dup3.field-0.0) c.from_residual.ensures.1
-    (dup3_says a (storage c.dup3.new.tree c.dup3.new.self.open_files) (Err c.in_err-dup3.field-0.0) (rw made.args (sym c.if-not-is_none_or.ensures)) (rw (made.table, made.args, nodes_are a.rest _ _ e, files_are a.rest _ _ e) c.in_err-dup3.ensures))
+    (dup3_says a (storage c.dup3.new.tree c.dup3.new.self.open_files) (Err c.in_err-dup3.field-0.0) (rw made.args (sym c.if-not-is_none_or.ensures)) (rw (made.table, made.args, nodes_are a.rest _ _ e, files_are a.rest _ _ e) c.in_err-dup3.ensures.replaces))
 
 pub returns : goal.returns
 returns c = λ a made e.
-    rw (← made.args) (dup3_says a (storage c.dup3.new.tree c.dup3.new.self.open_files) (Ok tt) (rw made.args (sym c.if-not-is_none_or.ensures)) (rw (made.table, made.args, nodes_are a.rest _ _ e, files_are a.rest _ _ e) c.in_ok-dup3.ensures))
+    rw (← made.args) (dup3_says a (storage c.dup3.new.tree c.dup3.new.self.open_files) (Ok tt) (rw made.args (sym c.if-not-is_none_or.ensures)) (rw (made.table, made.args, nodes_are a.rest _ _ e, files_are a.rest _ _ e) c.in_ok-dup3.ensures.replaces))
