@@ -21,8 +21,8 @@ abbrev pub appended : List ℕ → Result (List ℕ) Span → Result (List ℕ) 
 appended front (Ok back) = Ok (front ++ back)
 appended front (Err span) = Err span
 
--- the same where the bytes are added to a list, which stays as it was where they are not
+-- the same where the bytes are added to a list
 abbrev pub Appends : Result (List ℕ) Span → List ℕ → List ℕ → Result ⊤ Unread → Type 0
 Appends found old new (Ok done) = appended old found ≡ Ok new
-Appends found old new (Err (Stray addr len)) = (found ≡ Err (record { addr = addr; len = len })) × (new ≡ old)
-Appends found old new (Err Memory) = new ≡ old
+Appends found old new (Err (Stray addr len)) = found ≡ Err (record { addr = addr; len = len })
+Appends found old new (Err Memory) = Unit {0}

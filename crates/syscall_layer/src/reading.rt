@@ -1,6 +1,6 @@
 //! The bytes that a system call reads.
 
-ghost use Rattle.std.specs.Prelude.{◌≡◌, ◌*◌, ◌≤◌, IfOk, length};
+ghost use Rattle.std.specs.Prelude.{◌≡◌, ◌*◌, ◌≤◌, IfOk, OnErr, length};
 ghost use Rattle.call_log.specs.Sent.{read_span, read_spans, piece_spans, data_spans, write_sent, writev_sent, readv_sent, path_sent, has_path, sent};
 ghost use Rattle.syscall_layer.specs.Stands.{private_bytes};
 ghost use Rattle.syscall_layer.specs.Reading.{Reads, ReadsByte, Appends};
@@ -39,7 +39,7 @@ impl From<AllocError> for Unread {
     }
 }
 
-/// Adds the bytes of a range, with one copy.
+/// Adds the bytes of a range, with one copy. Where it strays or memory is out, nothing is added.
 pub fn read_range(
     mem: &PhysMem,
     space: &Space,
@@ -48,7 +48,8 @@ pub fn read_range(
     into: &mut Vec<u8>,
 ) -> Result<(), Unread>
     requires memory { length mem.now ≡ 4096 * space.now.pages }
-    ensures { Appends (read_span (private_bytes mem.now space.now) (record { addr = addr; len = len })) into.old.items into.new.items result }
+    ensures bytes { Appends (read_span (private_bytes mem.now space.now) (record { addr = addr; len = len })) into.old.items into.new.items result }
+    ensures same { OnErr result (into.new.items ≡ into.old.items) }
 {
     if len == 0 {
         return Ok(());

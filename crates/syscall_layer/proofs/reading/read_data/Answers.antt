@@ -17,7 +17,7 @@ returns-in_err-read_range c =
     let span = same_span _ _ _ _ c.word.ensures (c.min.ensures ∙ ap (λ (n : ℕ). min n c.loop-i.left) c.word-len.ensures) in
     let old = c.loop-i.into.items in
     rw (p.1, p.2) (unread_on _ _ old c.read_range.new.into.items c.args.into.now.items c.args.into.now.items _
-    (λ stray is. appended_strays _ _ stray (next_strays m _ _ _ old stray _ parts c.loop-i.invariant (ap (read_span m) (sym span) ∙ is))) c.in_err-read_range.ensures)
+    (λ stray is. appended_strays _ _ stray (next_strays m _ _ _ old stray _ parts c.loop-i.invariant (ap (read_span m) (sym span) ∙ is))) c.in_err-read_range.ensures.bytes)
 
 pub loop-i-preserved : goal.loop-i-preserved
 loop-i-preserved c =
@@ -27,4 +27,4 @@ loop-i-preserved c =
     let span = same_span _ _ _ _ c.word.ensures (c.min.ensures ∙ ap (λ (n : ℕ). min n c.loop-i.left) c.word-len.ensures) in
     let old = c.loop-i.into.items in
     rw (c.saturating_sub-left.ensures, c.word-len.ensures)
-    (next_read m _ _ _ old _ _ parts c.loop-i.invariant (ap (λ (s : Span). appended old (read_span m s)) (sym span) ∙ c.in_ok-read_range.ensures))
+    (next_read m _ _ _ old _ _ parts c.loop-i.invariant (ap (λ (s : Span). appended old (read_span m s)) (sym span) ∙ c.in_ok-read_range.ensures.bytes))

@@ -13,7 +13,7 @@ returns-in_err-read_range-clause-read c =
     let m = private_bytes c.args.mem.now c.args.space.now in
     let parts = first_left (piece_span c.args.at) c.loop-i.i c.args.count c.loop-i-test.true in
     rw (p.1, p.2) (unread Global (read_span m (piece_span c.args.at c.loop-i.i)) _ c.loop-i.pieces.items c.read_range.new.into.items _
-    (λ stray is. next_strays m _ _ _ c.loop-i.pieces.items stray _ parts c.loop-i.invariant.read is) c.in_err-read_range.ensures)
+    (λ stray is. next_strays m _ _ _ c.loop-i.pieces.items stray _ parts c.loop-i.invariant.read is) c.in_err-read_range.ensures.bytes)
 
 pub loop-i-preserved : goal.loop-i-preserved
 loop-i-preserved c =
@@ -23,6 +23,6 @@ loop-i-preserved c =
     let old = c.loop-i.pieces.items in
     let new = c.read_range.new.into.items in
     record {
-      read = next_read m _ _ _ old new _ parts c.loop-i.invariant.read c.in_ok-read_range.ensures;
-      len = omega (arith, appended_length m (piece_span c.args.at i) old new c.in_ok-read_range.ensures, c.loop-i.invariant.len);
+      read = next_read m _ _ _ old new _ parts c.loop-i.invariant.read c.in_ok-read_range.ensures.bytes;
+      len = omega (arith, appended_length m (piece_span c.args.at i) old new c.in_ok-read_range.ensures.bytes, c.loop-i.invariant.len);
     }
