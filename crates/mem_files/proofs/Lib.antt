@@ -4,3 +4,17 @@ mod Changing
 mod Walking
 mod Limits
 mod Places
+-- Numbers    what stands at a number after a change, and how many entries lead to it
+-- Counts     entries that lead to a node or have a name, after one comes or goes
+-- Alike      changes that leave names, entries and parents keep the tree
+-- Lookups    where a walk stands: at named nodes alone
+-- Entered    a new node keeps the tree
+-- Left       a name that goes, and its node, leave a tree
+-- TreesKept  so each change keeps it
+mod Numbers
+mod Counts
+mod Alike
+mod Lookups
+mod Entered
+mod Left
+mod TreesKept
