@@ -1,8 +1,8 @@
 -- Changes that leave all names, entries and parents keep the tree: writes, and open files that come and go.
 use Rattle.std.proofs.Common.{◌≡◌, ℕ, ◌-◌, ◌≤◌, Bool, true, false, cond, not, List, [], Option, Some, None, refl, sym, ap, ◌∙◌, subst, arith}
-use Rattle.std.specs.Prelude.{◌==◌, ◌&&◌, ◌||◌, nat_lt}
+use Rattle.std.specs.Prelude.{◌==◌, ◌&&◌, ◌||◌, nat_lt, is_some}
 use Rattle.mem_files.specs.Inodes.{Entry, Content, file, folder, Inode, Inodes, root, inode_at, content_in, entries_in, raised}
-use Rattle.mem_files.specs.Changes.{with_change, with_bytes, kept, held, let_go}
+use Rattle.mem_files.specs.Changes.{with_change, with_bytes, truncated, kept, held, let_go}
 use Rattle.mem_files.specs.Trees.{linked_in, is_named, parent_in, leading, having, links_in, link_count, IsTree}
 use Rattle.mem_files.proofs.Numbers.{made, change_each, sum-change}
 
@@ -26,6 +26,7 @@ tree_alike new old links alike t = record {
   root_named = (alike root).linked ∙ t.root_named;
   root_above = (alike root).parent t.root_named ∙ t.root_above;
   once = λ k. links k ∙ t.once k ∙ ap (λ (b : Bool). cond (b && not (k == root)) 1 0) (sym (alike k).linked);
+  below = λ k at some. t.below k at (subst (λ (es : List Entry). 1 ≤ leading k es) (alike at).entries some);
   apart = λ at name. subst (λ (es : List Entry). having name es ≤ 1) (sym (alike at).entries) (t.apart at name);
   empty = λ k none. (alike k).entries ∙ t.empty k (sym (alike k).linked ∙ none);
   above = λ k parent is other stands.
@@ -54,6 +55,14 @@ tree-bytes f ns id t = tree_change (λ n. Some (with_bytes f n)) ns id (by (inod
     by : (o : Option Inode) → Alike (made (λ n. Some (with_bytes f n)) o) o
     by None = alike_same None
     by (Some n) = alike_bytes f n
+
+pub truncated_there : (ns : Inodes) (id k : ℕ) → is_some (inode_at (truncated ns id) k) ≡ is_some (inode_at ns k)
+unfolding truncated
+truncated_there ns id k = change_each (λ n. Some (with_bytes (λ bytes. []) n)) (λ new old. is_some new ≡ is_some old) ns id (by (inode_at ns id)) (λ o. refl) k
+  where
+    by : (o : Option Inode) → is_some (made (λ n. Some (with_bytes (λ bytes. []) n)) o) ≡ is_some o
+    by None = refl
+    by (Some n) = refl
 
 -- ---- open files
 

@@ -1,58 +1,18 @@
 -- A new node, under a new name of a named folder, keeps the tree.
-use Rattle.std.proofs.Common.{◌≡◌, ◌≢◌, ℕ, ◌+◌, ◌≤◌, Bool, true, false, cond, not, List, [], ◌∷◌, ◌++◌, length, Option, Some, None, refl, sym, ap, ◌∙◌, subst, ◌⊎◌, inl, inr, eq-eqb, arith}
+use Rattle.std.proofs.Common.{◌≡◌, ◌≢◌, ℕ, ◌+◌, ◌<◌, ◌≤◌, Bool, true, false, cond, not, List, [], ◌∷◌, ◌++◌, length, Option, Some, refl, sym, ap, ◌∙◌, subst, ◌⊎◌, inl, inr, eq-eqb, arith}
 use Rattle.std.specs.Prelude.{◌==◌, ◌&&◌, bytes_eq}
 use Rattle.std.proofs.lemmas.Bool.{cases_eq, ne_eqb}
+use Rattle.std.proofs.lemmas.Bool.Decides.{nat_tests}
 use Rattle.std.proofs.lemmas.List.Sums.{sum_by_push}
 use Rattle.std.proofs.lemmas.Slice.Eq.{bytes_eq-Decides}
 use Rattle.mem_files.specs.declared.node.Node.TheVariants.{Dir}
-use Rattle.mem_files.specs.Inodes.{Entry, Content, file, folder, Inode, Inodes, root, inode_at, content_in, entries_in, entries_of, kind_in, kind_of}
-use Rattle.mem_files.specs.Changes.{with_change, with_entries, with_entry, with_new}
+use Rattle.mem_files.specs.Inodes.{Entry, Inode, Inodes, root, inode_at, entries_in, entries_of, kind_of}
+use Rattle.mem_files.specs.Changes.{with_entries, with_entry, with_new}
 use Rattle.mem_files.specs.Trees.{linked_in, is_named, parent_in, parent_of, leading, having, links_in, link_count, IsTree}
-use Rattle.mem_files.proofs.Numbers.{made, change_at, change_other, change_each, length-change, sum-change, past_last, behind_there, behind_other}
+use Rattle.mem_files.proofs.Numbers.{length-change, past_last, inside, behind_there, behind_other}
 use Rattle.mem_files.proofs.Counts.{one, leading-push, having-push}
 use Rattle.mem_files.proofs.Alike.{entries_at, parent_at}
-
--- ---- one entry more
-
--- the same name and parent
-pub record Stays (new old : Option Inode) : Type 0 where
-  pub linked : linked_in new ≡ linked_in old
-  pub parent : parent_at new ≡ parent_at old
-
-stays_same : (o : Option Inode) → Stays o o
-stays_same o = record { linked = refl; parent = refl }
-
-pub entries_stay : (f : List Entry → List Entry) (o : Option Inode) → Stays (made (λ n. Some (with_entries f n)) o) o
-entries_stay f None = stays_same None
-entries_stay f (Some n) = by n.content refl
-  where
-    by : (x : Content) → n.content ≡ x → Stays (Some (with_entries f n)) (Some n)
-    by (file bytes) is = record { linked = rw is refl; parent = rw is refl }
-    by (folder parent entries) is = record { linked = rw is refl; parent = rw is refl }
-
-pub entries_change : (f : List Entry → List Entry) (o : Option Inode) → kind_in (content_in o) ≡ Dir → entries_at (made (λ n. Some (with_entries f n)) o) ≡ f (entries_at o)
-entries_change f None is = let no : ⊥ = cc in absurd no
-entries_change f (Some n) is = by n.content refl
-  where
-    by : (x : Content) → n.content ≡ x → entries_at (Some (with_entries f n)) ≡ f (entries_at (Some n))
-    by (file bytes) e = let no : ⊥ = (let was = rw e at is in cc) in absurd no
-    by (folder parent entries) e = rw e refl
-
-module _ (ns : Inodes) (at : ℕ) (f : List Entry → List Entry) where
-  pub stay : (k : ℕ) → Stays (inode_at (with_change (λ n. Some (with_entries f n)) ns at) k) (inode_at ns k)
-  stay k = change_each (λ n. Some (with_entries f n)) Stays ns at (entries_stay f (inode_at ns at)) stays_same k
-
-  pub other_entries : (k : ℕ) → k ≢ at → entries_of (with_change (λ n. Some (with_entries f n)) ns at) k ≡ entries_of ns k
-  other_entries k other = ap entries_at (change_other (λ n. Some (with_entries f n)) ns at k other)
-
-  module _ (is : kind_of ns at ≡ Dir) where
-    pub these_entries : entries_of (with_change (λ n. Some (with_entries f n)) ns at) at ≡ f (entries_of ns at)
-    these_entries = ap entries_at (change_at (λ n. Some (with_entries f n)) ns at) ∙ entries_change f (inode_at ns at) is
-
-    pub links_with : (k : ℕ) → link_count (with_change (λ n. Some (with_entries f n)) ns at) k + leading k (entries_of ns at) ≡ link_count ns k + leading k (f (entries_of ns at))
-    links_with k = omega (arith, sum-change (λ n. Some (with_entries f n)) (links_in k) ns at, ap (leading k) (entries_change f (inode_at ns at) is))
-
--- ---- and a node
+use Rattle.mem_files.proofs.EntriesAt.{stay, other_entries, these_entries, links_with}
 
 module _ (ns : Inodes) (t : IsTree ns) (at : ℕ) (name : List ℕ) (n : Inode) (is : is_named ns at ≡ true) (dir : kind_of ns at ≡ Dir) (fresh : having name (entries_of ns at) ≡ 0)
     (linked : n.linked ≡ true) (empty : entries_in n.content ≡ []) (stands : (parent : ℕ) → parent_in n.content ≡ Some parent → parent ≡ at) where
@@ -150,6 +110,27 @@ module _ (ns : Inodes) (t : IsTree ns) (at : ℕ) (name : List ℕ) (n : Inode) 
       let there : parent ≢ length ns = (λ e. let no : ⊥ = omega (arith, some, ap (λ (j : ℕ). leading k (entries_of ns j)) e, ap (λ (o : Option Inode). leading k (entries_at o)) (past_last ns)) in no) in
       into k parent there (omega (arith, some, more_by k parent (cases_eq parent at)))
 
+  -- and it leads to a higher number
+  at_inside : at < length ns
+  at_inside = inside ns at (λ e. let clash : false ≡ true = sym (ap linked_in e) ∙ is in cc)
+
+  below_at : (k : ℕ) (b : Bool) → (length ns == k) ≡ b → 1 ≤ leading k (entries_of ns at) + one b → at < k
+  below_at k true same some = let e : length ns ≡ k = grind (arith, nat_tests, same) in omega (arith, e, at_inside)
+  below_at k false same some = t.below k at (omega (arith, some))
+
+  below_by : (k j : ℕ) → (j ≡ at) ⊎ (j ≡ at → ⊥) → 1 ≤ leading k (entries_of entered j) → j < k
+  below_by k j (inl e) some =
+      subst (λ (i : ℕ). i < k) (sym e)
+      (below_at k (length ns == k) refl
+      (omega (arith, subst (λ (i : ℕ). 1 ≤ leading k (entries_of entered i)) e some, ap (leading k) (these_entries ns at added dir), leading-push k (entries_of ns at) (record { name = name; id = length ns }))))
+  below_by k j (inr other) some = t.below k j (omega (arith, some, ap (leading k) (other_entries ns at added j other)))
+
+  below_new : (k j : ℕ) → (j ≡ length ns) ⊎ (j ≡ length ns → ⊥) → 1 ≤ leading k (entries_of new j) → j < k
+  below_new k j (inl e) some =
+      let there : 1 ≤ leading k (entries_of new (length ns)) = subst (λ (i : ℕ). 1 ≤ leading k (entries_of new i)) e some in
+      absurd (omega (arith, there, ap (λ (o : Option Inode). leading k (entries_at o)) at_last, ap (leading k) empty))
+  below_new k j (inr other) some = below_by k j (cases_eq j at) (omega (arith, some, ap (λ (o : Option Inode). leading k (entries_at o)) (elsewhere j other)))
+
   pub tree-new : IsTree (with_new ns at name n)
   tree-new =
       let other : root ≢ length ns = named_other root t.root_named in
@@ -157,6 +138,7 @@ module _ (ns : Inodes) (t : IsTree ns) (at : ℕ) (name : List ℕ) (n : Inode) 
         root_named = named_new root other ∙ t.root_named;
         root_above = ap parent_at (elsewhere root other) ∙ (stay ns at added root).parent ∙ t.root_above;
         once = λ k. once_by k (cases_eq k (length ns));
+        below = λ k j some. below_new k j (cases_eq j (length ns)) some;
         apart = λ j name. apart_new j name (cases_eq j (length ns));
         empty = λ k none. empty_by k none (cases_eq k (length ns));
         above = λ k parent named beside found. above_by k parent named beside found (cases_eq k (length ns));

@@ -10,7 +10,7 @@ use Rattle.mem_files.specs.Trees.{linked_in, is_named, parent_of, leading, havin
 use Rattle.mem_files.proofs.Numbers.{made, change_at, change_other, change_each, sum-change}
 use Rattle.mem_files.proofs.Counts.{one, others, leading-others, having-others}
 use Rattle.mem_files.proofs.Alike.{entries_at, parent_at}
-use Rattle.mem_files.proofs.Entered.{stay, other_entries, these_entries, links_with}
+use Rattle.mem_files.proofs.EntriesAt.{stay, other_entries, these_entries, links_with}
 use Rattle.mem_files.proofs.Lookups.{led_to}
 
 -- ---- a node loses its name, and may go
@@ -125,6 +125,13 @@ module _ (ns : Inodes) (t : IsTree ns) (p : Place) (id : ℕ) (is : named p.name
   empty_by k nameless (inl e) = subst (λ (j : ℕ). entries_of new j ≡ []) (sym e) (entries_new id ∙ none_mid)
   empty_by k nameless (inr other) = entries_new k ∙ empty_mid k (t.empty k (sym (named_new k other) ∙ nameless)) (cases_eq k p.folder)
 
+  -- no entry comes
+  fewer_by : (k j : ℕ) → (j ≡ p.folder) ⊎ (j ≡ p.folder → ⊥) → leading k (entries_of mid j) ≤ leading k (entries_of ns j)
+  fewer_by k j (inl e) =
+      subst (λ (i : ℕ). leading k (entries_of mid i) ≤ leading k (entries_of ns i)) (sym e)
+      (omega (arith, ap (leading k) (these_entries ns p.folder fewer dir), leading-others p.name id k (entries_of ns p.folder) is few))
+  fewer_by k j (inr other) = omega (arith, ap (leading k) (other_entries ns p.folder fewer j other))
+
   pub tree-unnamed : IsTree (unnamed ns p id)
   tree-unnamed =
       let other : root ≢ id = (λ e. beside_root (sym e)) in
@@ -132,6 +139,7 @@ module _ (ns : Inodes) (t : IsTree ns) (p : Place) (id : ℕ) (is : named p.name
         root_named = named_new root other ∙ t.root_named;
         root_above = parent_new root other ∙ t.root_above;
         once = λ k. once_by k (cases_eq k id);
+        below = λ k j some. t.below k j (omega (arith, some, ap (leading k) (entries_new j), fewer_by k j (cases_eq j p.folder)));
         apart = λ j name. omega (arith, ap (having name) (entries_new j), apart_mid j name (cases_eq j p.folder), t.apart j name);
         empty = λ k nameless. empty_by k nameless (cases_eq k id);
         above = λ k parent named beside found.

@@ -1,7 +1,7 @@
 -- What stands at a number after a change, and how many entries lead to it.
-use Rattle.std.proofs.Common.{◌≡◌, ◌≢◌, ℕ, zero, suc, ◌+◌, ◌≤◌, [], ◌∷◌, ◌++◌, length, Option, Some, None, slice_get, refl, sym, ap, ◌∙◌, subst, ◌⊎◌, inl, inr, arith}
-use Rattle.std.specs.Prelude.{sum_by}
-use Rattle.std.proofs.lemmas.Bool.{cases_eq}
+use Rattle.std.proofs.Common.{◌≡◌, ◌≢◌, ℕ, zero, suc, ◌+◌, ◌<◌, ◌≤◌, Bool, true, false, [], ◌∷◌, ◌++◌, length, Option, Some, None, slice_get, refl, sym, ap, ◌∙◌, subst, ◌⊎◌, inl, inr, arith}
+use Rattle.std.specs.Prelude.{nat_lt, sum_by}
+use Rattle.std.proofs.lemmas.Bool.{cases_eq, ltb-true, ltb-false}
 use Rattle.std.proofs.lemmas.List.Sums.{sum_by-cons}
 use Rattle.mem_files.specs.Inodes.{Inode, Inodes, inode_at}
 use Rattle.mem_files.specs.Changes.{with_change}
@@ -63,6 +63,19 @@ sum-part w none (m ∷ ns) (suc id) = omega (arith, sum_by-cons w m ns, sum-part
 pub past_last : (ns : Inodes) → inode_at ns (length ns) ≡ None
 past_last [] = refl
 past_last (m ∷ ns) = past_last ns
+
+past_end : (ns : Inodes) (k : ℕ) → length ns ≤ k → inode_at ns k ≡ None
+past_end [] k past = refl
+past_end (m ∷ ns) zero past = absurd (omega arith)
+past_end (m ∷ ns) (suc k) past = past_end ns k (omega arith)
+
+inside_by : (ns : Inodes) (k : ℕ) (b : Bool) → nat_lt k (length ns) ≡ b → inode_at ns k ≢ None → k < length ns
+inside_by ns k true is some = ltb-true k (length ns) is
+inside_by ns k false is some = absurd (some (past_end ns k (ltb-false k (length ns) is)))
+
+-- a node that is there stands before the end
+pub inside : (ns : Inodes) (k : ℕ) → inode_at ns k ≢ None → k < length ns
+inside ns k some = inside_by ns k (nat_lt k (length ns)) refl some
 
 pub behind_there : (n : Inode) (ns : Inodes) → inode_at (ns ++ Some n ∷ []) (length ns) ≡ Some n
 behind_there n [] = refl

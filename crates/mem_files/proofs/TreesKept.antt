@@ -1,20 +1,21 @@
 -- Each change keeps the tree.
-use Rattle.std.proofs.Common.{◌≡◌, ℕ, zero, suc, ◌+◌, ◌≤◌, Bool, true, false, cond, not, List, [], ◌∷◌, ◌++◌, length, Option, Some, None, Result, Ok, Err, refl, sym, ap, subst, arith}
+use Rattle.std.proofs.Common.{◌≡◌, ℕ, ◌+◌, Bool, true, false, cond, List, [], ◌∷◌, ◌++◌, length, Option, Some, None, Result, Ok, Err, refl, sym, ap, subst, arith}
 use Rattle.std.specs.Prelude.{◌==◌, ◌&&◌, nat_le, nat_lt, is_some}
 use Rattle.std.proofs.lemmas.Bool.Decides.{nat_tests}
 use Rattle.std.proofs.lemmas.Option.{same_Some}
 use Rattle.call_log.specs.declared.errno.Errno.{Errno}
 use Rattle.call_log.specs.declared.errno.Errno.TheVariants.{Enotempty}
-use Rattle.mem_files.specs.Inodes.{Entry, Content, file, folder, Inode, Inodes, new_inode, root, opening, inode_at, content_in, kind_in, kind_of, size_in, size_of, entries_in, entries_of, bytes_in, most_nodes, most_of_one, most_of_all, node_count, byte_count}
+use Rattle.mem_files.specs.Inodes.{Entry, Content, file, folder, Inode, Inodes, new_inode, inode_at, content_in, kind_in, kind_of, size_in, size_of, entries_in, entries_of, bytes_in, most_nodes, most_of_one, most_of_all, node_count, byte_count}
 use Rattle.mem_files.specs.Paths.{Place, named, place_of}
 use Rattle.mem_files.specs.Changes.{overwritten, or_no_space, written, truncated, with_entries, with_entry, with_new, made_at, with_folder, with_file, may_be_entry, naming_fault, unless_fault, unnamed, unnamed_at, unlinked, held, let_go}
-use Rattle.mem_files.specs.Trees.{is_named, parent_in, having, link_count, IsTree}
+use Rattle.mem_files.specs.Trees.{parent_in, IsTree}
 use Rattle.mem_files.specs.TreeLaws.{ChangesKeepTree, NewFilesAreThere}
 use Rattle.mem_files.proofs.Numbers.{length-change, behind_there}
 use Rattle.mem_files.proofs.Counts.{having_none}
 use Rattle.mem_files.proofs.Places.{place_stands}
 use Rattle.mem_files.proofs.Alike.{tree-bytes, tree-held, tree-let_go}
 use Rattle.mem_files.proofs.Entered.{tree-new}
+use Rattle.mem_files.proofs.RootAlone.{at_opening}
 use Rattle.mem_files.proofs.Left.{tree-unnamed}
 use Rattle.mem_files.proofs.Lookups.{Placed, place_placed}
 
@@ -96,38 +97,6 @@ gone_at dir ns p t true is placed (Some id) at =
 gone_keeps : (dir : Bool) (ns : Inodes) (path : List ℕ) → IsTree ns → (r : Result Place Errno) → place_of ns path ≡ r → Leaves IsTree (unnamed_at dir ns r)
 gone_keeps dir ns path t (Err errno) is = refused IsTree errno
 gone_keeps dir ns path t (Ok p) is = gone_at dir ns p t (may_be_entry p.name) refl (place_placed ns t path p is) p.id refl
-
--- ---- the root alone
-
-opening_once : (id : ℕ) → link_count opening id ≡ cond (is_named opening id && not (id == root)) 1 0
-opening_once zero = refl
-opening_once (suc zero) = refl
-opening_once (suc (suc id)) = refl
-
-opening_apart : (at : ℕ) (name : List ℕ) → having name (entries_of opening at) ≤ 1
-opening_apart zero name = omega arith
-opening_apart (suc zero) name = omega arith
-opening_apart (suc (suc at)) name = omega arith
-
-opening_empty : (id : ℕ) → is_named opening id ≡ false → entries_of opening id ≡ []
-opening_empty zero is = refl
-opening_empty (suc zero) is = refl
-opening_empty (suc (suc id)) is = refl
-
-root_alone : (id : ℕ) → is_named opening id ≡ true → id ≡ root
-root_alone zero is = let no : ⊥ = cc in absurd no
-root_alone (suc zero) is = refl
-root_alone (suc (suc id)) is = let no : ⊥ = cc in absurd no
-
-at_opening : IsTree opening
-at_opening = record {
-  root_named = refl;
-  root_above = refl;
-  once = opening_once;
-  apart = opening_apart;
-  empty = opening_empty;
-  above = λ id parent named other found. absurd (other (root_alone id named));
-}
 
 -- ---- all of them
 
