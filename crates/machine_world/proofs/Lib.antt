@@ -10,6 +10,12 @@
 -- ByRows    what holds after each of them holds of what every row leaves
 -- OtherTables  the tables of descriptors beside one that changes
 -- Beside    what an event leaves of all other processes, spaces and tables of descriptors
+-- FreeNumbers  the lowest free number isn't above the count of those that are taken
+-- FewOpen   no more files are open than there are descriptors
+-- Steady    what opens and closes leaves a tree, and as many tables
+-- InOrder   counts are exact and the nodes a tree after every row
+-- OrderKept  and so after every event, turn and run
+-- OrderBegins  and in the opening world
 mod Samples
 mod FileSamples
 pub mod States
@@ -22,3 +28,9 @@ pub mod Kept
 pub mod ByRows
 pub mod OtherTables
 pub mod Beside
+pub mod FreeNumbers
+pub mod FewOpen
+pub mod Steady
+pub mod InOrder
+pub mod OrderKept
+pub mod OrderBegins

@@ -12,6 +12,7 @@
 -- Courses  how far a turn or a run came
 -- Laws     instructions are events, and what a refused call changes
 -- Others   what an event leaves of all other processes, spaces and tables of descriptors
+-- Order    the nodes are a tree of names, and counts are exact, after every event
 pub mod World
 pub mod Free
 pub mod Asks
@@ -26,3 +27,4 @@ pub mod Programs
 pub mod Courses
 pub mod Laws
 pub mod Others
+pub mod Order

@@ -1,6 +1,7 @@
 //! Laws over the definitions. They hold for all worlds, and no code runs.
 
 ghost use Rattle.machine_world.specs.Laws.{InstructionsAreEvents, RefusalsChangeNothingElse};
+ghost use Rattle.machine_world.specs.Order.{EventsKeepOrder, TurnsKeepOrder, RunsKeepOrder, BootsBeginInOrder};
 ghost use Rattle.machine_world.specs.Others.{EventsLeaveOthers};
 ghost use Rattle.machine_world.specs.Programs.{BootsLoadPrograms, TurnsLoadNothing, RunsLoadNothing};
 
@@ -25,4 +26,13 @@ pub fn refused_calls_law()
 /// share, may change.
 pub fn others_law()
     ensures { EventsLeaveOthers }
+{}
+
+/// Every event keeps the nodes a tree of names, and all counts exact: an open file counts the descriptors that share it, and a
+/// node the open files that hold it. So it is in every world of a run that boots over such a tree.
+pub fn counts_law()
+    ensures boots { BootsBeginInOrder }
+    ensures events { EventsKeepOrder }
+    ensures turns { TurnsKeepOrder }
+    ensures runs { RunsKeepOrder }
 {}

@@ -7,4 +7,4 @@
 
 mod laws;
 
-pub use laws::{instructions_law, others_law, programs_law, refused_calls_law};
+pub use laws::{counts_law, instructions_law, others_law, programs_law, refused_calls_law};

@@ -8,12 +8,14 @@ mod content;
 mod entries;
 mod fault;
 mod inode;
+mod laws;
 mod node;
 mod paths;
 mod place;
 mod tree;
 
 pub use fault::FileFault;
+pub use laws::names_law;
 pub use node::Node;
 pub use paths::is_too_long;
 pub use tree::{ROOT, Tree};

@@ -1,0 +1,73 @@
+-- The opening world has exact counts over a tree of names.
+use Rattle.std.proofs.Common.{ℕ, ◌+◌, ◌<◌, ◌≤◌, Bool, true, false, List, [], ◌∷◌, length, Option, Some, None, Result, Ok, Err, sym, ap, subst, arith}
+use Rattle.flat_loader.specs.Original.{block_pages}
+use Rattle.flat_loader.specs.Frame.{frame_fits}
+use Rattle.fd_tables.specs.Files.{OpenFiles, with_next}
+use Rattle.fd_tables.specs.Changes.{storage, first_table, with_table}
+use Rattle.fd_tables.specs.Counts.{Counted}
+use Rattle.fd_tables.proofs.CountsMean.{counted-nothing_open}
+use Rattle.fd_tables.proofs.TablesCounted.{counted-with_table}
+use Rattle.machine_world.specs.World.{Rest, World}
+use Rattle.machine_world.specs.Free.{free}
+use Rattle.machine_world.specs.Asks.{with_files, storage_of}
+use Rattle.machine_world.specs.Boot.{StartLine, BootFault, Found, found, path_of, taken, placed, fitting, located, started, all_started, then_started, empty_world, boot}
+use Rattle.machine_world.proofs.FreeNumbers.{free_within, length-one_more}
+use Rattle.machine_world.specs.Order.{most_tables, IsInOrder, IsFresh, BootsBeginInOrder}
+
+-- ---- a table more
+
+with_more : (rest : Rest) (n : ℕ) → length rest.files.tables ≤ n → n < most_tables → IsInOrder rest → IsInOrder (with_files rest (with_table rest.files)) × (length (with_table rest.files).tables ≤ n + 1)
+unfolding with_table
+with_more rest n few room h =
+    let more : length (with_next first_table rest.files.tables) ≤ n + 1 = omega (arith, length-one_more first_table rest.files.tables, few) in
+    (record { tree = h.tree; counts = counted rest h few room; tables = omega (arith, more, room) }, more)
+  where
+    counted : (rest : Rest) → IsInOrder rest → length rest.files.tables ≤ n → n < most_tables → Counted (storage rest.tree (with_table rest.files))
+    counted rest h few room = counted-with_table (storage_of rest) h.counts (omega (arith, free_within rest.files.tables, few, room))
+
+-- ---- the start lines
+
+-- what a start line gives is in order, with one table more at most
+abbrev Begins : ℕ → Result World BootFault → Type 0
+Begins n (Ok now) = IsInOrder now.rest × (length now.rest.files.tables ≤ n)
+Begins n (Err fault) = Unit {0}
+
+module _ (w : World) (n : ℕ) (h : IsInOrder w.rest) (few : length w.rest.files.tables ≤ n) (room : n < most_tables) (s : StartLine) where
+  begins_placed : (f : Found) (page : Option ℕ) → Begins (n + 1) (placed w s f page)
+  begins_placed f None = tt
+  begins_placed f (Some page) = with_more w.rest n few room h
+
+  begins_fitting : (f : Found) (fits : Bool) → Begins (n + 1) (fitting w s f fits)
+  begins_fitting f true = begins_placed f (taken w (block_pages f.original) (free w))
+  begins_fitting f false = tt
+
+  begins_located : (found : Option Found) → Begins (n + 1) (located w s found)
+  begins_located None = tt
+  begins_located (Some f) = begins_fitting f (frame_fits f.original s.args [])
+
+  begins_started : Begins (n + 1) (started w s)
+  unfolding started
+  begins_started = begins_located (found w.rest (path_of s))
+
+begins_all : (ss : List StartLine) (w : World) (n : ℕ) → IsInOrder w.rest → length w.rest.files.tables ≤ n → n + length ss ≤ most_tables → Begins most_tables (all_started w ss)
+unfolding all_started
+begins_all [] w n h few room = (h, omega (arith, few, room))
+begins_all (s ∷ ss) w n h few room =
+    on (started w s) (begins_started w n h few (omega (arith, room)) s) (λ v order some. begins_all ss v (n + 1) order some (omega (arith, room)))
+  where
+    on : (r : Result World BootFault) → Begins (n + 1) r → ((v : World) → IsInOrder v.rest → length v.rest.files.tables ≤ n + 1 → Begins most_tables (all_started v ss))
+        → Begins most_tables (then_started r (λ now. all_started now ss))
+    on (Ok now) begins more = more now begins.0 begins.1
+    on (Err fault) begins more = tt
+
+fresh : (rest : Rest) → IsFresh rest → IsInOrder rest
+fresh rest f = record {
+  tree = f.tree;
+  counts = subst (λ (fs : OpenFiles). Counted (storage rest.tree fs)) (sym f.files) (counted-nothing_open rest.tree rest.files.stdin f.named);
+  tables = omega (arith, ap (λ (fs : OpenFiles). length fs.tables) f.files);
+}
+
+pub boots_begin_in_order : BootsBeginInOrder
+unfolding boot
+boots_begin_in_order rest starts w f room is =
+    (subst (Begins most_tables) is (begins_all starts (empty_world rest) 0 (fresh rest f) (omega (arith, ap (λ (fs : OpenFiles). length fs.tables) f.files)) (omega (arith, room)))).0

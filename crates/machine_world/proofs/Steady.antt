@@ -1,0 +1,99 @@
+-- What opens and closes leaves a tree of names, and as many tables as before.
+use Rattle.std.proofs.Common.{◌≡◌, ℕ, Bool, true, false, List, [], ◌∷◌, length, Option, Some, None, refl, ap, ◌∙◌}
+use Rattle.std.specs.Prelude.{nat_le}
+use Rattle.mem_files.specs.Trees.{IsTree}
+use Rattle.mem_files.proofs.Alike.{tree-held, tree-let_go}
+use Rattle.fd_tables.specs.declared.view.Way.{Way}
+use Rattle.fd_tables.specs.declared.open_file.OpenFile.{OpenFile}
+use Rattle.fd_tables.specs.declared.open_file.Handle.{Handle}
+use Rattle.fd_tables.specs.declared.open_file.Handle.TheVariants.{Input, Output, Open}
+use Rattle.fd_tables.specs.declared.open_file.Descriptor.{Descriptor}
+use Rattle.fd_tables.specs.Files.{OpenFiles, at_number, descriptor}
+use Rattle.fd_tables.specs.Changes.{Storage, with_descriptor, dropped, dropped_file, closed, closed_descriptor, opened, copied_descriptor, with_cloexec, duplicated, replaced, moved, moved_handle, taken, all_closed, all_descriptors, without_table}
+use Rattle.fd_tables.proofs.Items.{length-item}
+use Rattle.fd_tables.proofs.TablesThere.{tables-shared}
+
+-- a tree of names, and so many tables
+pub record Steady (n : ℕ) (s : Storage) : Type 0 where
+  pub tree : IsTree s.nodes
+  pub tables : length s.files.tables ≡ n
+
+-- ---- files alone
+
+tables-handle : (fs : OpenFiles) (at : ℕ) (h : Handle) (cloexec : Bool) → (moved_handle fs at (Some (record { handle = h; cloexec = cloexec }))).tables ≡ fs.tables
+tables-handle fs at (Open n) cloexec = refl
+tables-handle fs at Input cloexec = refl
+tables-handle fs at Output cloexec = refl
+
+tables-moved_handle : (fs : OpenFiles) (at : ℕ) (o : Option Descriptor) → (moved_handle fs at o).tables ≡ fs.tables
+tables-moved_handle fs at None = refl
+tables-moved_handle fs at (Some d) = tables-handle fs at d.handle d.cloexec
+
+pub length-moved : (fs : OpenFiles) (t fd at : ℕ) → length (moved fs t fd at).tables ≡ length fs.tables
+unfolding moved
+length-moved fs t fd at = ap length (tables-moved_handle fs at (descriptor fs t fd))
+
+pub length-taken : (fs : OpenFiles) (n : ℕ) → length (taken fs n).tables ≡ length fs.tables
+unfolding taken
+length-taken fs n = refl
+
+length-copied : (fs : OpenFiles) (t fd : ℕ) (o : Option Descriptor) → length (copied_descriptor fs t fd o).tables ≡ length fs.tables
+length-copied fs t fd None = refl
+length-copied fs t fd (Some d) = ap length (tables-shared (with_descriptor fs t fd (Some d)) d.handle) ∙ length-item _ fs.tables t
+
+pub length-duplicated : (fs : OpenFiles) (t old new : ℕ) (cloexec : Bool) → length (duplicated fs t old new cloexec).tables ≡ length fs.tables
+unfolding duplicated
+length-duplicated fs t old new cloexec = length-copied fs t new (with_cloexec cloexec (descriptor fs t old))
+
+-- ---- files and nodes
+
+module _ (n : ℕ) where
+  steady-last : (s : Storage) (k : ℕ) (f : OpenFile) (b : Bool) → nat_le f.uses 1 ≡ b → Steady n s → Steady n (dropped_file s k (Some f))
+  steady-last s k f true e h = rw e (record { tree = tree-let_go s.nodes f.node h.tree; tables = h.tables })
+  steady-last s k f false e h = rw e (record { tree = h.tree; tables = h.tables })
+
+  steady-dropped_file : (s : Storage) (k : ℕ) (o : Option OpenFile) → Steady n s → Steady n (dropped_file s k o)
+  steady-dropped_file s k None h = h
+  steady-dropped_file s k (Some f) h = steady-last s k f _ refl h
+
+  steady-dropped : (s : Storage) (d : Handle) → Steady n s → Steady n (dropped s d)
+  steady-dropped s (Open k) h = steady-dropped_file s k (at_number s.files.files k) h
+  steady-dropped s Input h = h
+  steady-dropped s Output h = h
+
+  steady-closed_descriptor : (s : Storage) (t fd : ℕ) (o : Option Descriptor) → Steady n s → Steady n (closed_descriptor s t fd o)
+  steady-closed_descriptor s t fd None h = h
+  steady-closed_descriptor s t fd (Some d) h =
+      steady-dropped (record s { files = with_descriptor s.files t fd None }) d.handle (record { tree = h.tree; tables = length-item _ s.files.tables t ∙ h.tables })
+
+  pub steady-closed : (s : Storage) (t fd : ℕ) → Steady n s → Steady n (closed s t fd)
+  unfolding closed
+  steady-closed s t fd h = steady-closed_descriptor s t fd (descriptor s.files t fd) h
+
+  pub steady-opened : (s : Storage) (t fd node : ℕ) (way : Way) → Steady n s → Steady n (opened s t fd node way)
+  unfolding opened
+  steady-opened s t fd node way h = record { tree = tree-held s.nodes node h.tree; tables = length-item _ s.files.tables t ∙ h.tables }
+
+  pub steady-replaced : (s : Storage) (t old new : ℕ) (cloexec : Bool) → Steady n s → Steady n (replaced s t old new cloexec)
+  unfolding replaced
+  steady-replaced s t old new cloexec h =
+      let now = steady-closed s t new h in
+      record { tree = now.tree; tables = length-duplicated (closed s t new).files t old new cloexec ∙ now.tables }
+
+  steady-test : (test : Descriptor → Bool) (s : Storage) (t fd : ℕ) (d : Descriptor) (b : Bool) → descriptor s.files t fd ≡ Some d → test d ≡ b → Steady n s → Steady n (all_closed test s t (fd ∷ []))
+  steady-test test s t fd d true e f h = rw (e, f) (steady-closed s t fd h)
+  steady-test test s t fd d false e f h = rw (e, f) h
+
+  steady-descriptor : (test : Descriptor → Bool) (s : Storage) (t fd : ℕ) (o : Option Descriptor) → descriptor s.files t fd ≡ o → Steady n s → Steady n (all_closed test s t (fd ∷ []))
+  steady-descriptor test s t fd None e h = rw e h
+  steady-descriptor test s t fd (Some d) e h = steady-test test s t fd d _ e refl h
+
+  steady-all_closed : (test : Descriptor → Bool) (t : ℕ) (fds : List ℕ) (s : Storage) → Steady n s → Steady n (all_closed test s t fds)
+  steady-all_closed test t [] s h = h
+  steady-all_closed test t (fd ∷ fds) s h = steady-all_closed test t fds _ (steady-descriptor test s t fd _ refl h)
+
+  pub steady-without_table : (s : Storage) (t : ℕ) → Steady n s → Steady n (without_table s t)
+  unfolding without_table
+  steady-without_table s t h =
+      let now = steady-all_closed (λ d. true) t all_descriptors s h in
+      record { tree = now.tree; tables = length-item (λ table. None) (all_closed (λ d. true) s t all_descriptors).files.tables t ∙ now.tables }

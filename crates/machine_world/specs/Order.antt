@@ -1,0 +1,43 @@
+-- Every event keeps the tree of names, and exact counts of what is open (POSIX.1-2017, 4.13 Pathname Resolution, close).
+use Rattle.std.specs.Prelude.{◌≡◌, ℕ, ◌≤◌, ◌^◌, true, List, length, IfSome, Ok}
+use Rattle.quantum_sched.specs.declared.Quantum.{Quantum}
+use Rattle.mem_files.specs.Inodes.{inode_at}
+use Rattle.mem_files.specs.Trees.{IsTree}
+use Rattle.fd_tables.specs.Files.{nothing_open}
+use Rattle.fd_tables.specs.Counts.{Counted}
+use Rattle.machine_world.specs.World.{Rest, World}
+use Rattle.machine_world.specs.Asks.{storage_of}
+use Rattle.machine_world.specs.Event.{Trace, went, event}
+use Rattle.machine_world.specs.Turns.{turn, turns}
+use Rattle.machine_world.specs.Boot.{StartLine, boot}
+
+-- the tables that there may be, so that all their descriptors have far fewer open files than there are numbers for
+abbrev pub most_tables : ℕ
+most_tables = 2 ^ 16
+
+-- the nodes are a tree of names, and all counts are exact: an open file counts the descriptors that share it, and a node the
+-- open files that hold it
+pub record IsInOrder (rest : Rest) : Type 0 where
+  pub tree : IsTree rest.tree
+  pub counts : Counted (storage_of rest)
+  pub tables : length rest.files.tables ≤ most_tables
+
+abbrev pub EventsKeepOrder : Type 0
+EventsKeepOrder = (w : World) (pid : ℕ) (now : World) (t : Trace) → IsInOrder w.rest → event w pid ≡ went now t → IsInOrder now.rest
+
+abbrev pub TurnsKeepOrder : Type 0
+TurnsKeepOrder = (count pid : ℕ) (w : World) → IsInOrder w.rest → IsInOrder (turn count pid w).world.rest
+
+abbrev pub RunsKeepOrder : Type 0
+RunsKeepOrder = (quanta : List Quantum) (w : World) → IsInOrder w.rest → IsInOrder (turns quanta w).world.rest
+
+-- ---- the opening world
+
+-- a tree in which a folder names each node, nothing is open, and there are no tables
+pub record IsFresh (rest : Rest) : Type 0 where
+  pub tree : IsTree rest.tree
+  pub named : (id : ℕ) → IfSome (inode_at rest.tree id) (λ n. (n.linked ≡ true) × (n.holds ≡ 0))
+  pub files : rest.files ≡ nothing_open rest.files.stdin
+
+abbrev pub BootsBeginInOrder : Type 0
+BootsBeginInOrder = (rest : Rest) (starts : List StartLine) (w : World) → IsFresh rest → length starts ≤ most_tables → boot rest starts ≡ Ok w → IsInOrder w.rest
