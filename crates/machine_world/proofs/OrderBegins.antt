@@ -63,7 +63,7 @@ begins_all (s ∷ ss) w n h few room =
 fresh : (rest : Rest) → IsFresh rest → IsInOrder rest
 fresh rest f = record {
   tree = f.tree;
-  counts = subst (λ (fs : OpenFiles). Counted (storage rest.tree fs)) (sym f.files) (counted-nothing_open rest.tree rest.files.stdin f.named);
+  counts = subst (λ (fs : OpenFiles). Counted (storage rest.tree fs)) (sym f.files) (counted-nothing_open rest.tree rest.files.stdin f.closed);
   tables = omega (arith, ap (λ (fs : OpenFiles). length fs.tables) f.files);
 }
 

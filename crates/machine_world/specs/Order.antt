@@ -1,8 +1,7 @@
 -- Every event keeps the tree of names, and exact counts of what is open (POSIX.1-2017, 4.13 Pathname Resolution, close).
-use Rattle.std.specs.Prelude.{◌≡◌, ℕ, ◌≤◌, ◌^◌, true, List, length, IfSome, Ok}
+use Rattle.std.specs.Prelude.{◌≡◌, ℕ, ◌≤◌, ◌^◌, List, length, Ok}
 use Rattle.quantum_sched.specs.declared.Quantum.{Quantum}
-use Rattle.mem_files.specs.Inodes.{inode_at}
-use Rattle.mem_files.specs.Trees.{IsTree}
+use Rattle.mem_files.specs.Trees.{IsTree, AreNamedAndClosed}
 use Rattle.fd_tables.specs.Files.{nothing_open}
 use Rattle.fd_tables.specs.Counts.{Counted}
 use Rattle.machine_world.specs.World.{Rest, World}
@@ -11,7 +10,7 @@ use Rattle.machine_world.specs.Event.{Trace, went, event}
 use Rattle.machine_world.specs.Turns.{turn, turns}
 use Rattle.machine_world.specs.Boot.{StartLine, boot}
 
--- the tables that there may be, so that all their descriptors have far fewer open files than there are numbers for
+-- the most tables. There are no more open files than descriptors in them, so that numbers for open files don't run out
 abbrev pub most_tables : ℕ
 most_tables = 2 ^ 16
 
@@ -33,10 +32,10 @@ RunsKeepOrder = (quanta : List Quantum) (w : World) → IsInOrder w.rest → IsI
 
 -- ---- the opening world
 
--- a tree in which a folder names each node, nothing is open, and there are no tables
+-- a tree in which a folder names each node and none is held, nothing is open, and there are no tables
 pub record IsFresh (rest : Rest) : Type 0 where
   pub tree : IsTree rest.tree
-  pub named : (id : ℕ) → IfSome (inode_at rest.tree id) (λ n. (n.linked ≡ true) × (n.holds ≡ 0))
+  pub closed : AreNamedAndClosed rest.tree
   pub files : rest.files ≡ nothing_open rest.files.stdin
 
 abbrev pub BootsBeginInOrder : Type 0

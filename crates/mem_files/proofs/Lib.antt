@@ -13,6 +13,7 @@ mod Places
 -- Entered    a new node keeps the tree
 -- Left       a name that goes, and its node, leave a tree
 -- TreesKept  so each change keeps it
+-- Closed     what is made is named, and not open
 mod Numbers
 mod Counts
 pub mod Alike
@@ -22,3 +23,4 @@ mod EntriesAt
 mod Entered
 mod Left
 pub mod TreesKept
+mod Closed

@@ -21,7 +21,7 @@ use Rattle.mem_files.proofs.Lookups.{Placed, place_placed}
 
 -- ---- a change that may be refused leaves what P says of it
 
-abbrev Leaves : (Inodes → Type 0) → Result Inodes Errno → Type 0
+abbrev pub Leaves : (Inodes → Type 0) → Result Inodes Errno → Type 0
 Leaves P r = (new : Inodes) → r ≡ Ok new → P new
 
 module _ (P : Inodes → Type 0) where
@@ -38,7 +38,7 @@ module _ (P : Inodes → Type 0) where
   by_space : (now : Inodes) → P now → Leaves P (or_no_space now)
   by_space now holds = either (nat_le (node_count now) most_nodes && nat_le (byte_count now) most_of_all) _ _ (done now holds) (refused _)
 
-  made_leaves : (content : ℕ → Content) (program : Option ℕ) (ns : Inodes) (r : Result Place Errno)
+  pub made_leaves : (content : ℕ → Content) (program : Option ℕ) (ns : Inodes) (r : Result Place Errno)
       → ((p : Place) → r ≡ Ok p → p.id ≡ None → P (with_new ns p.folder p.name (new_inode (content p.folder) program))) → Leaves P (made_at content program ns r)
   made_leaves content program ns (Err errno) each = refused errno
   made_leaves content program ns (Ok p) each = by p.id refl

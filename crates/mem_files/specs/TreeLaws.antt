@@ -4,7 +4,7 @@ use Rattle.call_log.specs.declared.errno.Errno.{Errno}
 use Rattle.mem_files.specs.Inodes.{Inodes, inode_at, opening}
 use Rattle.mem_files.specs.Paths.{lookup}
 use Rattle.mem_files.specs.Changes.{held, let_go, written, truncated, with_folder, with_file, unlinked}
-use Rattle.mem_files.specs.Trees.{is_named, IsTree}
+use Rattle.mem_files.specs.Trees.{is_named, IsTree, AreNamedAndClosed}
 
 -- what a path leads to is there, and a folder names it
 abbrev pub LookupsFindNodes : Type 0
@@ -32,3 +32,13 @@ pub record ChangesKeepTree : Type 0 where
   pub truncate : (id : ℕ) → KeepsTree (λ ns. Ok (truncated ns id))
   pub hold : (id : ℕ) → KeepsTree (λ ns. Ok (held ns id))
   pub let_go : (id : ℕ) → KeepsTree (λ ns. Ok (let_go ns id))
+
+-- ---- what is made, and not opened
+
+abbrev pub KeepsClosed : (Inodes → Result Inodes Errno) → Type 0
+KeepsClosed change = (ns new : Inodes) → AreNamedAndClosed ns → change ns ≡ Ok new → AreNamedAndClosed new
+
+pub record MakingOpensNothing : Type 0 where
+  pub begins : AreNamedAndClosed opening
+  pub folder : (path : List ℕ) → KeepsClosed (λ ns. with_folder ns path)
+  pub file : (path bytes : List ℕ) (program : Option ℕ) → KeepsClosed (λ ns. with_file ns path bytes program)

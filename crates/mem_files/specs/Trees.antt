@@ -1,6 +1,6 @@
 -- What the nodes always keep: they are a tree of names (POSIX.1-2017, 3.129 Directory, 3.208 Link Count, 4.13 Pathname
 -- Resolution).
-use Rattle.std.specs.Prelude.{ℕ, ◌≡◌, ◌≢◌, ◌<◌, ◌≤◌, ◌==◌, Bool, true, false, not, ◌&&◌, if◌then◌else◌, List, [], count_by, bytes_eq, Option, Some, None}
+use Rattle.std.specs.Prelude.{ℕ, ◌≡◌, ◌≢◌, ◌<◌, ◌≤◌, ◌==◌, Bool, true, false, not, ◌&&◌, if◌then◌else◌, List, [], count_by, bytes_eq, Option, Some, None, IfSome}
 use Rattle.std.specs.List.{sum_by}
 use Rattle.mem_files.specs.Inodes.{Entry, Content, file, folder, Inode, Inodes, root, inode_at, content_in, entries_in, entries_of}
 
@@ -51,3 +51,7 @@ pub record IsTree (ns : Inodes) : Type 0 where
   pub apart : (at : ℕ) (name : List ℕ) → having name (entries_of ns at) ≤ 1
   pub empty : (id : ℕ) → is_named ns id ≡ false → entries_of ns id ≡ []
   pub above : (id parent : ℕ) → is_named ns id ≡ true → id ≢ root → parent_of ns id ≡ Some parent → 1 ≤ leading id (entries_of ns parent)
+
+-- a folder names each node, and no open file holds one, as before the first is opened
+abbrev pub AreNamedAndClosed : Inodes → Type 0
+AreNamedAndClosed ns = (id : ℕ) → IfSome (inode_at ns id) (λ n. (n.linked ≡ true) × (n.holds ≡ 0))
