@@ -1,14 +1,13 @@
--- A range more in the table of own bytes.
-use Rattle.std.proofs.Common.{◌≡◌, ◌≢◌, ℕ, zero, suc, ◌+◌, ◌-◌, ◌*◌, ◌/◌, ◌%◌, ◌^◌, ◌<◌, ◌≤◌, inl, inr, Bool, true, false, not, ◌&&◌, ◌||◌, refl, sym, ap, ◌∙◌, arith, List, length, length-set, get_or, ◌≡◌}
-use Rattle.std.specs.Prelude.{Option, Some, None, slice_get, slice_set, nat_le, nat_lt, option_map, replicate, min, max, if◌then◌else◌}
-use Rattle.std.proofs.lemmas.Bool.{cases_lt, cases_eq, lt-ltb, le-ltb, cases_Bool}
+-- A range more, or less, in the table of own bytes: the loop over the pages that it meets.
+use Rattle.std.proofs.Common.{◌≡◌, ◌≢◌, ℕ, ◌+◌, ◌/◌, ◌%◌, ◌<◌, ◌≤◌, inl, inr, false, refl, sym, ap, ◌∙◌, arith, List, length, length-set, get_or, ◌≡◌}
+use Rattle.std.specs.Prelude.{Option, Some, None, slice_get, slice_set, nat_lt, option_map, if◌then◌else◌}
+use Rattle.std.proofs.lemmas.Bool.{cases_lt, lt-ltb, le-ltb}
 use Rattle.std.proofs.lemmas.Bool.Decides.{nat_tests}
-use Rattle.std.proofs.lemmas.Option.{slice_get_past, slice_get-get_or, slice_get_cases}
-use Rattle.std.proofs.lemmas.List.{get_or-set_same, get_or-set_other, length-replicate}
+use Rattle.std.proofs.lemmas.Option.{slice_get_past, slice_get-get_or}
+use Rattle.std.proofs.lemmas.List.{get_or-set_same, get_or-set_other}
 use Rattle.mmap_rules.specs.declared.mapping.Range.{Range}
 use Rattle.mmap_rules.specs.declared.owners.PageOwner.{PageOwner}
-use Rattle.mmap_rules.specs.Space.{in_range}
-use Rattle.mmap_rules.specs.Owners.{IsShaped, distance, meets, noted, free_page, owns_in, owns_at, owns}
+use Rattle.mmap_rules.specs.Owners.{IsShaped, distance, meets, noted, unnoted}
 
 -- ---- one item of a list set
 
@@ -29,9 +28,17 @@ set_elsewhere {X} xs at v k other =
 
 -- ---- pages that a range doesn't meet
 
-missed : (r : Range) (page : ℕ) (o : PageOwner) → meets r page ≡ false → noted r page o ≡ o
+-- the entries of pages that the range doesn't meet stay
+abbrev pub LeavesMissed : (Range → ℕ → PageOwner → PageOwner) → Type 0
+LeavesMissed f = (r : Range) (page : ℕ) (o : PageOwner) → meets r page ≡ false → f r page o ≡ o
+
+pub noted_missed : LeavesMissed noted
 unfolding noted
-missed r page o misses = rw misses refl
+noted_missed r page o misses = rw misses refl
+
+pub unnoted_missed : LeavesMissed unnoted
+unfolding unnoted
+unnoted_missed r page o misses = rw misses refl
 
 option_same : (f : PageOwner → PageOwner) (o : Option PageOwner) → ((x : PageOwner) → f x ≡ x) → option_map f o ≡ o
 option_same f None same = refl
@@ -45,28 +52,28 @@ behind r page whole more = grind (arith, nat_tests)
 
 -- ---- the loop over the pages that it meets
 
-abbrev pub so_far : Range → List PageOwner → ℕ → ℕ → Option PageOwner
-so_far r old page p = if nat_lt p page then option_map (noted r p) (slice_get old p) else slice_get old p
+abbrev pub so_far : (Range → ℕ → PageOwner → PageOwner) → Range → List PageOwner → ℕ → ℕ → Option PageOwner
+so_far f r old page p = if nat_lt p page then option_map (f r p) (slice_get old p) else slice_get old p
 
-pub add_none : (r : Range) (old : List PageOwner) (p : ℕ) → slice_get old p ≡ so_far r old (distance r / 4096) p
-add_none r old p =
+pub each_none : (f : Range → ℕ → PageOwner → PageOwner) → LeavesMissed f → (r : Range) (old : List PageOwner) (p : ℕ) → slice_get old p ≡ so_far f r old (distance r / 4096) p
+each_none f leaves r old p =
     elim (cases_lt p (distance r / 4096)) [
-      | inl less ↦ rw (lt-ltb p (distance r / 4096) less) (sym (option_same (noted r p) (slice_get old p) (λ x. missed r p x (before r p less))))
+      | inl less ↦ rw (lt-ltb p (distance r / 4096) less) (sym (option_same (f r p) (slice_get old p) (λ x. leaves r p x (before r p less))))
       | inr more ↦ rw (le-ltb p (distance r / 4096) more) refl
     ]
 
-pub add_all : (pages : ℕ) (r : Range) (old : List PageOwner) (now : List PageOwner) → IsShaped pages r
-    → ((p : ℕ) → slice_get now p ≡ so_far r old ((distance r + r.size) / 4096) p) → (p : ℕ) → slice_get now p ≡ option_map (noted r p) (slice_get old p)
-add_all pages r old now shaped each p =
+pub each_all : (f : Range → ℕ → PageOwner → PageOwner) → LeavesMissed f → (pages : ℕ) (r : Range) (old : List PageOwner) (now : List PageOwner) → IsShaped pages r
+    → ((p : ℕ) → slice_get now p ≡ so_far f r old ((distance r + r.size) / 4096) p) → (p : ℕ) → slice_get now p ≡ option_map (f r p) (slice_get old p)
+each_all f leaves pages r old now shaped each p =
     elim (cases_lt p ((distance r + r.size) / 4096)) [
       | inl less ↦ each p ∙ rw (lt-ltb p ((distance r + r.size) / 4096) less) refl
-      | inr more ↦ each p ∙ rw (le-ltb p ((distance r + r.size) / 4096) more) (sym (option_same (noted r p) (slice_get old p) (λ x. missed r p x (behind r p shaped.whole more))))
+      | inr more ↦ each p ∙ rw (le-ltb p ((distance r + r.size) / 4096) more) (sym (option_same (f r p) (slice_get old p) (λ x. leaves r p x (behind r p shaped.whole more))))
     ]
 
-pub add_more : (r : Range) (old now : List PageOwner) (page : ℕ) (d : PageOwner) → page < length now
-    → ((p : ℕ) → slice_get now p ≡ so_far r old page p) → (p : ℕ)
-    → slice_get (slice_set now page (noted r page (get_or now page d))) p ≡ so_far r old (page + 1) p
-add_more r old now page d within each p =
+pub each_more : (f : Range → ℕ → PageOwner → PageOwner) → (r : Range) (old now : List PageOwner) (page : ℕ) (d : PageOwner) → page < length now
+    → ((p : ℕ) → slice_get now p ≡ so_far f r old page p) → (p : ℕ)
+    → slice_get (slice_set now page (f r page (get_or now page d))) p ≡ so_far f r old (page + 1) p
+each_more f r old now page d within each p =
     elim (cases_lt p page) [
       | inl less ↦
           set_elsewhere now page _ p (λ e. absurd (omega arith)) ∙ each p ∙ rw (lt-ltb p page less, lt-ltb p (page + 1) (omega arith)) refl
@@ -79,71 +86,3 @@ add_more r old now page d within each p =
             rw (same, lt-ltb page (page + 1) (omega arith), was) (set_here now page _ within))
       ]
     ]
-
--- ---- a table with one range
-
-entry_of : (pages : ℕ) (r : Range) (table : List PageOwner) → ((p : ℕ) → slice_get table p ≡ option_map (noted r p) (slice_get (replicate pages free_page) p)) → (p : ℕ) → p < pages
-    → slice_get table p ≡ Some (noted r p free_page)
-entry_of pages r table each p lt =
-    each p ∙ ap (option_map (noted r p)) (slice_get-get_or (replicate pages free_page) p free_page (omega (arith, length-replicate pages free_page)) ∙ ap (λ (x : PageOwner). Some x) (get_or-replicate pages free_page p))
-  where
-    get_or-replicate : (n : ℕ) (o : PageOwner) (p : ℕ) → get_or (replicate n o) p o ≡ o
-    get_or-replicate zero o p = refl
-    get_or-replicate (suc n) o zero = refl
-    get_or-replicate (suc n) o (suc p) = get_or-replicate n o p
-
--- what the entry of a page says of a byte of it
-one_entry : (pages : ℕ) (r : Range) (write : Bool) (d : ℕ) → IsShaped pages r → owns_in (Some (noted r (d / 4096) free_page)) write (d % 4096) ≡ (nat_le (distance r) d && nat_lt d (distance r + r.size) && (r.writes || not write))
-unfolding noted
-one_entry pages r write d shaped =
-    let some = shaped.some in
-    let whole = shaped.whole in
-    elim (cases_Bool (meets r (d / 4096))) [
-      | inl on ↦ rw on (on_page r write d some whole on)
-      | inr off ↦ rw off (off_page r write d some whole off)
-    ]
-  where
-    and_true : (x y : Bool) → (true && x && y) ≡ (x && true && y)
-    and_true true y = refl
-    and_true false y = refl
-
-    on_page : (r : Range) (write : Bool) (d : ℕ) → 0 < r.size → (distance r + r.size) % 4096 ≡ 0 → meets r (d / 4096) ≡ true
-        → (true && nat_le (distance r - 4096 * (d / 4096)) (d % 4096) && (r.writes || not write)) ≡ (nat_le (distance r) d && nat_lt d (distance r + r.size) && (r.writes || not write))
-    on_page r write d some whole on =
-        let from : nat_le (distance r - 4096 * (d / 4096)) (d % 4096) ≡ nat_le (distance r) d = grind (arith, nat_tests) in
-        let to : nat_lt d (distance r + r.size) ≡ true = grind (arith, nat_tests) in
-        rw (from, to) (and_true (nat_le (distance r) d) (r.writes || not write))
-
-    off_page : (r : Range) (write : Bool) (d : ℕ) → 0 < r.size → (distance r + r.size) % 4096 ≡ 0 → meets r (d / 4096) ≡ false
-        → false ≡ (nat_le (distance r) d && nat_lt d (distance r + r.size) && (r.writes || not write))
-    off_page r write d some whole off = grind (arith, nat_tests)
-
--- where a table has one range, its own bytes are that range
-pub one_owned : (pages : ℕ) (r : Range) (table : List PageOwner) → IsShaped pages r → length table ≡ pages → ((p : ℕ) → slice_get table p ≡ option_map (noted r p) (slice_get (replicate pages free_page) p))
-    → (write : Bool) (a : ℕ) → owns table write a ≡ (in_range r a && (r.writes || not write))
-unfolding owns owns_at
-one_owned pages r table shaped len each write a =
-    let above = shaped.above in
-    let inside = shaped.inside in
-    elim (cases_lt a (2 ^ 31)) [
-      | inl below ↦ grind (arith, nat_tests)
-      | inr from ↦ elim (cases_lt ((a - 2 ^ 31) / 4096) pages) [
-        | inl within ↦ (
-            let entry = entry_of pages r table each ((a - 2 ^ 31) / 4096) within in
-            let same = one_entry pages r write (a - 2 ^ 31) shaped in
-            let front : nat_le (2 ^ 31) a ≡ true = grind (arith, nat_tests) in
-            let low : nat_le (distance r) (a - 2 ^ 31) ≡ nat_le r.from a = grind (arith, nat_tests) in
-            let high : nat_lt (a - 2 ^ 31) (distance r + r.size) ≡ nat_lt a (r.from + r.size) = grind (arith, nat_tests) in
-            rw (front, entry, same, low, high) refl)
-        | inr past ↦ (
-            let none : slice_get table ((a - 2 ^ 31) / 4096) ≡ None = slice_get_past table ((a - 2 ^ 31) / 4096) (omega arith) in
-            let high : nat_lt a (r.from + r.size) ≡ false = grind (arith, nat_tests) in
-            rw (none, high) (outside (nat_le (2 ^ 31) a) (nat_le r.from a) (r.writes || not write)))
-      ]
-    ]
-  where
-    outside : (x y z : Bool) → (x && false) ≡ (y && false && z)
-    outside true true z = refl
-    outside true false z = refl
-    outside false true z = refl
-    outside false false z = refl

@@ -1,8 +1,8 @@
 -- What is kept of a private space beside its bytes, and how it changes.
-use Rattle.std.specs.Prelude.{ℕ, ◌≡◌, ◌+◌, ◌-◌, ◌*◌, ◌/◌, ◌≤◌, Bool, true, false, ◌&&◌, nat_le, if◌then◌else◌, List, [], ◌∷◌}
+use Rattle.std.specs.Prelude.{ℕ, ◌≡◌, ◌+◌, ◌-◌, ◌*◌, ◌/◌, ◌%◌, ◌≤◌, Bool, true, false, ◌&&◌, nat_le, if◌then◌else◌, List, [], ◌∷◌, Some, slice_get}
 use Rattle.nommu_regions.specs.declared.region.Region.{Region}
 use Rattle.nommu_regions.specs.declared.region.Source.TheVariants.{Own}
-use Rattle.nommu_regions.specs.Regions.{IsLive, with_uses}
+use Rattle.nommu_regions.specs.Regions.{IsLive, with_uses, is_copy}
 use Rattle.mmap_rules.specs.declared.mapping.Range.{Range}
 use Rattle.mmap_rules.specs.declared.mapping.Mapping.{Mapping}
 use Rattle.mmap_rules.specs.Space.{memory_base, page_size}
@@ -52,10 +52,22 @@ held_block pages r end stack = record {
 abbrev pub next_brk : Held → ℕ → ℕ
 next_brk h to = if nat_le h.brk_low to && nat_le to h.brk_high then to else h.brk
 
--- the list begins with the block: its own range ends where a page ends, lies in memory and may be written
-abbrev pub HasBlock : ℕ → List Mapping → Type 0
-HasBlock pages [] = ⊥
-HasBlock pages (block ∷ maps) = IsShaped pages block.range × (block.range.writes ≡ true)
+-- a mapping's own range lies in its run and ends where a page ends. Only a run of its own can be written; of a copy whole pages are
+-- own; and an anonymous mapping owns all of its run
+pub record IsMapping (pages : ℕ) (m : Mapping) : Type 0 where
+  pub shaped : IsShaped pages m.range
+  pub from : page_address m.first ≤ m.range.from
+  pub to : m.range.from + m.range.size ≤ page_address (m.first + m.pages)
+  pub writes : m.range.writes ≡ true → m.source ≡ Own
+  pub copied : is_copy m.source ≡ true → m.range.from % page_size ≡ 0
+  pub whole : m.range.anonymous ≡ true → (m.source ≡ Own) × (m.range.from ≡ page_address m.first) × (m.range.size ≡ page_size * m.pages)
+
+abbrev pub AreMappings : ℕ → List Mapping → Type 0
+AreMappings pages maps = (j : ℕ) (m : Mapping) → slice_get maps j ≡ Some m → IsMapping pages m
+
+-- the places in the list that a mapping may need: an anonymous one can be cut down to single pages
+abbrev pub places_of : Mapping → ℕ
+places_of m = if m.range.anonymous then m.pages else 1
 
 -- a region's run names it: each mapping of the list can give up one use, one after the other
 abbrev pub CanRelease : List Region → List Mapping → Type 0

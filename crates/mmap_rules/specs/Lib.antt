@@ -1,6 +1,12 @@
--- Space   a private space: its mappings, its break and its bytes; the test of one range
--- Owners  the table of a space's own bytes, page by page
--- Held    what is kept of a space beside its bytes, and how it changes
+-- Space     a private space: its mappings, its break and its bytes; the test of one range
+-- Owners    the table of a space's own bytes, page by page
+-- Held      what is kept of a space beside its bytes, and how it changes
+-- Want      what mmap2 asks for
+-- Mappings  mappings that come and go
+-- Sides     what mapping and unmapping change
 pub mod Space
 pub mod Owners
 pub mod Held
+pub mod Want
+pub mod Mappings
+pub mod Sides

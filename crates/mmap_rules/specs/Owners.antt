@@ -1,8 +1,9 @@
 -- The table of a space's own bytes: an entry for each page of memory.
-use Rattle.std.specs.Prelude.{ℕ, zero, suc, ◌≡◌, ◌+◌, ◌-◌, ◌*◌, ◌/◌, ◌%◌, ◌==◌, ◌<◌, ◌≤◌, Bool, false, not, ◌&&◌, ◌||◌, nat_le, nat_lt, min, max, if◌then◌else◌, List, length, Option, Some, None, slice_get}
+use Rattle.std.specs.Prelude.{ℕ, zero, suc, ◌≡◌, ◌+◌, ◌-◌, ◌*◌, ◌/◌, ◌%◌, ◌==◌, ◌<◌, ◌≤◌, Bool, false, not, ◌&&◌, ◌||◌, nat_le, nat_lt, min, max, if◌then◌else◌, true, List, length, count_by, Option, Some, None, slice_get}
 use Rattle.std.specs.Coded.{Coded, code_by, coded×, coded_ℕ, coded_bool, coded_list}
 use Rattle.std.proofs.Common.{refl}
 use Rattle.mmap_rules.specs.declared.mapping.Range.{Range}
+use Rattle.mmap_rules.specs.declared.mapping.Mapping.{Mapping}
 use Rattle.mmap_rules.specs.declared.owners.PageOwner.{PageOwner}
 use Rattle.mmap_rules.specs.Space.{memory_base, page_size}
 
@@ -58,3 +59,25 @@ noted r page o =
     if not (meets r page) then o
     else if o.uses == 0 then record { from = distance r - page_size * page; write = r.writes; uses = 1 }
     else record { from = o.from; write = o.write; uses = o.uses + 1 }
+
+-- ---- a range less
+
+-- the entry of a page with one range less: the last one that meets it leaves nothing of the page own
+unfoldable pub unnoted : Range → ℕ → PageOwner → PageOwner
+unnoted r page o =
+    if not (meets r page) then o
+    else if nat_le o.uses 1 then free_page
+    else record o { uses = o.uses - 1 }
+
+-- ---- the table of a list of mappings
+
+-- the entry says which bytes of the page are the range's own
+abbrev pub Says : PageOwner → ℕ → Range → Type 0
+Says o page r = (o.from ≡ distance r - page_size * page) × (o.write ≡ r.writes)
+
+-- an entry counts the mappings whose own ranges meet its page, and says of each of them which bytes are own. Where there are none
+-- nothing is
+pub record IsTable (table : List PageOwner) (maps : List Mapping) : Type 0 where
+  pub counts : (page : ℕ) (o : PageOwner) → slice_get table page ≡ Some o → o.uses ≡ count_by (λ m. meets m.range page) maps
+  pub says : (page j : ℕ) (o : PageOwner) (m : Mapping) → slice_get table page ≡ Some o → slice_get maps j ≡ Some m → meets m.range page ≡ true → Says o page m.range
+  pub none : (page : ℕ) (o : PageOwner) → slice_get table page ≡ Some o → o.uses ≡ 0 → o ≡ free_page

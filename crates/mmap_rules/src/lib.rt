@@ -6,14 +6,18 @@
 #![tactic(auto)]
 
 mod mapping;
+mod maps;
 mod owners;
 mod space;
 mod steps;
+mod want;
 
 pub use mapping::{Mapping, Range};
+pub use maps::MapFault;
 pub use owners::{Owners, PageOwner};
 pub use space::{Space, SpaceRoom};
 pub use steps::Steps;
+pub use want::{FileSide, Want, check_mmap2, pages_for};
 
 #[cfg(test)]
 mod tests;

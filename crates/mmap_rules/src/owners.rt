@@ -2,7 +2,7 @@
 ghost use Rattle.std.specs.Prelude.{◌≡◌, ◌+◌, ◌*◌, ◌-◌, ◌^◌, ◌<◌, ◌≤◌, ◌⊎◌, ℕ, length, slice_get, replicate, option_map, IfOk, Some};
 ghost use Rattle.mmap_rules.specs.declared.owners.PageOwner.{PageOwner};
 ghost use Rattle.mmap_rules.specs.Space.{may_use};
-ghost use Rattle.mmap_rules.specs.Owners.{owns, owns_at, free_page, touched, IsShaped, noted};
+ghost use Rattle.mmap_rules.specs.Owners.{owns, owns_at, free_page, touched, IsShaped, noted, unnoted};
 
 use crate::mapping::Range;
 use crate::steps::Steps;
@@ -91,6 +91,48 @@ fn add_range(entries: &mut [PageOwner], range: &Range)
     }
 }
 
+/// The entry of a page with one range less.
+#[tactic(auto, unfolding(crate::specs::Owners::unnoted))]
+fn unnoted(range: &Range, page: u32, owner: PageOwner) -> PageOwner
+    requires above { 2 ^ 31 ≤ range.now.from }
+    requires page { page < 16384 }
+    ensures { result ≡ unnoted range.now page owner }
+{
+    let from = u64::from(range.from - BASE);
+    let to = from + u64::from(range.size);
+    let (start, end) = (PAGE * u64::from(page), PAGE * (u64::from(page) + 1));
+    if from.max(start) >= to.min(end) {
+        return owner;
+    }
+    if owner.uses <= 1 {
+        return PageOwner {
+            from: 0,
+            write: false,
+            uses: 0,
+        };
+    }
+    PageOwner {
+        uses: owner.uses - 1,
+        ..owner
+    }
+}
+
+/// Takes a range off the entries of the pages that it touches.
+fn remove_range(entries: &mut [PageOwner], range: &Range)
+    requires shaped { IsShaped (length entries.old) range.now }
+    requires few { length entries.old ≤ 16384 }
+    ensures len { length entries.new ≡ length entries.old }
+    ensures each { (p : ℕ) → slice_get entries.new p ≡ option_map (unnoted range.now p) (slice_get entries.old p) }
+{
+    let from = u64::from(range.from - BASE);
+    let first = (from / PAGE) as u32;
+    let end = ((from + u64::from(range.size)) / PAGE) as u32;
+    for page in first..end {
+        let owner = entries[page as usize];
+        entries[page as usize] = unnoted(range, page, owner);
+    }
+}
+
 impl Owners {
     /// The table with these entries, one for each page of memory from the first on.
     pub fn of(entries: Vec<PageOwner>) -> Owners
@@ -123,6 +165,15 @@ impl Owners {
         ensures each { (p : ℕ) → slice_get self.new p ≡ option_map (noted range.now p) (slice_get self.old p) }
     {
         add_range(&mut self.entries, range);
+    }
+
+    /// Takes off a range that was noted.
+    pub fn remove(&mut self, range: &Range)
+        requires shaped { IsShaped (length self.old) range.now }
+        ensures len { length self.new ≡ length self.old }
+        ensures each { (p : ℕ) → slice_get self.new p ≡ option_map (unnoted range.now p) (slice_get self.old p) }
+    {
+        remove_range(&mut self.entries, range);
     }
 
     /// One byte at a distance from the first of memory.

@@ -65,16 +65,16 @@ pub struct Space {
 }
 
 impl Model for Space {
-    ghost use Rattle.std.specs.Prelude.{◌≡◌, ◌≤◌, length, true, false};
-    ghost use Rattle.mmap_rules.specs.Space.{own_in, writable_in};
-    ghost use Rattle.mmap_rules.specs.Owners.{owns};
-    ghost use Rattle.mmap_rules.specs.Held.{Held, HasBlock};
+    ghost use Rattle.std.specs.Prelude.{◌≤◌, length, vec_capacity};
+    ghost use Rattle.std.specs.List.{sum_by};
+    ghost use Rattle.mmap_rules.specs.Owners.{IsTable};
+    ghost use Rattle.mmap_rules.specs.Held.{Held, AreMappings, places_of};
 
     ghost Value = { Held };
 
     ghost view = { λ s. record { maps = s.maps.items; brk = s.brk; brk_low = s.brk_low; brk_high = s.brk_high; pages = length s.owners } };
 
-    ghost invariant = { λ s. (owns s.owners false ≡ own_in s.maps.items) × (owns s.owners true ≡ writable_in s.maps.items) × HasBlock (length s.owners) s.maps.items };
+    ghost invariant = { λ s. IsTable s.owners s.maps.items × AreMappings (length s.owners) s.maps.items × (sum_by places_of s.maps.items ≤ vec_capacity s.maps) };
 }
 
 /// The mapping of a block: all of its run but the header is own, and may be written.

@@ -1,4 +1,4 @@
-use Rattle.std.proofs.Common.{◌≡◌, ◌<◌, ℕ, length}
+use Rattle.std.proofs.Common.{◌≡◌, ℕ, length}
 use Rattle.std.specs.Prelude.{nat_lt, if◌then◌else◌, option_map, slice_get}
 use Rattle.mmap_rules.specs.Owners.{noted}
 use Rattle.mmap_rules.proofs.owners.add_range.Given as goal

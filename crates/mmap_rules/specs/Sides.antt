@@ -1,0 +1,152 @@
+-- What mapping and unmapping change: what is kept of a space, the regions, and the bytes of memory.
+use Rattle.std.specs.Prelude.{◌≡◌, ℕ, ◌+◌, ◌-◌, ◌*◌, ◌^◌, ◌==◌, ◌<◌, ◌≤◌, Bool, true, false, List, [], ◌∷◌, ◌++◌, count_by, replicate, Option, Some, None, slice_get, slice_set, Result, Ok, Err, ⊤}
+use Rattle.byte_words.specs.Patches.{laid}
+use Rattle.page_runs.specs.declared.place.Kind.{Kind}
+use Rattle.page_runs.specs.Place.{place, first_of}
+use Rattle.nommu_regions.specs.declared.region.Region.{Region}
+use Rattle.nommu_regions.specs.declared.region.Source.{Source}
+use Rattle.nommu_regions.specs.declared.region.Source.TheVariants.{Own, Copy}
+use Rattle.nommu_regions.specs.Regions.{free_of, copy_of, with_uses, with_cut}
+use Rattle.call_log.specs.declared.errno.Errno.{Errno}
+use Rattle.call_log.specs.declared.errno.Errno.TheVariants.{Einval}
+use Rattle.mmap_rules.specs.declared.mapping.Mapping.{Mapping}
+use Rattle.mmap_rules.specs.declared.want.Want.{Want}
+use Rattle.mmap_rules.specs.declared.want.Want.TheVariants.{Anon, File}
+use Rattle.mmap_rules.specs.declared.maps.MapFault.{MapFault}
+use Rattle.mmap_rules.specs.declared.maps.MapFault.TheVariants.{Enomem, Memory}
+use Rattle.mmap_rules.specs.Space.{page_size}
+use Rattle.mmap_rules.specs.Held.{Held, page_address}
+use Rattle.mmap_rules.specs.Want.{pages_for}
+use Rattle.mmap_rules.specs.Mappings.{run_mapping, part_mapping, file_pages, page_at, Hit, hit, without_hit}
+
+pub record Sides : Type 0 where
+  pub held : Held
+  pub regions : List Region
+  pub memory : List ℕ
+
+abbrev pub sides : Held → List Region → List ℕ → Sides
+sides held regions memory = record { held = held; regions = regions; memory = memory }
+
+-- ---- mmap2
+
+-- the address that is answered, and what is left
+pub record Mapped : Type 0 where
+  pub addr : ℕ
+  pub sides : Sides
+
+-- a mapping more, the newest
+abbrev pub with_mapping : Held → Mapping → Held
+with_mapping held m = record held { maps = held.maps ++ m ∷ [] }
+
+-- the pages of a run of its own, with these bytes
+abbrev pub in_fresh_run : Sides → Kind → (pages : ℕ) → (writes anonymous : Bool) → Source → List ℕ → Option Mapped
+in_fresh_run s kind pages writes anonymous source bytes = at_run (first_of (free_of s.regions).runs (place kind (free_of s.regions).runs pages))
+  where
+    at_run : Option ℕ → Option Mapped
+    at_run None = None
+    at_run (Some first) = Some (record {
+      addr = page_address first;
+      sides = record {
+        held = with_mapping s.held (run_mapping first pages writes anonymous source);
+        regions = slice_set s.regions first (record { first = first; pages = pages; source = source; uses = 1 });
+        memory = laid s.memory (page_size * first) bytes;
+      };
+    })
+
+-- the first page of the file that a copy has
+abbrev pub copied_from : Source → ℕ
+copied_from Own = 0
+copied_from (Copy file change first) = first
+
+-- pages of a copy that is there, which gets one use more
+abbrev pub in_copy : Sides → (first pages : ℕ) → Option Region → Option Mapped
+in_copy s first pages None = None
+in_copy s first pages (Some r) = Some (record {
+  addr = page_address (r.first + (first - copied_from r.source));
+  sides = record {
+    held = with_mapping s.held (part_mapping r.first r.pages r.source (first - copied_from r.source) pages);
+    regions = with_uses s.regions r.first (λ uses. uses + 1);
+    memory = s.memory;
+  };
+})
+
+-- a file that isn't written: the lowest copy that covers the pages, or a copy that is made
+abbrev pub in_copy_or_new : Sides → Kind → List ℕ → (pages first id change : ℕ) → Option ℕ → Option Mapped
+in_copy_or_new s kind bytes pages first id change (Some copy) = in_copy s first pages (slice_get s.regions copy)
+in_copy_or_new s kind bytes pages first id change None =
+    in_fresh_run s kind pages false false (Copy id change first) (file_pages bytes first pages)
+
+-- none where a fresh run is needed and none fits
+unfoldable pub mapped : Sides → Kind → (bytes : List ℕ) → Want → Option Mapped
+mapped s kind bytes (Anon pages) = in_fresh_run s kind pages true true Own (replicate (page_size * pages) 0)
+mapped s kind bytes (File pages first true id change) = in_fresh_run s kind pages true false Own (file_pages bytes first pages)
+mapped s kind bytes (File pages first false id change) =
+    in_copy_or_new s kind bytes pages first id change (copy_of s.regions id change first pages)
+
+-- the file whose pages are wanted
+abbrev pub file_in : Want → ℕ
+file_in (Anon pages) = 0
+file_in (File pages first write id change) = id
+
+-- what `map` answers; out of memory changes nothing
+abbrev pub Maps : Option Mapped → (old new : Sides) → Result ℕ MapFault → Type 0
+Maps (Some m) old new (Ok addr) = (addr ≡ m.addr) × (new ≡ m.sides)
+Maps (Some m) old new (Err Enomem) = ⊥
+Maps None old new (Ok addr) = ⊥
+Maps None old new (Err Enomem) = new ≡ old
+Maps wanted old new (Err Memory) = new ≡ old
+
+-- ---- munmap
+
+-- a region that loses a use, or pages
+abbrev pub given_back : List Region → Hit → (addr size : ℕ) → List Region
+given_back rs h addr size = by_left h.left
+  where
+    by_left : List Mapping → List Region
+    by_left [] = with_uses rs h.mapping.first (λ uses. uses - 1)
+    by_left (m ∷ ms) = with_cut rs h.mapping.first (page_at addr) (size / page_size)
+
+-- what is left of a space and of the regions
+pub record Freed : Type 0 where
+  pub held : Held
+  pub regions : List Region
+
+abbrev pub freed : Held → List Region → Freed
+freed held regions = record { held = held; regions = regions }
+
+abbrev pub after_hit : Held → List Region → (addr size : ℕ) → Option Hit → Option Freed
+after_hit held rs addr size None = None
+after_hit held rs addr size (Some h) = Some (record {
+  held = record held { maps = without_hit held.maps h };
+  regions = given_back rs h addr size;
+})
+
+-- none where no mapping is hit
+unfoldable pub unmapped : Held → List Region → (addr len : ℕ) → Option Freed
+unmapped held rs addr len = after_hit held rs addr (page_size * pages_for len) (hit held.maps addr len)
+
+-- what `unmap` answers
+abbrev pub Unmaps : Option Freed → (old new : Freed) → Result ⊤ Errno → Type 0
+Unmaps (Some f) old new (Ok done) = new ≡ f
+Unmaps (Some f) old new (Err errno) = ⊥
+Unmaps None old new (Ok done) = ⊥
+Unmaps None old new (Err errno) = (errno ≡ Einval) × (new ≡ old)
+
+-- ---- what the caller owes: each mapping of the space has its region
+
+pub record Names (rs : List Region) (m : Mapping) : Type 0 where
+  pub region : Region
+  pub there : slice_get rs m.first ≡ Some region
+  pub live : 0 < region.uses
+  pub run : m.pages ≡ region.pages
+  pub source : m.source ≡ region.source
+  pub once : region.source ≡ Own → region.uses ≡ 1
+
+-- and a region has as many uses as the mappings that name it, at least
+pub record NameRegions (rs : List Region) (maps : List Mapping) : Type 0 where
+  pub each : (j : ℕ) (m : Mapping) → slice_get maps j ≡ Some m → Names rs m
+  pub counts : (id : ℕ) (r : Region) → slice_get rs id ≡ Some r → count_by (λ m. m.first == id) maps ≤ r.uses
+
+-- one use more of each can be counted
+abbrev pub AreFew : List Region → Type 0
+AreFew rs = (id : ℕ) (r : Region) → slice_get rs id ≡ Some r → r.uses + 1 < 2 ^ 32
