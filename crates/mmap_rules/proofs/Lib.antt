@@ -7,6 +7,16 @@
 -- Mapped     mappings of a list that changes, and their places
 -- Parts      what is left of a mapping that loses pages
 -- TableLeft  the same in the table
+-- Meets      which mappings have bytes in a page, and how many they are
+-- FreshRuns  a mapping of a fresh run
+-- Copies     a mapping of pages of a copy
+-- Left       what a mapping more leaves of a space, the regions and memory
+-- Chosen     what `map` chooses
+-- Fresh      a run that is taken is free
+-- Names      mappings and their regions after a mapping more
+-- NamesMore  the same after a mapping of a copy more
+-- Change     what `map` changes
+-- Keeps      what `map` keeps, as its next call needs it
 pub mod Ranges
 pub mod Tables
 pub mod Lists
@@ -16,3 +26,13 @@ pub mod TableLess
 pub mod Mapped
 pub mod Parts
 pub mod TableLeft
+pub mod Meets
+pub mod FreshRuns
+pub mod Copies
+pub mod Left
+pub mod Chosen
+pub mod Fresh
+pub mod Names
+pub mod NamesMore
+pub mod Change
+pub mod Keeps

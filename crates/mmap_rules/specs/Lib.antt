@@ -4,9 +4,11 @@
 -- Want      what mmap2 asks for
 -- Mappings  mappings that come and go
 -- Sides     what mapping and unmapping change
+-- Chosen    what `map` chooses
 pub mod Space
 pub mod Owners
 pub mod Held
 pub mod Want
 pub mod Mappings
 pub mod Sides
+pub mod Chosen

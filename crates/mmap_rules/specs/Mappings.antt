@@ -1,10 +1,15 @@
 -- Mappings that come and go (Linux, "No-MMU memory mapping support", Documentation/admin-guide/mm/nommu-mmap.rst; mmap(2), munmap(2),
 -- in this project's profile).
-use Rattle.std.specs.Prelude.{ℕ, ◌+◌, ◌-◌, ◌*◌, ◌/◌, ◌%◌, ◌==◌, Bool, false, not, ◌&&◌, ◌||◌, nat_le, if◌then◌else◌, List, [], ◌∷◌, ◌++◌, length, take, drop, replicate, position, Option, Some, None, slice_get}
+use Rattle.std.specs.Prelude.{ℕ, ◌≡◌, ◌+◌, ◌-◌, ◌^◌, ◌<◌, ◌≤◌, true, ◌*◌, ◌/◌, ◌%◌, ◌==◌, Bool, false, not, ◌&&◌, ◌||◌, nat_le, if◌then◌else◌, List, [], ◌∷◌, ◌++◌, length, take, drop, replicate, position, Option, Some, None, slice_get}
+use Rattle.nommu_regions.specs.declared.region.Region.{Region}
 use Rattle.nommu_regions.specs.declared.region.Source.{Source}
+use Rattle.nommu_regions.specs.declared.region.Source.TheVariants.{Own, Copy}
+use Rattle.nommu_regions.specs.Regions.{is_copy}
 use Rattle.mmap_rules.specs.declared.mapping.Mapping.{Mapping}
+use Rattle.mmap_rules.specs.declared.owners.PageOwner.{PageOwner}
 use Rattle.mmap_rules.specs.Space.{memory_base, page_size}
-use Rattle.mmap_rules.specs.Held.{page_address}
+use Rattle.mmap_rules.specs.Owners.{meets, Says}
+use Rattle.mmap_rules.specs.Held.{page_address, IsMapping}
 use Rattle.mmap_rules.specs.Want.{pages_for}
 
 -- ---- a mapping more
@@ -18,6 +23,11 @@ run_mapping first pages writes anonymous source = record {
   source = source;
 }
 
+-- the first page of the file that a copy has
+abbrev pub copied_from : Source → ℕ
+copied_from Own = 0
+copied_from (Copy file change first) = first
+
 -- pages of a run of `held` pages, from its page `skip` on, which may be read
 abbrev pub part_mapping : (first held : ℕ) → Source → (skip pages : ℕ) → Mapping
 part_mapping first held source skip pages = record {
@@ -27,6 +37,15 @@ part_mapping first held source skip pages = record {
   source = source;
 }
 
+-- a live region is a copy that has so many pages of a file from its page `first` on
+pub record CopyHas (rs : List Region) (id first pages : ℕ) : Type 0 where
+  pub region : Region
+  pub there : slice_get rs id ≡ Some region
+  pub live : 0 < region.uses
+  pub copy : is_copy region.source ≡ true
+  pub from : copied_from region.source ≤ first
+  pub to : first + pages ≤ copied_from region.source + region.pages
+
 -- so many bytes: these, and zeros behind them
 abbrev pub filled : ℕ → List ℕ → List ℕ
 filled len bytes = bytes ++ replicate (len - length bytes) 0
@@ -34,6 +53,18 @@ filled len bytes = bytes ++ replicate (len - length bytes) 0
 -- pages of a file, with zeros past its end
 unfoldable pub file_pages : List ℕ → (first pages : ℕ) → List ℕ
 file_pages bytes first pages = filled (page_size * pages) (take (page_size * pages) (drop (page_size * first) bytes))
+
+-- a run has a page, and only one of its own can be written or is anonymous
+pub record IsNewRun (pages : ℕ) (writes anonymous : Bool) (source : Source) : Type 0 where
+  pub some : 0 < pages
+  pub written : writes ≡ true → source ≡ Own
+  pub whole : anonymous ≡ true → source ≡ Own
+
+-- the entries of the pages can count one mapping more, and where others have bytes in a page of the mapping, they agree
+pub record CanAdd (table : List PageOwner) (m : Mapping) : Type 0 where
+  pub mapping : IsMapping (length table) m
+  pub few : (page : ℕ) (o : PageOwner) → slice_get table page ≡ Some o → o.uses < 2 ^ 32 - 1
+  pub agrees : (page : ℕ) (o : PageOwner) → slice_get table page ≡ Some o → meets m.range page ≡ true → 0 < o.uses → Says o page m.range
 
 -- ---- a mapping less
 

@@ -1,5 +1,5 @@
 -- What mapping and unmapping change: what is kept of a space, the regions, and the bytes of memory.
-use Rattle.std.specs.Prelude.{◌≡◌, ℕ, ◌+◌, ◌-◌, ◌*◌, ◌^◌, ◌==◌, ◌<◌, ◌≤◌, Bool, true, false, List, [], ◌∷◌, ◌++◌, count_by, replicate, Option, Some, None, slice_get, slice_set, Result, Ok, Err, ⊤}
+use Rattle.std.specs.Prelude.{◌≡◌, ℕ, ◌+◌, ◌-◌, ◌*◌, ◌/◌, ◌^◌, ◌==◌, ◌<◌, ◌≤◌, Bool, true, false, List, [], ◌∷◌, ◌++◌, count_by, replicate, Option, Some, None, slice_get, slice_set, Result, Ok, Err, ⊤}
 use Rattle.byte_words.specs.Patches.{laid}
 use Rattle.page_runs.specs.declared.place.Kind.{Kind}
 use Rattle.page_runs.specs.Place.{place, first_of}
@@ -17,7 +17,7 @@ use Rattle.mmap_rules.specs.declared.maps.MapFault.TheVariants.{Enomem, Memory}
 use Rattle.mmap_rules.specs.Space.{page_size}
 use Rattle.mmap_rules.specs.Held.{Held, page_address}
 use Rattle.mmap_rules.specs.Want.{pages_for}
-use Rattle.mmap_rules.specs.Mappings.{run_mapping, part_mapping, file_pages, page_at, Hit, hit, without_hit}
+use Rattle.mmap_rules.specs.Mappings.{run_mapping, part_mapping, copied_from, file_pages, page_at, Hit, hit, without_hit}
 
 pub record Sides : Type 0 where
   pub held : Held
@@ -52,11 +52,6 @@ in_fresh_run s kind pages writes anonymous source bytes = at_run (first_of (free
         memory = laid s.memory (page_size * first) bytes;
       };
     })
-
--- the first page of the file that a copy has
-abbrev pub copied_from : Source → ℕ
-copied_from Own = 0
-copied_from (Copy file change first) = first
 
 -- pages of a copy that is there, which gets one use more
 abbrev pub in_copy : Sides → (first pages : ℕ) → Option Region → Option Mapped
@@ -150,3 +145,7 @@ pub record NameRegions (rs : List Region) (maps : List Mapping) : Type 0 where
 -- one use more of each can be counted
 abbrev pub AreFew : List Region → Type 0
 AreFew rs = (id : ℕ) (r : Region) → slice_get rs id ≡ Some r → r.uses + 1 < 2 ^ 32
+
+-- no region has more uses than so many
+abbrev pub AreAtMost : ℕ → List Region → Type 0
+AreAtMost most rs = (id : ℕ) (r : Region) → slice_get rs id ≡ Some r → r.uses ≤ most

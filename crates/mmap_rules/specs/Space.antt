@@ -1,6 +1,6 @@
 -- A private space: what one program sees of memory. Linux, "No-MMU memory mapping support": every mapping holds a run of
 -- whole pages, and a process may use just its own range of that run.
-use Rattle.std.specs.Prelude.{ℕ, zero, suc, ◌+◌, ◌*◌, ◌^◌, Bool, true, ◌&&◌, nat_le, nat_lt, List, [], ◌∷◌}
+use Rattle.std.specs.Prelude.{ℕ, zero, suc, ◌+◌, ◌^◌, Bool, true, ◌&&◌, nat_le, nat_lt, List}
 use Rattle.std.specs.List.{list_any}
 use Rattle.byte_words.specs.ByteMap.{Bytes}
 use Rattle.mmap_rules.specs.declared.mapping.Range.{Range}

@@ -1,5 +1,5 @@
 -- What mmap2 asks for (Linux, mmap(2); include/uapi/asm-generic/mman-common.h, in this project's profile).
-use Rattle.std.specs.Prelude.{ℕ, ◌+◌, ◌-◌, ◌/◌, ◌^◌, ◌==◌, ◌≤◌, ◌<◌, Bool, true, false, not, ◌&&◌, ◌||◌, nat_lt, if◌then◌else◌, Result, Ok, Err}
+use Rattle.std.specs.Prelude.{ℕ, ◌+◌, ◌-◌, ◌/◌, ◌^◌, ◌==◌, ◌≤◌, ◌<◌, Bool, not, ◌&&◌, ◌||◌, nat_lt, if◌then◌else◌, Result, Ok, Err}
 use Rattle.call_log.specs.declared.errno.Errno.{Errno}
 use Rattle.call_log.specs.declared.errno.Errno.TheVariants.{Ebadf, Eacces, Enodev, Einval, Eoverflow}
 use Rattle.call_log.specs.Flags.{has_flag}

@@ -20,4 +20,6 @@ pub use steps::Steps;
 pub use want::{FileSide, Want, check_mmap2, pages_for};
 
 #[cfg(test)]
+mod map_tests;
+#[cfg(test)]
 mod tests;

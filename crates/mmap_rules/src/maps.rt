@@ -1,5 +1,26 @@
-//! Why nothing is mapped.
+//! Mappings that come (Linux, mmap(2) and "No-MMU memory mapping support").
 
+ghost use Rattle.std.specs.Prelude.{ℕ, List, ◌≡◌, ◌+◌, ◌-◌, ◌*◌, ◌^◌, ◌<◌, ◌≤◌, [], ◌∷◌, ◌++◌, Some, OnOk, IfSome, length, slice_get, take, drop, vec_capacity};
+ghost use Rattle.std.specs.List.{sum_by};
+ghost use Rattle.page_runs.specs.Choosers.{IsChooser, kind_of};
+ghost use Rattle.mem_files.specs.Inodes.{bytes_of};
+ghost use Rattle.nommu_regions.specs.declared.region.Source.TheVariants.{Own};
+ghost use Rattle.nommu_regions.specs.Regions.{AreRegions};
+ghost use Rattle.mmap_rules.specs.Owners.{IsTable};
+ghost use Rattle.mmap_rules.specs.Held.{AreMappings, places_of};
+ghost use Rattle.mmap_rules.specs.Want.{AsksPages};
+ghost use Rattle.mmap_rules.specs.Mappings.{run_mapping, part_mapping, copied_from, filled, IsNewRun, CopyHas, CanAdd};
+ghost use Rattle.mmap_rules.specs.Chosen.{part_for, new_run, first_bytes, file_source};
+ghost use Rattle.mmap_rules.specs.Sides.{sides, mapped, in_fresh_run, in_copy, file_in, Maps, NameRegions, AreFew};
+
+use crate::mapping::{Mapping, Range};
+use crate::owners::Owners;
+use crate::space::Space;
+use crate::want::Want;
+use mem_files::Tree;
+use nommu_regions::{Region, Regions, Source};
+use page_runs::{Chooser, Run};
+use phys_mem::{BASE, PAGE, PhysMem};
 use std::alloc::AllocError;
 
 /// Why nothing is mapped.
@@ -19,5 +40,274 @@ impl From<AllocError> for MapFault {
 
     fn from(_error: AllocError) -> MapFault {
         MapFault::Memory
+    }
+}
+
+/// A run of pages that is wanted.
+#[derive(Clone, Copy)]
+struct NewRun {
+    pages: u32,
+    writes: bool,
+    anonymous: bool,
+    source: Source,
+}
+
+/// Pages of the copy of this id, from the file's page `first` on.
+#[derive(Clone, Copy)]
+struct Part {
+    copy: u32,
+    first: u32,
+    pages: u32,
+}
+
+/// The pages of a copy that can be shared, if there are any.
+fn part_for(regions: &Regions, want: Want) -> Option<Part>
+    requires { AsksPages want }
+    ensures part { result ≡ part_for regions.now want }
+    ensures copy { IfSome result (λ part. CopyHas regions.now part.copy part.first part.pages) }
+    ensures some { IfSome result (λ part. 0 < part.pages) }
+{
+    let Want::File {
+        pages,
+        first,
+        write: false,
+        id,
+        change,
+    } = want
+    else {
+        return None;
+    };
+    let copy = regions.find(id, change, first, pages)?;
+    Some(Part { copy, first, pages })
+}
+
+/// The run of its own that is wanted, and the bytes with which it begins.
+fn new_run(tree: &Tree, want: Want) -> (NewRun, &[u8])
+    requires { AsksPages want }
+    ensures run { result.0 ≡ new_run want }
+    ensures bytes { result.1.now ≡ first_bytes (bytes_of tree.now (file_in want)) want }
+    ensures new { IsNewRun result.0.pages result.0.writes result.0.anonymous result.0.source }
+    ensures fits { length result.1.now ≤ 4096 * result.0.pages }
+{
+    match want {
+        Want::Anon { pages } => {
+            let run = NewRun {
+                pages,
+                writes: true,
+                anonymous: true,
+                source: Source::Own,
+            };
+            (run, &[])
+        }
+        Want::File {
+            pages,
+            first,
+            write,
+            id,
+            change,
+        } => {
+            let run = NewRun {
+                pages,
+                writes: write,
+                anonymous: false,
+                source: file_source(write, id, change, first),
+            };
+            (run, page_bytes(tree.bytes(id), first, pages))
+        }
+    }
+}
+
+/// What pages of a file are that are copied in: pages that are written aren't shared.
+fn file_source(write: bool, file: u32, change: u64, first: u32) -> Source
+    ensures { result ≡ file_source write file change first }
+{
+    if write {
+        return Source::Own;
+    }
+    Source::Copy {
+        file,
+        change,
+        first,
+    }
+}
+
+/// The `pages` pages of a file from its page `first` on, as far as it goes.
+fn page_bytes(bytes: &[u8], first: u32, pages: u32) -> &[u8]
+    ensures { result.now ≡ take (4096 * pages) (drop (4096 * first) bytes.now) }
+{
+    let page = u64::from(PAGE);
+    let from = (page * u64::from(first)).min(bytes.len() as u64) as usize;
+    let left = &bytes[from..];
+    let count = (page * u64::from(pages)).min(left.len() as u64) as usize;
+    &left[..count]
+}
+
+/// The places in the list that the mappings may need.
+fn places(maps: &[Mapping]) -> usize
+    requires { sum_by places_of maps.now < 2 ^ 63 }
+    ensures { result ≡ sum_by places_of maps.now }
+{
+    let mut total = 0;
+    for mapping in maps {
+        total += if mapping.range.anonymous {
+            mapping.pages as usize
+        } else {
+            1
+        };
+    }
+    total
+}
+
+/// Takes memory for a mapping that may need so many places.
+fn make_room(maps: &mut Vec<Mapping>, more: u32) -> Result<(), AllocError>
+    requires some { length maps.old.items ≤ sum_by places_of maps.old.items }
+    requires room { sum_by places_of maps.old.items ≤ vec_capacity maps.old }
+    ensures items { maps.new.items ≡ maps.old.items }
+    ensures kept { sum_by places_of maps.old.items ≤ vec_capacity maps.new }
+    ensures room { OnOk result (sum_by places_of maps.old.items + more ≤ vec_capacity maps.new) }
+{
+    let spare = places(maps) - maps.len();
+    maps.reserve(spare + more as usize)
+}
+
+/// A mapping more, for which there is room.
+fn add_mapping(maps: &mut Vec<Mapping>, owners: &mut Owners, mapping: Mapping)
+    requires table { IsTable owners.old maps.old.items }
+    requires mappings { AreMappings (length owners.old) maps.old.items }
+    requires can { CanAdd owners.old mapping }
+    requires room { sum_by places_of maps.old.items + places_of mapping ≤ vec_capacity maps.old }
+    ensures maps { maps.new.items ≡ maps.old.items ++ mapping ∷ [] }
+    ensures pages { length owners.new ≡ length owners.old }
+    ensures table { IsTable owners.new maps.new.items }
+    ensures mappings { AreMappings (length owners.old) maps.new.items }
+    ensures places { sum_by places_of maps.new.items ≤ vec_capacity maps.new }
+{
+    owners.add(&mapping.range);
+    maps.push_reserved(mapping);
+}
+
+/// All of a run of pages.
+fn run_mapping(first: u32, run: &NewRun) -> Mapping
+    requires { first + run.now.pages ≤ 16384 }
+    ensures { result ≡ run_mapping first run.now.pages run.now.writes run.now.anonymous run.now.source }
+{
+    Mapping {
+        first,
+        pages: run.pages,
+        range: Range {
+            from: BASE + PAGE * first,
+            size: PAGE * run.pages,
+            writes: run.writes,
+            anonymous: run.anonymous,
+        },
+        source: run.source,
+    }
+}
+
+/// The wanted pages of a copy that has them, from the file's page `first` on. They may be read.
+fn part_mapping(region: &Region, first: u32, pages: u32) -> Mapping
+    requires from { copied_from region.now.source ≤ first }
+    requires to { region.now.first + (first - copied_from region.now.source) + pages ≤ 16384 }
+    ensures { result ≡ part_mapping region.now.first region.now.pages region.now.source (first - copied_from region.now.source) pages }
+{
+    let from = match region.source {
+        Source::Own => 0,
+        Source::Copy { first, .. } => first,
+    };
+    Mapping {
+        first: region.first,
+        pages: region.pages,
+        range: Range {
+            from: BASE + PAGE * (region.first + (first - from)),
+            size: PAGE * pages,
+            writes: false,
+            anonymous: false,
+        },
+        source: region.source,
+    }
+}
+
+impl Space {
+    /// Maps pages of a copy that is there, from the file's page `first` on.
+    fn map_part(
+        &mut self,
+        regions: &mut Regions,
+        copy: u32,
+        first: u32,
+        pages: u32,
+    ) -> Result<u32, MapFault>
+        requires pages { self.old.pages ≡ length regions.old }
+        requires regions { AreRegions regions.old }
+        requires most { length regions.old ≤ 16384 }
+        requires names { NameRegions regions.old self.old.maps }
+        requires few { AreFew regions.old }
+        requires some { 0 < pages }
+        requires copy { CopyHas regions.old copy first pages }
+        ensures { (mem : List ℕ) → Maps (in_copy (sides self.old regions.old mem) first pages (slice_get regions.old copy)) (sides self.old regions.old mem) (sides self.new regions.new mem) result }
+    {
+        make_room(&mut self.maps, 1)?;
+        let region = regions.region(copy);
+        regions.add_use(copy);
+        let mapping = part_mapping(&region, first, pages);
+        add_mapping(&mut self.maps, &mut self.owners, mapping);
+        Ok(mapping.range.from)
+    }
+
+    /// Maps a run of its own that begins with these bytes; what is behind them is zero.
+    fn map_fresh<F: Fn(&[Run], u32) -> Option<usize>>(
+        &mut self,
+        regions: &mut Regions,
+        mem: &mut PhysMem,
+        run: &NewRun,
+        bytes: &[u8],
+        chooser: &Chooser<F>,
+    ) -> Result<u32, MapFault>
+        requires chooser { IsChooser F.pre F.post chooser.now }
+        requires pages { self.old.pages ≡ length regions.old }
+        requires memory { length mem.old ≡ 4096 * length regions.old }
+        requires regions { AreRegions regions.old }
+        requires most { length regions.old ≤ 16384 }
+        requires names { NameRegions regions.old self.old.maps }
+        requires few { AreFew regions.old }
+        requires run { IsNewRun run.now.pages run.now.writes run.now.anonymous run.now.source }
+        requires bytes { length bytes.now ≤ 4096 * run.now.pages }
+        ensures { Maps (in_fresh_run (sides self.old regions.old mem.old) (kind_of chooser.now) run.now.pages run.now.writes run.now.anonymous run.now.source (filled (4096 * run.now.pages) bytes.now)) (sides self.old regions.old mem.old) (sides self.new regions.new mem.new) result }
+    {
+        let places = if run.anonymous { run.pages } else { 1 };
+        make_room(&mut self.maps, places)?;
+        let Some(first) = regions.fresh(mem, run.pages, run.source, chooser) else {
+            return Err(MapFault::Enomem);
+        };
+        mem.copy_in(BASE + PAGE * first, bytes);
+        add_mapping(&mut self.maps, &mut self.owners, run_mapping(first, run));
+        Ok(BASE + PAGE * first)
+    }
+
+    /// Maps what is wanted, and gives the address of its first byte. Pages of a file that aren't written are shared with the lowest
+    /// copy that has them, where there is one; all else gets a run of its own.
+    pub fn map<F: Fn(&[Run], u32) -> Option<usize>>(
+        &mut self,
+        regions: &mut Regions,
+        mem: &mut PhysMem,
+        tree: &Tree,
+        want: Want,
+        chooser: &Chooser<F>,
+    ) -> Result<u32, MapFault>
+        requires chooser { IsChooser F.pre F.post chooser.now }
+        requires pages { self.old.pages ≡ length regions.old }
+        requires memory { length mem.old ≡ 4096 * length regions.old }
+        requires names { NameRegions regions.old self.old.maps }
+        requires few { AreFew regions.old }
+        requires want { AsksPages want }
+        ensures maps { Maps (mapped (sides self.old regions.old mem.old) (kind_of chooser.now) (bytes_of tree.now (file_in want)) want) (sides self.old regions.old mem.old) (sides self.new regions.new mem.new) result }
+    {
+        let _pages = regions.pages();
+        match part_for(regions, want) {
+            Some(part) => self.map_part(regions, part.copy, part.first, part.pages),
+            None => {
+                let (run, bytes) = new_run(tree, want);
+                self.map_fresh(regions, mem, &run, bytes, chooser)
+            }
+        }
     }
 }

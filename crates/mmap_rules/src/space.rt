@@ -57,11 +57,11 @@ impl SpaceRoom {
 /// A space: its mappings, its break, and the table of its own bytes.
 #[derive(Drop)]
 pub struct Space {
-    maps: Vec<Mapping>,
-    owners: Owners,
-    brk: u32,
-    brk_low: u32,
-    brk_high: u32,
+    pub(crate) maps: Vec<Mapping>,
+    pub(crate) owners: Owners,
+    pub(crate) brk: u32,
+    pub(crate) brk_low: u32,
+    pub(crate) brk_high: u32,
 }
 
 impl Model for Space {

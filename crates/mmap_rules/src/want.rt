@@ -7,9 +7,13 @@ use call_log::{Errno, has_flag};
 
 /// The bits of MAP_SHARED, MAP_PRIVATE, MAP_FIXED and MAP_ANONYMOUS among the flags, and of PROT_WRITE.
 const SHARED: u32 = 0;
+
 const PRIVATE: u32 = 1;
+
 const FIXED: u32 = 4;
+
 const ANONYMOUS: u32 = 5;
+
 const WRITE: u32 = 1;
 
 /// The bytes of a page.
@@ -32,7 +36,9 @@ pub enum FileSide {
 #[derive(Clone, Copy, Debug, PartialEq, Eq)]
 pub enum Want {
     /// So many pages of zeros.
-    Anon { pages: u32 },
+    Anon {
+        pages: u32,
+    },
     /// So many pages of a file, from its page `first` on.
     File {
         pages: u32,
@@ -80,13 +86,7 @@ pub fn check_mmap2(
 }
 
 /// The same of pages of a file.
-fn check_file(
-    pages: u32,
-    prot: u32,
-    flags: u32,
-    first: u32,
-    file: FileSide,
-) -> Result<Want, Errno>
+fn check_file(pages: u32, prot: u32, flags: u32, first: u32, file: FileSide) -> Result<Want, Errno>
     requires some { 0 < pages }
     ensures wanted { result ≡ wanted_file pages prot flags first file }
     ensures pages { IfOk result AsksPages }

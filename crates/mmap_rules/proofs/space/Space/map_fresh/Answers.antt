@@ -1,0 +1,51 @@
+use Rattle.std.proofs.Common.{◌≡◌, ◌+◌, ◌-◌, ◌*◌, ◌^◌, length, refl, sym, ap, subst, arith}
+use Rattle.mmap_rules.specs.Held.{Held}
+use Rattle.mmap_rules.specs.Sides.{NameRegions}
+use Rattle.mmap_rules.proofs.Mapped.{places_at_least}
+use Rattle.mmap_rules.proofs.FreshRuns.{run_can}
+use Rattle.mmap_rules.proofs.Left.{sides_same, held_more, run_filled}
+use Rattle.mmap_rules.proofs.space.Space.map_fresh.Goals as goal
+
+pub make_room-requires-clause-some : goal.make_room-requires-clause-some
+make_room-requires-clause-some g c = places_at_least (length c.self.inside.owners) c.self.inside.maps.items c.self.invariant.1
+
+pub invariant_of-self : goal.invariant_of-self
+invariant_of-self g c = rw c.make_room.ensures.items (c.self.invariant.0, c.self.invariant.1, c.make_room.ensures.kept)
+
+pub invariant_of-self-in_default : goal.invariant_of-self-in_default
+invariant_of-self-in_default g c = rw c.make_room.ensures.items (c.self.invariant.0, c.self.invariant.1, c.make_room.ensures.kept)
+
+pub overflow_mul-first : goal.overflow_mul-first
+overflow_mul-first g c = omega (arith, c.in-Some.ensures.free.inside, c.requires.most)
+
+pub overflow_add-first : goal.overflow_add-first
+overflow_add-first g c = omega (arith, c.in-Some.ensures.free.inside, c.requires.most)
+
+pub run_mapping-requires : goal.run_mapping-requires
+run_mapping-requires g c = omega (arith, c.in-Some.ensures.free.inside, c.requires.most)
+
+pub add_mapping-requires-clause-mappings : goal.add_mapping-requires-clause-mappings
+add_mapping-requires-clause-mappings g c = rw c.make_room.ensures.items c.self.invariant.1
+
+pub add_mapping-requires-clause-can : goal.add_mapping-requires-clause-can
+add_mapping-requires-clause-can g c =
+    let names : NameRegions c.args.regions.now c.self.inside.maps.items = subst (λ (h : Held). NameRegions c.args.regions.now h.maps) (sym c.self.view_is) c.requires.names in
+    let pages : length c.self.inside.owners ≡ c.args.self.now.pages = ap (λ (h : Held). h.pages) c.self.view_is in
+    rw c.run_mapping.ensures
+    (run_can c.in-Some.first c.args.run.now.pages c.args.run.now.writes c.args.run.now.anonymous c.args.run.now.source c.args.regions.now c.self.inside.owners
+    c.self.inside.maps.items c.self.invariant.0 c.self.invariant.1 c.requires.regions names c.requires.few (omega (arith, pages, c.requires.pages)) c.requires.run
+    c.in-Some.ensures.free)
+
+pub invariant_of-self-2 : goal.invariant_of-self-2
+invariant_of-self-2 g c = (c.add_mapping.ensures.table, rw c.add_mapping.ensures.pages c.add_mapping.ensures.mappings, c.add_mapping.ensures.places)
+
+pub returns : goal.returns
+returns g c =
+    let placed = sym c.in-Some.ensures.placed in
+    let maps = c.add_mapping.ensures.maps in
+    let held = held_more c.args.self.now c.self.inside.maps.items c.add_mapping.new.maps.items c.self.inside.brk c.self.inside.brk_low c.self.inside.brk_high
+    (length c.self.inside.owners) (length c.add_mapping.new.owners) _ c.self.view_is (rw (c.make_room.ensures.items, c.run_mapping.ensures) at maps) c.add_mapping.ensures.pages in
+    let inside = c.in-Some.ensures.free.inside in
+    let memory = run_filled c.args.mem.now c.fresh.new.mem c.copy_in.new.self c.in-Some.first c.args.run.now.pages (2 ^ 31 + 4096 * c.in-Some.first - 2 ^ 31) c.args.bytes.now
+    (omega (arith, inside, c.requires.memory)) c.requires.bytes (omega arith) c.in-Some.ensures.memory c.copy_in.ensures in
+    rw placed (refl, sides_same _ _ _ _ _ _ held c.in-Some.ensures.regions memory)
