@@ -7,6 +7,14 @@
 -- Mapped     mappings of a list that changes, and their places
 -- Parts      what is left of a mapping that loses pages
 -- TableLeft  the same in the table
+-- Cuts       what a cut needs, and the list after it
+-- Hits       what munmap hits, and what it leaves
+-- NamesLess  after a munmap each mapping still has its region
+-- Cutting    pages that are cut out of a mapping, in numbers
+-- PartNames  the parts that a cut leaves have their regions
+-- NamesCut   so has each mapping that is left
+-- NamesAll   and where the list is that of all spaces
+-- KeepsLess  what else a munmap leaves as it was: how many pages memory has, and what bounds the uses
 -- Meets      which mappings have bytes in a page, and how many they are
 -- FreshRuns  a mapping of a fresh run
 -- Copies     a mapping of pages of a copy
@@ -17,6 +25,7 @@
 -- NamesMore  the same after a mapping of a copy more
 -- Change     what `map` changes
 -- Keeps      what `map` keeps, as its next call needs it
+-- Samples    the definitions, computed on worked examples
 pub mod Ranges
 pub mod Tables
 pub mod Lists
@@ -26,6 +35,14 @@ pub mod TableLess
 pub mod Mapped
 pub mod Parts
 pub mod TableLeft
+pub mod Cuts
+pub mod Hits
+pub mod NamesLess
+pub mod Cutting
+pub mod PartNames
+pub mod NamesCut
+pub mod NamesAll
+pub mod KeepsLess
 pub mod Meets
 pub mod FreshRuns
 pub mod Copies
@@ -36,3 +53,4 @@ pub mod Names
 pub mod NamesMore
 pub mod Change
 pub mod Keeps
+pub mod Samples

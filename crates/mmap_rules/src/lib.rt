@@ -10,6 +10,7 @@ mod maps;
 mod owners;
 mod space;
 mod steps;
+mod unmaps;
 mod want;
 
 pub use mapping::{Mapping, Range};
@@ -23,3 +24,5 @@ pub use want::{FileSide, Want, check_mmap2, pages_for};
 mod map_tests;
 #[cfg(test)]
 mod tests;
+#[cfg(test)]
+mod unmap_tests;

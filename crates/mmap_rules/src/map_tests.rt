@@ -18,11 +18,11 @@ use std::test::*;
 
 /// A memory with two blocks of three pages, the space of the second one, and how many mappings were asked for.
 #[derive(Drop)]
-struct Machine {
-    regions: Regions,
-    mem: PhysMem,
-    space: Space,
-    calls: u32,
+pub(crate) struct Machine {
+    pub(crate) regions: Regions,
+    pub(crate) mem: PhysMem,
+    pub(crate) space: Space,
+    pub(crate) calls: u32,
 }
 
 impl Model for Machine {
@@ -58,7 +58,7 @@ fn block<F: Fn(&[Run], u32) -> Option<usize>>(
 }
 
 impl Machine {
-    fn new<F: Fn(&[Run], u32) -> Option<usize>>(
+    pub(crate) fn new<F: Fn(&[Run], u32) -> Option<usize>>(
         alloc: Global,
         pages: u32,
         chooser: &Chooser<F>,
@@ -83,7 +83,7 @@ impl Machine {
     }
 
     /// A mapping more, up to a hundred.
-    fn map<F: Fn(&[Run], u32) -> Option<usize>>(
+    pub(crate) fn map<F: Fn(&[Run], u32) -> Option<usize>>(
         &mut self,
         tree: &Tree,
         want: Want,

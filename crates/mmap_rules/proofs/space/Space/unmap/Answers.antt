@@ -1,0 +1,116 @@
+use Rattle.std.proofs.Common.{◌*◌, length, subst, sym, arith}
+use Rattle.mmap_rules.specs.Held.{Held}
+use Rattle.mmap_rules.specs.Mappings.{is_range, can_lose}
+use Rattle.mmap_rules.specs.Sides.{NameRegions}
+use Rattle.mmap_rules.proofs.Cuts.{cuts, stand}
+use Rattle.mmap_rules.proofs.Hits.{unmapped_len, unmapped_page, nothing_hit, all_unmaps, cut_unmaps, refuses, none_passes, first_passes, some_pages}
+use Rattle.mmap_rules.proofs.NamesLess.{lives, can_cut, names_less}
+use Rattle.mmap_rules.proofs.NamesCut.{names_cut}
+use Rattle.mmap_rules.proofs.space.Space.unmap.Goals as goal
+use Rattle.mmap_rules.proofs.space.Space.unmap.Goals.{then-len-eq0-via-then-len-eq0, then-len-eq0-via-else-len-eq0+then-addr-ne0}
+
+pub returns-then-len-eq0-clause-unmaps : goal.returns-then-len-eq0-clause-unmaps
+returns-then-len-eq0-clause-unmaps c =
+    let h = c.args.self.now in
+    let rs = c.args.regions.now in
+    elim c.then-len-eq0.branch [
+      | then-len-eq0-via-then-len-eq0 w ↦ refuses h rs c.args.addr c.args.len (unmapped_len h rs c.args.addr c.args.len w.if-len-eq0.true)
+      | then-len-eq0-via-else-len-eq0+then-addr-ne0 w ↦ refuses h rs c.args.addr c.args.len (unmapped_page h rs c.args.addr c.args.len w.if-addr-ne0.true)
+    ]
+
+pub drop_use-requires : goal.drop_use-requires
+drop_use-requires c =
+    let names = subst (λ (x : Held). NameRegions c.args.regions.now x.maps) (sym c.self.view_is) c.requires.names in
+    lives c.args.regions.now c.self.inside.maps.items c.in-Some.place c.take_mapping-gone.result names c.take_mapping-gone.ensures.mapping
+
+pub invariant_of-self : goal.invariant_of-self
+invariant_of-self c =
+    let e = c.take_mapping-gone.ensures in
+    (e.table, rw e.pages e.mappings, e.places)
+
+pub returns-in-Some-clause-names : goal.returns-in-Some-clause-names
+returns-in-Some-clause-names c =
+    let e = c.take_mapping-gone.ensures in
+    let rs = c.args.regions.now in
+    let maps = c.self.inside.maps.items in
+    let m = c.take_mapping-gone.result in
+    let names = subst (λ (x : Held). NameRegions rs x.maps) (sym c.self.view_is) c.requires.names in
+    rw (e.maps, c.drop_use.ensures) (names_less rs maps c.in-Some.place m names e.mapping)
+
+pub returns-in-Some-clause-unmaps : goal.returns-in-Some-clause-unmaps
+returns-in-Some-clause-unmaps c =
+    let e = c.take_mapping-gone.ensures in
+    let first = rw c.deref.ensures.value at c.in-Some.ensures in
+    all_unmaps c.args.self.now _ c.args.regions.now c.drop_use.new.self c.args.addr c.args.len c.pages_for-pages.result c.in-Some.place c.take_mapping-gone.result
+    c.take_mapping-gone.new.maps.items (length c.take_mapping-gone.new.owners) c.self.view_is c.pages_for-pages.ensures c.if-len-eq0.false c.if-addr-ne0.false
+    (sym first) e.mapping e.maps e.pages c.drop_use.ensures
+
+pub returns-in_default-place_that_loses-clause-unmaps : goal.returns-in_default-place_that_loses-clause-unmaps
+returns-in_default-place_that_loses-clause-unmaps c =
+    let none = rw c.deref.ensures.value at c.in_default.ensures in
+    let neither = rw c.deref-2.ensures.value at c.in_default-place_that_loses.ensures in
+    refuses c.args.self.now c.args.regions.now c.args.addr c.args.len
+    (nothing_hit c.args.self.now _ c.args.regions.now c.args.addr c.args.len c.pages_for-pages.result c.self.view_is c.pages_for-pages.ensures c.if-len-eq0.false c.if-addr-ne0.false (sym none) (sym neither))
+
+pub cut_mapping-cut-requires-clause-can : goal.cut_mapping-cut-requires-clause-can
+cut_mapping-cut-requires-clause-can c =
+    let first = rw c.deref-2.ensures.value at c.in-Some-place_that_loses.ensures in
+    (first_passes (can_lose c.args.addr (4096 * c.pages_for-pages.result)) c.self.inside.maps.items c.in-Some-place_that_loses.place (sym first)).passes
+
+pub overflow_sub-addr : goal.overflow_sub-addr
+overflow_sub-addr c =
+    let maps = c.self.inside.maps.items in
+    let m = c.cut_mapping-cut.result in
+    let k = c.in-Some-place_that_loses.place in
+    let n = c.pages_for-pages.result in
+    let first = rw c.deref-2.ensures.value at c.in-Some-place_that_loses.ensures in
+    let there = c.cut_mapping-cut.ensures.mapping in
+    let can = (first_passes (can_lose c.args.addr (4096 * n)) maps k (sym first)).passes m there in
+    let pages = length c.self.inside.owners in
+    let is = cuts pages maps k m c.args.addr n c.self.invariant.1 there c.if-addr-ne0.false (some_pages c.args.len n c.pages_for-pages.ensures c.if-len-eq0.false) can in
+    let s = stand pages m c.args.addr (4096 * n) is in
+    omega (arith, s.above, s.before)
+
+pub cut-requires : goal.cut-requires
+cut-requires c =
+    let maps = c.self.inside.maps.items in
+    let m = c.cut_mapping-cut.result in
+    let k = c.in-Some-place_that_loses.place in
+    let n = c.pages_for-pages.result in
+    let none = rw c.deref.ensures.value at c.in_default.ensures in
+    let first = rw c.deref-2.ensures.value at c.in-Some-place_that_loses.ensures in
+    let there = c.cut_mapping-cut.ensures.mapping in
+    let can = (first_passes (can_lose c.args.addr (4096 * n)) maps k (sym first)).passes m there in
+    let pages = length c.self.inside.owners in
+    let is = cuts pages maps k m c.args.addr n c.self.invariant.1 there c.if-addr-ne0.false (some_pages c.args.len n c.pages_for-pages.ensures c.if-len-eq0.false) can in
+    let names = subst (λ (x : Held). NameRegions c.args.regions.now x.maps) (sym c.self.view_is) c.requires.names in
+    can_cut c.args.regions.now maps pages k m c.args.addr n c.pages-memory.ensures.regions names there is (none_passes (is_range c.args.addr (4096 * n)) maps k m (sym none) there)
+
+pub invariant_of-self-2 : goal.invariant_of-self-2
+invariant_of-self-2 c =
+    let e = c.cut_mapping-cut.ensures in
+    (e.table, rw e.pages e.mappings, e.places)
+
+pub returns-clause-names : goal.returns-clause-names
+returns-clause-names c =
+    let e = c.cut_mapping-cut.ensures in
+    let rs = c.args.regions.now in
+    let maps = c.self.inside.maps.items in
+    let m = c.cut_mapping-cut.result in
+    let k = c.in-Some-place_that_loses.place in
+    let n = c.pages_for-pages.result in
+    let first = rw c.deref-2.ensures.value at c.in-Some-place_that_loses.ensures in
+    let can = (first_passes (can_lose c.args.addr (4096 * n)) maps k (sym first)).passes m e.mapping in
+    let pages = length c.self.inside.owners in
+    let is = cuts pages maps k m c.args.addr n c.self.invariant.1 e.mapping c.if-addr-ne0.false (some_pages c.args.len n c.pages_for-pages.ensures c.if-len-eq0.false) can in
+    let names = subst (λ (x : Held). NameRegions rs x.maps) (sym c.self.view_is) c.requires.names in
+    rw (e.maps, c.cut.ensures.regions) (names_cut rs maps pages k m c.args.addr n c.pages-memory.ensures.regions names e.mapping is)
+
+pub returns-clause-unmaps : goal.returns-clause-unmaps
+returns-clause-unmaps c =
+    let e = c.cut_mapping-cut.ensures in
+    let none = rw c.deref.ensures.value at c.in_default.ensures in
+    let first = rw c.deref-2.ensures.value at c.in-Some-place_that_loses.ensures in
+    cut_unmaps c.args.self.now _ c.args.regions.now c.cut.new.self c.args.addr c.args.len c.pages_for-pages.result c.in-Some-place_that_loses.place c.cut_mapping-cut.result
+    c.cut_mapping-cut.new.maps.items (length c.cut_mapping-cut.new.owners) c.self.view_is c.pages_for-pages.ensures c.if-len-eq0.false c.if-addr-ne0.false
+    (sym none) (sym first) e.mapping e.maps e.pages c.cut.ensures.regions
