@@ -5,7 +5,7 @@ ghost use Rattle.nommu_regions.specs.declared.region.Source.TheVariants.{Own};
 ghost use Rattle.nommu_regions.specs.Regions.{IsLive};
 ghost use Rattle.mmap_rules.specs.Space.{own_in, writable_in, may_use};
 ghost use Rattle.mmap_rules.specs.Owners.{owns, IsShaped};
-ghost use Rattle.mmap_rules.specs.Held.{FitsBlock, block_mapping, held_block, next_brk, CanRelease, released};
+ghost use Rattle.mmap_rules.specs.Held.{AreMappings, FitsBlock, block_mapping, held_block, next_brk, CanRelease, released};
 
 use crate::mapping::{Mapping, Range};
 use crate::owners::Owners;
@@ -128,7 +128,8 @@ impl Space {
 
     /// The mappings, oldest first, the block at the head.
     pub fn maps(&self) -> &[Mapping]
-        ensures { result.now ≡ self.now.maps }
+        ensures maps { result.now ≡ self.now.maps }
+        ensures mappings { AreMappings self.now.pages self.now.maps }
     {
         &self.maps
     }

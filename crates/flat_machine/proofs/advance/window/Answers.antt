@@ -7,7 +7,7 @@ use Rattle.flat_machine.proofs.advance.window.Goals as goal
 pub returns-then-is_some : goal.returns-then-is_some
 returns-then-is_some c =
     let m = c.in-Some.block.now in
-    let v = c.maps.ensures in
+    let v = c.maps.ensures.maps in
     let first = rw v at c.in-Some.ensures.value in
     block_used c.args.space.now.maps m (sym first) c.if-range.true
     (fits_of (m.range.from + m.range.size) (m.range.from + m.range.size) c.checked_add.result c.checked_add.ensures (sym c.is_some.ensures ∙ c.if-is_some.true))
