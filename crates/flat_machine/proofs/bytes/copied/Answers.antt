@@ -32,13 +32,13 @@ returns-in-Ok c a =
     let h = has_space (kept_of c.parts.inside) c.args.pid c.get-task.result.now c.parts.invariant c.get-task.ensures in
     let home = home_of c.parts.inside.spaces.items c.get-task.result.now.space c.index.result.now c.in-Some.space h c.index.ensures c.in-Some.is in
     rw (← v) (own_read a (kept_of c.parts.inside) c.args.pid c.args.addr c.args.len c.get-task.result.now c.in-Some.space c.new-bytes.result.items c.read_range.new.into.items
-    c.get-task.ensures home c.new-bytes.ensures.items c.in-Ok.ensures)
+    c.get-task.ensures home c.new-bytes.ensures.items c.in-Ok.ensures.bytes)
 
 pub returns-in-Err-Stray : goal.returns-in-Err-Stray
 returns-in-Err-Stray c a =
     let v = c.parts.view_is in
     let h = has_space (kept_of c.parts.inside) c.args.pid c.get-task.result.now c.parts.invariant c.get-task.ensures in
     let home = home_of c.parts.inside.spaces.items c.get-task.result.now.space c.index.result.now c.in-Some.space h c.index.ensures c.in-Some.is in
-    let strays = rw c.in-Err-Stray.field-0-is at c.in-Err-Stray.ensures in
+    let strays = rw c.in-Err-Stray.field-0-is at c.in-Err-Stray.ensures.bytes in
     rw (← v) (own_strays a (kept_of c.parts.inside) c.args.pid c.args.addr c.args.len c.get-task.result.now c.in-Some.space
     (record { addr = c.in-Err-Stray.field-0-0; len = c.in-Err-Stray.field-0-1 }) c.get-task.ensures home strays)
