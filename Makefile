@@ -11,7 +11,7 @@ PREFIX ?= /usr/local
 SOURCES := crates.txt $(shell find crates -path '*/out' -prune -o -type f \( -name '*.rt' -o -name '*.antt' \) -print)
 
 build/flatc: $(SOURCES)
-	@echo 'flatc is proved before it is built: about twenty minutes on four cores the first time, and later only what changed.'
+	@echo 'flatc is proved before it is built: about half an hour on four cores the first time, and later only what changed.'
 	cd crates/flatc && rt run -- --version
 	mkdir -p build
 	cp crates/flatc/out/flatc build/flatc
