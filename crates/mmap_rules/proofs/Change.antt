@@ -102,11 +102,11 @@ pub change : (s : Sides) (kind : Kind) (bytes : List ℕ) (want : Want) (m : Map
     FreshRun s m ⊎ OneMore s m
 unfolding mapped
 change s kind bytes (Anon pages) m asks are is = inl (in_run s kind pages true true Own (replicate (4096 * pages) 0) m asks (length-replicate (4096 * pages) zero) is)
-change s kind bytes (File pages first true id count) m asks are is = inl (in_run s kind pages true false Own (file_pages bytes first pages) m asks.0 (length-file_pages bytes first pages) is)
+change s kind bytes (File pages first true id count) m asks are is = inl (in_run s kind pages true false Own (file_pages bytes first pages) m asks (length-file_pages bytes first pages) is)
 change s kind bytes (File pages first false id count) m asks are is = at (copy_of s.regions id count first pages) refl is
   where
     at : (o : Option ℕ) → o ≡ copy_of s.regions id count first pages → in_copy_or_new s kind bytes pages first id count o ≡ Some m → FreshRun s m ⊎ OneMore s m
-    at None none new = inl (in_run s kind pages false false (Copy id count first) (file_pages bytes first pages) m asks.0 (length-file_pages bytes first pages) new)
+    at None none new = inl (in_run s kind pages false false (Copy id count first) (file_pages bytes first pages) m asks (length-file_pages bytes first pages) new)
     at (Some copy) found old =
         let live = copy_lives s.regions s.regions id count first pages copy refl found in
         let has = copy_covers_them s.regions s.regions id count first pages copy refl found copy live.region refl live.there in

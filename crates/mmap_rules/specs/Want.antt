@@ -1,5 +1,5 @@
 -- What mmap2 asks for (Linux, mmap(2); include/uapi/asm-generic/mman-common.h, in this project's profile).
-use Rattle.std.specs.Prelude.{ℕ, ◌+◌, ◌-◌, ◌/◌, ◌^◌, ◌==◌, ◌≤◌, ◌<◌, Bool, not, ◌&&◌, ◌||◌, nat_lt, if◌then◌else◌, Result, Ok, Err}
+use Rattle.std.specs.Prelude.{ℕ, ◌+◌, ◌-◌, ◌/◌, ◌^◌, ◌==◌, ◌<◌, Bool, not, ◌&&◌, ◌||◌, nat_lt, if◌then◌else◌, Result, Ok, Err}
 use Rattle.call_log.specs.declared.errno.Errno.{Errno}
 use Rattle.call_log.specs.declared.errno.Errno.TheVariants.{Ebadf, Eacces, Enodev, Einval, Eoverflow}
 use Rattle.call_log.specs.Flags.{has_flag}
@@ -60,7 +60,7 @@ wanted addr len prot flags first file =
     else if has_flag flags map_anonymous then Ok (Anon (pages_for len))
     else wanted_file (pages_for len) prot flags first file
 
--- a page at least, and pages that a file can have
+-- a page at least
 abbrev pub AsksPages : Want → Type 0
 AsksPages (Anon pages) = 0 < pages
-AsksPages (File pages first write id change) = (0 < pages) × (first + pages ≤ 2 ^ 32)
+AsksPages (File pages first write id change) = 0 < pages

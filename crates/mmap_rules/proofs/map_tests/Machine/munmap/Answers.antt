@@ -1,4 +1,4 @@
-use Rattle.std.proofs.Common.{◌≡◌, ◌+◌, ◌*◌, ◌≤◌, length, sym, ap, ◌∙◌, arith}
+use Rattle.std.proofs.Common.{◌+◌, ◌*◌, sym, ap, ◌∙◌}
 use Rattle.mmap_rules.specs.Sides.{freed}
 use Rattle.mmap_rules.proofs.KeepsLess.{uses_left, pages_left}
 use Rattle.mmap_rules.proofs.map_tests.Machine.munmap.Goals as goal
