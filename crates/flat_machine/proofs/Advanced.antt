@@ -19,15 +19,17 @@ use Rattle.vfork_exec.specs.Procs.{pid_of as entry_pid}
 use Rattle.vfork_exec.proofs.Keyed.{find_changed}
 use Rattle.machine_world.specs.World.{World, pid_of, id_of}
 use Rattle.machine_world.specs.Courses.{Leads, Halts, moved}
-use Rattle.machine_world.proofs.States.{find_has, change_alike, with_regs, with_held}
+use Rattle.machine_world.proofs.States.{find_has, change_alike, with_regs, with_own}
 use Rattle.machine_world.proofs.Steps.{RanOn, run_on}
 use Rattle.syscall_layer.specs.declared.task.Task.{Task}
 use Rattle.syscall_layer.specs.Kept.{Kept}
-use Rattle.syscall_layer.specs.Regular.{Regular, HasSpace}
+use Rattle.syscall_layer.specs.Regular.{Regular, HasSpace, IsRegular}
+use Rattle.syscall_layer.specs.Copies.{CopiesHold}
 use Rattle.syscall_layer.specs.Stands.{About, later, private_bytes, private_of, live_spaces, process_of, world_of}
 use Rattle.syscall_layer.proofs.Worlds.{find_space, change_space, find_process, change_process}
 use Rattle.syscall_layer.proofs.Apart.{others_keep}
 use Rattle.syscall_layer.proofs.Stays.{regular_stays, set_kept}
+use Rattle.syscall_layer.proofs.CopiesKept.{copies_frozen}
 
 -- a process with what is kept of it
 pub record Entered (s : Listed Task) (pid : ℕ) (task : Task) : Type 0 where
@@ -45,6 +47,7 @@ entered s pid task is = at (process s pid) refl is
 -- what instructions of a process in its space leave of memory and registers
 pub record Ranged (k : Kept) (pid count : ℕ) (e : Entry Task) (h : Held) (table : List PageOwner) (now : List ℕ) (regs : Regs) (done : ℕ) (stop : Stop) : Type 0 where
   pub regular : Regular k
+  pub copies : CopiesHold k.regions k.mem k.tree k.notes
   pub lives : process k.procs pid ≡ Some e
   pub home : slice_get k.spaces e.value.space ≡ Some (Some h)
   pub own : owns table false ≡ own_in h.maps
@@ -72,6 +75,10 @@ module _ (k : Kept) (pid count : ℕ) (e : Entry Task) (h : Held) (table : List 
   frozen_in : only (λ a. not (writable_in h.maps a)) (physical now) ≡ only (λ a. not (writable_in h.maps a)) (physical k.mem)
   frozen_in = subst (λ (w : ℕ → _). only (λ a. not (w a)) (physical now) ≡ only (λ a. not (w a)) (physical k.mem)) r.writable r.frozen
 
+  -- copies are no writable bytes
+  pub after_copies : CopiesHold k.regions now k.tree k.notes
+  after_copies = copies_frozen k r.regular r.copies e.value.space h r.home now r.length frozen_in
+
   left : ran regs (private_bytes now h) done stop ≡ instructions count (writable_in h.maps) e.value.regs (private_bytes k.mem h)
   unfolding private_bytes
   left =
@@ -96,12 +103,12 @@ module _ (k : Kept) (pid count : ℕ) (e : Entry Task) (h : Held) (table : List 
         ∙ change_process pid (λ (x : Entry Task). with_value x (record x.value { regs = regs })) (λ q. with_regs q regs) k.procs.entries (λ x. refl)
         ∙ ap (λ (n : ℕ). change pid_of n (λ q. with_regs q regs) (map process_of k.procs.entries)) (sym same)
 
-    spaces_in : live_spaces now k.spaces ≡ change id_of e.value.space (λ l. with_held l (private_bytes now h) h.brk) (live_spaces k.mem k.spaces)
-    spaces_in = sym (change_space (λ l. with_held l (private_bytes now h) h.brk) k.mem now k.spaces e.value.space h h r.home refl
+    spaces_in : live_spaces now k.spaces ≡ change id_of e.value.space (λ l. with_own l (private_of now h)) (live_spaces k.mem k.spaces)
+    spaces_in = sym (change_space (λ l. with_own l (private_of now h)) k.mem now k.spaces e.value.space h h r.home refl
         (others_keep k r.regular e.value.space h r.home now frozen_in)
         ∙ ap (live_spaces now) (set_kept k.spaces e.value.space (Some h) r.home))
 
-    after_moved : world_of (later done a) (after k pid e.value regs now) ≡ moved (world_of a k) (process_of e) regs (private_bytes now h) h.brk done
+    after_moved : world_of (later done a) (after k pid e.value regs now) ≡ moved (world_of a k) (process_of e) regs (private_of now h) done
     unfolding world_of
     after_moved = rw (procs_in, spaces_in) refl
 
@@ -146,7 +153,7 @@ has_space k pid task regular is =
 
 -- up to so many instructions of a process
 pub record Advances (k now : Kept) (pid count done : ℕ) (stop : Stop) : Type 0 where
-  pub regular : Regular now
+  pub regular : IsRegular now
   pub lives : Lives now.procs pid
   pub within : done ≤ count
   pub leads : (a : About) → Leads pid (world_of a k) done (world_of (later done a) now)
@@ -159,7 +166,7 @@ some_about = record { kind = First; programs = []; events = 0 }
 advances_in : (k : Kept) (pid count : ℕ) (e : Entry Task) (h : Held) (table : List PageOwner) (now : List ℕ) (regs : Regs) (done : ℕ) (stop : Stop)
     → Ranged k pid count e h table now regs done stop → Advances k (after k pid e.value regs now) pid count done stop
 advances_in k pid count e h table now regs done stop r = record {
-  regular = after_regular k pid count e h table now regs done stop r;
+  regular = (after_regular k pid count e h table now regs done stop r, after_copies k pid count e h table now regs done stop r);
   lives = after_lives k pid count e h table now regs done stop r;
   within = halts_within (world_of (later done some_about) (after k pid e.value regs now)) pid count done stop
       (after_halts k pid count e h table now regs done stop r some_about);
@@ -168,15 +175,16 @@ advances_in k pid count e h table now regs done stop r = record {
 }
 
 pub advances : (k : Kept) (pid count : ℕ) (task : Task) (x : Option Held) (h : Held) (table seen : List PageOwner) (was now : List ℕ) (regs : Regs) (done : ℕ) (stop : Stop)
-    → Regular k → value_at k.procs pid ≡ Some task → x ≡ get_or k.spaces task.space x → x ≡ Some h
+    → IsRegular k → value_at k.procs pid ≡ Some task → x ≡ get_or k.spaces task.space x → x ≡ Some h
     → owns table false ≡ own_in h.maps → owns table true ≡ writable_in h.maps → seen ≡ table → was ≡ k.mem
     → ran regs (own_bytes seen now) done stop ≡ instructions count (owns seen true) task.regs (own_bytes seen was)
     → frozen seen now ≡ frozen seen was → length now ≡ length was → Advances k (after k pid task regs now) pid count done stop
 advances k pid count task x h table seen was now regs done stop regular is at space own writable sees before leaves same long =
     let e = entered k.procs pid task is in
-    let home = home_of k.spaces task.space x h (has_space k pid task regular is) at space in
+    let home = home_of k.spaces task.space x h (has_space k pid task regular.0 is) at space in
     subst (λ (t : Task). Advances k (after k pid t regs now) pid count done stop) e.value (advances_in k pid count e.entry h table now regs done stop (record {
-      regular = regular;
+      regular = regular.0;
+      copies = regular.1;
       lives = e.there;
       home = subst (λ (t : Task). slice_get k.spaces t.space ≡ Some (Some h)) (sym e.value) home;
       own = own;

@@ -3,7 +3,9 @@
 ghost use Rattle.std.specs.Prelude.{◌≡◌, ◌^◌, ◌<◌, ◌≤◌, ℕ, Some, slice_get, length};
 ghost use Rattle.mem_files.specs.Paths.{lookup};
 ghost use Rattle.vfork_exec.specs.Procs.{most_entries};
+ghost use Rattle.machine_world.specs.Ages.{AreChanged};
 ghost use Rattle.syscall_layer.specs.Stands.{world_of};
+ghost use Rattle.syscall_layer.specs.Copies.{most_at_boot};
 ghost use Rattle.page_runs.specs.Choosers.{IsChooser, kind_of};
 ghost use Rattle.machine_world.specs.Boot.{boot, started};
 ghost use Rattle.manifest_text.specs.declared.manifest.Start.{Start as StartItem};
@@ -102,7 +104,8 @@ fn begin<F: Fn(&[Run], u32) -> Option<usize>>(
 }
 
 impl Machine {
-    /// Loads the start lines' programs in order. There are 1 to 64 of them, with an argument each.
+    /// Loads the start lines' programs in order. There are 1 to 64 of them, with an argument each; no file was
+    /// changed more than 2^63 times.
     pub fn boot<F: Fn(&[Run], u32) -> Option<usize>>(
         alloc: Global,
         setup: Setup,
@@ -111,6 +114,7 @@ impl Machine {
         requires chooser { IsChooser F.pre F.post chooser.now }
         requires some { 1 ≤ setup.pages }
         requires most { setup.pages ≤ 16384 }
+        requires changes { AreChanged most_at_boot setup.tree }
         requires paths { length setup.paths.items ≡ length setup.programs.items }
         requires programs { length setup.programs.items < 2 ^ 32 }
         requires starts { length setup.starts.items ≤ 64 }

@@ -1,6 +1,7 @@
 //! A run by quanta.
 
 ghost use Rattle.std.specs.Prelude.{◌≡◌, ◌+◌, ◌*◌, ◌^◌, ◌<◌, ◌≤◌, [], ◌∷◌, map, sum_by, IfSome};
+ghost use Rattle.page_runs.specs.Choosers.{IsChooser, kind_of};
 ghost use Rattle.vfork_exec.specs.Procs.{Lives};
 ghost use Rattle.quantum_sched.specs.Picked.{picked};
 ghost use Rattle.machine_world.specs.World.{pid_of};
@@ -12,6 +13,7 @@ ghost use Rattle.flat_machine.specs.Leaves.{Leaves};
 
 use crate::machine::Machine;
 use crate::turn::{TurnEnd, turn};
+use page_runs::{Chooser, Run};
 use quantum_sched::{Quantum, pick};
 use rv32im_step::Access;
 use std::alloc::AllocError;
@@ -51,40 +53,62 @@ fn last_end(parts: &Parts) -> End
 
 impl Machine {
     /// Gives the process of a quantum its turn.
-    fn take_turn(&mut self, quantum: Quantum) -> Result<Option<End>, AllocError>
-        requires { self.old.events + quantum.count < 2 ^ 64 }
+    fn take_turn<F: Fn(&[Run], u32) -> Option<usize>>(
+        &mut self,
+        quantum: Quantum,
+        chooser: &Chooser<F>,
+    ) -> Result<Option<End>, AllocError>
+        requires chooser { IsChooser F.pre F.post chooser.now }
+        requires kind { kind_of chooser.now ≡ self.old.kind }
+        requires events { self.old.events + quantum.count < 2 ^ 64 }
+        ensures kind { self.new.kind ≡ self.old.kind }
         ensures events { self.new.events ≤ self.old.events + quantum.count }
         ensures leaves { Leaves (quantum ∷ []) (world self.old) (world self.new) result }
     {
         let Some(pid) = chosen(&self.parts, quantum) else {
             return Ok(Some(End::AllEnded));
         };
-        let TurnEnd { events, end } = turn(&mut self.parts, pid, quantum.count);
+        let TurnEnd { events, end } = turn(&mut self.parts, pid, quantum.count, chooser);
         self.events += u64::from(events);
         end
     }
 
     /// Gives each quantum its turn, until the run stops.
-    fn round(&mut self, quanta: &[Quantum]) -> Result<Option<End>, AllocError>
-        requires { self.old.events + sum_by (λ q. q.count) quanta.now < 2 ^ 64 }
+    fn round<F: Fn(&[Run], u32) -> Option<usize>>(
+        &mut self,
+        quanta: &[Quantum],
+        chooser: &Chooser<F>,
+    ) -> Result<Option<End>, AllocError>
+        requires chooser { IsChooser F.pre F.post chooser.now }
+        requires kind { kind_of chooser.now ≡ self.old.kind }
+        requires events { self.old.events + sum_by (λ q. q.count) quanta.now < 2 ^ 64 }
+        ensures kind { self.new.kind ≡ self.old.kind }
         ensures events { self.new.events ≤ self.old.events + sum_by (λ q. q.count) quanta.now }
         ensures leaves { Leaves quanta.now (world self.old) (world self.new) result }
     {
         for quantum in quanta {
-            if let Some(end) = self.take_turn(*quantum)? {
+            if let Some(end) = self.take_turn(*quantum, chooser)? {
                 return Ok(Some(end));
             }
         }
         Ok(None)
     }
 
-    /// Gives each quantum its turn, and all of them so many times, until the run stops.
-    pub fn run_repeated(&mut self, quanta: &[Quantum], count: u32) -> Result<End, AllocError>
-        requires { self.old.events + count * sum_by (λ q. q.count) quanta.now < 2 ^ 64 }
+    /// Gives each quantum its turn, and all of them so many times, until the run stops. The chooser is of
+    /// the kind that booted.
+    pub fn run_repeated<F: Fn(&[Run], u32) -> Option<usize>>(
+        &mut self,
+        quanta: &[Quantum],
+        count: u32,
+        chooser: &Chooser<F>,
+    ) -> Result<End, AllocError>
+        requires chooser { IsChooser F.pre F.post chooser.now }
+        requires kind { kind_of chooser.now ≡ self.old.kind }
+        requires events { self.old.events + count * sum_by (λ q. q.count) quanta.now < 2 ^ 64 }
         ensures { Runs (repeated count quanta.now) self.old self.new result }
     {
         for _time in 0..count {
-            if let Some(end) = self.round(quanta)? {
+            if let Some(end) = self.round(quanta, chooser)? {
                 return Ok(end);
             }
         }

@@ -1,6 +1,7 @@
 //! The turn of a process.
 
 ghost use Rattle.std.specs.Prelude.{◌≡◌, ◌≤◌};
+ghost use Rattle.page_runs.specs.Choosers.{IsChooser, kind_of};
 ghost use Rattle.vfork_exec.specs.Procs.{Lives};
 ghost use Rattle.machine_world.specs.Event.{event};
 ghost use Rattle.machine_world.specs.Courses.{StandsAt};
@@ -9,6 +10,7 @@ ghost use Rattle.flat_machine.specs.Leaves.{Carried, TellsStray, TurnLeaves};
 
 use crate::advance::advance;
 use crate::run::End;
+use page_runs::{Chooser, Run};
 use rv32im_step::{Access, Stop};
 use std::alloc::AllocError;
 use syscall_layer::{Parts, Served, serve};
@@ -33,14 +35,20 @@ fn stray(parts: &mut Parts, pid: u32, access: Access) -> Result<After, AllocErro
 }
 
 /// The event of a process whose next step ends so.
-fn next_event(parts: &mut Parts, pid: u32, stop: Stop) -> Result<After, AllocError>
+fn next_event<F: Fn(&[Run], u32) -> Option<usize>>(
+    parts: &mut Parts,
+    pid: u32,
+    stop: Stop,
+    chooser: &Chooser<F>,
+) -> Result<After, AllocError>
+    requires chooser { IsChooser F.pre F.post chooser.now }
     requires lives { Lives parts.old.procs pid }
     requires stands { (a : About) → StandsAt (world_of a parts.old) pid stop }
-    ensures { (a : About) → Carried a (event (world_of a parts.old) pid) parts.old parts.new pid result }
+    ensures { (a : About) → a.kind ≡ kind_of chooser.now → Carried a (event (world_of a parts.old) pid) parts.old parts.new pid result }
 {
     match stop {
         Stop::Next => Ok(After::GoesOn),
-        Stop::Call => match serve(parts, pid)? {
+        Stop::Call => match serve(parts, pid, chooser)? {
             Served::Replied => Ok(After::GoesOn),
             Served::TurnEnds | Served::Ended => Ok(After::TurnEnds),
             Served::Stray(access) => stray(parts, pid, access),
@@ -64,10 +72,16 @@ pub(crate) struct TurnEnd {
 }
 
 /// Up to `count` events of a process.
-pub(crate) fn turn(parts: &mut Parts, pid: u32, count: u32) -> TurnEnd
-    requires { Lives parts.old.procs pid }
+pub(crate) fn turn<F: Fn(&[Run], u32) -> Option<usize>>(
+    parts: &mut Parts,
+    pid: u32,
+    count: u32,
+    chooser: &Chooser<F>,
+) -> TurnEnd
+    requires chooser { IsChooser F.pre F.post chooser.now }
+    requires lives { Lives parts.old.procs pid }
     ensures within { result.events ≤ count }
-    ensures leaves { (a : About) → TurnLeaves pid count (world_of a parts.old) result.events (world_of (later result.events a) parts.new) result.end }
+    ensures leaves { (a : About) → a.kind ≡ kind_of chooser.now → TurnLeaves pid count (world_of a parts.old) result.events (world_of (later result.events a) parts.new) result.end }
 {
     let mut events = 0;
     while events < count {
@@ -79,7 +93,7 @@ pub(crate) fn turn(parts: &mut Parts, pid: u32, count: u32) -> TurnEnd
                 end: Ok(None),
             };
         }
-        match next_event(parts, pid, progress.stop) {
+        match next_event(parts, pid, progress.stop, chooser) {
             Ok(After::GoesOn) => events += 1,
             Ok(After::TurnEnds) => {
                 return TurnEnd {

@@ -14,7 +14,7 @@ use Rattle.machine_world.specs.World.{Process, LiveSpace, World, pid_of, id_of}
 use Rattle.fd_tables.specs.Files.{table_at}
 use Rattle.machine_world.specs.Asks.{Ask, Reply, Row, replies, waits, storage_of}
 use Rattle.machine_world.specs.Rows.{row}
-use Rattle.machine_world.specs.Event.{Outcome, went, strays, full, idle, with_state, counted, noted, departed, entry_of, replied, exit_code, number_of, args_of, ask_of, put_got, stepped, trapped, ended, served, put, waited, answered, exited, is_exit, asked, answer, effect, in_space, by_process, at_process, event}
+use Rattle.machine_world.specs.Event.{Outcome, went, strays, full, idle, with_space, counted, noted, departed, entry_of, replied, exit_code, number_of, args_of, ask_of, put_got, stepped, trapped, ended, served, put, waited, answered, exited, is_exit, asked, answer, effect, in_space, by_process, at_process, event}
 use Rattle.machine_world.specs.Others.{LeavesOthers, EventsLeaveOthers}
 use Rattle.machine_world.proofs.States.{find_has}
 use Rattle.machine_world.proofs.Kept.{Answers}
@@ -24,13 +24,13 @@ use Rattle.machine_world.proofs.OtherTables.{OthersAsIn, other_tables, other-wit
 -- ---- the two changes of a world, whatever else is new
 
 module _ (w : World) (p : Process) (now : World) where
-  beside_state : (regs : Regs) (bytes : Bytes) (brk : ℕ) → now.procs ≡ (with_state w p regs bytes brk).procs → now.spaces ≡ (with_state w p regs bytes brk).spaces
+  beside_state : (regs : Regs) (space : Space) → now.procs ≡ (with_space w p regs space).procs → now.spaces ≡ (with_space w p regs space).spaces
       → OthersAsIn p.table w.rest.files now.rest → LeavesOthers p.pid p.space p.table w now
-  beside_state regs bytes brk procs spaces tables = record {
+  beside_state regs space procs spaces tables = record {
     procs = λ other ne. ap (find pid_of other) procs ∙ find_beside_change pid_of p.pid other ne (λ q. record q { regs = regs }) (λ q. refl) w.procs;
     spaces = λ other ne.
         ap (find id_of other) spaces
-        ∙ find_beside_change id_of p.space other ne (λ s. record s { space = record s.space { bytes = bytes; brk = brk } }) (λ s. refl) w.spaces;
+        ∙ find_beside_change id_of p.space other ne (λ s. record s { space = space }) (λ s. refl) w.spaces;
     tables = tables;
   }
 
@@ -59,9 +59,9 @@ module _ (w : World) (p : Process) (s : Space) where
   unfolding served
   beside_served bytes r m tables =
       let a : Ask = ask_of w p s bytes in
-      let now : World = noted (call_note (entry_of a r.value r.got)) (counted (with_state (record w { rest = r.rest }) p (replied p.regs r.value) m r.brk)) in
+      let now : World = noted (call_note (entry_of a r.value r.got)) (counted (with_space (record w { rest = r.rest }) p (replied p.regs r.value) (record r.space { bytes = m }))) in
       beside_if w p (has_room w.notes (weight_of bytes r.got)) (went now (record { space = p.space; events = 1; entries = entry_of a r.value r.got ∷ []; over = r.over })) full
-      (refl, beside_state w p now (replied p.regs r.value) m r.brk refl refl tables) tt
+      (refl, beside_state w p now (replied p.regs r.value) (record r.space { bytes = m }) refl refl tables) tt
 
   beside_put : (bytes : List ℕ) (r : Reply) (found : Result Bytes Span) → OthersAsIn p.table w.rest.files r.rest → Beside w p (put w (ask_of w p s bytes) r found)
   beside_put bytes r (Ok m) tables = beside_served bytes r m tables
@@ -69,7 +69,7 @@ module _ (w : World) (p : Process) (s : Space) where
 
   beside_answered : (bytes : List ℕ) (r : Row) → Answers (OthersAsIn p.table w.rest.files) r → Beside w p (answered w (ask_of w p s bytes) r)
   unfolding waited
-  beside_answered bytes (replies r) tables = beside_put bytes r (put_got s.bytes (writable_in s.maps) r.got) tables
+  beside_answered bytes (replies r) tables = beside_put bytes r (put_got r.space.bytes (writable_in r.space.maps) r.got) tables
   beside_answered bytes waits tables = (refl, record { procs = λ other ne. refl; spaces = λ other ne. refl; tables = λ other ne. refl })
 
   beside_row : (bytes : List ℕ) → Beside w p (answered w (ask_of w p s bytes) (row (ask_of w p s bytes)))
@@ -93,7 +93,7 @@ module _ (w : World) (p : Process) (s : Space) where
 
   beside_effect : (m : Meaning) → Beside w p (effect w p s m)
   unfolding stepped trapped ended answer
-  beside_effect (next regs bytes) = (refl, beside_state w p (counted (with_state w p regs bytes s.brk)) regs bytes s.brk refl refl (λ other ne. refl))
+  beside_effect (next regs bytes) = (refl, beside_state w p (counted (with_space w p regs (record s { bytes = bytes }))) regs (record s { bytes = bytes }) refl refl (λ other ne. refl))
   beside_effect (trap signal) = (refl, beside_departed w p (counted (ended w p (Signal signal))) refl refl refl)
   beside_effect (refused access) = tt
   beside_effect call = beside_asked (sent (number_of p.regs) (args_of p.regs) s.bytes)

@@ -5,6 +5,10 @@ use Rattle.std.specs.List.{range_with_len}
 use Rattle.call_log.specs.declared.errno.Errno.{Errno}
 use Rattle.call_log.specs.declared.errno.Errno.TheVariants.{Enoent, Ebadf, Enosys, Einval}
 use Rattle.call_log.specs.Sent.{Span, most_pieces, piece_at}
+use Rattle.mmap_rules.specs.declared.mapping.Mapping.{Mapping}
+use Rattle.mmap_rules.specs.declared.want.Want.{Want}
+use Rattle.mmap_rules.specs.Want.{wanted}
+use Rattle.mmap_rules.specs.Mappings.{Hit, hit}
 use Rattle.mem_files.specs.declared.node.Node.{Node}
 use Rattle.mem_files.specs.declared.node.Node.TheVariants.{Dir, File}
 use Rattle.mem_files.specs.Inodes.{Inodes, kind_of, entries_of}
@@ -19,6 +23,8 @@ use Rattle.machine_world.specs.Asks.{Ask, arg, answers, refuses, with_ok, view_o
 use Rattle.machine_world.specs.Descriptors.{close_on_exec, dup_row, dup3_row, ioctl_row, close_row, position_from, base_of, sought, seek_row, llseek_row, is_short, folder_row, dents_row, getdents_row}
 use Rattle.machine_world.specs.Transfers.{node_read, target_read, read_into, read_row, readv_row, write_position, after_write, target_write, write_row, writev_row}
 use Rattle.machine_world.specs.PathCalls.{path_of, changes_tree, remove_folder, creates, asks_folder, access, opens, open_fault, opens_found, mkdirat_row, unlinkat_row, openat_row}
+use Rattle.machine_world.specs.Free.{free_runs_in}
+use Rattle.machine_world.specs.MapCalls.{in_copy, in_free_run, maps, or_own, mapped, file_side, mmap2_row, unmaps, munmap_row}
 use Rattle.machine_world.specs.Rows.{yield_row, brk_row, asks_pid, row}
 use Rattle.machine_world.proofs.Kept.{Answers, moves, Kept, by_test, by_if, by_fault, by_ok, by_view, by_free, by_path}
 
@@ -149,18 +155,40 @@ module _ (P : Rest → Type 0) (a : Ask) (kept : Kept P a) (same : P a.rest) whe
   unfolding writev_row
   by_writev = by_if P (nat_lt most_pieces (arg a 2)) (refuses a Einval) _ same (by_write (drop (8 * arg a 2) a.sent))
 
+  by_unmaps : (o : Option Hit) → Answers P (unmaps a o)
+  by_unmaps (Some h) = same
+  by_unmaps None = same
+
+  by_munmap : Answers P (munmap_row a)
+  unfolding munmap_row
+  by_munmap = by_unmaps (hit a.space.maps (arg a 0) (arg a 1))
+
+  by_maps : (want : Want) (o : Option Mapping) → Answers P (maps a want o)
+  by_maps want (Some m) = same
+  by_maps want None = same
+
+  by_mmap2 : Answers P (mmap2_row a)
+  unfolding mmap2_row
+  by_mmap2 =
+      by_ok P a same (wanted (arg a 0) (arg a 1) (arg a 2) (arg a 3) (arg a 5) (file_side a)) (mapped a)
+      (λ want is. by_maps want (or_own (in_copy a.spaces want) (in_free_run a.rest.kind (free_runs_in a.rest.pages a.spaces) want)))
+
   -- all other numbers leave what is outside
   by_quiet : Answers P (if asks_pid a.number then answers a a.process.pid
       else if a.number == 124 then yield_row a
       else if a.number == 173 then answers a a.process.parent
       else if a.number == 214 then brk_row a
+      else if a.number == 215 then munmap_row a
+      else if a.number == 222 then mmap2_row a
       else refuses a Enosys)
   unfolding yield_row brk_row
   by_quiet =
       by_if P (asks_pid a.number) (answers a a.process.pid) _ same
       (by_if P (a.number == 124) (yield_row a) _ same
       (by_if P (a.number == 173) (answers a a.process.parent) _ same
-      (by_if P (a.number == 214) (brk_row a) (refuses a Enosys) same same)))
+      (by_if P (a.number == 214) (brk_row a) _ same
+      (by_if P (a.number == 215) (munmap_row a) _ by_munmap
+      (by_if P (a.number == 222) (mmap2_row a) (refuses a Enosys) by_mmap2 same)))))
 
   pub by_rows : Answers P (row a)
   unfolding row

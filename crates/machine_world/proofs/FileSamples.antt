@@ -36,6 +36,7 @@ abbrev ask : Rest → ℕ → List ℕ → List ℕ → Ask
 ask r number args sent = record {
   process = record { pid = 1; parent = 0; regs = record { pc = 0; x = replicate 32 0 }; space = 0; table = 0 };
   space = record { maps = []; brk = 0; brk_low = 0; brk_high = 0; bytes = λ a. None };
+  spaces = [];
   rest = r;
   number = number;
   args = args;

@@ -1,5 +1,6 @@
 -- Samples   the definitions, computed on whole runs
 -- FileSamples  the calls on files, computed on worked examples
+-- MapSamples   and those that map and unmap pages
 -- States    a world in which one process has other registers and other bytes
 -- TurnLaws  turns, event by event
 -- RunLaws   runs, quantum by quantum
@@ -16,8 +17,12 @@
 -- InOrder   counts are exact and the nodes a tree after every row
 -- OrderKept  and so after every event, turn and run
 -- OrderBegins  and in the opening world
+-- PlacementLaws  which pages a block and a mapping of its own get
+-- NodesAge  nodes age by each change of the tree
+-- Aging     and so by rows and events
 mod Samples
 mod FileSamples
+mod MapSamples
 pub mod States
 pub mod TurnLaws
 pub mod RunLaws
@@ -34,3 +39,6 @@ pub mod Steady
 pub mod InOrder
 pub mod OrderKept
 pub mod OrderBegins
+mod PlacementLaws
+pub mod NodesAge
+pub mod Aging

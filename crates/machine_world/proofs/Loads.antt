@@ -46,7 +46,7 @@ module _ (n : ℕ) (w : World) (are : AreLoaded n w.notes) where
 
   stays_answered : (a : Ask) (r : Row) → Stays n (answered w a r)
   unfolding waited
-  stays_answered a (replies r) = stays_put a r (put_got a.space.bytes (writable_in a.space.maps) r.got)
+  stays_answered a (replies r) = stays_put a r (put_got r.space.bytes (writable_in r.space.maps) r.got)
   stays_answered a waits = are
 
   stays_exited : (a : Ask) → Stays n (exited w a)

@@ -50,7 +50,7 @@ module _ (w : World) (h : IsInOrder w.rest) where
 
   leaves_answered : (a : Ask) (r : Row) → Answers IsInOrder r → Leaves (answered w a r)
   unfolding waited
-  leaves_answered a (replies r) order = leaves_put a r (put_got a.space.bytes (writable_in a.space.maps) r.got) order
+  leaves_answered a (replies r) order = leaves_put a r (put_got r.space.bytes (writable_in r.space.maps) r.got) order
   leaves_answered a waits order = h
 
   leaves_exited : (a : Ask) → Leaves (exited w a)

@@ -27,7 +27,7 @@ use Rattle.quantum_sched.specs.declared.Quantum.{Quantum}
 use Rattle.quantum_sched.specs.Picked.{picked}
 use Rattle.vfork_exec.specs.Keyed.{find, change, without}
 use Rattle.machine_world.specs.World.{Program, Rest, World}
-use Rattle.machine_world.specs.Free.{free}
+use Rattle.machine_world.specs.Free.{free_runs_in}
 use Rattle.mem_files.specs.Inodes.{Inodes, Entry, file, folder, new_inode}
 use Rattle.mem_files.specs.Paths.{names, is_too_long, walked, place_of}
 use Rattle.byte_words.specs.Pieces.{pieces}
@@ -120,7 +120,7 @@ run-hi :
       events = 9;
       end = Some all_ended;
     })
-unfolding number_at byte_at from_base decoded opcode funct3 funct7 rd rs1 rs2 imm_i imm_s imm_b imm_u imm_j loaded stored effect meaning register with_register free_runs place refusal has_room sent read_span writable_in may_use block_pages frame_len frame frame_start frame_fits begin_space begin_regs find change without free write_row row view closed with_table without_table all_descriptors pieces names is_too_long walked place_of ended stepped trapped served exited answer at_process event turn picked turns started all_started boot
+unfolding number_at byte_at from_base decoded opcode funct3 funct7 rd rs1 rs2 imm_i imm_s imm_b imm_u imm_j loaded stored effect meaning register with_register free_runs place refusal has_room sent read_span writable_in may_use block_pages frame_len frame frame_start frame_fits begin_space begin_regs find change without free_runs_in write_row row view closed with_table without_table all_descriptors pieces names is_too_long walked place_of ended stepped trapped served exited answer at_process event turn picked turns started all_started boot
 run-hi = refl
 
 -- both programs in one memory, one after the other
@@ -137,7 +137,7 @@ run-one_by_one :
       events = 18;
       end = Some all_ended;
     })
-unfolding number_at byte_at from_base decoded opcode funct3 funct7 rd rs1 rs2 imm_i imm_s imm_b imm_u imm_j loaded stored effect meaning register with_register free_runs place refusal has_room sent read_span writable_in may_use block_pages frame_len frame frame_start frame_fits begin_space begin_regs find change without free write_row row view closed with_table without_table all_descriptors pieces names is_too_long walked place_of ended stepped trapped served exited answer at_process event turn picked turns started all_started boot
+unfolding number_at byte_at from_base decoded opcode funct3 funct7 rd rs1 rs2 imm_i imm_s imm_b imm_u imm_j loaded stored effect meaning register with_register free_runs place refusal has_room sent read_span writable_in may_use block_pages frame_len frame frame_start frame_fits begin_space begin_regs find change without free_runs_in write_row row view closed with_table without_table all_descriptors pieces names is_too_long walked place_of ended stepped trapped served exited answer at_process event turn picked turns started all_started boot
 run-one_by_one = refl
 
 -- by turns: the second one writes first
@@ -150,7 +150,7 @@ run-by_turns :
       events = 12;
       end = Some out_of_quanta;
     })
-unfolding number_at byte_at from_base decoded opcode funct3 funct7 rd rs1 rs2 imm_i imm_s imm_b imm_u imm_j loaded stored effect meaning register with_register free_runs place refusal has_room sent read_span writable_in may_use block_pages frame_len frame frame_start frame_fits begin_space begin_regs find change without free write_row row view closed with_table without_table all_descriptors pieces names is_too_long walked place_of ended stepped trapped served exited answer at_process event turn picked turns started all_started boot
+unfolding number_at byte_at from_base decoded opcode funct3 funct7 rd rs1 rs2 imm_i imm_s imm_b imm_u imm_j loaded stored effect meaning register with_register free_runs place refusal has_room sent read_span writable_in may_use block_pages frame_len frame frame_start frame_fits begin_space begin_regs find change without free_runs_in write_row row view closed with_table without_table all_descriptors pieces names is_too_long walked place_of ended stepped trapped served exited answer at_process event turn picked turns started all_started boot
 run-by_turns = refl
 
 -- the first stray access, a store to the next block's first own byte, stops the run before it has any effect
@@ -163,7 +163,7 @@ run-stray :
       events = 2;
       end = Some (stray_at 1 (record { pc = 0x8000_0088; addr = 0x8000_2040; len = 1; kind = Store }));
     })
-unfolding number_at byte_at from_base decoded opcode funct3 funct7 rd rs1 rs2 imm_i imm_s imm_b imm_u imm_j loaded stored effect meaning register with_register free_runs place refusal has_room sent read_span writable_in may_use block_pages frame_len frame frame_start frame_fits begin_space begin_regs find change without free write_row row view closed with_table without_table all_descriptors pieces names is_too_long walked place_of ended stepped trapped served exited answer at_process event turn picked turns started all_started boot
+unfolding number_at byte_at from_base decoded opcode funct3 funct7 rd rs1 rs2 imm_i imm_s imm_b imm_u imm_j loaded stored effect meaning register with_register free_runs place refusal has_room sent read_span writable_in may_use block_pages frame_len frame frame_start frame_fits begin_space begin_regs find change without free_runs_in write_row row view closed with_table without_table all_descriptors pieces names is_too_long walked place_of ended stepped trapped served exited answer at_process event turn picked turns started all_started boot
 run-stray = refl
 
 -- a program that isn't there, and one that finds no free run
@@ -172,5 +172,5 @@ unfolding all_started started boot pieces names is_too_long walked place_of
 boot-no_program = refl
 
 boot-no_run : boot (rest_of 1 (hi ∷ [])) (start 3 (codes "/hi") ∷ []) ≡ Err (no_run 3)
-unfolding all_started started boot pieces names is_too_long walked place_of block_pages frame_fits frame_len frame_start free free_runs place
+unfolding all_started started boot pieces names is_too_long walked place_of block_pages frame_fits frame_len frame_start free_runs_in free_runs place
 boot-no_run = refl

@@ -2,7 +2,6 @@
 use Rattle.std.proofs.Common.{◌≡◌, ℕ, ◌+◌, Bool, true, false, cond, ◌⊎◌, inl, inr, List, [], ◌∷◌, Some, refl, sym, ap, ◌∙◌, arith}
 use Rattle.std.specs.Prelude.{◌==◌, option_map}
 use Rattle.std.proofs.lemmas.Bool.Decides.{nat_tests}
-use Rattle.byte_words.specs.ByteMap.{Bytes}
 use Rattle.rv32im_step.specs.declared.regs.Regs.{Regs}
 use Rattle.rv32im_step.specs.declared.access.Access.{Access}
 use Rattle.rv32im_step.specs.Meaning.{call, trap, refused, meaning}
@@ -80,29 +79,29 @@ module _ {A : Type 0} (key : A → ℕ) (k : ℕ) where
 abbrev pub with_regs : Process → Regs → Process
 with_regs p regs = record p { regs = regs }
 
-abbrev pub with_held : LiveSpace → Bytes → ℕ → LiveSpace
-with_held s bytes brk = record s { space = record s.space { bytes = bytes; brk = brk } }
+abbrev pub with_own : LiveSpace → Space → LiveSpace
+with_own s space = record s { space = space }
 
 module _ (w : World) (pid : ℕ) (p : Process) (s : LiveSpace) (lives : find pid_of pid w.procs ≡ Some p) (has : find id_of p.space w.spaces ≡ Some s) where
-  pub lives_moved : (regs : Regs) (bytes : Bytes) (brk done : ℕ) → find pid_of pid (moved w p regs bytes brk done).procs ≡ Some (with_regs p regs)
-  lives_moved regs bytes brk done =
+  pub lives_moved : (regs : Regs) (space : Space) (done : ℕ) → find pid_of pid (moved w p regs space done).procs ≡ Some (with_regs p regs)
+  lives_moved regs space done =
       let same : p.pid ≡ pid = find_has pid_of pid w.procs p lives in
       ap (λ (n : ℕ). find pid_of pid (change pid_of n (λ q. with_regs q regs) w.procs)) same
       ∙ find_changed pid_of pid (λ q. with_regs q regs) (λ q. refl) w.procs
       ∙ ap (option_map (λ q. with_regs q regs)) lives
 
-  pub has_moved : (regs : Regs) (bytes : Bytes) (brk done : ℕ) → find id_of p.space (moved w p regs bytes brk done).spaces ≡ Some (with_held s bytes brk)
-  has_moved regs bytes brk done =
-      find_changed id_of p.space (λ l. with_held l bytes brk) (λ l. refl) w.spaces ∙ ap (option_map (λ l. with_held l bytes brk)) has
+  pub has_moved : (regs : Regs) (space : Space) (done : ℕ) → find id_of p.space (moved w p regs space done).spaces ≡ Some (with_own s space)
+  has_moved regs space done =
+      find_changed id_of p.space (λ l. with_own l space) (λ l. refl) w.spaces ∙ ap (option_map (λ l. with_own l space)) has
 
   -- not at all
-  pub not_moved : moved w p p.regs s.space.bytes s.space.brk 0 ≡ w
+  pub not_moved : moved w p p.regs s.space 0 ≡ w
   not_moved =
       let same : p.pid ≡ pid = find_has pid_of pid w.procs p lives in
       let procs : change pid_of p.pid (λ q. with_regs q p.regs) w.procs ≡ w.procs =
       ap (λ (n : ℕ). change pid_of n (λ q. with_regs q p.regs) w.procs) same ∙ change_same pid_of pid (λ q. with_regs q p.regs) w.procs p lives refl in
-      let spaces : change id_of p.space (λ l. with_held l s.space.bytes s.space.brk) w.spaces ≡ w.spaces =
-      change_same id_of p.space (λ l. with_held l s.space.bytes s.space.brk) w.spaces s has refl in
+      let spaces : change id_of p.space (λ l. with_own l s.space) w.spaces ≡ w.spaces =
+      change_same id_of p.space (λ l. with_own l s.space) w.spaces s has refl in
       let events : w.events + 0 ≡ w.events = omega arith in
       rw (procs, spaces, events) refl
 
@@ -127,12 +126,12 @@ module _ (w : World) (pid : ℕ) (p : Process) (s : LiveSpace) (lives : find pid
   is_stray access is = event_is ∙ ap (effect w p s.space) is
 
 -- twice
-pub moved_twice : (w : World) (p : Process) (regs after : Regs) (bytes now : Bytes) (brk next i j : ℕ) →
-    moved (moved w p regs bytes brk i) (with_regs p regs) after now next j ≡ moved w p after now next (i + j)
-moved_twice w p regs after bytes now brk next i j =
+pub moved_twice : (w : World) (p : Process) (regs after : Regs) (space now : Space) (i j : ℕ) →
+    moved (moved w p regs space i) (with_regs p regs) after now j ≡ moved w p after now (i + j)
+moved_twice w p regs after space now i j =
     let procs : change pid_of p.pid (λ q. with_regs q after) (change pid_of p.pid (λ q. with_regs q regs) w.procs) ≡ change pid_of p.pid (λ q. with_regs q after) w.procs =
     change_twice pid_of p.pid (λ q. with_regs q regs) (λ q. with_regs q after) (λ q. with_regs q after) (λ q. refl) (λ q. refl) w.procs in
-    let spaces : change id_of p.space (λ l. with_held l now next) (change id_of p.space (λ l. with_held l bytes brk) w.spaces) ≡ change id_of p.space (λ l. with_held l now next) w.spaces =
-    change_twice id_of p.space (λ l. with_held l bytes brk) (λ l. with_held l now next) (λ l. with_held l now next) (λ l. refl) (λ l. refl) w.spaces in
+    let spaces : change id_of p.space (λ l. with_own l now) (change id_of p.space (λ l. with_own l space) w.spaces) ≡ change id_of p.space (λ l. with_own l now) w.spaces =
+    change_twice id_of p.space (λ l. with_own l space) (λ l. with_own l now) (λ l. with_own l now) (λ l. refl) (λ l. refl) w.spaces in
     let events : w.events + i + j ≡ w.events + (i + j) = omega arith in
     rw (procs, spaces, events) refl

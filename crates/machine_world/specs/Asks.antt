@@ -9,12 +9,13 @@ use Rattle.mem_files.specs.Inodes.{Inodes}
 use Rattle.fd_tables.specs.declared.view.View.{View}
 use Rattle.fd_tables.specs.Files.{OpenFiles, view, lowest_free}
 use Rattle.fd_tables.specs.Changes.{Storage}
-use Rattle.machine_world.specs.World.{Process, Rest}
+use Rattle.machine_world.specs.World.{Process, LiveSpace, Rest}
 
--- by whom, with which number and arguments, in which space, and the bytes that it read
+-- by whom, with which number and arguments, in which space and beside which others, and the bytes that it read
 pub record Ask : Type 0 where
   pub process : Process
   pub space : Space
+  pub spaces : List LiveSpace
   pub rest : Rest
   pub number : ℕ
   pub args : List ℕ
@@ -23,13 +24,13 @@ pub record Ask : Type 0 where
 abbrev pub arg : Ask → ℕ → ℕ
 arg a i = slice_index a.args i
 
--- a reply, the bytes that it writes into the caller's space, what is left outside of the space, the caller's break, and
+-- a reply, what is left outside of the caller's space, what is left of the space, the bytes that are written into it then, and
 -- whether the turn ends
 pub record Reply : Type 0 where
   pub value : ℕ
   pub got : List Written
   pub rest : Rest
-  pub brk : ℕ
+  pub space : Space
   pub over : Bool
 
 pub data Row : Type 0 where
@@ -38,7 +39,11 @@ pub data Row : Type 0 where
 
 -- a reply with bytes, and what is left outside
 abbrev pub gives : Ask → ℕ → List Written → Rest → Row
-gives a value got rest = replies (record { value = value; got = got; rest = rest; brk = a.space.brk; over = false })
+gives a value got rest = replies (record { value = value; got = got; rest = rest; space = a.space; over = false })
+
+-- a reply, and what is left of the space
+abbrev pub leaves : Ask → ℕ → Space → Row
+leaves a value space = replies (record { value = value; got = []; rest = a.rest; space = space; over = false })
 
 -- nothing but the reply
 abbrev pub answers : Ask → ℕ → Row

@@ -1,15 +1,14 @@
 -- How far a turn or a run came: what it leaves to do gives, behind some traces, what the whole gives.
 use Rattle.std.specs.Prelude.{◌≡◌, ℕ, ◌+◌, ◌<◌, List, ◌++◌, Some}
-use Rattle.byte_words.specs.ByteMap.{Bytes}
 use Rattle.rv32im_step.specs.declared.regs.Regs.{Regs}
 use Rattle.rv32im_step.specs.declared.stop.Stop.{Stop}
 use Rattle.rv32im_step.specs.declared.stop.Stop.TheVariants.{Next, Call, Trap, Refused}
 use Rattle.rv32im_step.specs.Meaning.{Meaning, call, trap, refused, meaning}
-use Rattle.mmap_rules.specs.Space.{writable_in}
+use Rattle.mmap_rules.specs.Space.{Space, writable_in}
 use Rattle.quantum_sched.specs.declared.Quantum.{Quantum}
 use Rattle.vfork_exec.specs.Keyed.{find}
 use Rattle.machine_world.specs.World.{World, Process, LiveSpace, pid_of, id_of}
-use Rattle.machine_world.specs.Event.{Trace, with_state}
+use Rattle.machine_world.specs.Event.{Trace, with_space}
 use Rattle.machine_world.specs.Turns.{turn, turns, walked}
 
 -- behind so many events of a process a turn of it goes on in the new world
@@ -23,8 +22,8 @@ pub record Comes (front : List Quantum) (old new : World) : Type 0 where
   pub on : (back : List Quantum) → turns (front ++ back) old ≡ walked traces (turns back new)
 
 -- one process in its space, so many events later
-abbrev pub moved : World → Process → Regs → Bytes → ℕ → ℕ → World
-moved w p regs bytes brk done = record (with_state w p regs bytes brk) { events = w.events + done }
+abbrev pub moved : World → Process → Regs → Space → ℕ → World
+moved w p regs space done = record (with_space w p regs space) { events = w.events + done }
 
 -- an instruction that isn't carried out, and how a step ends at it
 abbrev pub EndsAs : Meaning → Stop → Type 0

@@ -34,11 +34,11 @@ pub data Outcome : Type 0 where
 
 -- ---- what changes
 
--- one process in one space, with its registers, bytes and break as they are now
-abbrev pub with_state : World → Process → Regs → Bytes → ℕ → World
-with_state w p regs bytes brk = record w {
+-- one process with its registers, and its space, as they are now
+abbrev pub with_space : World → Process → Regs → Space → World
+with_space w p regs space = record w {
   procs = change pid_of p.pid (λ q. record q { regs = regs }) w.procs;
-  spaces = change id_of p.space (λ s. record s { space = record s.space { bytes = bytes; brk = brk } }) w.spaces;
+  spaces = change id_of p.space (λ s. record s { space = space }) w.spaces;
 }
 
 -- an event more
@@ -63,7 +63,7 @@ ended w p how = noted (end_note p.pid how) (departed w p)
 
 unfoldable pub stepped : World → Process → Space → Regs → Bytes → Outcome
 stepped w p s regs bytes =
-    went (counted (with_state w p regs bytes s.brk)) (record { space = p.space; events = 1; entries = []; over = false })
+    went (counted (with_space w p regs (record s { bytes = bytes }))) (record { space = p.space; events = 1; entries = []; over = false })
 
 unfoldable pub trapped : World → Process → ℕ → Outcome
 trapped w p signal =
@@ -81,6 +81,7 @@ abbrev pub ask_of : World → Process → Space → List ℕ → Ask
 ask_of w p s bytes = record {
   process = p;
   space = s;
+  spaces = w.spaces;
   rest = w.rest;
   number = number_of p.regs;
   args = args_of p.regs;
@@ -116,7 +117,7 @@ unfoldable pub served : World → Ask → Reply → Bytes → Outcome
 served w a r bytes =
     if has_room w.notes (weight_of a.sent r.got) then
     went
-    (noted (call_note (entry_of a r.value r.got)) (counted (with_state (record w { rest = r.rest }) a.process (replied a.process.regs r.value) bytes r.brk)))
+    (noted (call_note (entry_of a r.value r.got)) (counted (with_space (record w { rest = r.rest }) a.process (replied a.process.regs r.value) (record r.space { bytes = bytes }))))
     (record { space = a.process.space; events = 1; entries = entry_of a r.value r.got ∷ []; over = r.over })
     else full
 
@@ -129,7 +130,7 @@ unfoldable pub waited : World → Ask → Outcome
 waited w a = went (counted w) (record { space = a.process.space; events = 0; entries = []; over = true })
 
 abbrev pub answered : World → Ask → Row → Outcome
-answered w a (replies r) = put w a r (put_got a.space.bytes (writable_in a.space.maps) r.got)
+answered w a (replies r) = put w a r (put_got r.space.bytes (writable_in r.space.maps) r.got)
 answered w a waits = waited w a
 
 -- exit and exit_group: the lowest eight bits of the code

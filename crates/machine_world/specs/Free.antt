@@ -9,6 +9,9 @@ use Rattle.machine_world.specs.World.{LiveSpace, World}
 abbrev pub is_held : List LiveSpace → ℕ → Bool
 is_held spaces page = list_any (λ s. list_any (has_page page) s.space.maps) spaces
 
--- as ascending maximal runs
-unfoldable pub free : World → List Run
-free w = free_runs w.rest.pages (λ page. not (is_held w.spaces page))
+-- those of a memory of so many pages, as ascending maximal runs
+unfoldable pub free_runs_in : ℕ → List LiveSpace → List Run
+free_runs_in pages spaces = free_runs pages (λ page. not (is_held spaces page))
+
+abbrev pub free : World → List Run
+free w = free_runs_in w.rest.pages w.spaces

@@ -9,7 +9,7 @@ use Rattle.call_log.specs.Notes.{call_note, weight_of, has_room}
 use Rattle.machine_world.specs.World.{World, Process, LiveSpace, pid_of, id_of}
 use Rattle.machine_world.specs.Asks.{Ask, refuses}
 use Rattle.machine_world.specs.Rows.{row}
-use Rattle.machine_world.specs.Event.{Outcome, went, full, with_state, counted, noted, entry_of, replied, answered}
+use Rattle.machine_world.specs.Event.{Outcome, went, full, with_space, counted, noted, entry_of, replied, answered}
 use Rattle.machine_world.specs.Courses.{Leads, Halts, moved}
 
 -- up to n instructions of a process over the bytes of its space are as many events: a turn goes on behind them, and where one
@@ -18,14 +18,15 @@ abbrev pub InstructionsAreEvents : Type 0
 InstructionsAreEvents =
     (n pid : ℕ) (w : World) (p : Process) (s : LiveSpace) (r : Ran) → find pid_of pid w.procs ≡ Some p → find id_of p.space w.spaces ≡ Some s →
     r ≡ instructions n (writable_in s.space.maps) p.regs s.space.bytes →
-    Leads pid w r.done (moved w p r.regs r.bytes s.space.brk r.done) × Halts (moved w p r.regs r.bytes s.space.brk r.done) pid n r.done r.stop
+    let now : World = moved w p r.regs (record s.space { bytes = r.bytes }) r.done in
+    Leads pid w r.done now × Halts now pid n r.done r.stop
 
 -- a refused call changes the reply's register, the next instruction, the notes and the count of events, and nothing else
 abbrev pub refused_outcome : World → Ask → Errno → Outcome
 refused_outcome w a e =
     if has_room w.notes (weight_of a.sent []) then
     went
-    (noted (call_note (entry_of a (refusal e) [])) (counted (with_state w a.process (replied a.process.regs (refusal e)) a.space.bytes a.space.brk)))
+    (noted (call_note (entry_of a (refusal e) [])) (counted (with_space w a.process (replied a.process.regs (refusal e)) a.space)))
     (record { space = a.process.space; events = 1; entries = entry_of a (refusal e) [] ∷ []; over = false })
     else full
 

@@ -4,6 +4,7 @@
 -- Descriptors  the calls that look at descriptors and no path
 -- Transfers    the calls that move bytes
 -- PathCalls    the calls that take a path
+-- MapCalls     the calls that map and unmap pages
 -- Rows     the answer to each system call
 -- Event    one instruction or one system call of one process
 -- Turns    a list of quanta
@@ -12,6 +13,8 @@
 -- Courses  how far a turn or a run came
 -- Laws     instructions are events, and what a refused call changes
 -- Others   what an event leaves of all other processes, spaces and tables of descriptors
+-- Placements  which pages a block and a mapping of its own get
+-- Ages     a file's bytes change only with its count of changes
 -- Order    the nodes are a tree of names, and counts are exact, after every event
 pub mod World
 pub mod Free
@@ -19,6 +22,7 @@ pub mod Asks
 pub mod Descriptors
 pub mod Transfers
 pub mod PathCalls
+pub mod MapCalls
 pub mod Rows
 pub mod Event
 pub mod Turns
@@ -27,4 +31,6 @@ pub mod Programs
 pub mod Courses
 pub mod Laws
 pub mod Others
+pub mod Placements
+pub mod Ages
 pub mod Order

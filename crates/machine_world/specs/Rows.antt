@@ -1,26 +1,21 @@
 -- What each system call answers (Linux, include/uapi/asm-generic/unistd.h, in this project's profile).
-use Rattle.std.specs.Prelude.{ℕ, ◌==◌, Bool, true, false, ◌&&◌, ◌||◌, nat_le, if◌then◌else◌, []}
+use Rattle.std.specs.Prelude.{ℕ, ◌==◌, Bool, true, ◌&&◌, ◌||◌, nat_le, if◌then◌else◌, []}
 use Rattle.call_log.specs.declared.errno.Errno.TheVariants.{Enosys}
 use Rattle.mmap_rules.specs.Space.{Space}
-use Rattle.machine_world.specs.Asks.{Ask, arg, Row, replies, answers, refuses}
+use Rattle.machine_world.specs.Asks.{Ask, arg, Row, replies, leaves, answers, refuses}
 use Rattle.machine_world.specs.Descriptors.{dup_row, dup3_row, ioctl_row, close_row, llseek_row, getdents_row}
 use Rattle.machine_world.specs.Transfers.{read_row, readv_row, write_row, writev_row}
 use Rattle.machine_world.specs.PathCalls.{mkdirat_row, unlinkat_row, openat_row}
+use Rattle.machine_world.specs.MapCalls.{munmap_row, mmap2_row}
 
 unfoldable pub yield_row : Ask → Row
-yield_row a = replies (record { value = 0; got = []; rest = a.rest; brk = a.space.brk; over = true })
+yield_row a = replies (record { value = 0; got = []; rest = a.rest; space = a.space; over = true })
 
 abbrev pub next_brk : Space → ℕ → ℕ
 next_brk s to = if nat_le s.brk_low to && nat_le to s.brk_high then to else s.brk
 
 unfoldable pub brk_row : Ask → Row
-brk_row a = replies (record {
-  value = next_brk a.space (arg a 0);
-  got = [];
-  rest = a.rest;
-  brk = next_brk a.space (arg a 0);
-  over = false;
-})
+brk_row a = leaves a (next_brk a.space (arg a 0)) (record a.space { brk = next_brk a.space (arg a 0) })
 
 -- set_tid_address, getpid and gettid
 abbrev pub asks_pid : ℕ → Bool
@@ -46,4 +41,6 @@ row a =
     else if a.number == 124 then yield_row a
     else if a.number == 173 then answers a a.process.parent
     else if a.number == 214 then brk_row a
+    else if a.number == 215 then munmap_row a
+    else if a.number == 222 then mmap2_row a
     else refuses a Enosys

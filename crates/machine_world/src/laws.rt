@@ -1,8 +1,10 @@
 //! Laws over the definitions. They hold for all worlds, and no code runs.
 
+ghost use Rattle.machine_world.specs.Ages.{EventsAgeFiles};
 ghost use Rattle.machine_world.specs.Laws.{InstructionsAreEvents, RefusalsChangeNothingElse};
 ghost use Rattle.machine_world.specs.Order.{EventsKeepOrder, TurnsKeepOrder, RunsKeepOrder, BootsBeginInOrder};
 ghost use Rattle.machine_world.specs.Others.{EventsLeaveOthers};
+ghost use Rattle.machine_world.specs.Placements.{MapsAreExact, StartsAreExact};
 ghost use Rattle.machine_world.specs.Programs.{BootsLoadPrograms, TurnsLoadNothing, RunsLoadNothing};
 
 /// Instructions of one process, one after the other, are events.
@@ -35,4 +37,17 @@ pub fn counts_law()
     ensures events { EventsKeepOrder }
     ensures turns { TurnsKeepOrder }
     ensures runs { RunsKeepOrder }
+{}
+
+/// The bytes of a file change only with its count of changes: the count never falls, and under the same count the bytes are
+/// the same.
+pub fn ages_law()
+    ensures { EventsAgeFiles }
+{}
+
+/// A program's block, and a mapping that isn't shared, begin at the first page of the free run that the placement gives. Where it
+/// gives none, a start finds no run, and an mmap2 is ENOMEM.
+pub fn placement_law()
+    ensures starts { StartsAreExact }
+    ensures mmap2 { MapsAreExact }
 {}

@@ -23,4 +23,4 @@ mod EntriesAt
 mod Entered
 mod Left
 pub mod TreesKept
-mod Closed
+pub mod Closed

@@ -25,6 +25,7 @@ fn a_folder_whose_only_entry_is_a_file(rt: HostRuntime) -> Result<(), Fail> {
         (Node::File, 2, 0)
     );
     assert_eq!(rt; (tree.program(3), tree.program(4)), (Some(7), None));
+    assert_eq!(rt; (tree.has(3), tree.has(9)), (true, false));
     assert_eq!(rt; tree.bytes(3), b"12".as_slice());
     let entry = tree.entry(2, 0);
     assert!(rt; matches!(entry, Some((b"ab", 3))));

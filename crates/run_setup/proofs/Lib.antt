@@ -4,6 +4,7 @@
 -- Opened: a list opened at one place.
 -- Pairs: a loop over lines, each with its file.
 -- AllLines: the lines one after the other.
+-- Unchanged: lines bring in files, and change none.
 -- Samples: what a few lines bring in.
 pub mod OriginalsSame
 pub mod MadePrograms
@@ -11,4 +12,5 @@ pub mod OneLine
 pub mod Opened
 pub mod Pairs
 pub mod AllLines
+pub mod Unchanged
 pub mod Samples

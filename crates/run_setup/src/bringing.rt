@@ -3,6 +3,8 @@
 ghost use Rattle.std.specs.Prelude.{◌≡◌, ◌<◌, ◌≤◌, ◌^◌, map, length, None, IfOk};
 ghost use Rattle.std.specs.List.{AllByRecursion};
 ghost use Rattle.mem_files.specs.Changes.{with_file, with_folder};
+ghost use Rattle.mem_files.specs.Trees.{IsTree, AreNamedAndClosed};
+ghost use Rattle.machine_world.specs.Ages.{AreChanged};
 ghost use Rattle.manifest_text.specs.Values.{item_value, vec_texts};
 ghost use Rattle.manifest_text.specs.Laws.{IsItem};
 ghost use Rattle.run_setup.specs.Brought.{nothing_brought, or_errno, with_tree, with_program, brought, all_brought};
@@ -37,6 +39,9 @@ pub fn bring(alloc: Global, items: &[Item], files: Vec<Vec<u8>>) -> Result<RunFi
     ensures brought { BringsAll (all_brought (map item_value items.now) (vec_texts files.items) nothing_brought) result }
     ensures paths { IfOk result HasPaths }
     ensures count { IfOk result (λ run. length run.flats.items ≤ length items.now) }
+    ensures unchanged { IfOk result (λ run. AreChanged 0 run.tree) }
+    ensures tree { IfOk result (λ run. IsTree run.tree) }
+    ensures closed { IfOk result (λ run. AreNamedAndClosed run.tree) }
 {
     let mut run = match RunFiles::new(alloc) {
         Ok(run) => run,

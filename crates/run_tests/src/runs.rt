@@ -1,8 +1,10 @@
 //! Manifests and programs in memory, and what a run of them writes.
 
+mod callers;
 mod calls;
 mod examples;
 mod files;
+mod mappings;
 mod placements;
 mod programs;
 mod refusals;
@@ -23,6 +25,8 @@ type File = (&'static str, Content);
 enum Content {
     Flat(Program),
     Bytes(&'static [u8]),
+    /// So many bytes of one value.
+    Filled(u8, usize),
 }
 
 /// A run: the host's files beside the manifest `m`, the manifest, the arguments behind `run m`, and what comes of it.
@@ -53,6 +57,11 @@ fn host_of(alloc: Global, files: &[File], manifest: &str) -> Result<MemHost, All
         match content {
             Content::Flat(program) => host.put(name, &programs::flat_file(alloc, program)?)?,
             Content::Bytes(bytes) => host.put(name, bytes)?,
+            Content::Filled(byte, len) => {
+                let mut bytes = Vec::new(alloc);
+                bytes.resize(*len, *byte)?;
+                host.put(name, &bytes)?
+            }
         }
     }
     Ok(host)

@@ -9,8 +9,9 @@ use Rattle.quantum_sched.specs.declared.Quantum.{Quantum}
 use Rattle.manifest_text.specs.declared.manifest.Start.{Start as StoredStart}
 use Rattle.manifest_text.specs.Values.{Manifest, start_value}
 use Rattle.manifest_text.specs.Laws.{IsShort, Reasonable}
+use Rattle.flat_loader.specs.Begin.{Loading}
 use Rattle.machine_world.specs.World.{Rest, World}
-use Rattle.machine_world.specs.Boot.{StartLine, BootFault, bad_start, args_too_big, no_run, Found, found, path_of, placed, fitting, located, started, then_started, all_started, empty_world, boot}
+use Rattle.machine_world.specs.Boot.{StartLine, BootFault, bad_start, args_too_big, no_run, Found, found, path_of, placed, fitting, located, started, then_started, all_started, empty_world, begun, boot}
 use Rattle.syscall_layer.specs.Stands.{world_of}
 use Rattle.flat_machine.specs.declared.boot.BootRefusal.{BootRefusal}
 use Rattle.flat_machine.specs.declared.boot.BootRefusal.TheVariants as refusal
@@ -21,39 +22,49 @@ use Rattle.run_setup.specs.Faults.{IsMemory}
 use Rattle.suite_top.specs.Refusing.{told_fault}
 use Rattle.suite_top.specs.Run.{start_line, boot_fault, fault_ending, booted_ending}
 
--- ---- no event before the first
+-- ---- what no start line changes
 
 world_or : Result World BootFault → World → World
 world_or (Ok w) other = w
 world_or (Err fault) other = other
 
-no_event_placed : (w : World) (s : StartLine) (f : Found) (o : Option ℕ) (now : World) → placed w s f o ≡ Ok now → now.events ≡ w.events
-unfolding world_or
-no_event_placed w s f None now is = absurd cc
-no_event_placed w s f (Some page) now is = sym (ap (λ (r : Result World BootFault). (world_or r w).events) is)
+-- something of the world that the start of a program keeps
+module _ {A : Type 0} (of : World → A) (keeps : (w : World) (i : ℕ) (l : Loading) → of (begun w i l) ≡ of w) where
+  kept_placed : (w : World) (s : StartLine) (f : Found) (o : Option ℕ) (now : World) → placed w s f o ≡ Ok now → of now ≡ of w
+  unfolding world_or
+  kept_placed w s f None now is = absurd cc
+  kept_placed w s f (Some page) now is = sym (ap (λ (r : Result World BootFault). of (world_or r w)) is) ∙ keeps w f.index _
 
-no_event_fitting : (w : World) (s : StartLine) (f : Found) (fits : Bool) (now : World) → fitting w s f fits ≡ Ok now → now.events ≡ w.events
-no_event_fitting w s f true now is = no_event_placed w s f _ now is
-no_event_fitting w s f false now is = absurd cc
+  kept_fitting : (w : World) (s : StartLine) (f : Found) (fits : Bool) (now : World) → fitting w s f fits ≡ Ok now → of now ≡ of w
+  kept_fitting w s f true now is = kept_placed w s f _ now is
+  kept_fitting w s f false now is = absurd cc
 
-no_event_located : (w : World) (s : StartLine) (o : Option Found) (now : World) → located w s o ≡ Ok now → now.events ≡ w.events
-no_event_located w s None now is = absurd cc
-no_event_located w s (Some f) now is = no_event_fitting w s f _ now is
+  kept_located : (w : World) (s : StartLine) (o : Option Found) (now : World) → located w s o ≡ Ok now → of now ≡ of w
+  kept_located w s None now is = absurd cc
+  kept_located w s (Some f) now is = kept_fitting w s f _ now is
 
-no_event_then : (r : Result World BootFault) (w : World) (more : World → Result World BootFault) (now : World) → ((v : World) → r ≡ Ok v → v.events ≡ w.events)
-    → ((v : World) → more v ≡ Ok now → now.events ≡ v.events) → then_started r more ≡ Ok now → now.events ≡ w.events
-no_event_then (Ok v) w more now first rest is = rest v is ∙ first v refl
-no_event_then (Err fault) w more now first rest is = absurd cc
+  kept_then : (r : Result World BootFault) (w : World) (more : World → Result World BootFault) (now : World) → ((v : World) → r ≡ Ok v → of v ≡ of w)
+      → ((v : World) → more v ≡ Ok now → of now ≡ of v) → then_started r more ≡ Ok now → of now ≡ of w
+  kept_then (Ok v) w more now first rest is = rest v is ∙ first v refl
+  kept_then (Err fault) w more now first rest is = absurd cc
 
-no_event_all : (starts : List StartLine) (w now : World) → all_started w starts ≡ Ok now → now.events ≡ w.events
-unfolding all_started started
-no_event_all [] w now is = let h : w ≡ now = cc in sym (ap (λ (v : World). v.events) h)
-no_event_all (s ∷ ss) w now is =
-    no_event_then (started w s) w (λ v. all_started v ss) now (λ v first. no_event_located w s (found w.rest (path_of s)) v first) (λ v. no_event_all ss v now) is
+  kept_all : (starts : List StartLine) (w now : World) → all_started w starts ≡ Ok now → of now ≡ of w
+  unfolding all_started started
+  kept_all [] w now is = let h : w ≡ now = cc in sym (ap of h)
+  kept_all (s ∷ ss) w now is =
+      kept_then (started w s) w (λ v. all_started v ss) now (λ v first. kept_located w s (found w.rest (path_of s)) v first) (λ v. kept_all ss v now) is
 
+  kept_boot : (rest : Rest) (starts : List StartLine) (w : World) → boot rest starts ≡ Ok w → of w ≡ of (empty_world rest)
+  unfolding boot
+  kept_boot rest starts w is = kept_all starts (empty_world rest) w is
+
+-- no event comes before the first
 pub no_event_yet : (rest : Rest) (starts : List StartLine) (w : World) → boot rest starts ≡ Ok w → w.events ≡ 0
-unfolding boot
-no_event_yet rest starts w is = no_event_all starts (empty_world rest) w is
+no_event_yet rest starts w is = kept_boot (λ v. v.events) (λ v i l. refl) rest starts w is
+
+-- runs are chosen as they were
+pub kind_stays : (rest : Rest) (starts : List StartLine) (w : World) → boot rest starts ≡ Ok w → w.rest.kind ≡ rest.kind
+kind_stays rest starts w is = kept_boot (λ v. v.rest.kind) (λ v i l. refl) rest starts w is
 
 -- ---- the events of a run are counted by a word of 64 bits
 
@@ -88,6 +99,10 @@ boots_as rest starts machine log m ending are boots ends =
 pub machine_events : (machine : State) → (world machine).events ≡ machine.events
 unfolding world_of
 machine_events machine = refl
+
+pub machine_kind : (machine : State) → (world machine).rest.kind ≡ machine.kind
+unfolding world_of
+machine_kind machine = refl
 
 -- a machine that doesn't start
 refused_by : (fault : BootFault) (r : BootRefusal) (log : Bool) (m : Manifest) (ending : Ending) → Boots (Err fault) (Err r)

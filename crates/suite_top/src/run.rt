@@ -4,6 +4,7 @@ ghost use Rattle.page_runs.specs.Choosers.{IsChooser, kind_of};
 ghost use Rattle.manifest_text.specs.Manifest.{manifest_of};
 ghost use Rattle.manifest_text.specs.Values.{manifest_value, vec_texts};
 ghost use Rattle.manifest_text.specs.Laws.{Reasonable};
+ghost use Rattle.machine_world.specs.Ages.{AreChanged};
 ghost use Rattle.flat_machine.specs.State.{world};
 ghost use Rattle.flat_machine.specs.Runs.{repeated};
 ghost use Rattle.suite_top.specs.Ending.{memory_ending, OrMemory};
@@ -122,6 +123,7 @@ fn run_brought<F: Fn(&[Run], u32) -> Option<usize>>(
     requires manifest { Reasonable (manifest_value manifest) }
     requires paths { HasPaths files }
     requires few { length files.flats.items ≤ length manifest.items.items }
+    requires unchanged { AreChanged 0 files.tree }
     ensures { OrMemory (brought_ending log (kind_of chooser.now) (manifest_value manifest) (Ok (brought_value files))) (ending_of result) }
 {
     let setup = Setup {
@@ -140,6 +142,7 @@ fn run_brought<F: Fn(&[Run], u32) -> Option<usize>>(
             manifest.repeat,
             &manifest.dumps,
             log,
+            chooser,
         ),
         Err(refusal) => refuse_line(alloc, &boot_fault(refusal)),
     }
@@ -170,18 +173,21 @@ fn boot_fault(refusal: BootRefusal) -> FaultAt
 }
 
 /// Runs the machine, and writes what it did.
-fn run_machine(
+fn run_machine<F: Fn(&[Run], u32) -> Option<usize>>(
     alloc: Global,
     mut machine: Machine,
     quanta: &[Quantum],
     repeat: u32,
     dumps: &[Dump],
     log: bool,
+    chooser: &Chooser<F>,
 ) -> Result<Answer, AllocError>
-    requires { machine.events + repeat * sum_by (λ q. q.count) quanta.now < 2 ^ 64 }
+    requires chooser { IsChooser F.pre F.post chooser.now }
+    requires kind { kind_of chooser.now ≡ machine.kind }
+    requires events { machine.events + repeat * sum_by (λ q. q.count) quanta.now < 2 ^ 64 }
     ensures { OrMemory (world_ending log (repeated repeat quanta.now) dumps.now (world machine)) (ending_of result) }
 {
-    let end = machine.run_repeated(quanta, repeat)?;
+    let end = machine.run_repeated(quanta, repeat, chooser)?;
     let report = report(alloc, &machine, log, dumps, end)?;
     let out = Vec::from_slice(alloc, machine.console())?;
     Ok(Answer {

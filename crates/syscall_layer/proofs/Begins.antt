@@ -12,7 +12,10 @@ use Rattle.call_log.specs.Notes.{Note}
 use Rattle.mem_files.specs.Inodes.{Inodes}
 use Rattle.fd_tables.specs.Files.{OpenFiles}
 use Rattle.syscall_layer.specs.Kept.{Kept, nothing_yet}
-use Rattle.syscall_layer.specs.Regular.{Regular}
+use Rattle.machine_world.specs.Ages.{AreChanged}
+use Rattle.syscall_layer.specs.Copies.{most_at_boot}
+use Rattle.syscall_layer.specs.Regular.{Regular, IsRegular}
+use Rattle.syscall_layer.proofs.CopiesStay.{copies_begin}
 
 get-replicate : (n i : ℕ) (v r : Region) → slice_get (replicate n v) i ≡ Some r → r ≡ v
 get-replicate zero i v r is = absurd (none-some r is)
@@ -55,5 +58,6 @@ begins_with pages tree files notes console some most =
       few = omega arith;
     }
 
-pub regular_begins : (k : Kept) (pages : ℕ) (tree : Inodes) (files : OpenFiles) → 1 ≤ pages → pages ≤ 16384 → k ≡ nothing_yet pages tree files → Regular k
-regular_begins k pages tree files some most is = rw is (begins_with pages tree files [] [] some most)
+pub sound_begins : (k : Kept) (pages : ℕ) (tree : Inodes) (files : OpenFiles) → 1 ≤ pages → pages ≤ 16384 → AreChanged most_at_boot tree → k ≡ nothing_yet pages tree files → IsRegular k
+sound_begins k pages tree files some most changed is =
+    rw is (begins_with pages tree files [] [] some most, copies_begin pages (replicate (4096 * pages) 0) tree changed)

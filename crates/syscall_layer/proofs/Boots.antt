@@ -24,7 +24,7 @@ use Rattle.call_log.specs.Notes.{Note, load_note}
 use Rattle.bflt_format.specs.Values.{Values}
 use Rattle.flat_loader.specs.Original.{Original, flat_original, block_pages}
 use Rattle.flat_loader.specs.Frame.{frame_fits}
-use Rattle.flat_loader.specs.Begin.{Loading, own_range, in_block, begin_byte, begin_bytes, begin_space, begin_regs}
+use Rattle.flat_loader.specs.Begin.{Loading, block_end, own_range, in_block, begin_byte, begin_bytes, begin_space, begin_regs}
 use Rattle.flat_loader.specs.Loads.{block_page, block_region, held_begin, page_loading, IsLoaded, Loads}
 use Rattle.flat_loader.specs.declared.loading.Loaded.{Loaded}
 use Rattle.flat_loader.specs.declared.loading.LoadRefusal.{LoadRefusal}
@@ -39,11 +39,13 @@ use Rattle.fd_tables.specs.Files.{free_number}
 use Rattle.fd_tables.specs.Changes.{with_table}
 use Rattle.syscall_layer.specs.Kept.{Kept}
 use Rattle.syscall_layer.specs.Regular.{Regular}
+use Rattle.syscall_layer.specs.Copies.{CopiesHold}
 use Rattle.syscall_layer.specs.Stands.{About, private_bytes, private_of, live_at, live_from, live_spaces, process_of, world_of}
 use Rattle.syscall_layer.specs.Starts.{Started, Starts}
 use Rattle.syscall_layer.proofs.Counts.{is_false, any_at}
 use Rattle.syscall_layer.proofs.Apart.{page_of, page_there, has_held}
 use Rattle.syscall_layer.proofs.FreePages.{free_is}
+use Rattle.syscall_layer.proofs.CopiesStay.{copies_loaded, copies_noted, load_counts}
 use Rattle.syscall_layer.proofs.Worlds.{others_same}
 use Rattle.syscall_layer.proofs.Started.{with_one, Fits, regular_with}
 
@@ -329,6 +331,18 @@ pub regular_by : (old k n : Kept) → k ≡ old → length old.procs.entries < m
 regular_by old k n view few regular kind index f args b =
     let less : length k.procs.entries < most_entries = rw view few in
     subst Regular (sym b.new) (regular_program k regular f args b.is.page index n.mem (placed_by k n regular kind index f args b) less)
+
+pub copies_by : (k n : Kept) → Regular k → CopiesHold k.regions k.mem k.tree k.notes → (kind : Kind) (index : ℕ) (f : Values) (args : List (List ℕ))
+    → Begun k n kind index f args → CopiesHold n.regions n.mem n.tree n.notes
+copies_by k n regular copies kind index f args b =
+    let page : ℕ = b.is.page in
+    let pages : ℕ = block_pages (flat_original f) in
+    let p = placed_by k n regular kind index f args b in
+    let end : block_end (page_loading f page args []) ≡ page_address (page + pages) = omega arith in
+    let loaded = copies_loaded k regular copies page pages p.free (page_loading f page args []) refl end n.mem p.len p.others in
+    let now : Kept = with_program k index f args page n.mem in
+    subst (λ (x : Kept). CopiesHold x.regions x.mem x.tree x.notes) (sym b.new)
+    (copies_noted now.regions now.mem now.tree k.notes now.notes loaded (omega (arith, load_counts (record { pid = k.procs.next_pid; program = index; base = page_address page; pages = pages }) k.notes)))
 
 pub starts_by : (old k n : Kept) → k ≡ old → Regular k → (kind : Kind) (index : ℕ) (f : Values) (args : List (List ℕ))
     → Begun k n kind index f args → Starts kind index (flat_original f) args old n (Ok tt)

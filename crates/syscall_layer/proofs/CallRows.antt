@@ -16,6 +16,7 @@ use Rattle.file_calls.specs.declared.call.Call.{Call}
 use Rattle.file_calls.specs.Calls.{MadeBy, is_change, is_output}
 use Rattle.syscall_layer.specs.declared.effect.Effect.TheVariants.{Answer, Yield, Break}
 use Rattle.syscall_layer.specs.Calls.{reply_of}
+use Rattle.syscall_layer.specs.MapsIn.{is_mapping}
 use Rattle.syscall_layer.proofs.Counts.{eqb_is}
 
 -- ---- ioctl
@@ -47,7 +48,7 @@ module _ (a : Ask) (table fd : ℕ) (files : OpenFiles) (t : a.process.table ≡
 
 -- ---- each number
 
--- a number of no change and of no output is none of theirs
+-- a number of no change, of no output and of no mapping is none of theirs
 record Plain (n : ℕ) : Type 0 where
   n23 : (n == 23) ≡ false
   n24 : (n == 24) ≡ false
@@ -61,9 +62,11 @@ record Plain (n : ℕ) : Type 0 where
   n64 : (n == 64) ≡ false
   n65 : (n == 65) ≡ false
   n66 : (n == 66) ≡ false
+  n215 : (n == 215) ≡ false
+  n222 : (n == 222) ≡ false
 
-plain : (n : ℕ) → is_change n ≡ false → is_output n ≡ false → Plain n
-plain n change output = record {
+plain : (n : ℕ) → is_change n ≡ false → is_output n ≡ false → is_mapping n ≡ false → Plain n
+plain n change output mapping = record {
   n23 = none (n == 23) (λ is. let e : n ≡ 23 = eqb_is n 23 is in change_not n 23 e refl change);
   n24 = none (n == 24) (λ is. let e : n ≡ 24 = eqb_is n 24 is in change_not n 24 e refl change);
   n34 = none (n == 34) (λ is. let e : n ≡ 34 = eqb_is n 34 is in change_not n 34 e refl change);
@@ -76,6 +79,8 @@ plain n change output = record {
   n64 = none (n == 64) (λ is. let e : n ≡ 64 = eqb_is n 64 is in change_not n 64 e refl change);
   n65 = none (n == 65) (λ is. let e : n ≡ 65 = eqb_is n 65 is in output_not n 65 e refl output);
   n66 = none (n == 66) (λ is. let e : n ≡ 66 = eqb_is n 66 is in change_not n 66 e refl change);
+  n215 = none (n == 215) (λ is. let e : n ≡ 215 = eqb_is n 215 is in mapping_not n 215 e refl mapping);
+  n222 = none (n == 222) (λ is. let e : n ≡ 222 = eqb_is n 222 is in mapping_not n 222 e refl mapping);
 }
   where
     none : (b : Bool) → (b ≡ true → ⊥) → b ≡ false
@@ -87,6 +92,9 @@ plain n change output = record {
 
     output_not : (x y : ℕ) → x ≡ y → is_output y ≡ true → is_output x ≡ false → ⊥
     output_not x y same holds fails = false≢true (sym fails ∙ ap is_output same ∙ holds)
+
+    mapping_not : (x y : ℕ) → x ≡ y → is_mapping y ≡ true → is_mapping x ≡ false → ⊥
+    mapping_not x y same holds fails = false≢true (sym fails ∙ ap is_mapping same ∙ holds)
 
 module _ (call : Call) (a : Ask) (made : MadeBy call a) where
   at_arg : (i : ℕ) → arg a i ≡ slice_index call.args i
@@ -109,18 +117,18 @@ module _ (call : Call) (a : Ask) (made : MadeBy call a) where
   unfolding row brk_row
   row_brk is = rw (made.number, is, at_arg 0) refl
 
-  module _ (change : is_change call.number ≡ false) (output : is_output call.number ≡ false) where
+  module _ (change : is_change call.number ≡ false) (output : is_output call.number ≡ false) (mapping : is_mapping call.number ≡ false) where
     pub row_pid : call.number ≢ 29 → asks_pid call.number ≡ true → row a ≡ replies (reply_of a (Answer call.pid))
     unfolding row
     row_pid n29 is =
-        let p = plain call.number change output in
+        let p = plain call.number change output mapping in
         rw (made.number, p.n23, p.n24, eqb_other call.number 29 n29, p.n34, p.n35, p.n56, p.n57, p.n61, p.n62, p.n63, p.n64, p.n65, p.n66, is, made.pid) refl
 
     pub row_other : (value : ℕ) → call.number ≢ 29 → asks_pid call.number ≡ false → call.number ≢ 124 → call.number ≢ 173 → call.number ≢ 214 → value ≡ refusal Enosys →
         row a ≡ replies (reply_of a (Answer value))
     unfolding row
     row_other value n29 others n124 n173 n214 says =
-        let p = plain call.number change output in
+        let p = plain call.number change output mapping in
         rw (
           made.number,
           p.n23,
@@ -140,5 +148,7 @@ module _ (call : Call) (a : Ask) (made : MadeBy call a) where
           eqb_other call.number 124 n124,
           eqb_other call.number 173 n173,
           eqb_other call.number 214 n214,
+          p.n215,
+          p.n222,
           says,
         ) refl

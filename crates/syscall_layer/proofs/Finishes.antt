@@ -3,7 +3,8 @@ use Rattle.std.proofs.Common.{◌≡◌, ℕ, true, false, List, [], ◌∷◌, 
 use Rattle.std.specs.Prelude.{Bool, not, option_map, Option, slice_get, slice_set}
 use Rattle.call_log.specs.Notes.{Note}
 use Rattle.mmap_rules.specs.declared.owners.PageOwner.{PageOwner}
-use Rattle.mmap_rules.specs.Space.{own_in, writable_in}
+use Rattle.nommu_regions.specs.declared.region.Region.{Region}
+use Rattle.mmap_rules.specs.Space.{Space, own_in, writable_in}
 use Rattle.mmap_rules.specs.Held.{Held, next_brk}
 use Rattle.mmap_rules.specs.Owners.{owns}
 use Rattle.region_watch.specs.Private.{only, physical}
@@ -13,7 +14,7 @@ use Rattle.fd_tables.specs.Kept.{Kept as FilesKept}
 use Rattle.vfork_exec.specs.declared.entry.Entry.{Entry}
 use Rattle.vfork_exec.specs.Procs.{Listed, Lives, value_at, with_value_at}
 use Rattle.machine_world.specs.World.{Rest}
-use Rattle.machine_world.specs.Asks.{replies}
+use Rattle.machine_world.specs.Asks.{Row, replies, leaves}
 use Rattle.machine_world.specs.Rows.{row}
 use Rattle.machine_world.specs.Event.{put_got, replied}
 use Rattle.file_calls.specs.declared.call.Call.{Call}
@@ -24,9 +25,9 @@ use Rattle.syscall_layer.specs.declared.effect.Effect.{Effect}
 use Rattle.syscall_layer.specs.declared.effect.Effect.TheVariants.{Answer, Yield, Break}
 use Rattle.syscall_layer.specs.Kept.{Kept}
 use Rattle.syscall_layer.specs.Regular.{Regular}
-use Rattle.syscall_layer.specs.Stands.{About, private_bytes, world_of}
+use Rattle.syscall_layer.specs.Stands.{About, private_bytes, private_of, world_of, OthersSame}
 use Rattle.syscall_layer.specs.Puts.{Put}
-use Rattle.syscall_layer.specs.Calls.{RunsIn, IsCall, ask_in, reply_of, value_of, brk_of, noted_call, after_reply, Changed, Gave}
+use Rattle.syscall_layer.specs.Calls.{RunsIn, IsCall, ask_in, reply_of, value_of, brk_of, noted_call, held_as, after_reply, Changed, Gave}
 use Rattle.syscall_layer.proofs.Apart.{others_keep}
 use Rattle.syscall_layer.proofs.Runs.{runs_in, has_space}
 use Rattle.syscall_layer.proofs.Settled.{regular_replied}
@@ -72,10 +73,10 @@ module _ (a : About) (k : Kept) (e : Entry Task) (h : Held) (call : Call) (runs 
   value_is Yield = refl
   value_is (Break to) = refl
 
-  brk_is : (f : Effect) → brk_of (next_brk h) h.brk f ≡ (reply_of (ask_in a k e h call) f).brk
-  brk_is (Answer value) = refl
-  brk_is Yield = refl
-  brk_is (Break to) = refl
+  held_is : (f : Effect) → record h { brk = brk_of (next_brk h) h.brk f } ≡ held_as h (reply_of (ask_in a k e h call) f).space
+  held_is (Answer value) = refl
+  held_is Yield = refl
+  held_is (Break to) = refl
 
   rest_stays : (f : Effect) → (reply_of (ask_in a k e h call) f).rest ≡ (world_of a k).rest
   rest_stays (Answer value) = refl
@@ -93,7 +94,7 @@ module _ (a : About) (k : Kept) (e : Entry Task) (h : Held) (call : Call) (runs 
       record k { spaces = spaces; procs = procs; notes = notes } ≡ after_reply k e h call (reply_of (ask_in a k e h call) f) k.mem
   unfolding world_of
   replied_by f value spaces procs notes says moves finishes noted = λ i. record k {
-    spaces = (moves ∙ ap (λ (brk : ℕ). slice_set k.spaces e.value.space (Some (record h { brk = brk }))) (brk_is f)) i;
+    spaces = (moves ∙ ap (λ (x : Held). slice_set k.spaces e.value.space (Some x)) (held_is f)) i;
     tree = ap (λ (r : Rest). r.tree) (sym (rest_stays f)) i;
     files = ap (λ (r : Rest). r.files) (sym (rest_stays f)) i;
     procs = (finishes e.value kept_value ∙ ap (λ (v : ℕ). with_value_at k.procs call.pid (record e.value { regs = replied e.value.regs v })) (says ∙ value_is f)) i;
@@ -109,16 +110,45 @@ module _ (a : About) (k : Kept) (e : Entry Task) (h : Held) (call : Call) (runs 
     is_rest files open_now = record { tree = refl; files = sym open_now; console = refl }
 
     pub changed_by : (tree : Inodes) (files : OpenFiles) (console : List ℕ) (value : ℕ) (procs : Listed Task) (notes : List Note) →
-        row (ask_in a k e h call) ≡ replies (record { value = value; got = []; rest = with_all (ask_in a k e h call).rest tree files console; brk = h.brk; over = false }) →
+        row (ask_in a k e h call) ≡ replies (record { value = value; got = []; rest = with_all (ask_in a k e h call).rest tree files console; space = private_of k.mem h; over = false }) →
         Finishes k call.pid value procs → notes ≡ noted_call call value [] ∷ k.notes →
-        Changed a k e h call (record k { tree = tree; files = files; procs = procs; notes = notes; console = console })
+        Changed a k e h call (row (ask_in a k e h call)) (record k { tree = tree; files = files; procs = procs; notes = notes; console = console })
     changed_by tree files console value procs notes rows finishes noted = record {
-      reply = record { value = value; got = []; rest = with_all (ask_in a k e h call).rest tree files console; brk = h.brk; over = false };
+      reply = record { value = value; got = []; rest = with_all (ask_in a k e h call).rest tree files console; space = private_of k.mem h; over = false };
       replies = rows;
       got = refl;
       rest = refl;
+      space = refl;
       over = refl;
+      others = λ j x other there. refl;
+      pages = refl;
       after = λ i. record k { spaces = space_stays i; tree = tree; files = files; procs = finishes e.value kept_value i; notes = noted i; console = console };
+    }
+
+    -- ---- by another space
+
+    pub moved_by : (r : Row) (space : Space) (value : ℕ) (mem : List ℕ) (rs : List Region) (held : Held) (spaces : List (Option Held)) (procs : Listed Task) (notes : List Note) →
+        r ≡ leaves (ask_in a k e h call) value space → held ≡ held_as h space → space ≡ private_of mem held →
+        OthersSame k e.value.space mem → length rs ≡ length k.regions → spaces ≡ slice_set k.spaces e.value.space (Some held) →
+        Finishes k call.pid value procs → notes ≡ noted_call call value [] ∷ k.notes →
+        Changed a k e h call r (record k { mem = mem; regions = rs; spaces = spaces; procs = procs; notes = notes })
+    unfolding world_of
+    moved_by r space value mem rs held spaces procs notes rows is_held is_space others pages moves finishes noted = record {
+      reply = record { value = value; got = []; rest = (ask_in a k e h call).rest; space = space; over = false };
+      replies = rows;
+      got = refl;
+      rest = refl;
+      space = is_space ∙ ap (private_of mem) is_held;
+      over = refl;
+      others = others;
+      pages = pages;
+      after = λ i. record k {
+        mem = mem;
+        regions = rs;
+        spaces = (moves ∙ ap (λ (x : Held). slice_set k.spaces e.value.space (Some x)) is_held) i;
+        procs = finishes e.value kept_value i;
+        notes = noted i;
+      };
     }
 
     -- ---- by an output

@@ -12,7 +12,7 @@ use Rattle.mmap_rules.specs.declared.mapping.Mapping.{Mapping}
 use Rattle.mmap_rules.specs.Space.{has_page}
 use Rattle.mmap_rules.specs.Held.{Held}
 use Rattle.machine_world.specs.World.{LiveSpace}
-use Rattle.machine_world.specs.Free.{free, is_held as is_held_in}
+use Rattle.machine_world.specs.Free.{free, free_runs_in, is_held as is_held_in}
 use Rattle.syscall_layer.specs.Kept.{Kept}
 use Rattle.syscall_layer.specs.Regular.{Regular}
 use Rattle.syscall_layer.specs.Stands.{About, live_at, live_from, live_spaces, world_of}
@@ -105,5 +105,5 @@ module _ (k : Kept) (regular : Regular k) (page : ℕ) where
       held_from k.mem 0 k.spaces page ∙ same_tests (list_any (space_holds page) k.spaces) (is_held k.regions page) region_holds space_does
 
 pub free_is : (a : About) (k : Kept) → Regular k → free (world_of a k) ≡ (free_of k.regions).runs
-unfolding free world_of live_spaces
+unfolding free_runs_in world_of live_spaces
 free_is a k regular = λ i. free_runs (length k.regions) (λ page. not (same_held k regular page i))

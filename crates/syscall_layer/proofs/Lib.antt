@@ -8,6 +8,22 @@
 -- ReadPath  the path that a call reads, byte by byte, and which reading is whose
 -- CallRows  the row of each call, and the effect that the code gives it
 -- Runs      a process that runs in its space, and the call at which it stands
+-- CopiesKept  live copies hold their file in a memory that has the same bytes there
+-- CopiesStay  and after all but the mapping calls
+-- Sound     copies hold their file after a call that is noted, and after an end
+-- MapRows   the rows of mmap2 and munmap, and the file that an mmap2 asks for
+-- NamesOf    the mappings of a live space name live regions, and a region has room for one use more
+-- LiveMaps   the mappings of all live spaces, and the regions that they name
+-- MapChoice  mmap2 finds the run that the world's row finds
+-- MapBytes   the bytes of a space with one mapping more
+-- MapAgrees  what the code maps is what the world's row maps
+-- MapRegular  the parts stay regular where pages are mapped
+-- MapCopies  copies still hold their file then
+-- Unmapped   what munmap leaves of a space is what the world's row says
+-- UsesLess   the regions where a mapping went
+-- UsesCut    the regions where pages were cut out of one
+-- UnmapsRegular  the parts after a munmap are regular, and copies hold their file
+-- Mapped     the parts after an mmap2 and after a munmap
 -- Stays     what holds of the parts stays so where one process and its space change
 -- Settled   small facts of a call's reply
 -- Moves     the world after one process went on, and after one is gone
@@ -31,6 +47,22 @@ pub mod OutputRanges
 pub mod Puts
 pub mod CallRows
 pub mod Runs
+pub mod CopiesKept
+mod CopiesStay
+mod Sound
+mod MapRows
+mod NamesOf
+mod LiveMaps
+mod MapChoice
+mod MapBytes
+mod MapAgrees
+mod MapRegular
+mod MapCopies
+mod Unmapped
+mod UsesLess
+mod UsesCut
+mod UnmapsRegular
+mod Mapped
 pub mod Stays
 pub mod Settled
 pub mod Moves

@@ -3,6 +3,7 @@ use Rattle.std.proofs.Common.{◌≡◌, ℕ, ◌+◌, Bool, true, false, inl, i
 use Rattle.std.specs.Prelude.{◌==◌, cond, IsSome, slice_set, option_map}
 use Rattle.std.proofs.lemmas.Option.{same_Some}
 use Rattle.std.proofs.lemmas.List.{length-set}
+use Rattle.nommu_regions.specs.declared.region.Region.{Region}
 use Rattle.mmap_rules.specs.Held.{Held}
 use Rattle.rv32im_step.specs.declared.regs.Regs.{Regs}
 use Rattle.call_log.specs.Notes.{Note}
@@ -15,11 +16,11 @@ use Rattle.mem_files.specs.Inodes.{Inodes}
 use Rattle.fd_tables.specs.Files.{OpenFiles}
 use Rattle.file_calls.specs.Calls.{with_all}
 use Rattle.machine_world.specs.World.{Process, LiveSpace, World, pid_of, id_of}
-use Rattle.machine_world.specs.Event.{with_state, departed}
+use Rattle.machine_world.specs.Event.{with_space, departed}
 use Rattle.syscall_layer.specs.declared.task.Task.{Task}
 use Rattle.syscall_layer.specs.Kept.{Kept}
 use Rattle.syscall_layer.specs.Gone.{closed_in, gone}
-use Rattle.syscall_layer.specs.Stands.{About, later, private_bytes, live_spaces, process_of, world_of, OthersSame}
+use Rattle.syscall_layer.specs.Stands.{About, later, private_of, live_spaces, process_of, world_of, OthersSame}
 use Rattle.syscall_layer.specs.Calls.{RunsIn, with_task}
 use Rattle.syscall_layer.proofs.Worlds.{change_space, without_space, change_process, without_process}
 use Rattle.syscall_layer.proofs.Runs.{pid_found}
@@ -55,7 +56,7 @@ same_world ps qs ss ts m n pages more ns ms w p s l g t = λ i. record w { procs
 module _ (k : Kept) (pid : ℕ) (e : Entry Task) (h : Held) (runs : RunsIn k pid e h) where
   -- ---- a process goes on
 
-  module _ (regs : Regs) (brk : ℕ) (now : List ℕ) where
+  module _ (regs : Regs) (g : Held) (now : List ℕ) where
     abbrev value : Task
     value = record e.value { regs = regs }
 
@@ -66,20 +67,20 @@ module _ (k : Kept) (pid : ℕ) (e : Entry Task) (h : Held) (runs : RunsIn k pid
         ∙ ap (λ n. change pid_of n (λ (q : Process). record q { regs = regs }) (map process_of k.procs.entries)) (pid_found k.procs pid e runs.lives)
 
     spaces_moved : OthersSame k e.value.space now →
-        live_spaces now (slice_set k.spaces e.value.space (Some (record h { brk = brk })))
-        ≡ change id_of e.value.space (λ (s : LiveSpace). record s { space = record s.space { bytes = private_bytes now h; brk = brk } }) (live_spaces k.mem k.spaces)
-    unfolding private_bytes
+        live_spaces now (slice_set k.spaces e.value.space (Some g))
+        ≡ change id_of e.value.space (λ (s : LiveSpace). record s { space = private_of now g }) (live_spaces k.mem k.spaces)
     spaces_moved others =
-        sym (change_space (λ (s : LiveSpace). record s { space = record s.space { bytes = private_bytes now h; brk = brk } }) k.mem now k.spaces e.value.space h (record h { brk = brk }) runs.home refl others)
+        sym (change_space (λ (s : LiveSpace). record s { space = private_of now g }) k.mem now k.spaces e.value.space h g runs.home refl others)
 
-    -- and with other notes and more events
-    pub moved_world : OthersSame k e.value.space now → (a : About) (n : ℕ) (notes : List Note) (tree : Inodes) (files : OpenFiles) (console : List ℕ) →
-        world_of (later n a) (record (with_task k pid e h now regs brk) { notes = notes; tree = tree; files = files; console = console })
-        ≡ record (with_state (record (world_of a k) { rest = with_all (world_of a k).rest tree files console }) (process_of e) regs (private_bytes now h) brk) { notes = notes; events = a.events + n }
+    -- and with other notes, more events, and as many regions
+    pub moved_world : OthersSame k e.value.space now → (rs : List Region) → length rs ≡ length k.regions →
+        (a : About) (n : ℕ) (notes : List Note) (tree : Inodes) (files : OpenFiles) (console : List ℕ) →
+        world_of (later n a) (record (with_task k pid e g now regs) { regions = rs; notes = notes; tree = tree; files = files; console = console })
+        ≡ record (with_space (record (world_of a k) { rest = with_all (world_of a k).rest tree files console }) (process_of e) regs (private_of now g)) { notes = notes; events = a.events + n }
     unfolding world_of
-    moved_world others a n notes tree files console =
-        same_world _ _ _ _ _ _ (length k.regions) (length k.regions) notes notes (world_of (later n a) (record k { tree = tree; files = files; console = console }))
-        procs_moved (spaces_moved others) (length-set k.spaces e.value.space (Some (record h { brk = brk }))) refl refl
+    moved_world others rs pages a n notes tree files console =
+        same_world _ _ _ _ _ _ (length rs) (length k.regions) notes notes (world_of (later n a) (record k { tree = tree; files = files; console = console }))
+        procs_moved (spaces_moved others) (length-set k.spaces e.value.space (Some g)) pages refl
 
     pub moved_lives : Lives (with_value_at k.procs pid value) pid
     moved_lives = some_lives (process (with_value_at k.procs pid value) pid) (with_value e value)

@@ -10,6 +10,7 @@ use Rattle.call_log.specs.declared.how.How.{How}
 use Rattle.call_log.specs.declared.how.How.TheVariants.{Exit, Signal}
 use Rattle.call_log.specs.Notes.{Written, Note, call_note, end_note, weight_of, has_room}
 use Rattle.call_log.specs.Sent.{Span, sent}
+use Rattle.nommu_regions.specs.declared.region.Region.{Region}
 use Rattle.mmap_rules.specs.Held.{Held}
 use Rattle.mmap_rules.specs.Space.{Space, writable_in}
 use Rattle.mem_files.specs.Inodes.{Inodes}
@@ -20,7 +21,7 @@ use Rattle.vfork_exec.specs.Procs.{Lives, value_at}
 use Rattle.machine_world.specs.World.{Process, LiveSpace, World, pid_of, id_of}
 use Rattle.machine_world.specs.Asks.{Ask, Reply, Row, replies, waits}
 use Rattle.machine_world.specs.Rows.{row}
-use Rattle.machine_world.specs.Event.{Trace, Outcome, went, strays, full, with_state, counted, noted, departed, ended, number_of, args_of, entry_of, call_access, replied, served, put, put_got, answered, exit_code, exited, is_exit, classed, answer, asked, trapped, called, died, at_process, by_process, in_space}
+use Rattle.machine_world.specs.Event.{Trace, Outcome, went, strays, full, with_space, counted, noted, departed, ended, number_of, args_of, entry_of, call_access, replied, served, put, put_got, answered, exit_code, exited, is_exit, classed, answer, asked, trapped, called, died, at_process, by_process, in_space}
 use Rattle.syscall_layer.specs.declared.task.Task.{Task}
 use Rattle.file_calls.specs.declared.call.Call.{Call}
 use Rattle.file_calls.specs.declared.outcome.Outcome.{Outcome as Output}
@@ -35,7 +36,7 @@ use Rattle.syscall_layer.specs.Stands.{About, later, private_bytes, private_of, 
 use Rattle.syscall_layer.specs.Puts.{first_stray, access_at}
 use Rattle.syscall_layer.specs.Serves.{Went, Answered, Serves, Died}
 use Rattle.syscall_layer.specs.Gone.{gone}
-use Rattle.syscall_layer.specs.Calls.{RunsIn, IsCall, Changed, given, Gave, reply_of, ask_in, served_by, noted_call, after_reply, after_exit}
+use Rattle.syscall_layer.specs.Calls.{RunsIn, IsCall, Changed, given, Gave, reply_of, ask_in, served_by, noted_call, held_as, after_reply, after_exit}
 use Rattle.std.proofs.lemmas.Option.{same_Some}
 use Rattle.syscall_layer.proofs.Puts.{put_all, put_strays}
 use Rattle.syscall_layer.proofs.QuietRows.{Quiet}
@@ -90,7 +91,7 @@ class_row w a r goes is = rw goes (ap (answered w a) is)
 
 served_when : (w : World) (a : Ask) (r : Reply) (bytes : Bytes) → has_room w.notes (weight_of a.sent r.got) ≡ true →
     served w a r bytes
-    ≡ went (noted (call_note (entry_of a r.value r.got)) (counted (with_state (record w { rest = r.rest }) a.process (replied a.process.regs r.value) bytes r.brk)))
+    ≡ went (noted (call_note (entry_of a r.value r.got)) (counted (with_space (record w { rest = r.rest }) a.process (replied a.process.regs r.value) (record r.space { bytes = bytes }))))
     (record { space = a.process.space; events = 1; entries = entry_of a r.value r.got ∷ []; over = r.over })
 unfolding served
 served_when w a r bytes room = rw room refl
@@ -155,40 +156,49 @@ module _ (a : About) (k : Kept) (e : Entry Task) (h : Held) (call : Call) (runs 
   ask = ask_in a k e h call
 
   -- which changes tree, files and console, and nothing else outside
-  module _ (value : ℕ) (got : List Written) (tree : Inodes) (files : OpenFiles) (console : List ℕ) (brk : ℕ) (over : Bool) where
+  module _ (value : ℕ) (got : List Written) (tree : Inodes) (files : OpenFiles) (console : List ℕ) (space : Space) (over : Bool) where
     abbrev reply : Reply
-    reply = record { value = value; got = got; rest = with_all ask.rest tree files console; brk = brk; over = over }
+    reply = record { value = value; got = got; rest = with_all ask.rest tree files console; space = space; over = over }
 
-    answered_is : (found : Result Bytes Span) → put_got (private_bytes k.mem h) (writable_in h.maps) got ≡ found →
+    answered_is : (found : Result Bytes Span) → put_got space.bytes (writable_in space.maps) got ≡ found →
         answered (world_of a k) ask (replies reply) ≡ put (world_of a k) ask reply found
     answered_is found = ap (put (world_of a k) ask reply)
 
-    module _ (mem : List ℕ) (puts : put_got (private_bytes k.mem h) (writable_in h.maps) got ≡ Ok (private_bytes mem h)) where
-      abbrev then_state : World
-      then_state = with_state (record (world_of a k) { rest = reply.rest }) (process_of e) (replied e.value.regs value) (private_bytes mem h) brk
+    -- and the space: its bytes are those of memory, behind what the call writes
+    module _ (mem : List ℕ) (rs : List Region) (pages : length rs ≡ length k.regions)
+        (puts : put_got space.bytes (writable_in space.maps) got ≡ Ok (private_bytes mem (held_as h space)))
+        (stays : record space { bytes = private_bytes mem (held_as h space) } ≡ private_of mem (held_as h space)) where
+      abbrev then_space : Space
+      then_space = record space { bytes = private_bytes mem (held_as h space) }
 
-      after_world : OthersSame k e.value.space mem → world_of (later 1 a) (after_reply k e h call reply mem) ≡ noted (call_note (entry_of ask value got)) (counted then_state)
+      abbrev then_state : Space → World
+      then_state s = with_space (record (world_of a k) { rest = reply.rest }) (process_of e) (replied e.value.regs value) s
+
+      abbrev then_kept : Kept
+      then_kept = record (after_reply k e h call reply mem) { regions = rs }
+
+      after_world : OthersSame k e.value.space mem → world_of (later 1 a) then_kept ≡ noted (call_note (entry_of ask value got)) (counted (then_state then_space))
       unfolding world_of
       after_world others =
-          moved_world k call.pid e h runs (replied e.value.regs value) brk mem others a 1 (noted_call call value got ∷ k.notes) tree files console
-          ∙ ap (λ (note : Note). record then_state { notes = note ∷ k.notes; events = a.events + 1 }) (note_is value got)
+          moved_world k call.pid e h runs (replied e.value.regs value) (held_as h space) mem others rs pages a 1 (noted_call call value got ∷ k.notes) tree files console
+          ∙ (λ i. record (then_state (sym stays i)) { notes = note_is value got i ∷ k.notes; events = a.events + 1 })
 
       pub reply_serves : OthersSame k e.value.space mem → has_room k.notes (weight_of call.sent.items got) ≡ true →
           (s : Served) → ((t : Trace) (new : Kept) → t.over ≡ over → Lives new.procs call.pid → Went t new call.pid s) →
-          Answered a (answered (world_of a k) ask (replies reply)) k (after_reply k e h call reply mem) call.pid s
+          Answered a (answered (world_of a k) ask (replies reply)) k then_kept call.pid s
       reply_serves others room s goes =
           let t : Trace = record { space = e.value.space; events = 1; entries = entry_of ask value got ∷ []; over = over } in
-          it_went a (answered (world_of a k) ask (replies reply)) (noted (call_note (entry_of ask value got)) (counted then_state)) t k (after_reply k e h call reply mem) call.pid s
-          (answered_is (Ok (private_bytes mem h)) puts ∙ served_when (world_of a k) ask reply (private_bytes mem h) (room_in a k call.sent.items got true room))
+          it_went a (answered (world_of a k) ask (replies reply)) (noted (call_note (entry_of ask value got)) (counted (then_state then_space))) t k then_kept call.pid s
+          (answered_is (Ok then_space.bytes) puts ∙ served_when (world_of a k) ask reply then_space.bytes (room_in a k call.sent.items got true room))
           (after_world others)
-          (goes t (after_reply k e h call reply mem) refl (moved_lives k call.pid e h runs (replied e.value.regs value) 0 k.mem))
+          (goes t then_kept refl (moved_lives k call.pid e h runs (replied e.value.regs value) h k.mem))
 
-    pub reply_full : (bytes : Bytes) → put_got (private_bytes k.mem h) (writable_in h.maps) got ≡ Ok bytes → has_room k.notes (weight_of call.sent.items got) ≡ false →
+    pub reply_full : (bytes : Bytes) → put_got space.bytes (writable_in space.maps) got ≡ Ok bytes → has_room k.notes (weight_of call.sent.items got) ≡ false →
         Answered a (answered (world_of a k) ask (replies reply)) k k call.pid LogFull
     reply_full bytes puts room = subst (λ (o : Outcome). Answered a o k k call.pid LogFull)
         (sym (answered_is (Ok bytes) puts ∙ served_full (world_of a k) ask reply bytes (room_in a k call.sent.items got false room))) refl
 
-    pub reply_strays : (span : Span) → put_got (private_bytes k.mem h) (writable_in h.maps) got ≡ Err span →
+    pub reply_strays : (span : Span) → put_got space.bytes (writable_in space.maps) got ≡ Err span →
         Answered a (answered (world_of a k) ask (replies reply)) k k call.pid (Stray (access_at e.value.regs.pc span))
     reply_strays span puts = subst (λ (o : Outcome). Answered a o k k call.pid (Stray (access_at e.value.regs.pc span))) (sym (answered_is (Err span) puts)) (refl, refl)
 
@@ -198,51 +208,64 @@ module _ (a : About) (k : Kept) (e : Entry Task) (h : Held) (call : Call) (runs 
     abbrev effect_reply : Reply
     effect_reply = reply_of ask f
 
-    effect_shape : effect_reply ≡ reply effect_reply.value [] k.tree k.files k.console effect_reply.brk effect_reply.over
+    effect_shape : effect_reply ≡ reply effect_reply.value [] k.tree k.files k.console effect_reply.space effect_reply.over
     unfolding world_of
     effect_shape = shape f
       where
-        shape : (g : Effect) → reply_of ask g ≡ reply (reply_of ask g).value [] k.tree k.files k.console (reply_of ask g).brk (reply_of ask g).over
+        shape : (g : Effect) → reply_of ask g ≡ reply (reply_of ask g).value [] k.tree k.files k.console (reply_of ask g).space (reply_of ask g).over
         shape (Answer value) = refl
         shape Yield = refl
         shape (Break to) = refl
+
+    bytes_stay : (g : Effect) → ◌≡◌ {A = Result Bytes Span} (Ok (reply_of ask g).space.bytes) (Ok (private_bytes k.mem (held_as h (reply_of ask g).space)))
+    unfolding private_bytes
+    bytes_stay (Answer value) = refl
+    bytes_stay Yield = refl
+    bytes_stay (Break to) = refl
+
+    space_stays : (g : Effect) → record (reply_of ask g).space { bytes = private_bytes k.mem (held_as h (reply_of ask g).space) } ≡ private_of k.mem (held_as h (reply_of ask g).space)
+    space_stays (Answer value) = refl
+    space_stays Yield = refl
+    space_stays (Break to) = refl
 
     pub effect_serves : has_room k.notes (length call.sent.items) ≡ true →
         Answered a (answered (world_of a k) ask (replies effect_reply)) k (after_reply k e h call effect_reply k.mem) call.pid (served_by f)
     effect_serves room =
         subst (λ (r : Reply). Answered a (answered (world_of a k) ask (replies r)) k (after_reply k e h call r k.mem) call.pid (served_by f)) (sym effect_shape)
-        (reply_serves effect_reply.value [] k.tree k.files k.console effect_reply.brk effect_reply.over k.mem refl (λ j o other there. refl)
+        (reply_serves effect_reply.value [] k.tree k.files k.console effect_reply.space effect_reply.over k.mem k.regions refl (bytes_stay f) (space_stays f) (λ j o other there. refl)
         (weighs call.sent.items true room) (served_by f) (λ t n. went_by f ask t n call.pid))
 
     pub effect_full : has_room k.notes (length call.sent.items) ≡ false → Answered a (answered (world_of a k) ask (replies effect_reply)) k k call.pid LogFull
     effect_full room =
         subst (λ (r : Reply). Answered a (answered (world_of a k) ask (replies r)) k k call.pid LogFull) (sym effect_shape)
-        (reply_full effect_reply.value [] k.tree k.files k.console effect_reply.brk effect_reply.over (private_bytes k.mem h) refl (weighs call.sent.items false room))
+        (reply_full effect_reply.value [] k.tree k.files k.console effect_reply.space effect_reply.over effect_reply.space.bytes refl (weighs call.sent.items false room))
 
   -- ---- by a change of files
 
-  pub change_serves : (new : Kept) → Changed a k e h call new → has_room k.notes (length call.sent.items) ≡ true →
-      Answered a (answered (world_of a k) ask (row ask)) k new call.pid Replied
-  change_serves new c room =
+  pub change_serves : (rows : Row) (new : Kept) → Changed a k e h call rows new → has_room k.notes (length call.sent.items) ≡ true →
+      Answered a (answered (world_of a k) ask rows) k new call.pid Replied
+  change_serves rows new c room =
       let r = c.reply in
-      let shape : r ≡ reply r.value [] r.rest.tree r.rest.files r.rest.console r.brk false =
-      (λ i. record { value = r.value; got = c.got i; rest = c.rest i; brk = r.brk; over = c.over i }) in
-      let served = reply_serves r.value [] r.rest.tree r.rest.files r.rest.console r.brk false k.mem refl (λ j o other there. refl)
+      let g : Held = held_as h r.space in
+      let shape : r ≡ reply r.value [] r.rest.tree r.rest.files r.rest.console r.space false =
+      (λ i. record { value = r.value; got = c.got i; rest = c.rest i; space = r.space; over = c.over i }) in
+      let served = reply_serves r.value [] r.rest.tree r.rest.files r.rest.console r.space false new.mem new.regions c.pages
+      (ap (λ (s : Space). Ok s.bytes) c.space) (ap (λ (s : Space). record s { bytes = private_bytes new.mem g }) c.space) c.others
       (weighs call.sent.items true room) Replied (λ t n over lives. (over, lives)) in
-      let by_reply = subst (λ (x : Reply). Answered a (answered (world_of a k) ask (replies x)) k (after_reply k e h call x k.mem) call.pid Replied) (sym shape) served in
+      let by_reply = subst (λ (x : Reply). Answered a (answered (world_of a k) ask (replies x)) k (record (after_reply k e h call x new.mem) { regions = new.regions }) call.pid Replied) (sym shape) served in
       let by_new = subst (λ (x : Kept). Answered a (answered (world_of a k) ask (replies r)) k x call.pid Replied) (sym c.after) by_reply in
       subst (λ (x : Row). Answered a (answered (world_of a k) ask x) k new call.pid Replied) (sym c.replies) by_new
 
-  pub quiet_full : Quiet (row ask) → has_room k.notes (length call.sent.items) ≡ false → Answered a (answered (world_of a k) ask (row ask)) k k call.pid LogFull
-  quiet_full quiet room = by_row (row ask) quiet
+  pub quiet_full : (rows : Row) → Quiet rows → has_room k.notes (length call.sent.items) ≡ false → Answered a (answered (world_of a k) ask rows) k k call.pid LogFull
+  quiet_full rows quiet room = by_row rows quiet
     where
       by_row : (x : Row) → Quiet x → Answered a (answered (world_of a k) ask x) k k call.pid LogFull
       by_row (replies r) got = subst (λ (o : Outcome). Answered a o k k call.pid LogFull) (sym (is_full r got)) refl
         where
           is_full : (r : Reply) → r.got ≡ [] → answered (world_of a k) ask (replies r) ≡ full
           is_full r got =
-              ap (λ (gots : List Written). put (world_of a k) ask r (put_got (private_bytes k.mem h) (writable_in h.maps) gots)) got
-              ∙ served_full (world_of a k) ask r (private_bytes k.mem h) (ap (λ (gots : List Written). has_room (world_of a k).notes (weight_of call.sent.items gots)) got ∙ room_in a k call.sent.items [] false (weighs call.sent.items false room))
+              ap (λ (gots : List Written). put (world_of a k) ask r (put_got r.space.bytes (writable_in r.space.maps) gots)) got
+              ∙ served_full (world_of a k) ask r r.space.bytes (ap (λ (gots : List Written). has_room (world_of a k).notes (weight_of call.sent.items gots)) got ∙ room_in a k call.sent.items [] false (weighs call.sent.items false room))
       by_row waits quiet = absurd quiet
 
   -- ---- by an output
@@ -254,14 +277,17 @@ module _ (a : About) (k : Kept) (e : Entry Task) (h : Held) (call : Call) (runs 
     abbrev files_then : OpenFiles
     files_then = after o.then e.value.table k.files
 
-    given_shape : given ask o ≡ reply o.value (written_of o) k.tree files_then k.console h.brk false
+    given_shape : given ask o ≡ reply o.value (written_of o) k.tree files_then k.console (private_of k.mem h) false
     unfolding world_of
     given_shape = refl
+
+    private_is : (mem : List ℕ) → record (private_of k.mem h) { bytes = private_bytes mem h } ≡ private_of mem h
+    private_is mem = refl
 
     pub output_serves : (new : Kept) → Gave a k e h call o new → has_room k.notes (weight_of call.sent.items (written_of o)) ≡ true →
         Answered a (answered (world_of a k) ask (row ask)) k new call.pid Replied
     output_serves new c room =
-        let served = reply_serves o.value (written_of o) k.tree files_then k.console h.brk false new.mem c.put c.others room Replied (λ t n over lives. (over, lives)) in
+        let served = reply_serves o.value (written_of o) k.tree files_then k.console (private_of k.mem h) false new.mem k.regions refl c.put (private_is new.mem) c.others room Replied (λ t n over lives. (over, lives)) in
         let by_reply = subst (λ (x : Reply). Answered a (answered (world_of a k) ask (replies x)) k (after_reply k e h call x new.mem) call.pid Replied) (sym given_shape) served in
         by_given new Replied (subst (λ (x : Kept). Answered a (answered (world_of a k) ask (replies (given ask o))) k x call.pid Replied) (sym c.after) by_reply)
 
@@ -271,7 +297,7 @@ module _ (a : About) (k : Kept) (e : Entry Task) (h : Held) (call : Call) (runs 
         let all = put_all (private_bytes k.mem h) (writable_in h.maps) (written_of o) fits in
         by_given k LogFull
         (subst (λ (x : Reply). Answered a (answered (world_of a k) ask (replies x)) k k call.pid LogFull) (sym given_shape)
-        (reply_full o.value (written_of o) k.tree files_then k.console h.brk false all.0 all.1 room))
+        (reply_full o.value (written_of o) k.tree files_then k.console (private_of k.mem h) false all.0 all.1 room))
 
     pub output_strays : (access : Access) → Some access ≡ option_map (access_at e.value.regs.pc) (first_stray (writable_in h.maps) (written_of o)) →
         Answered a (answered (world_of a k) ask (row ask)) k k call.pid (Stray access)
@@ -285,7 +311,7 @@ module _ (a : About) (k : Kept) (e : Entry Task) (h : Held) (call : Call) (runs 
             subst (λ (x : Access). Answered a (answered (world_of a k) ask (row ask)) k k call.pid (Stray x)) seen
             (by_given k (Stray (access_at e.value.regs.pc span))
             (subst (λ (x : Reply). Answered a (answered (world_of a k) ask (replies x)) k k call.pid (Stray (access_at e.value.regs.pc span))) (sym given_shape)
-            (reply_strays o.value (written_of o) k.tree files_then k.console h.brk false span (put_strays (private_bytes k.mem h) (writable_in h.maps) (written_of o) span there))))
+            (reply_strays o.value (written_of o) k.tree files_then k.console (private_of k.mem h) false span (put_strays (private_bytes k.mem h) (writable_in h.maps) (written_of o) span there))))
 
   -- ---- an exit
 
@@ -341,7 +367,7 @@ module _ (a : About) (k : Kept) (e : Entry Task) (h : Held) (call : Call) (runs 
 
 module _ (a : About) (k : Kept) (pid : ℕ) (regular : Regular k) (lives : Lives k.procs pid) where
   pub serve_call : (call : Call) → call.pid ≡ pid → ((e : Entry Task) → (h : Held) → RunsIn k pid e h → IsCall k.mem e h call) → (new : Kept) (result : Result Served AllocError) →
-      ((b : About) → (e : Entry Task) → (h : Held) → RunsIn k call.pid e h → IsCall k.mem e h call → Serves b (classed (world_of b k) (ask_in b k e h call)) k new call.pid result) →
+      ((e : Entry Task) → (h : Held) → RunsIn k call.pid e h → IsCall k.mem e h call → Serves a (classed (world_of a k) (ask_in a k e h call)) k new call.pid result) →
       Serves a (called (world_of a k) pid) k new pid result
   serve_call call same made new result serves =
       let r = runs_in k pid regular lives in
@@ -349,7 +375,7 @@ module _ (a : About) (k : Kept) (pid : ℕ) (regular : Regular k) (lives : Lives
       let h : Held = r.1.0 in
       let is : IsCall k.mem e h call = made e h r.1.1 in
       let runs : RunsIn k call.pid e h = subst (λ (p : ℕ). RunsIn k p e h) (sym same) r.1.1 in
-      let done = subst (λ (o : Outcome). Serves a o k new call.pid result) (sym (call_answer a k e h call runs is)) (serves a e h runs is) in
+      let done = subst (λ (o : Outcome). Serves a o k new call.pid result) (sym (call_answer a k e h call runs is)) (serves e h runs is) in
       subst (λ (p : ℕ). Serves a (called (world_of a k) p) k new p result) same done
 
   pub serve_stray : (t : Task) → value_at k.procs pid ≡ Some t → (span : Span) →

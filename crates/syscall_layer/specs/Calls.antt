@@ -1,17 +1,17 @@
 -- A system call by its parts, and what the parts of a run are after it.
-use Rattle.std.specs.Prelude.{◌≡◌, ℕ, true, false, List, [], ◌∷◌, Some, Result, Ok, Err, ⊤, ◌%◌, slice_index, slice_get, slice_set}
+use Rattle.std.specs.Prelude.{◌≡◌, ℕ, true, false, List, [], ◌∷◌, length, Some, Result, Ok, Err, ⊤, ◌%◌, slice_index, slice_get, slice_set}
 use Rattle.std.specs.declared.alloc.AllocError.{AllocError}
 use Rattle.call_log.specs.Notes.{Written, Note, call_note, end_note}
 use Rattle.call_log.specs.Sent.{sent}
 use Rattle.call_log.specs.declared.how.How.TheVariants.{Exit}
 use Rattle.mmap_rules.specs.Held.{Held}
-use Rattle.mmap_rules.specs.Space.{writable_in}
+use Rattle.mmap_rules.specs.Space.{Space, writable_in}
 use Rattle.rv32im_step.specs.declared.regs.Regs.{Regs}
 use Rattle.vfork_exec.specs.declared.entry.Entry.{Entry}
 use Rattle.vfork_exec.specs.Procs.{process, with_value_at}
 use Rattle.machine_world.specs.Asks
-use Rattle.machine_world.specs.Asks.{Ask, Reply, with_files}
-use Rattle.machine_world.specs.Rows.{row, next_brk}
+use Rattle.machine_world.specs.Asks.{Ask, Reply, Row, with_files}
+use Rattle.machine_world.specs.Rows.{next_brk}
 use Rattle.machine_world.specs.Event.{number_of, args_of, ask_of, put_got, replied}
 use Rattle.file_calls.specs.Calls.{with_all, after, written_of}
 use Rattle.file_calls.specs.declared.call.Call.{Call}
@@ -57,9 +57,9 @@ ask_in a k e h call = ask_of (world_of a k) (process_of e) (private_of k.mem h) 
 
 -- its reply, and the break after it
 abbrev pub reply_of : Ask → Effect → Reply
-reply_of a (Answer value) = record { value = value; got = []; rest = a.rest; brk = a.space.brk; over = false }
-reply_of a Yield = record { value = 0; got = []; rest = a.rest; brk = a.space.brk; over = true }
-reply_of a (Break to) = record { value = next_brk a.space to; got = []; rest = a.rest; brk = next_brk a.space to; over = false }
+reply_of a (Answer value) = record { value = value; got = []; rest = a.rest; space = a.space; over = false }
+reply_of a Yield = record { value = 0; got = []; rest = a.rest; space = a.space; over = true }
+reply_of a (Break to) = record { value = next_brk a.space to; got = []; rest = a.rest; space = record a.space { brk = next_brk a.space to }; over = false }
 
 -- its value, and the break, by how the break moves
 abbrev pub value_of : (ℕ → ℕ) → Effect → ℕ
@@ -85,17 +85,21 @@ abbrev pub noted_call : Call → ℕ → List Written → Note
 noted_call call value got =
     call_note (record { pid = call.pid; call = call.number; args = call.args; sent = call.sent.items; reply = value; got = got })
 
--- memory, the registers of one process and the break of its space are others
-abbrev pub with_task : Kept → ℕ → Entry Task → Held → List ℕ → Regs → ℕ → Kept
-with_task k pid e h mem regs brk = record k {
+-- memory, the registers of one process and its space are others
+abbrev pub with_task : Kept → ℕ → Entry Task → Held → List ℕ → Regs → Kept
+with_task k pid e h mem regs = record k {
   mem = mem;
   procs = with_value_at k.procs pid (record e.value { regs = regs });
-  spaces = slice_set k.spaces e.value.space (Some (record h { brk = brk }));
+  spaces = slice_set k.spaces e.value.space (Some h);
 }
+
+-- what is kept of a space that has become this
+abbrev pub held_as : Held → Space → Held
+held_as h s = record h { maps = s.maps; brk = s.brk }
 
 -- a call has its reply, and is noted; memory is this
 abbrev pub after_reply : Kept → Entry Task → Held → Call → Reply → List ℕ → Kept
-after_reply k e h call r mem = record (with_task k call.pid e h mem (replied e.value.regs r.value) r.brk) {
+after_reply k e h call r mem = record (with_task k call.pid e (held_as h r.space) mem (replied e.value.regs r.value)) {
   notes = noted_call call r.value r.got ∷ k.notes;
   tree = r.rest.tree;
   files = r.rest.files;
@@ -107,18 +111,22 @@ abbrev pub Replies : About → Kept → Entry Task → Held → Call → Effect 
 Replies a old e h call f new (Ok done) = new ≡ after_reply old e h call (reply_of (ask_in a old e h call) f) old.mem
 Replies a old e h call f new (Err error) = new ≡ old
 
--- the reply of a call on files that writes nothing into memory
-pub record Changed (a : About) (old : Kept) (e : Entry Task) (h : Held) (call : Call) (new : Kept) : Type 0 where
+-- the reply of a call with this row, which changes files, or its caller's space with all its mappings: the bytes of all other
+-- spaces stay
+pub record Changed (a : About) (old : Kept) (e : Entry Task) (h : Held) (call : Call) (r : Row) (new : Kept) : Type 0 where
   pub reply : Reply
-  pub replies : row (ask_in a old e h call) ≡ Asks.replies reply
+  pub replies : r ≡ Asks.replies reply
   pub got : reply.got ≡ []
   pub rest : reply.rest ≡ with_all (ask_in a old e h call).rest reply.rest.tree reply.rest.files reply.rest.console
+  pub space : reply.space ≡ private_of new.mem (held_as h reply.space)
   pub over : reply.over ≡ false
-  pub after : new ≡ after_reply old e h call reply old.mem
+  pub others : OthersSame old e.value.space new.mem
+  pub pages : length new.regions ≡ length old.regions
+  pub after : new ≡ record (after_reply old e h call reply new.mem) { regions = new.regions }
 
-abbrev pub Changes : About → Kept → Entry Task → Held → Call → Kept → Result ⊤ AllocError → Type 0
-Changes a old e h call new (Ok done) = Changed a old e h call new
-Changes a old e h call new (Err error) = new ≡ old
+abbrev pub Changes : About → Kept → Entry Task → Held → Call → Row → Kept → Result ⊤ AllocError → Type 0
+Changes a old e h call r new (Ok done) = Changed a old e h call r new
+Changes a old e h call r new (Err error) = new ≡ old
 
 -- the reply of a call that gives bytes
 abbrev pub given : Ask → Outcome → Reply
@@ -126,7 +134,7 @@ given a o = record {
   value = o.value;
   got = written_of o;
   rest = with_files a.rest (after o.then a.process.table a.rest.files);
-  brk = a.space.brk;
+  space = a.space;
   over = false;
 }
 

@@ -1,5 +1,6 @@
 -- Kept     what is kept of all programs
 -- Regular  what holds of it at every moment: the parts of 'stands' that speak of regions, use counts, own bytes and runners
+-- Copies   a live copy holds its file: the part 'copies hold their file' of 'stands'
 -- Stands   the world that it stands for: the parts 'same state' and 'same bytes'
 -- Serves   what a system call, a signal and a stray access leave
 -- Starts   what the start of a program leaves
@@ -7,10 +8,12 @@
 -- Reading  what the reading of a call's bytes answers
 -- Gone     the parts without a process and its space
 -- Calls    a system call by its parts, and what is kept after it
+-- MapsIn   what mmap2 and munmap leave of the spaces
 -- Puts     what a call writes into its caller's memory, range by range
 -- Refusals  why a program doesn't start, by the loader's reason
 pub mod Kept
 pub mod Regular
+pub mod Copies
 pub mod Stands
 pub mod Serves
 pub mod Starts
@@ -19,4 +22,5 @@ pub mod Reading
 pub mod Gone
 pub mod Calls
 pub mod Refusals
+pub mod MapsIn
 pub mod Puts

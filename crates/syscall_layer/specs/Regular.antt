@@ -11,6 +11,7 @@ use Rattle.vfork_exec.specs.Keyed.{Falls}
 use Rattle.vfork_exec.specs.Procs.{process, pid_of, most_entries}
 use Rattle.syscall_layer.specs.declared.task.Task.{Task}
 use Rattle.syscall_layer.specs.Kept.{Kept}
+use Rattle.syscall_layer.specs.Copies.{CopiesHold}
 
 -- how many of the mappings name the region at an id
 abbrev pub named_in : ℕ → List Mapping → ℕ
@@ -54,3 +55,7 @@ pub record Regular (k : Kept) : Type 0 where
   pub alone : (p q : ℕ) (e f : Entry Task) → process k.procs p ≡ Some e → process k.procs q ≡ Some f → e.value.space ≡ f.value.space → p ≡ q
   pub falls : Falls pid_of k.procs.next_pid k.procs.entries
   pub few : length k.procs.entries ≤ most_entries
+
+-- and copies hold their file
+abbrev pub IsRegular : Kept → Type 0
+IsRegular k = Regular k × CopiesHold k.regions k.mem k.tree k.notes

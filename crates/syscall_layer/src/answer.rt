@@ -3,11 +3,14 @@
 ghost use Rattle.std.specs.Prelude.{◌≡◌, ◌<◌, ◌^◌, All, IfOk, length, slice_index, map, option_map};
 ghost use Rattle.call_log.specs.Notes.{has_room, weight_of};
 ghost use Rattle.call_log.specs.Values.{written_value};
+ghost use Rattle.page_runs.specs.Choosers.{IsChooser, kind_of};
 ghost use Rattle.mmap_rules.specs.Held.{Held};
 ghost use Rattle.vfork_exec.specs.declared.entry.Entry.{Entry};
 ghost use Rattle.vfork_exec.specs.Procs.{Lives};
 ghost use Rattle.mmap_rules.specs.Space.{writable_in};
+ghost use Rattle.mmap_rules.specs.Want.{AsksPages};
 ghost use Rattle.machine_world.specs.Asks.{replies};
+ghost use Rattle.machine_world.specs.MapCalls.{mapped};
 ghost use Rattle.machine_world.specs.Rows.{row};
 ghost use Rattle.machine_world.specs.Event.{called, classed, answered, exited};
 ghost use Rattle.file_calls.specs.Calls.{IsChange, IsOutput, written_of};
@@ -15,17 +18,21 @@ ghost use Rattle.file_calls.specs.Outcomes.{GivesRow, CanTake};
 ghost use Rattle.syscall_layer.specs.declared.task.Task.{Task};
 ghost use Rattle.syscall_layer.specs.Stands.{About, world_of};
 ghost use Rattle.syscall_layer.specs.Serves.{Serves};
+ghost use Rattle.syscall_layer.specs.Copies.{IsKnown};
 ghost use Rattle.syscall_layer.specs.Puts.{first_stray, access_at, IsRange};
 ghost use Rattle.syscall_layer.specs.Calls.{RunsIn, IsCall, ask_in, reply_of, served_by};
 
 use crate::call::{call_of, home};
 use crate::classes::{is_change, is_exit, is_output};
 use crate::effect::{Effect, effect_of};
+use crate::maps::want_of;
 use crate::output::{got_len, stray_put};
 use crate::parts::Parts;
 use crate::reading::Unread;
 use call_log::{Got, Log};
 use file_calls::{Call, Outcome, output};
+use mmap_rules::Want;
+use page_runs::{Chooser, Run};
 use rv32im_step::{Access, AccessKind};
 use std::alloc::AllocError;
 
@@ -151,11 +158,69 @@ fn answer_output(parts: &mut Parts, call: Call) -> Result<Served, AllocError>
     Ok(Served::Replied)
 }
 
+/// Maps what an mmap2 asks for, where the log has room for the call.
+fn answer_want<F: Fn(&[Run], u32) -> Option<usize>>(
+    parts: &mut Parts,
+    call: Call,
+    want: Want,
+    chooser: &Chooser<F>,
+) -> Result<Served, AllocError>
+    requires chooser { IsChooser F.pre F.post chooser.now }
+    requires lives { Lives parts.old.procs call.pid }
+    requires known { IsKnown parts.old.tree want }
+    requires pages { AsksPages want }
+    ensures { (a : About) → a.kind ≡ kind_of chooser.now → (e : Entry Task) → (h : Held) → RunsIn parts.old call.pid e h → IsCall parts.old.mem e h call →
+        Serves a (answered (world_of a parts.old) (ask_in a parts.old e h call) (mapped (ask_in a parts.old e h call) want)) parts.old parts.new call.pid result }
+{
+    if !has_room(&parts.log, &call) {
+        return Ok(Served::LogFull);
+    }
+    parts.map(call, want, chooser)?;
+    Ok(Served::Replied)
+}
+
+/// Carries out mmap2.
+fn answer_map<F: Fn(&[Run], u32) -> Option<usize>>(
+    parts: &mut Parts,
+    call: Call,
+    chooser: &Chooser<F>,
+) -> Result<Served, AllocError>
+    requires chooser { IsChooser F.pre F.post chooser.now }
+    requires lives { Lives parts.old.procs call.pid }
+    requires mmap2 { call.number ≡ 222 }
+    ensures { (a : About) → a.kind ≡ kind_of chooser.now → (e : Entry Task) → (h : Held) → RunsIn parts.old call.pid e h → IsCall parts.old.mem e h call →
+        Serves a (answered (world_of a parts.old) (ask_in a parts.old e h call) (row (ask_in a parts.old e h call))) parts.old parts.new call.pid result }
+{
+    match want_of(&parts.tree, &parts.files, call.table, &call.args) {
+        Ok(want) => answer_want(parts, call, want, chooser),
+        Err(errno) => answer_effect(parts, call, Effect::Answer(errno.refusal())),
+    }
+}
+
+/// Carries out munmap, where the log has room for it.
+fn answer_unmap(parts: &mut Parts, call: Call) -> Result<Served, AllocError>
+    requires lives { Lives parts.old.procs call.pid }
+    requires munmap { call.number ≡ 215 }
+    ensures { (a : About) → (e : Entry Task) → (h : Held) → RunsIn parts.old call.pid e h → IsCall parts.old.mem e h call →
+        Serves a (answered (world_of a parts.old) (ask_in a parts.old e h call) (row (ask_in a parts.old e h call))) parts.old parts.new call.pid result }
+{
+    if !has_room(&parts.log, &call) {
+        return Ok(Served::LogFull);
+    }
+    parts.unmap(call)?;
+    Ok(Served::Replied)
+}
+
 /// Carries out a call that is read.
-fn answer(parts: &mut Parts, call: Call) -> Result<Served, AllocError>
+fn answer<F: Fn(&[Run], u32) -> Option<usize>>(
+    parts: &mut Parts,
+    call: Call,
+    chooser: &Chooser<F>,
+) -> Result<Served, AllocError>
+    requires chooser { IsChooser F.pre F.post chooser.now }
     requires lives { Lives parts.old.procs call.pid }
     requires room { slice_index call.args 2 < 2 ^ 32 }
-    ensures { (a : About) → (e : Entry Task) → (h : Held) → RunsIn parts.old call.pid e h → IsCall parts.old.mem e h call →
+    ensures { (a : About) → a.kind ≡ kind_of chooser.now → (e : Entry Task) → (h : Held) → RunsIn parts.old call.pid e h → IsCall parts.old.mem e h call →
         Serves a (classed (world_of a parts.old) (ask_in a parts.old e h call)) parts.old parts.new call.pid result }
 {
     if is_exit(call.number) {
@@ -167,17 +232,28 @@ fn answer(parts: &mut Parts, call: Call) -> Result<Served, AllocError>
     if is_output(call.number) {
         return answer_output(parts, call);
     }
+    if call.number == 215 {
+        return answer_unmap(parts, call);
+    }
+    if call.number == 222 {
+        return answer_map(parts, call, chooser);
+    }
     let effect = effect_of(&call, &parts.files);
     answer_effect(parts, call, effect)
 }
 
-/// Carries out the system call that a process stands at.
-pub fn serve(parts: &mut Parts, pid: u32) -> Result<Served, AllocError>
-    requires { Lives parts.old.procs pid }
-    ensures { (a : About) → Serves a (called (world_of a parts.old) pid) parts.old parts.new pid result }
+/// Carries out the system call that a process stands at. A run of pages that it needs is the chooser's.
+pub fn serve<F: Fn(&[Run], u32) -> Option<usize>>(
+    parts: &mut Parts,
+    pid: u32,
+    chooser: &Chooser<F>,
+) -> Result<Served, AllocError>
+    requires chooser { IsChooser F.pre F.post chooser.now }
+    requires lives { Lives parts.old.procs pid }
+    ensures { (a : About) → a.kind ≡ kind_of chooser.now → Serves a (called (world_of a parts.old) pid) parts.old parts.new pid result }
 {
     match call_of(parts, pid) {
-        Ok(call) => answer(parts, call),
+        Ok(call) => answer(parts, call, chooser),
         Err(Unread::Stray { addr, len }) => Ok(Served::Stray(Access {
             pc: parts.procs.get(pid).regs.pc,
             addr,

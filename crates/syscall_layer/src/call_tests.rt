@@ -66,7 +66,10 @@ fn call(
     if !parts.procs.lives(1) {
         return Ok((None, None));
     }
-    let served = serve(parts, 1)?;
+    let chooser = Chooser::new(Kind::First, |runs: &[Run], need: u32| {
+        first_fit(runs, need)
+    });
+    let served = serve(parts, 1, &chooser)?;
     if !parts.procs.lives(1) {
         return Ok((Some(served), None));
     }

@@ -7,6 +7,7 @@ ghost use Rattle.machine_world.specs.Descriptors.{ioctl_row};
 ghost use Rattle.machine_world.specs.Rows.{asks_pid, row};
 ghost use Rattle.file_calls.specs.Calls.{MadeBy, is_change, is_output};
 ghost use Rattle.syscall_layer.specs.Calls.{reply_of};
+ghost use Rattle.syscall_layer.specs.MapsIn.{is_mapping};
 
 use call_log::Errno;
 use fd_tables::Files;
@@ -40,10 +41,11 @@ fn asks_pid(number: u32) -> bool
     number == 96 || number == 172 || number == 178
 }
 
-/// What a call does that is no call on files but ioctl.
+/// What a call does that is neither a call on files, but for ioctl, nor one that maps or unmaps.
 pub fn effect_of(call: &Call, files: &Files) -> Effect
     requires change { is_change call.now.number ≡ false }
     requires output { is_output call.now.number ≡ false }
+    requires mapping { is_mapping call.now.number ≡ false }
     ensures { (a : Ask) → MadeBy call.now a → a.rest.files ≡ files.now.open_files → row a ≡ replies (reply_of a result) }
 {
     match call.number {

@@ -11,6 +11,7 @@ mod classes;
 mod effect;
 mod ending;
 mod keep;
+mod maps;
 mod output;
 mod parts;
 mod reading;

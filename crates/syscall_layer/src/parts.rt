@@ -1,7 +1,9 @@
 //! What is kept of all programs.
 
 ghost use Rattle.std.specs.Prelude.{◌≡◌, ◌≤◌, IfOk};
+ghost use Rattle.machine_world.specs.Ages.{AreChanged};
 ghost use Rattle.syscall_layer.specs.Kept.{nothing_yet};
+ghost use Rattle.syscall_layer.specs.Copies.{most_at_boot};
 
 use crate::task::Task;
 use call_log::Log;
@@ -41,18 +43,19 @@ impl Model for Parts {
     ghost Value = { Kept };
 
     ghost use Rattle.syscall_layer.specs.Inside.{kept_of};
-    ghost use Rattle.syscall_layer.specs.Regular.{Regular};
+    ghost use Rattle.syscall_layer.specs.Regular.{IsRegular};
 
     ghost view = { kept_of };
 
-    ghost invariant = { λ p. Regular (kept_of p) };
+    ghost invariant = { λ p. IsRegular (kept_of p) };
 }
 
 impl Parts {
-    /// A memory of so many pages, in which nothing runs, over these files.
+    /// A memory of so many pages, in which nothing runs, over these files, which were changed fewer than 2^63 times each.
     pub fn new(alloc: Global, pages: u32, tree: Tree, files: Files) -> Result<Parts, AllocError>
         requires some { 1 ≤ pages }
         requires most { pages ≤ 16384 }
+        requires changes { AreChanged most_at_boot tree }
         ensures { IfOk result (λ parts. parts ≡ nothing_yet pages tree files.open_files) }
     {
         Ok(Parts {

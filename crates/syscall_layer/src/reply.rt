@@ -7,6 +7,7 @@ ghost use Rattle.mmap_rules.specs.Held.{Held, next_brk};
 ghost use Rattle.mmap_rules.specs.Space.{writable_in};
 ghost use Rattle.vfork_exec.specs.declared.entry.Entry.{Entry as Listed};
 ghost use Rattle.vfork_exec.specs.Procs.{Lives, value_at, with_value_at};
+ghost use Rattle.machine_world.specs.Rows.{row};
 ghost use Rattle.machine_world.specs.Event.{replied};
 ghost use Rattle.file_calls.specs.Calls.{IsChange, written_of};
 ghost use Rattle.file_calls.specs.Outcomes.{CanTake};
@@ -14,7 +15,7 @@ ghost use Rattle.syscall_layer.specs.declared.task.Task.{Task};
 ghost use Rattle.syscall_layer.specs.Regular.{HasSpace};
 ghost use Rattle.syscall_layer.specs.Stands.{About};
 ghost use Rattle.syscall_layer.specs.Puts.{first_stray, IsRange};
-ghost use Rattle.syscall_layer.specs.Calls.{RunsIn, IsCall, value_of, brk_of, noted_call, Replies, Changes, Gives};
+ghost use Rattle.syscall_layer.specs.Calls.{RunsIn, IsCall, ask_in, value_of, brk_of, noted_call, Replies, Changes, Gives};
 
 use crate::call::home;
 use crate::effect::Effect;
@@ -64,7 +65,7 @@ fn settle(spaces: &mut [Option<Space>], number: u32, effect: Effect) -> u32
 }
 
 /// A call has its reply, and is noted. There is room and memory for its note.
-fn finish(procs: &mut Procs<Task>, log: &mut Log, call: Call, value: u32, got: Vec<Got>)
+pub(crate) fn finish(procs: &mut Procs<Task>, log: &mut Log, call: Call, value: u32, got: Vec<Got>)
     requires lives { Lives procs.old call.pid }
     requires spare { 1 ≤ log.old.spare }
     requires room { has_room log.old.notes (weight_of call.sent.items (map written_value got.items)) ≡ true }
@@ -113,7 +114,7 @@ impl Parts {
         requires lives { Lives self.old.procs call.pid }
         requires room { has_room self.old.notes (length call.sent.items) ≡ true }
         requires change { IsChange call.number }
-        ensures { (a : About) → (e : Listed Task) → (h : Held) → RunsIn self.old call.pid e h → IsCall self.old.mem e h call → Changes a self.old e h call self.new result }
+        ensures { (a : About) → (e : Listed Task) → (h : Held) → RunsIn self.old call.pid e h → IsCall self.old.mem e h call → Changes a self.old e h call (row (ask_in a self.old e h call)) self.new result }
     {
         self.log.reserve(1)?;
         let value = file_calls::change(&mut self.tree, &mut self.files, &mut self.console, &call)?;

@@ -1,6 +1,6 @@
 //! What is read of a node.
 
-ghost use Rattle.std.specs.Prelude.{◌≡◌, ◌++◌, None, min, length, take, drop, option_map, option_copied, slice_get};
+ghost use Rattle.std.specs.Prelude.{◌≡◌, ◌++◌, None, is_some, min, length, take, drop, option_map, option_copied, slice_get};
 ghost use Rattle.mem_files.specs.Inodes.{inode_at, kind_of, size_of, change_of, program_of, bytes_of, entries_of};
 ghost use Rattle.mem_files.specs.Seen.{entry_of};
 
@@ -9,6 +9,13 @@ use crate::inode::Inode;
 use crate::node::Node;
 
 impl Tree {
+    /// Whether there is a node of this number.
+    pub fn has(&self, id: u32) -> bool
+        ensures { result ≡ is_some (inode_at self.now id) }
+    {
+        self.inode(id).is_some()
+    }
+
     /// What a node is. A number of no node reads as that of an empty file, here and in the calls below.
     pub fn kind(&self, id: u32) -> Node
         ensures { result ≡ kind_of self.now id }

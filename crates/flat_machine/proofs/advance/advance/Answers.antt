@@ -6,13 +6,13 @@ use Rattle.flat_machine.proofs.advance.advance.Goals as goal
 
 pub index-requires : goal.index-requires
 index-requires c =
-    let h = has_space (kept_of c.parts.inside) c.args.pid c.get_mut-task.result.now c.parts.invariant c.get_mut-task.ensures.value in
+    let h = has_space (kept_of c.parts.inside) c.args.pid c.get_mut-task.result.now c.parts.invariant.0 c.get_mut-task.ensures.value in
     omega (arith, below c.parts.inside.spaces.items c.get_mut-task.result.now.space h)
 
 pub new-watch-requires-clause-paged : goal.new-watch-requires-clause-paged
 new-watch-requires-clause-paged c =
-    let h = has_space (kept_of c.parts.inside) c.args.pid c.get_mut-task.result.now c.parts.invariant c.get_mut-task.ensures.value in
-    paged (kept_of c.parts.inside) c.get_mut-task.result.now.space c.index.result.now c.in-Some.space _ c.parts.invariant h c.index.ensures c.in-Some.is c.owners.ensures.pages
+    let h = has_space (kept_of c.parts.inside) c.args.pid c.get_mut-task.result.now c.parts.invariant.0 c.get_mut-task.ensures.value in
+    paged (kept_of c.parts.inside) c.get_mut-task.result.now.space c.index.result.now c.in-Some.space _ c.parts.invariant.0 h c.index.ensures c.in-Some.is c.owners.ensures.pages
 
 pub invariant_of-parts : goal.invariant_of-parts
 invariant_of-parts c = (advances (kept_of c.parts.inside) c.args.pid c.args.count c.get_mut-task.result.now c.index.result.now c.in-Some.space c.owners.result.now
@@ -46,16 +46,16 @@ returns-in-Some-clause-halts c = (advances (kept_of c.parts.inside) c.args.pid c
 
 pub invariant_of-parts-in-None : goal.invariant_of-parts-in-None
 invariant_of-parts-in-None c = absurd (never_none c.parts.inside.spaces.items c.get_mut-task.result.now.space c.index.result.now
-    (has_space (kept_of c.parts.inside) c.args.pid c.get_mut-task.result.now c.parts.invariant c.get_mut-task.ensures.value) c.index.ensures c.in-None.is)
+    (has_space (kept_of c.parts.inside) c.args.pid c.get_mut-task.result.now c.parts.invariant.0 c.get_mut-task.ensures.value) c.index.ensures c.in-None.is)
 
 pub returns-in-None-clause-lives : goal.returns-in-None-clause-lives
 returns-in-None-clause-lives c = absurd (never_none c.parts.inside.spaces.items c.get_mut-task.result.now.space c.index.result.now
-    (has_space (kept_of c.parts.inside) c.args.pid c.get_mut-task.result.now c.parts.invariant c.get_mut-task.ensures.value) c.index.ensures c.in-None.is)
+    (has_space (kept_of c.parts.inside) c.args.pid c.get_mut-task.result.now c.parts.invariant.0 c.get_mut-task.ensures.value) c.index.ensures c.in-None.is)
 
 pub returns-in-None-clause-leads : goal.returns-in-None-clause-leads
 returns-in-None-clause-leads c = absurd (never_none c.parts.inside.spaces.items c.get_mut-task.result.now.space c.index.result.now
-    (has_space (kept_of c.parts.inside) c.args.pid c.get_mut-task.result.now c.parts.invariant c.get_mut-task.ensures.value) c.index.ensures c.in-None.is)
+    (has_space (kept_of c.parts.inside) c.args.pid c.get_mut-task.result.now c.parts.invariant.0 c.get_mut-task.ensures.value) c.index.ensures c.in-None.is)
 
 pub returns-in-None-clause-halts : goal.returns-in-None-clause-halts
 returns-in-None-clause-halts c = absurd (never_none c.parts.inside.spaces.items c.get_mut-task.result.now.space c.index.result.now
-    (has_space (kept_of c.parts.inside) c.args.pid c.get_mut-task.result.now c.parts.invariant c.get_mut-task.ensures.value) c.index.ensures c.in-None.is)
+    (has_space (kept_of c.parts.inside) c.args.pid c.get_mut-task.result.now c.parts.invariant.0 c.get_mut-task.ensures.value) c.index.ensures c.in-None.is)

@@ -1,16 +1,17 @@
 -- Behind the events so far the turn goes on, and its process lives.
-use Rattle.std.proofs.Common.{◌-◌, ◌≤◌}
+use Rattle.std.proofs.Common.{◌≡◌, ◌-◌, ◌≤◌}
+use Rattle.page_runs.specs.Choosers.{kind_of}
 use Rattle.vfork_exec.specs.Procs.{Lives}
 use Rattle.machine_world.specs.Courses.{Leads}
 use Rattle.syscall_layer.specs.Stands.{About, later, world_of}
 use Rattle.flat_machine.proofs.turn.turn.Given as goal
 
 abbrev pub invariant-loop-events : goal.invariant-loop-events
-invariant-loop-events l = record {
+invariant-loop-events g l = record {
   lives : Lives l.parts.procs l.pid;
   within : l.events ≤ l.count;
-  leads : (a : About) → Leads l.pid (world_of a l.fn.parts) l.events (world_of (later l.events a) l.parts);
+  leads : (a : About) → a.kind ≡ kind_of l.chooser → Leads l.pid (world_of a l.fn.parts) l.events (world_of (later l.events a) l.parts);
 }
 
 abbrev pub decreases-loop-events : goal.decreases-loop-events
-decreases-loop-events l = l.count - l.events
+decreases-loop-events g l = l.count - l.events

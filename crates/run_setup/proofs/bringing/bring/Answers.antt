@@ -3,10 +3,12 @@ use Rattle.std.proofs.Common.{◌≡◌, ◌+◌, length, length-append, map, ru
 use Rattle.std.proofs.lemmas.List.{length-map}
 use Rattle.manifest_text.specs.Values.{item_value, vec_texts}
 use Rattle.manifest_text.specs.Laws.{IsItem}
-use Rattle.run_setup.specs.Making.{BroughtSoFar}
+use Rattle.run_setup.specs.Brought.{nothing_brought}
+use Rattle.run_setup.specs.Making.{BroughtSoFar, brought_value}
 use Rattle.run_setup.proofs.Opened.{opened, each_at}
 use Rattle.run_setup.proofs.Pairs.{pairs, pair_at, none_left}
 use Rattle.run_setup.proofs.AllLines.{begins, brings_more, brings_few, stops_at, brings_all}
+use Rattle.run_setup.proofs.Unchanged.{opening_unchanged, lines_unchanged, lines_tree, lines_closed}
 use Rattle.run_setup.proofs.bringing.bring.Goals as goal
 
 pub loop-item-init : goal.loop-item-init
@@ -51,3 +53,13 @@ returns-clause-brought c =
     c.zip-item-items.ensures.second.0 (c.zip-item-items.ensures.second.1 ∙ search rules) in
     let past = none_left c.args.items.now c.args.files.items all c.loop-item.yielded c.loop-item.item-iterator c.loop-item.yielded_by c.next.result c.next.new.self c.in-None.is c.next.ensures.steps c.requires.files in
     brings_all (map item_value c.args.items.now) (vec_texts c.args.files.items) c.loop-item.run (length c.loop-item.yielded) c.loop-item.invariant (rw (length-map c.args.items.now item_value) past)
+
+pub returns-clause-unchanged : goal.returns-clause-unchanged
+returns-clause-unchanged c =
+    lines_unchanged 0 (map item_value c.args.items.now) (vec_texts c.args.files.items) nothing_brought (brought_value c.loop-item.run) opening_unchanged (returns-clause-brought c)
+
+pub returns-clause-tree : goal.returns-clause-tree
+returns-clause-tree c = lines_tree (map item_value c.args.items.now) (vec_texts c.args.files.items) (brought_value c.loop-item.run) (returns-clause-brought c)
+
+pub returns-clause-closed : goal.returns-clause-closed
+returns-clause-closed c = lines_closed (map item_value c.args.items.now) (vec_texts c.args.files.items) (brought_value c.loop-item.run) (returns-clause-brought c)

@@ -1,5 +1,5 @@
 -- The machine stands for the opening world.
-use Rattle.std.proofs.Common.{refl, sym, subst, ◌∙◌}
+use Rattle.std.proofs.Common.{refl, sym, subst, ◌∙◌, arith}
 use Rattle.std.proofs.lemmas.List.{length-map}
 use Rattle.page_runs.specs.Choosers.{kind_of}
 use Rattle.manifest_text.specs.Values.{start_value, manifest_value}
@@ -11,15 +11,23 @@ use Rattle.suite_top.specs.Ending.{OrMemory}
 use Rattle.suite_top.specs.Answer.{ending_of}
 use Rattle.suite_top.specs.Run.{opening, fault_ending}
 use Rattle.suite_top.proofs.Opened.{each_got}
-use Rattle.suite_top.proofs.Booted.{no_event_yet, events_fit, booted, machine_events, boots_as, refused_as}
+use Rattle.suite_top.proofs.Booted.{no_event_yet, kind_stays, events_fit, booted, machine_events, machine_kind, boots_as, refused_as}
 use Rattle.suite_top.proofs.run.run_brought.Goals as goal
 
 pub boot-requires-clause-args : goal.boot-requires-clause-args
 boot-requires-clause-args g c i s is =
     rw (← length-map s.args.items (λ v. v.items)) (each_got HasArgument start_value c.args.manifest.starts.items i s is c.requires.manifest.each_start)
 
-pub run_machine-requires : goal.run_machine-requires
-run_machine-requires g c =
+pub boot-requires-clause-changes : goal.boot-requires-clause-changes
+boot-requires-clause-changes g c = λ id n is. omega (arith, c.requires.unchanged id n is)
+
+pub run_machine-requires-clause-kind : goal.run_machine-requires-clause-kind
+run_machine-requires-clause-kind g c =
+    let is = booted _ _ c.in-Ok.ensures in
+    sym (sym (machine_kind _) ∙ kind_stays _ _ _ is)
+
+pub run_machine-requires-clause-events : goal.run_machine-requires-clause-events
+run_machine-requires-clause-events g c =
     let is = booted _ _ c.in-Ok.ensures in
     rw c.deref.ensures.value (events_fit (manifest_value c.args.manifest) c.requires.manifest _ (sym (machine_events _) ∙ no_event_yet _ _ _ is))
 

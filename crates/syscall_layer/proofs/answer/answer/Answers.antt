@@ -6,19 +6,27 @@ use Rattle.syscall_layer.proofs.Outcomes.{made_by, files_in, exit_classed, row_c
 use Rattle.syscall_layer.proofs.answer.answer.Goals as goal
 
 pub returns-then-is_exit : goal.returns-then-is_exit
-returns-then-is_exit c = λ a e h runs is.
+returns-then-is_exit g c = λ a kind e h runs is.
     exit_classed a c.args.parts.now e h c.args.call runs is c.answer_exit.new.parts c.answer_exit.result (sym c.is_exit.ensures ∙ c.if-is_exit.true) (c.answer_exit.ensures a e h runs is)
 
 pub returns-then-is_change : goal.returns-then-is_change
-returns-then-is_change c = λ a e h runs is.
+returns-then-is_change g c = λ a kind e h runs is.
     row_classed a c.args.parts.now e h c.args.call runs is c.answer_change.new.parts c.answer_change.result (sym c.is_exit.ensures ∙ c.if-is_exit.false) (c.answer_change.ensures a e h runs is)
 
 pub returns-then-is_output : goal.returns-then-is_output
-returns-then-is_output c = λ a e h runs is.
+returns-then-is_output g c = λ a kind e h runs is.
     row_classed a c.args.parts.now e h c.args.call runs is c.answer_output.new.parts c.answer_output.result (sym c.is_exit.ensures ∙ c.if-is_exit.false) (c.answer_output.ensures a e h runs is)
 
+pub returns-then-call-eq215 : goal.returns-then-call-eq215
+returns-then-call-eq215 g c = λ a kind e h runs is.
+    row_classed a c.args.parts.now e h c.args.call runs is c.answer_unmap.new.parts c.answer_unmap.result (sym c.is_exit.ensures ∙ c.if-is_exit.false) (c.answer_unmap.ensures a e h runs is)
+
+pub returns-then-call-eq222 : goal.returns-then-call-eq222
+returns-then-call-eq222 g c = λ a kind e h runs is.
+    row_classed a c.args.parts.now e h c.args.call runs is c.answer_map.new.parts c.answer_map.result (sym c.is_exit.ensures ∙ c.if-is_exit.false) (c.answer_map.ensures a kind e h runs is)
+
 pub returns : goal.returns
-returns c = λ a e h runs is.
+returns g c = λ a kind e h runs is.
     let k = c.args.parts.now in
     let call = c.args.call in
     let files = files_in a k e h call (ap (λ (x : Kept). x.files) (sym c.parts.view_is)) in

@@ -13,7 +13,7 @@ pub returns-then-not-has_room : goal.returns-then-not-has_room
 returns-then-not-has_room c = λ a e h runs is.
     let k = c.args.parts.now in
     let call = c.args.call in
-    quiet_full a k e h call runs is (quiet_row (ask_in a k e h call) (ap is_change (sym is.number) ∙ c.requires.change))
+    quiet_full a k e h call runs is _ (quiet_row (ask_in a k e h call) (ap is_change (sym is.number) ∙ c.requires.change))
     (room_is (kept_of c.parts.inside) k c.parts.view_is (length call.sent.items) c.has_room.result false c.has_room.ensures c.if-not-has_room.true)
 
 pub returns-in_err-change : goal.returns-in_err-change
@@ -26,4 +26,4 @@ returns c = λ a e h runs is.
     let k = c.args.parts.now in
     let call = c.args.call in
     let room = room_is (kept_of c.parts.inside) k c.parts.view_is (length call.sent.items) c.has_room.result true c.has_room.ensures c.if-not-has_room.false in
-    change_serves a k e h call runs is c.change.new.self (c.in_ok-change.ensures a e h runs is) room
+    change_serves a k e h call runs is _ c.change.new.self (c.in_ok-change.ensures a e h runs is) room

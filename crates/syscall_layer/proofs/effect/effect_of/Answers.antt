@@ -19,7 +19,7 @@ pub returns-in_default : goal.returns-in_default
 returns-in_default c = λ a made files.
     let n = c.args.call.now.number in
     let n29 : n ≢ 29 = omega arith in
-    row_pid c.args.call.now a made c.requires.change c.requires.output n29 (sym c.asks_pid.ensures ∙ c.if-asks_pid.true)
+    row_pid c.args.call.now a made c.requires.change c.requires.output c.requires.mapping n29 (sym c.asks_pid.ensures ∙ c.if-asks_pid.true)
 
 pub returns-in_default-2 : goal.returns-in_default-2
 returns-in_default-2 c = λ a made files.
@@ -28,4 +28,4 @@ returns-in_default-2 c = λ a made files.
     let n124 : n ≢ 124 = omega arith in
     let n173 : n ≢ 173 = omega arith in
     let n214 : n ≢ 214 = omega arith in
-    row_other c.args.call.now a made c.requires.change c.requires.output c.refusal.result n29 (sym c.asks_pid.ensures ∙ c.if-asks_pid.false) n124 n173 n214 c.refusal.ensures
+    row_other c.args.call.now a made c.requires.change c.requires.output c.requires.mapping c.refusal.result n29 (sym c.asks_pid.ensures ∙ c.if-asks_pid.false) n124 n173 n214 c.refusal.ensures

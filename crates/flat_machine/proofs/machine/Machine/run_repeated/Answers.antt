@@ -1,5 +1,5 @@
 -- The times so far, and the next.
-use Rattle.std.proofs.Common.{ℕ, ◌≡◌, arith}
+use Rattle.std.proofs.Common.{ℕ, ◌≡◌, refl, ◌∙◌, arith}
 use Rattle.std.specs.Prelude.{sum_by}
 use Rattle.quantum_sched.specs.declared.Quantum.{Quantum}
 use Rattle.machine_world.proofs.RunLaws.{comes_none}
@@ -10,36 +10,36 @@ use Rattle.flat_machine.proofs.Rounds.{time_fits, one_more_time, time_on, time_e
 use Rattle.flat_machine.proofs.machine.Machine.run_repeated.Goals as goal
 
 pub loop-time-init : goal.loop-time-init
-loop-time-init c = record { comes = comes_none (world c.args.self.now); events = omega arith }
+loop-time-init g c = record { kind = refl; comes = comes_none (world c.args.self.now); events = omega arith }
 
-pub round-requires : goal.round-requires
-round-requires c =
+pub round-requires-clause-events : goal.round-requires-clause-events
+round-requires-clause-events g c =
     let sum : ℕ = sum_by (λ (q : Quantum). q.count) c.args.quanta.now in
     let fits = time_fits c.loop-time._time c.args.count sum c.loop-time-test.true in
     let events = c.loop-time.invariant.events in
     omega arith
 
 pub returns-in_err-end : goal.returns-in_err-end
-returns-in_err-end c =
+returns-in_err-end g c =
     runs_fail (repeated c.args.count c.args.quanta.now) c.args.self.now c.round.new.self c.from_residual.result c.from_residual.ensures.0
     (time_fails c.args.quanta.now c.loop-time._time c.args.count c.loop-time-test.true (world c.args.self.now) (world c.loop-time.self) (world c.round.new.self) c.loop-time.invariant.comes c.in_err-end.ensures.leaves)
 
 pub returns-in-Some : goal.returns-in-Some
-returns-in-Some c =
+returns-in-Some g c =
     let leaves = rw c.in-Some.is at c.in_ok-end.ensures.leaves in
     time_ends c.args.quanta.now c.loop-time._time c.args.count c.loop-time-test.true (world c.args.self.now) (world c.loop-time.self) (world c.round.new.self) c.loop-time.invariant.comes c.in-Some.end leaves
 
 pub loop-time-preserved : goal.loop-time-preserved
-loop-time-preserved c =
+loop-time-preserved g c =
     let leaves = rw c.in_default.is at c.in_ok-end.ensures.leaves in
     let sum : ℕ = sum_by (λ (q : Quantum). q.count) c.args.quanta.now in
     let more = one_more_time c.loop-time._time sum in
     let events = c.loop-time.invariant.events in
     let here = c.in_ok-end.ensures.events in
-    record { comes = time_on c.args.quanta.now c.loop-time._time c.args.count c.loop-time-test.true (world c.args.self.now) (world c.loop-time.self) (world c.round.new.self) c.loop-time.invariant.comes leaves; events = omega arith }
+    record { kind = c.in_ok-end.ensures.kind ∙ c.loop-time.invariant.kind; comes = time_on c.args.quanta.now c.loop-time._time c.args.count c.loop-time-test.true (world c.args.self.now) (world c.loop-time.self) (world c.round.new.self) c.loop-time.invariant.comes leaves; events = omega arith }
 
 pub returns : goal.returns
-returns c =
+returns g c =
     let all : c.loop-time._time ≡ c.args.count = omega (arith, c.loop-time.auto._time-end) in
     machine_ends (repeated c.args.count c.args.quanta.now) (world c.args.self.now) c.loop-time.self (state_of c.self.inside) c.last_end.result c.self.view_is
     (rw all at c.loop-time.invariant.comes) (c.last_end.ensures (about_of (state_of c.self.inside)))

@@ -1,29 +1,29 @@
 -- The process of the quantum has its turn.
-use Rattle.std.proofs.Common.{length, sym}
+use Rattle.std.proofs.Common.{length, sym, ap, ◌∙◌}
 use Rattle.syscall_layer.specs.Stands.{later}
-use Rattle.flat_machine.specs.State.{about_of, world}
+use Rattle.flat_machine.specs.State.{State, about_of, world}
 use Rattle.flat_machine.specs.Inside.{state_of}
 use Rattle.flat_machine.proofs.Rounds.{quantum_none, machine_leaves, turn_loads}
 use Rattle.flat_machine.proofs.machine.Machine.take_turn.Goals as goal
 
 pub returns-in_default-clause-leaves : goal.returns-in_default-clause-leaves
-returns-in_default-clause-leaves c =
+returns-in_default-clause-leaves g c =
     let v = c.self.view_is in
     rw (← v) (quantum_none c.args.quantum (world (state_of c.self.inside)) (sym (c.in_default.ensures.picked (about_of (state_of c.self.inside)))))
 
 pub returns-clause-leaves : goal.returns-clause-leaves
-returns-clause-leaves c =
+returns-clause-leaves g c =
     let v = c.self.view_is in
     let s = state_of c.self.inside in
     rw (← v)
     (machine_leaves s c.args.quantum c.in-Some.pid c.turn-events.result.events c.from.result c.turn-events.new.parts c.turn-events.result.end (c.in-Some.ensures.picked (about_of s))
-    (c.turn-events.ensures.leaves (about_of s)) c.from.ensures)
+    (c.turn-events.ensures.leaves (about_of s) (ap (λ (m : State). m.kind) v ∙ sym c.requires.kind)) c.from.ensures)
 
 pub invariant_of-self : goal.invariant_of-self
-invariant_of-self c =
+invariant_of-self g c =
     let a = about_of (state_of c.self.inside) in
     record {
       paths = c.self.invariant.paths;
       loads = turn_loads a (later c.turn-events.result.events a) (length c.self.inside.programs.items) c.in-Some.pid c.args.quantum.count c.turn-events.result.events c.self.inside.parts
-          c.turn-events.new.parts c.turn-events.result.end (c.turn-events.ensures.leaves a) c.self.invariant.loads;
+          c.turn-events.new.parts c.turn-events.result.end (c.turn-events.ensures.leaves a (ap (λ (m : State). m.kind) c.self.view_is ∙ sym c.requires.kind)) c.self.invariant.loads;
     }

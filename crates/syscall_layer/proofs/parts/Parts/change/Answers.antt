@@ -1,13 +1,18 @@
 -- The files are changed, and the call has its reply.
-use Rattle.std.proofs.Common.{◌∷◌, refl, sym, subst, ◌∙◌}
+use Rattle.std.proofs.Common.{◌≡◌, true, List, ◌∷◌, length, refl, sym, ap, subst, ◌∙◌}
 use Rattle.std.specs.Prelude.{map}
 use Rattle.std.proofs.lemmas.Result.{err_from_is_err_and}
+use Rattle.call_log.specs.Notes.{Note, has_room}
 use Rattle.call_log.specs.Values.{written_value}
+use Rattle.file_calls.specs.Calls.{MadeBy}
 use Rattle.vfork_exec.specs.Procs.{Lives}
+use Rattle.machine_world.specs.Rows.{row}
 use Rattle.syscall_layer.specs.Kept.{Kept}
 use Rattle.syscall_layer.specs.Inside.{kept_of}
+use Rattle.syscall_layer.specs.Regular.{IsRegular}
 use Rattle.syscall_layer.specs.Calls.{RunsIn, IsCall, ask_in, noted_call, Changed, Changes}
 use Rattle.syscall_layer.proofs.Outcomes.{made_by}
+use Rattle.syscall_layer.proofs.Sound.{plain_ask, counts, copies_changed}
 use Rattle.syscall_layer.proofs.Finishes.{regular_finished, is_rest, changed_by}
 use Rattle.syscall_layer.proofs.parts.Parts.change.Goals as goal
 
@@ -23,12 +28,20 @@ new_parts c = record (kept_of c.self.inside) {
   console = c.change.new.console.items;
 }
 
+pub invariant_of-self-in_err-value : goal.invariant_of-self-in_err-value
+invariant_of-self-in_err-value c =
+    let k = kept_of c.self.inside in
+    let made : MadeBy c.args.call (plain_ask k c.args.call) = record { pid = refl; parent = refl; table = refl; number = refl; args = refl; sent = refl } in
+    let same = c.in_err-value.ensures (plain_ask k c.args.call) made (record { tree = refl; files = refl; console = refl }) in
+    let stays : k ≡ left c = λ i. record k { tree = sym same.0 i; files = sym same.1 i; console = sym same.2 i; notes = sym c.reserve.ensures.same i } in
+    subst IsRegular stays c.self.invariant
+
 pub returns-in_err-value : goal.returns-in_err-value
 returns-in_err-value c = λ a e h.
     let k = kept_of c.self.inside in
     let call = c.args.call in
     let p = err_from_is_err_and c.from_residual-in_err-value.result c.from_residual-in_err-value.ensures.1 in
-    subst (λ (old : Kept). RunsIn old call.pid e h → IsCall old.mem e h call → Changes a old e h call (left c) c.from_residual-in_err-value.result) c.self.view_is
+    subst (λ (old : Kept). RunsIn old call.pid e h → IsCall old.mem e h call → Changes a old e h call (row (ask_in a old e h call)) (left c) c.from_residual-in_err-value.result) c.self.view_is
     (λ runs is.
     let same = c.in_err-value.ensures (ask_in a k e h call) (made_by a k e h call runs is) (is_rest a k e h call runs is c.self.inside.files refl) in
     rw p.1 (λ i. record k { tree = same.0 i; files = same.1 i; console = same.2 i; notes = c.reserve.ensures.same i }))
@@ -37,8 +50,15 @@ pub invariant_of-self-2 : goal.invariant_of-self-2
 invariant_of-self-2 c =
     let k = kept_of c.self.inside in
     let lives = subst (λ (s : Kept). Lives s.procs c.args.call.pid) (sym c.self.view_is) c.requires.lives in
-    regular_finished k c.args.call.pid c.self.invariant lives c.in_ok-value.value k.mem c.change.new.tree c.change.new.files.open_files c.finish.new.procs c.finish.new.log.notes c.change.new.console.items
-    refl c.finish.ensures.procs
+    let call = c.args.call in
+    let room = subst (λ (s : Kept). has_room s.notes (length call.sent.items) ≡ true) (sym c.self.view_is) c.requires.room in
+    let made : MadeBy call (plain_ask k call) = record { pid = refl; parent = refl; table = refl; number = refl; args = refl; sent = refl } in
+    let noted = c.finish.ensures.notes ∙ ap (λ (ns : List Note). noted_call call c.in_ok-value.value (map written_value c.new-got.result.items) ∷ ns) c.reserve.ensures.same in (
+      regular_finished k call.pid c.self.invariant.0 lives c.in_ok-value.value k.mem c.change.new.tree c.change.new.files.open_files c.finish.new.procs c.finish.new.log.notes c.change.new.console.items
+          refl c.finish.ensures.procs,
+      copies_changed k c.self.invariant.1 call c.in_ok-value.value c.change.new.tree c.change.new.files.open_files c.change.new.console.items c.finish.new.log.notes room
+          (c.in_ok-value.ensures (plain_ask k call) made (record { tree = refl; files = refl; console = refl })) (counts call c.in_ok-value.value _ k.notes _ noted),
+    )
 
 pub returns : goal.returns
 returns c = λ a e h.
@@ -46,7 +66,7 @@ returns c = λ a e h.
     let call = c.args.call in
     let noted = c.finish.ensures.notes
     ∙ (λ i. noted_call call c.in_ok-value.value (map written_value (c.new-got.ensures.items i)) ∷ c.reserve.ensures.same i) in
-    subst (λ (old : Kept). RunsIn old call.pid e h → IsCall old.mem e h call → Changed a old e h call (new_parts c)) c.self.view_is
+    subst (λ (old : Kept). RunsIn old call.pid e h → IsCall old.mem e h call → Changed a old e h call (row (ask_in a old e h call)) (new_parts c)) c.self.view_is
     (λ runs is. changed_by a k e h call runs is c.change.new.tree c.change.new.files.open_files c.change.new.console.items c.in_ok-value.value c.finish.new.procs c.finish.new.log.notes
     (c.in_ok-value.ensures (ask_in a k e h call) (made_by a k e h call runs is) (is_rest a k e h call runs is c.self.inside.files refl))
     c.finish.ensures.procs noted)

@@ -19,4 +19,4 @@ returns c = λ a.
     let lives = subst (λ (s : Kept). Lives s.procs pid) (sym c.self.view_is) c.requires in
     let noted = c.keep.ensures.notes ∙ ap (λ (ns : List Note). end_note pid (Signal signal) ∷ ns) c.reserve.ensures.same in
     subst (λ (old : Kept). Died a (died (world_of a old) pid signal) c.depart.new.self pid) c.self.view_is
-    (end_done a k pid signal c.self.invariant lives c.depart.new.self c.keep.new.log.notes noted c.depart.ensures)
+    (end_done a k pid signal c.self.invariant.0 lives c.depart.new.self c.keep.new.log.notes noted c.depart.ensures)

@@ -1,6 +1,7 @@
 -- The bytes are given, and the call has its reply.
 use Rattle.std.proofs.Common.{◌≡◌, List, Option, ◌∷◌, sym, ap, subst, ◌∙◌}
-use Rattle.std.specs.Prelude.{map, slice_get}
+use Rattle.std.specs.Prelude.{ℕ, Bool, not, map, slice_get}
+use Rattle.region_watch.specs.Private.{only, physical}
 use Rattle.mmap_rules.specs.Held.{Held}
 use Rattle.mmap_rules.specs.Space.{own_in, writable_in}
 use Rattle.call_log.specs.declared.note.Got.{Got}
@@ -13,6 +14,8 @@ use Rattle.syscall_layer.specs.Inside.{kept_of}
 use Rattle.syscall_layer.specs.Puts.{Put}
 use Rattle.syscall_layer.specs.Calls.{RunsIn, IsCall, noted_call, Gave}
 use Rattle.syscall_layer.proofs.Runs.{home_is}
+use Rattle.syscall_layer.proofs.CopiesKept.{copies_frozen}
+use Rattle.syscall_layer.proofs.Sound.{counts, copies_called}
 use Rattle.syscall_layer.proofs.Finishes.{regular_finished, gave_by}
 use Rattle.syscall_layer.proofs.parts.Parts.give.Goals as goal
 
@@ -28,8 +31,15 @@ pub invariant_of-self-2 : goal.invariant_of-self-2
 invariant_of-self-2 c =
     let k = kept_of c.self.inside in
     let lives = subst (λ (s : Kept). Lives s.procs c.args.call.pid) (sym c.self.view_is) c.requires.lives in
-    regular_finished k c.args.call.pid c.self.invariant lives c.args.outcome.value c.put.new.mem k.tree c.follow.new.files.open_files c.finish.new.procs c.finish.new.log.notes k.console
-    c.put.ensures.len c.finish.ensures.procs
+    let home = sym (ap (λ (ss : List (Option Held)). slice_get ss c.get.result.now.space) c.deref.ensures.value) ∙ c.home.ensures in
+    let frozen = subst (λ (w : ℕ → Bool). only (λ at. not (w at)) (physical c.put.new.mem) ≡ only (λ at. not (w at)) (physical k.mem)) c.owners-owners.ensures.writable c.put.ensures.frozen in
+    let noted = c.finish.ensures.notes ∙ ap (λ (ns : List Note). noted_call c.args.call c.args.outcome.value (written_of c.args.outcome) ∷ ns) c.reserve.ensures.same in (
+      regular_finished k c.args.call.pid c.self.invariant.0 lives c.args.outcome.value c.put.new.mem k.tree c.follow.new.files.open_files c.finish.new.procs c.finish.new.log.notes k.console
+          c.put.ensures.len c.finish.ensures.procs,
+      copies_called (record k { mem = c.put.new.mem })
+          (copies_frozen k c.self.invariant.0 c.self.invariant.1 c.get.result.now.space c.home.result.now home c.put.new.mem c.put.ensures.len frozen)
+          c.finish.new.log.notes (counts c.args.call c.args.outcome.value _ k.notes _ noted),
+    )
 
 pub returns : goal.returns
 returns c = λ a e h.
@@ -44,5 +54,5 @@ returns c = λ a e h.
     let puts = subst (λ (xs : List Got). Put c.owners-owners.result.now k.mem c.put.new.mem (map written_value xs)) c.deref-2.ensures.value c.put.ensures in
     let own = c.owners-owners.ensures.own ∙ ap (λ (x : Held). own_in x.maps) same in
     let writes = c.owners-owners.ensures.writable ∙ ap (λ (x : Held). writable_in x.maps) same in
-    gave_by a k e h call runs is c.self.invariant o c.owners-owners.result.now c.put.new.mem c.follow.new.files.open_files c.finish.new.procs c.finish.new.log.notes
+    gave_by a k e h call runs is c.self.invariant.0 o c.owners-owners.result.now c.put.new.mem c.follow.new.files.open_files c.finish.new.procs c.finish.new.log.notes
     own writes puts c.follow.ensures c.finish.ensures.procs noted)

@@ -2,6 +2,7 @@
 use Rattle.std.proofs.Common.{◌≡◌, List, Option, ◌∷◌, Ok, sym, ap, subst, ◌∙◌}
 use Rattle.std.specs.Prelude.{ℕ, map, slice_get, slice_set, Some}
 use Rattle.std.specs.Vec.{with_items}
+use Rattle.call_log.specs.Notes.{Note}
 use Rattle.call_log.specs.Values.{written_value}
 use Rattle.mmap_rules.specs.Held.{Held, next_brk}
 use Rattle.vfork_exec.specs.Procs.{Lives}
@@ -11,6 +12,7 @@ use Rattle.syscall_layer.specs.Inside.{kept_of}
 use Rattle.syscall_layer.specs.Calls.{RunsIn, value_of, brk_of, noted_call, Replies}
 use Rattle.syscall_layer.proofs.Runs.{value_found}
 use Rattle.syscall_layer.proofs.Settled.{items_set}
+use Rattle.syscall_layer.proofs.Sound.{counts, copies_called}
 use Rattle.syscall_layer.proofs.Finishes.{regular_settled, replied_by}
 use Rattle.syscall_layer.proofs.parts.Parts.reply.Goals as goal
 
@@ -37,8 +39,11 @@ pub invariant_of-self-2 : goal.invariant_of-self-2
 invariant_of-self-2 c =
     let k = kept_of c.self.inside in
     let lives = subst (λ (s : Kept). Lives s.procs c.args.call.pid) (sym c.self.view_is) c.requires.lives in
-    regular_settled k c.args.call.pid c.self.invariant lives c.get.result.now c.get.ensures c.settle-value.result (λ h. brk_of (next_brk h) h.brk c.args.effect)
-    (new_parts c).spaces c.finish.new.procs c.finish.new.log.notes (λ h there. (settled c h there).1) c.finish.ensures.procs
+    let noted = c.finish.ensures.notes ∙ ap (λ (ns : List Note). noted_call c.args.call c.settle-value.result (map written_value c.new-got.result.items) ∷ ns) c.reserve.ensures.same in (
+      regular_settled k c.args.call.pid c.self.invariant.0 lives c.get.result.now c.get.ensures c.settle-value.result (λ h. brk_of (next_brk h) h.brk c.args.effect)
+          (new_parts c).spaces c.finish.new.procs c.finish.new.log.notes (λ h there. (settled c h there).1) c.finish.ensures.procs,
+      copies_called k c.self.invariant.1 c.finish.new.log.notes (counts c.args.call c.settle-value.result _ k.notes _ noted),
+    )
 
 pub returns : goal.returns
 returns c = λ a e h.

@@ -1,0 +1,62 @@
+-- Copies hold their file after a call that is noted, and after an end.
+use Rattle.std.proofs.Common.{◌≡◌, ℕ, ◌+◌, true, List, [], ◌∷◌, length, None, arith, sym, ap, ◌∙◌}
+use Rattle.page_runs.specs.declared.place.Kind.TheVariants.{First}
+use Rattle.nommu_regions.specs.declared.region.Region.{Region}
+use Rattle.mmap_rules.specs.declared.mapping.Mapping.{Mapping}
+use Rattle.mmap_rules.specs.Held.{released}
+use Rattle.call_log.specs.Notes.{Written, Note, has_room}
+use Rattle.mem_files.specs.Inodes.{Inodes}
+use Rattle.fd_tables.specs.Files.{OpenFiles}
+use Rattle.fd_tables.specs.Changes.{Storage, storage, without_table}
+use Rattle.machine_world.specs.Asks.{Ask, gives}
+use Rattle.machine_world.specs.Rows.{row}
+use Rattle.machine_world.proofs.Aging.{rows_age, table_ages}
+use Rattle.file_calls.specs.declared.call.Call.{Call}
+use Rattle.file_calls.specs.Calls.{with_all}
+use Rattle.syscall_layer.specs.Kept.{Kept}
+use Rattle.syscall_layer.specs.Copies.{CopiesHold, kept_calls, most_at_boot}
+use Rattle.syscall_layer.specs.Calls.{noted_call}
+use Rattle.syscall_layer.proofs.CopiesStay.{copies_noted, copies_aged, copies_released, room_counts, call_counts}
+
+-- a call more is counted
+pub counts : (call : Call) (value : ℕ) (got : List Written) (old notes : List Note) → notes ≡ noted_call call value got ∷ old → kept_calls notes ≡ kept_calls old + 1
+counts call value got old notes is =
+    ap kept_calls is
+    ∙ call_counts (record { pid = call.pid; call = call.number; args = call.args; sent = call.sent.items; reply = value; got = got }) old
+
+-- it has its reply
+pub copies_called : (k : Kept) → CopiesHold k.regions k.mem k.tree k.notes → (notes : List Note) → kept_calls notes ≡ kept_calls k.notes + 1
+    → CopiesHold k.regions k.mem k.tree notes
+copies_called k copies notes counted = copies_noted k.regions k.mem k.tree k.notes notes copies (omega (arith, counted))
+
+-- the call over the files of the parts, whoever makes it
+abbrev pub plain_ask : Kept → Call → Ask
+plain_ask k call = record {
+  process = record { pid = call.pid; parent = call.parent; regs = record { pc = 0; x = [] }; space = 0; table = call.table };
+  space = record { maps = []; brk = 0; brk_low = 0; brk_high = 0; bytes = λ at. None };
+  spaces = [];
+  rest = record { pages = 0; kind = First; programs = []; tree = k.tree; files = k.files; console = k.console };
+  number = call.number;
+  args = call.args;
+  sent = call.sent.items;
+}
+
+-- it changes files
+pub copies_changed : (k : Kept) → CopiesHold k.regions k.mem k.tree k.notes → (call : Call) (value : ℕ) (tree : Inodes) (files : OpenFiles) (console : List ℕ) (notes : List Note) →
+    has_room k.notes (length call.sent.items) ≡ true →
+    row (plain_ask k call) ≡ gives (plain_ask k call) value [] (with_all (plain_ask k call).rest tree files console) →
+    kept_calls notes ≡ kept_calls k.notes + 1 → CopiesHold k.regions k.mem tree notes
+copies_changed k copies call value tree files console notes room is counted =
+    let few = room_counts k.notes (length call.sent.items) room in
+    let ages = rows_age (plain_ask k call) _ (most_at_boot + kept_calls k.notes) is copies.changes (omega (arith, few)) in
+    copies_aged k.regions k.mem k.tree tree k.notes notes copies ages.0 (λ id n there. omega (arith, ages.1 id n there, counted)) (omega (arith, counted))
+
+-- a process went, with its mappings and its table
+pub copies_departed : (k : Kept) → CopiesHold k.regions k.mem k.tree k.notes → (maps : List Mapping) (rs : List Region) (nodes : Inodes) (files : OpenFiles) (table : ℕ) →
+    rs ≡ released k.regions maps → storage nodes files ≡ without_table (storage k.tree k.files) table → CopiesHold rs k.mem nodes k.notes
+copies_departed k copies maps rs nodes files table regions closed =
+    let ages = table_ages (storage k.tree k.files) table (most_at_boot + kept_calls k.notes) copies.changes in
+    let left = copies_aged (released k.regions maps) k.mem k.tree (without_table (storage k.tree k.files) table).nodes k.notes k.notes
+    (copies_released k.regions k.mem k.tree k.notes maps copies) ages.0 ages.1 (omega arith) in
+    let nodes_are : (without_table (storage k.tree k.files) table).nodes ≡ nodes = ap (λ (s : Storage). s.nodes) (sym closed) in
+    rw (regions, ← nodes_are) left

@@ -1,0 +1,137 @@
+-- Pages are mapped, and the call has its reply.
+use Rattle.std.proofs.Common.{◌≡◌, true, List, [], Option, ◌∷◌, length, refl, sym, ap, subst, arith, ◌∙◌}
+use Rattle.std.specs.Prelude.{Some, map, slice_get, slice_set}
+use Rattle.std.specs.Vec.{with_items}
+use Rattle.std.proofs.lemmas.Result.{err_from_is_err_and}
+use Rattle.page_runs.specs.declared.place.Kind.{Kind}
+use Rattle.page_runs.specs.Choosers.{kind_of}
+use Rattle.call_log.specs.Notes.{has_room}
+use Rattle.call_log.specs.Values.{written_value}
+use Rattle.mem_files.specs.Inodes.{bytes_of}
+use Rattle.mmap_rules.specs.Held.{Held}
+use Rattle.mmap_rules.specs.Sides.{file_in}
+use Rattle.vfork_exec.specs.Procs.{Lives}
+use Rattle.machine_world.specs.MapCalls.{mapped}
+use Rattle.syscall_layer.specs.declared.task.Task.{Task}
+use Rattle.syscall_layer.specs.Kept.{Kept}
+use Rattle.syscall_layer.specs.Inside.{kept_of}
+use Rattle.syscall_layer.specs.Regular.{IsRegular}
+use Rattle.syscall_layer.specs.Copies.{IsKnown}
+use Rattle.syscall_layer.specs.Calls.{RunsIn, IsCall, ask_in, noted_call, Changed}
+use Rattle.syscall_layer.specs.MapsIn.{MapsIn}
+use Rattle.syscall_layer.proofs.Runs.{value_found, has_space}
+use Rattle.syscall_layer.proofs.Settled.{items_set}
+use Rattle.syscall_layer.proofs.Finishes.{regular_finished}
+use Rattle.syscall_layer.proofs.CopiesStay.{room_counts}
+use Rattle.syscall_layer.proofs.Sound.{counts}
+use Rattle.syscall_layer.proofs.NamesOf.{name_regions, few_uses}
+use Rattle.syscall_layer.proofs.Mapped.{with_maps, keeps_mapped, same_mapped, changed_mapped}
+use Rattle.syscall_layer.proofs.parts.Parts.map.Given.{Over}
+use Rattle.syscall_layer.proofs.parts.Parts.map.Goals as goal
+
+pub map_in-mapped-requires-clause-names : goal.map_in-mapped-requires-clause-names
+map_in-mapped-requires-clause-names g c = λ h there.
+    let k = kept_of c.self.inside in
+    let number = c.get.result.now.space in
+    name_regions k c.self.invariant.0 number h (sym (ap (λ (ss : List (Option Held)). slice_get ss number) c.deref_mut.ensures.value) ∙ there)
+
+pub map_in-mapped-requires-clause-few : goal.map_in-mapped-requires-clause-few
+map_in-mapped-requires-clause-few g c =
+    let room = subst (λ (s : Kept). has_room s.notes (length c.args.call.sent.items) ≡ true) (sym c.self.view_is) c.requires.room in
+    few_uses (kept_of c.self.inside) c.self.invariant.1 (room_counts c.self.inside.log.notes (length c.args.call.sent.items) room)
+
+-- ---- out of memory
+
+stays : (g : Over) (c : goal.After-drop-call-in_err-value g) → kept_of c.self.inside
+    ≡ record (kept_of c.self.inside) {
+      mem = c.map_in-mapped.new.mem;
+      regions = c.map_in-mapped.new.regions;
+      spaces = (with_items c.self.inside.spaces c.map_in-mapped.new.spaces).items;
+      notes = c.reserve.new.self.notes;
+    }
+stays g c =
+    let k = kept_of c.self.inside in
+    let number = c.get.result.now.space in
+    let lives = subst (λ (s : Kept). Lives s.procs c.args.call.pid) (sym c.self.view_is) c.requires.lives in
+    let known = subst (λ (s : Kept). IsKnown s.tree c.args.want) (sym c.self.view_is) c.requires.known in
+    let live = has_space k c.args.call.pid c.get.result.now c.self.invariant.0 lives c.get.ensures in
+    let is = c.map_in-mapped.ensures live.held (ap (λ (ss : List (Option Held)). slice_get ss number) c.deref_mut.ensures.value ∙ live.there) in
+    let spaces = (with_items c.self.inside.spaces c.map_in-mapped.new.spaces).items in
+    let at : MapsIn (kind_of c.args.chooser.now) (bytes_of k.tree (file_in c.args.want)) c.args.want number live.held k.spaces spaces k.regions c.map_in-mapped.new.regions k.mem
+    c.map_in-mapped.new.mem c.map_in-mapped.result = record {
+      held = is.held;
+      spaces = items_set c.self.inside.spaces c.map_in-mapped.new.spaces number (Some is.held)
+          (is.spaces ∙ ap (λ (ss : List (Option Held)). slice_set ss number (Some is.held)) c.deref_mut.ensures.value);
+      maps = is.maps;
+    } in
+    let same = same_mapped k c.self.invariant.0 c.self.invariant.1 number live.held live.there (kind_of c.args.chooser.now) c.args.want c.requires.pages known spaces
+    c.map_in-mapped.new.regions c.map_in-mapped.new.mem c.map_in-mapped.result c.in_err-value.field-0.0 at c.in_err-value.ensures in
+    λ i. record (same i) { notes = sym c.reserve.ensures.same i }
+
+pub invariant_of-self-in_err-value : goal.invariant_of-self-in_err-value
+invariant_of-self-in_err-value g c = subst IsRegular (stays g c) c.self.invariant
+
+pub returns-in_err-value : goal.returns-in_err-value
+returns-in_err-value g c = λ a kind e h runs is.
+    let p = err_from_is_err_and c.from_residual-in_err-value.result c.from_residual-in_err-value.ensures.1 in
+    rw p.1 (sym (stays g c) ∙ c.self.view_is)
+
+-- ---- a reply
+
+abbrev new_parts : (g : Over) → goal.After-finish g → Kept
+new_parts g c = record (kept_of c.self.inside) {
+  mem = c.map_in-mapped.new.mem;
+  regions = c.map_in-mapped.new.regions;
+  spaces = (with_items c.self.inside.spaces c.map_in-mapped.new.spaces).items;
+  procs = c.finish.new.procs;
+  notes = c.finish.new.log.notes;
+}
+
+-- what is left of the space
+left : (g : Over) (c : goal.After-finish g) (kind : Kind) → kind ≡ kind_of c.args.chooser.now → (h : Held) → slice_get c.self.inside.spaces.items c.get.result.now.space ≡ Some (Some h) →
+    MapsIn kind (bytes_of c.self.inside.tree (file_in c.args.want)) c.args.want c.get.result.now.space h c.self.inside.spaces.items (new_parts g c).spaces c.self.inside.regions
+    c.map_in-mapped.new.regions c.self.inside.mem c.map_in-mapped.new.mem c.map_in-mapped.result
+left g c kind same h there =
+    let number = c.get.result.now.space in
+    let is = c.map_in-mapped.ensures h (ap (λ (ss : List (Option Held)). slice_get ss number) c.deref_mut.ensures.value ∙ there) in
+    rw same (record {
+      held = is.held;
+      spaces = items_set c.self.inside.spaces c.map_in-mapped.new.spaces number (Some is.held)
+          (is.spaces ∙ ap (λ (ss : List (Option Held)). slice_set ss number (Some is.held)) c.deref_mut.ensures.value);
+      maps = is.maps;
+    })
+
+noted : (g : Over) (c : goal.After-finish g) → c.finish.new.log.notes ≡ noted_call c.args.call c.in_ok-value.value [] ∷ c.self.inside.log.notes
+noted g c = c.finish.ensures.notes ∙ (λ i. noted_call c.args.call c.in_ok-value.value (map written_value (c.new-got.ensures.items i)) ∷ c.reserve.ensures.same i)
+
+pub invariant_of-self-2 : goal.invariant_of-self-2
+invariant_of-self-2 g c =
+    let k = kept_of c.self.inside in
+    let lives = subst (λ (s : Kept). Lives s.procs c.args.call.pid) (sym c.self.view_is) c.requires.lives in
+    let known = subst (λ (s : Kept). IsKnown s.tree c.args.want) (sym c.self.view_is) c.requires.known in
+    let live = has_space k c.args.call.pid c.get.result.now c.self.invariant.0 lives c.get.ensures in
+    let is = left g c (kind_of c.args.chooser.now) refl live.held live.there in
+    let keeps = keeps_mapped k c.self.invariant.0 c.self.invariant.1 c.get.result.now.space live.held live.there (kind_of c.args.chooser.now) c.args.want c.requires.pages known
+    (new_parts g c).spaces c.map_in-mapped.new.regions c.map_in-mapped.new.mem c.map_in-mapped.result is in
+    let now = with_maps k c.map_in-mapped.new.mem c.map_in-mapped.new.regions (new_parts g c).spaces in
+    let counted = counts c.args.call c.in_ok-value.value [] k.notes c.finish.new.log.notes (noted g c) in (
+      regular_finished now c.args.call.pid keeps.0 lives c.in_ok-value.value now.mem k.tree k.files c.finish.new.procs c.finish.new.log.notes k.console refl c.finish.ensures.procs,
+      keeps.1 c.finish.new.log.notes (omega (arith, counted)),
+    )
+
+pub returns : goal.returns
+returns g c = λ a kind e h.
+    let k = kept_of c.self.inside in
+    let call = c.args.call in
+    let want = c.args.want in
+    let known = subst (λ (s : Kept). IsKnown s.tree want) (sym c.self.view_is) c.requires.known in
+    subst (λ (old : Kept). RunsIn old call.pid e h → IsCall old.mem e h call → Changed a old e h call (mapped (ask_in a old e h call) want) (new_parts g c)) c.self.view_is
+    (λ runs is_call.
+    let same : c.get.result.now ≡ e.value = value_found k.procs call.pid e runs.lives c.get.result.now c.get.ensures in
+    let is = left g c a.kind kind h (ap (λ (t : Task). slice_get k.spaces t.space) same ∙ runs.home) in
+    let at : MapsIn a.kind (bytes_of k.tree (file_in want)) want e.value.space h k.spaces (new_parts g c).spaces k.regions c.map_in-mapped.new.regions k.mem c.map_in-mapped.new.mem
+    c.map_in-mapped.result =
+    subst (λ (t : Task). MapsIn a.kind (bytes_of k.tree (file_in want)) want t.space h k.spaces (new_parts g c).spaces k.regions c.map_in-mapped.new.regions k.mem c.map_in-mapped.new.mem
+    c.map_in-mapped.result) same is in
+    changed_mapped a k e h call runs is_call c.in_ok-value.value (new_parts g c).spaces c.map_in-mapped.new.regions c.finish.new.procs c.finish.new.log.notes
+    c.finish.ensures.procs (noted g c) c.self.invariant.0 c.self.invariant.1 want c.requires.pages known c.map_in-mapped.new.mem c.map_in-mapped.result at c.in_ok-value.ensures)

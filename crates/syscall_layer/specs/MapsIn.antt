@@ -1,0 +1,42 @@
+-- What mmap2 and munmap leave of the spaces and of all that they map.
+use Rattle.std.specs.Prelude.{◌≡◌, ℕ, ◌==◌, ◌||◌, Bool, List, Option, Some, Result, Ok, Err, ⊤, slice_set}
+use Rattle.std.specs.declared.alloc.AllocError.{AllocError}
+use Rattle.page_runs.specs.declared.place.Kind.{Kind}
+use Rattle.call_log.specs.declared.errno.Errno.{Errno}
+use Rattle.call_log.specs.declared.errno.Errno.TheVariants.{Enomem as No_memory}
+use Rattle.call_log.specs.Errno.{refusal}
+use Rattle.nommu_regions.specs.declared.region.Region.{Region}
+use Rattle.mmap_rules.specs.declared.want.Want.{Want}
+use Rattle.mmap_rules.specs.declared.maps.MapFault.{MapFault}
+use Rattle.mmap_rules.specs.declared.maps.MapFault.TheVariants.{Enomem, Memory}
+use Rattle.mmap_rules.specs.Held.{Held, AreMappings}
+use Rattle.mmap_rules.specs.Sides.{sides, mapped, Maps, freed, unmapped, Unmaps}
+
+-- munmap and mmap2
+abbrev pub is_mapping : ℕ → Bool
+is_mapping number = number == 215 || number == 222
+
+-- the space of a number, after what is wanted was mapped in it
+pub record MapsIn (kind : Kind) (bytes : List ℕ) (want : Want) (number : ℕ) (h : Held) (old new : List (Option Held)) (rs now : List Region) (mem after : List ℕ) (result : Result ℕ MapFault) : Type 0 where
+  pub held : Held
+  pub spaces : new ≡ slice_set old number (Some held)
+  pub maps : Maps (mapped (sides h rs mem) kind bytes want) (sides h rs mem) (sides held now after) result
+
+-- after pages were unmapped in it
+pub record UnmapsIn (addr len number : ℕ) (h : Held) (old new : List (Option Held)) (rs now : List Region) (result : Result ⊤ Errno) : Type 0 where
+  pub held : Held
+  pub spaces : new ≡ slice_set old number (Some held)
+  pub shaped : AreMappings h.pages h.maps
+  pub unmaps : Unmaps (unmapped h rs addr len) (freed h rs) (freed held now) result
+
+-- the reply of an mmap2
+abbrev pub IsAddress : Result ℕ MapFault → Result ℕ AllocError → Type 0
+IsAddress (Ok addr) (Ok value) = value ≡ addr
+IsAddress (Err Enomem) (Ok value) = value ≡ refusal No_memory
+IsAddress (Err Memory) (Err error) = Unit {0}
+IsAddress mapped result = ⊥
+
+-- the reply of a munmap
+abbrev pub status_of : Result ⊤ Errno → ℕ
+status_of (Ok done) = 0
+status_of (Err errno) = refusal errno

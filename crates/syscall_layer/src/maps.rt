@@ -1,0 +1,191 @@
+//! Pages that are mapped and unmapped (Linux, mmap(2), munmap(2), in this project's profile).
+
+ghost use Rattle.std.specs.Prelude.{◌≡◌, ◌*◌, IfOk, true, length, slice_get, slice_index, Some};
+ghost use Rattle.page_runs.specs.Choosers.{IsChooser, kind_of};
+ghost use Rattle.call_log.specs.Notes.{has_room};
+ghost use Rattle.mem_files.specs.Inodes.{bytes_of};
+ghost use Rattle.fd_tables.specs.Files.{view};
+ghost use Rattle.mmap_rules.specs.Held.{Held};
+ghost use Rattle.mmap_rules.specs.Want.{wanted, AsksPages};
+ghost use Rattle.mmap_rules.specs.Sides.{NameRegions, AreFew, file_in};
+ghost use Rattle.vfork_exec.specs.declared.entry.Entry.{Entry};
+ghost use Rattle.vfork_exec.specs.Procs.{Lives};
+ghost use Rattle.mmap_rules.specs.Mappings.{hit};
+ghost use Rattle.machine_world.specs.MapCalls.{side_of, mapped, unmaps};
+ghost use Rattle.syscall_layer.specs.declared.task.Task.{Task};
+ghost use Rattle.syscall_layer.specs.Regular.{HasSpace};
+ghost use Rattle.syscall_layer.specs.Stands.{About};
+ghost use Rattle.syscall_layer.specs.Copies.{IsKnown};
+ghost use Rattle.syscall_layer.specs.Calls.{RunsIn, IsCall, ask_in, Changes};
+ghost use Rattle.syscall_layer.specs.MapsIn.{MapsIn, UnmapsIn, IsAddress, status_of};
+
+use crate::parts::Parts;
+use crate::reply::finish;
+use call_log::Errno;
+use fd_tables::{Files, Target};
+use file_calls::Call;
+use mem_files::{Node, Tree};
+use mmap_rules::{FileSide, MapFault, Space, Want, check_mmap2};
+use nommu_regions::Regions;
+use page_runs::{Chooser, Run};
+use phys_mem::PhysMem;
+use std::alloc::AllocError;
+
+/// What a descriptor leads to. None leads to a node that is gone.
+fn file_side(tree: &Tree, files: &Files, table: u32, fd: u32) -> FileSide
+    ensures { result ≡ side_of tree.now (view files.now.open_files table fd) }
+{
+    let Ok(view) = files.view(table, fd) else {
+        return FileSide::Closed;
+    };
+    let Target::Node(id) = view.target else {
+        return FileSide::NotFile;
+    };
+    if !tree.has(id) {
+        return FileSide::Closed;
+    }
+    match tree.kind(id) {
+        Node::Dir => FileSide::NotFile,
+        Node::File if !view.way.read => FileSide::NoRead,
+        Node::File => FileSide::File {
+            id,
+            change: tree.change(id),
+        },
+    }
+}
+
+/// What a call of mmap2 asks for.
+pub fn want_of(tree: &Tree, files: &Files, table: u32, args: &[u32; 6]) -> Result<Want, Errno>
+    ensures known { IfOk result (IsKnown tree.now) }
+    ensures wanted { result ≡ wanted (slice_index args.now 0) (slice_index args.now 1) (slice_index args.now 2) (slice_index args.now 3) (slice_index args.now 5) (side_of tree.now (view files.now.open_files table (slice_index args.now 4))) }
+    ensures pages { IfOk result AsksPages }
+{
+    let side = file_side(tree, files, table, args[4]);
+    check_mmap2(args[0], args[1], args[2], args[3], args[5], side)
+}
+
+/// Maps what is wanted in a space that lives.
+fn map_in<F: Fn(&[Run], u32) -> Option<usize>>(
+    spaces: &mut [Option<Space>],
+    number: u32,
+    regions: &mut Regions,
+    mem: &mut PhysMem,
+    tree: &Tree,
+    want: Want,
+    chooser: &Chooser<F>,
+) -> Result<u32, MapFault>
+    requires chooser { IsChooser F.pre F.post chooser.now }
+    requires home { HasSpace spaces.old number }
+    requires pages { (h : Held) → slice_get spaces.old number ≡ Some (Some h) → h.pages ≡ length regions.old }
+    requires memory { length mem.old ≡ 4096 * length regions.old }
+    requires names { (h : Held) → slice_get spaces.old number ≡ Some (Some h) → NameRegions regions.old h.maps }
+    requires few { AreFew regions.old }
+    requires want { AsksPages want }
+    ensures { (h : Held) → slice_get spaces.old number ≡ Some (Some h) →
+        MapsIn (kind_of chooser.now) (bytes_of tree.now (file_in want)) want number h spaces.old spaces.new regions.old regions.new mem.old mem.new result }
+{
+    match &mut spaces[number as usize] {
+        Some(space) => space.map(regions, mem, tree, want, chooser),
+        None => unreachable!(),
+    }
+}
+
+/// Unmaps pages in a space that lives.
+fn unmap_in(
+    spaces: &mut [Option<Space>],
+    number: u32,
+    regions: &mut Regions,
+    addr: u32,
+    len: u32,
+) -> Result<(), Errno>
+    requires home { HasSpace spaces.old number }
+    requires pages { (h : Held) → slice_get spaces.old number ≡ Some (Some h) → h.pages ≡ length regions.old }
+    requires names { (h : Held) → slice_get spaces.old number ≡ Some (Some h) → NameRegions regions.old h.maps }
+    ensures { (h : Held) → slice_get spaces.old number ≡ Some (Some h) →
+        UnmapsIn addr len number h spaces.old spaces.new regions.old regions.new result }
+{
+    match &mut spaces[number as usize] {
+        Some(space) => {
+            let _mappings = space.maps();
+            space.unmap(regions, addr, len)
+        }
+        None => unreachable!(),
+    }
+}
+
+/// The reply of an mmap2 by what the mapping answers.
+fn address(mapped: Result<u32, MapFault>) -> Result<u32, AllocError>
+    ensures { IsAddress mapped result }
+{
+    match mapped {
+        Ok(addr) => Ok(addr),
+        Err(MapFault::Enomem) => Ok(Errno::Enomem.refusal()),
+        Err(MapFault::Memory) => Err(AllocError),
+    }
+}
+
+/// The reply of a munmap by what the unmapping answers.
+fn status(unmapped: Result<(), Errno>) -> u32
+    ensures { result ≡ status_of unmapped }
+{
+    match unmapped {
+        Ok(()) => 0,
+        Err(errno) => errno.refusal(),
+    }
+}
+
+impl Parts {
+    /// Maps what an mmap2 asks for, and notes the call. There is room for its note.
+    pub(crate) fn map<F: Fn(&[Run], u32) -> Option<usize>>(
+        &mut self,
+        call: Call,
+        want: Want,
+        chooser: &Chooser<F>,
+    ) -> Result<(), AllocError>
+        requires chooser { IsChooser F.pre F.post chooser.now }
+        requires lives { Lives self.old.procs call.pid }
+        requires room { has_room self.old.notes (length call.sent.items) ≡ true }
+        requires known { IsKnown self.old.tree want }
+        requires pages { AsksPages want }
+        ensures { (a : About) → a.kind ≡ kind_of chooser.now → (e : Entry Task) → (h : Held) → RunsIn self.old call.pid e h → IsCall self.old.mem e h call →
+            Changes a self.old e h call (mapped (ask_in a self.old e h call) want) self.new result }
+    {
+        self.log.reserve(1)?;
+        let number = self.procs.get(call.pid).space;
+        let mapped = map_in(
+            &mut self.spaces,
+            number,
+            &mut self.regions,
+            &mut self.mem,
+            &self.tree,
+            want,
+            chooser,
+        );
+        let value = address(mapped)?;
+        let got = Vec::new(*self.console.allocator());
+        finish(&mut self.procs, &mut self.log, call, value, got);
+        Ok(())
+    }
+
+    /// Unmaps what a munmap asks for, and notes the call. There is room for its note.
+    pub(crate) fn unmap(&mut self, call: Call) -> Result<(), AllocError>
+        requires lives { Lives self.old.procs call.pid }
+        requires room { has_room self.old.notes (length call.sent.items) ≡ true }
+        ensures { (a : About) → (e : Entry Task) → (h : Held) → RunsIn self.old call.pid e h → IsCall self.old.mem e h call →
+            Changes a self.old e h call (unmaps (ask_in a self.old e h call) (hit h.maps (slice_index call.args 0) (slice_index call.args 1))) self.new result }
+    {
+        self.log.reserve(1)?;
+        let number = self.procs.get(call.pid).space;
+        let unmapped = unmap_in(
+            &mut self.spaces,
+            number,
+            &mut self.regions,
+            call.args[0],
+            call.args[1],
+        );
+        let value = status(unmapped);
+        let got = Vec::new(*self.console.allocator());
+        finish(&mut self.procs, &mut self.log, call, value, got);
+        Ok(())
+    }
+}
