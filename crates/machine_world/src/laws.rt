@@ -39,14 +39,15 @@ pub fn counts_law()
     ensures runs { RunsKeepOrder }
 {}
 
-/// The bytes of a file change only with its count of changes: the count never falls, and under the same count the bytes are
-/// the same.
+/// The bytes of a file change only with its count of changes, as long as that is below its end, 2^64 - 1, and a number is given
+/// once: so it is of every event.
 pub fn ages_law()
     ensures { EventsAgeFiles }
 {}
 
-/// A program's block, and a mapping that isn't shared, begin at the first page of the free run that the placement gives. Where it
-/// gives none, a start finds no run, and an mmap2 is ENOMEM.
+/// A program's block, and a mapping that shares no copy, begin at the first page of the free run that the placement gives. Where it
+/// gives none, a start line whose program is there and whose frame fits finds no run, and an mmap2 that isn't refused before and
+/// finds no copy is ENOMEM.
 pub fn placement_law()
     ensures starts { StartsAreExact }
     ensures mmap2 { MapsAreExact }

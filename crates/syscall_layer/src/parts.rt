@@ -51,7 +51,7 @@ impl Model for Parts {
 }
 
 impl Parts {
-    /// A memory of so many pages, in which nothing runs, over these files, which were changed fewer than 2^63 times each.
+    /// A memory of so many pages, in which nothing runs, over these files, which were changed at most 2^63 times each.
     pub fn new(alloc: Global, pages: u32, tree: Tree, files: Files) -> Result<Parts, AllocError>
         requires some { 1 ≤ pages }
         requires most { pages ≤ 16384 }
