@@ -4,9 +4,11 @@
 -- Placed    what loading writes, where it stands in memory
 -- Loads     a program loaded into a run of pages, or why not
 -- Laws      the image, zeros and the frame, in this order
+-- Alone     a program run by itself under given replies
 pub mod Original
 pub mod Frame
 pub mod Begin
 pub mod Placed
 pub mod Loads
 pub mod Laws
+pub mod Alone

@@ -1,29 +1,33 @@
 -- One event: one instruction or one system call of one process. An event changes the world and leaves a trace, or the
 -- process's next access strays, or the log has no room, or there is no such process.
-use Rattle.std.specs.Prelude.{ℕ, ◌+◌, ◌%◌, ◌==◌, Bool, true, false, ◌||◌, if◌then◌else◌, List, [], ◌∷◌, map, length, Option, Some, None, Result, Ok, Err}
-use Rattle.byte_words.specs.ByteMap.{Bytes, with_bytes}
+pub use Rattle.flat_loader.specs.Alone.{number_of, args_of, replied, put_got}
+use Rattle.std.specs.Prelude.{ℕ, ◌+◌, ◌*◌, ◌%◌, ◌==◌, Bool, true, false, not, ◌&&◌, ◌||◌, if◌then◌else◌, List, [], ◌∷◌, slice_index, unwrap_or, Option, Some, None, Result, Ok, Err}
+use Rattle.byte_words.specs.ByteMap.{Bytes}
 use Rattle.rv32im_step.specs.declared.regs.Regs.{Regs}
 use Rattle.rv32im_step.specs.declared.access.Access.{Access}
 use Rattle.rv32im_step.specs.declared.access.AccessKind.TheVariants.{Call}
-use Rattle.rv32im_step.specs.Registers.{register, setting}
+use Rattle.rv32im_step.specs.Registers.{register}
 use Rattle.rv32im_step.specs.Meaning.{Meaning, next, call, trap, refused, meaning}
 use Rattle.call_log.specs.declared.how.How.{How}
 use Rattle.call_log.specs.declared.how.How.TheVariants.{Exit, Signal}
 use Rattle.call_log.specs.Notes.{Written, CallEntry, Note, call_note, end_note, weight_of, has_room}
-use Rattle.call_log.specs.Sent.{Span, sent}
+use Rattle.call_log.specs.Flags.{has_flag}
+use Rattle.call_log.specs.Sent.{Span, bytes_from, sent}
 use Rattle.vfork_exec.specs.Keyed.{find, change, without}
-use Rattle.mmap_rules.specs.Space.{Space, writable_in, may_use}
+use Rattle.mmap_rules.specs.Space.{Space, page_size, writable_in}
+use Rattle.mmap_rules.specs.Want.{pages_for, map_anonymous}
+use Rattle.flat_loader.specs.Alone.{Item, is_errno}
 use Rattle.machine_world.specs.World.{Process, LiveSpace, World, pid_of, id_of}
 use Rattle.fd_tables.specs.Changes.{without_table}
 use Rattle.machine_world.specs.Asks.{Ask, Reply, Row, replies, waits, storage_of, with_storage}
 use Rattle.machine_world.specs.Rows.{row}
 
--- what an event leaves for those who follow one space: the space, how many events it is there, the calls made in it,
--- and whether the turn is over
+-- what an event leaves for those who follow one space: the space, how many events it is there, the calls made in it with what
+-- their mappings brought, and whether the turn is over
 pub record Trace : Type 0 where
   pub space : ℕ
   pub events : ℕ
-  pub entries : List CallEntry
+  pub items : List Item
   pub over : Bool
 
 pub data Outcome : Type 0 where
@@ -63,19 +67,13 @@ ended w p how = noted (end_note p.pid how) (departed w p)
 
 unfoldable pub stepped : World → Process → Space → Regs → Bytes → Outcome
 stepped w p s regs bytes =
-    went (counted (with_space w p regs (record s { bytes = bytes }))) (record { space = p.space; events = 1; entries = []; over = false })
+    went (counted (with_space w p regs (record s { bytes = bytes }))) (record { space = p.space; events = 1; items = []; over = false })
 
 unfoldable pub trapped : World → Process → ℕ → Outcome
 trapped w p signal =
-    went (counted (ended w p (Signal signal))) (record { space = p.space; events = 1; entries = []; over = true })
+    went (counted (ended w p (Signal signal))) (record { space = p.space; events = 1; items = []; over = true })
 
--- ---- a system call: the number stands in a7, the arguments in a0 to a5, the reply in a0
-
-abbrev pub number_of : Regs → ℕ
-number_of regs = register regs.x 17
-
-abbrev pub args_of : Regs → List ℕ
-args_of regs = map (register regs.x) (10 ∷ 11 ∷ 12 ∷ 13 ∷ 14 ∷ 15 ∷ [])
+-- ---- a system call
 
 abbrev pub ask_of : World → Process → Space → List ℕ → Ask
 ask_of w p s bytes = record {
@@ -101,16 +99,17 @@ entry_of a value got = record {
 abbrev pub call_access : Process → Span → Access
 call_access p span = record { pc = p.regs.pc; addr = span.addr; len = span.len; kind = Call }
 
--- each range of output must be writable, in order
-abbrev pub put_got : Bytes → (ℕ → Bool) → List Written → Result Bytes Span
-put_got m w [] = Ok m
-put_got m w (got ∷ gots) =
-    if may_use w got.addr (length got.bytes) then put_got (with_bytes m got.addr got.bytes) w gots
-    else Err (record { addr = got.addr; len = length got.bytes })
+-- an mmap2 of a file that isn't refused
+abbrev pub maps_file : CallEntry → Bool
+maps_file e = e.call == 222 && not (is_errno e.reply) && not (has_flag (slice_index e.args 3) map_anonymous)
 
--- the reply goes to a0, and the instruction after the call follows
-abbrev pub replied : Regs → ℕ → Regs
-replied regs value = setting regs 10 value
+-- the bytes that it brings: those of its mapping
+abbrev pub brought : CallEntry → Bytes → List ℕ
+brought e m = if maps_file e then unwrap_or (bytes_from m e.reply (page_size * pages_for (slice_index e.args 1))) [] else []
+
+-- a call for those who follow its space, over the bytes that it leaves
+abbrev pub item_of : CallEntry → Bytes → Item
+item_of e m = record { entry = e; brought = brought e m }
 
 -- the effect of a call whose output can be written
 unfoldable pub served : World → Ask → Reply → Bytes → Outcome
@@ -118,7 +117,7 @@ served w a r bytes =
     if has_room w.notes (weight_of a.sent r.got) then
     went
     (noted (call_note (entry_of a r.value r.got)) (counted (with_space (record w { rest = r.rest }) a.process (replied a.process.regs r.value) (record r.space { bytes = bytes }))))
-    (record { space = a.process.space; events = 1; entries = entry_of a r.value r.got ∷ []; over = r.over })
+    (record { space = a.process.space; events = 1; items = item_of (entry_of a r.value r.got) bytes ∷ []; over = r.over })
     else full
 
 abbrev pub put : World → Ask → Reply → Result Bytes Span → Outcome
@@ -127,7 +126,7 @@ put w a r (Err span) = strays (call_access a.process span)
 
 -- a wait is an event without a note, and the call is made anew
 unfoldable pub waited : World → Ask → Outcome
-waited w a = went (counted w) (record { space = a.process.space; events = 0; entries = []; over = true })
+waited w a = went (counted w) (record { space = a.process.space; events = 0; items = []; over = true })
 
 abbrev pub answered : World → Ask → Row → Outcome
 answered w a (replies r) = put w a r (put_got r.space.bytes (writable_in r.space.maps) r.got)
@@ -142,7 +141,7 @@ exited w a =
     if has_room w.notes (weight_of a.sent []) then
     went
     (ended (noted (call_note (entry_of a 0 [])) (counted w)) a.process (Exit (exit_code a)))
-    (record { space = a.process.space; events = 1; entries = entry_of a 0 [] ∷ []; over = true })
+    (record { space = a.process.space; events = 1; items = record { entry = entry_of a 0 []; brought = [] } ∷ []; over = true })
     else full
 
 abbrev pub is_exit : ℕ → Bool

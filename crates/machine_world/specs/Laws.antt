@@ -2,14 +2,14 @@
 use Rattle.std.specs.Prelude.{◌≡◌, ℕ, false, if◌then◌else◌, [], ◌∷◌, Some}
 use Rattle.mmap_rules.specs.Space.{writable_in}
 use Rattle.region_watch.specs.Instructions.{Ran, instructions}
-use Rattle.vfork_exec.specs.Keyed.{find}
+use Rattle.vfork_exec.specs.Keyed.{find, change}
 use Rattle.call_log.specs.declared.errno.Errno.{Errno}
 use Rattle.call_log.specs.Errno.{refusal}
 use Rattle.call_log.specs.Notes.{call_note, weight_of, has_room}
 use Rattle.machine_world.specs.World.{World, Process, LiveSpace, pid_of, id_of}
 use Rattle.machine_world.specs.Asks.{Ask, refuses}
 use Rattle.machine_world.specs.Rows.{row}
-use Rattle.machine_world.specs.Event.{Outcome, went, full, with_space, counted, noted, entry_of, replied, answered}
+use Rattle.machine_world.specs.Event.{Outcome, went, full, counted, noted, ask_of, entry_of, replied, answered}
 use Rattle.machine_world.specs.Courses.{Leads, Halts, moved}
 
 -- up to n instructions of a process over the bytes of its space are as many events: a turn goes on behind them, and where one
@@ -21,14 +21,18 @@ InstructionsAreEvents =
     let now : World = moved w p r.regs (record s.space { bytes = r.bytes }) r.done in
     Leads pid w r.done now × Halts now pid n r.done r.stop
 
--- a refused call changes the reply's register, the next instruction, the notes and the count of events, and nothing else
-abbrev pub refused_outcome : World → Ask → Errno → Outcome
-refused_outcome w a e =
+-- a refused call changes its caller's a0 and pc, the notes and the count of events, and nothing else
+abbrev pub refused_outcome : World → Process → Ask → Errno → Outcome
+refused_outcome w p a e =
     if has_room w.notes (weight_of a.sent []) then
     went
-    (noted (call_note (entry_of a (refusal e) [])) (counted (with_space w a.process (replied a.process.regs (refusal e)) a.space)))
-    (record { space = a.process.space; events = 1; entries = entry_of a (refusal e) [] ∷ []; over = false })
+    (noted (call_note (entry_of a (refusal e) [])) (counted (record w { procs = change pid_of p.pid (λ q. record q { regs = replied p.regs (refusal e) }) w.procs })))
+    (record { space = p.space; events = 1; items = record { entry = entry_of a (refusal e) []; brought = [] } ∷ []; over = false })
     else full
 
+-- whatever it read, in its own space
 abbrev pub RefusalsChangeNothingElse : Type 0
-RefusalsChangeNothingElse = (w : World) (a : Ask) (e : Errno) → a.rest ≡ w.rest → row a ≡ refuses a e → answered w a (row a) ≡ refused_outcome w a e
+RefusalsChangeNothingElse =
+    (w : World) (p : Process) (s : LiveSpace) (bytes : List ℕ) (e : Errno) → find id_of p.space w.spaces ≡ Some s →
+    let a : Ask = ask_of w p s.space bytes in
+    row a ≡ refuses a e → answered w a (row a) ≡ refused_outcome w p a e
