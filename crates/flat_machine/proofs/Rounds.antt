@@ -16,7 +16,11 @@ use Rattle.machine_world.specs.Courses.{Comes}
 use Rattle.machine_world.proofs.RunLaws.{comes_on, none_chosen, turn_stops, turn_comes, none_left}
 use Rattle.flat_machine.specs.declared.run.End.{End as Told}
 use Rattle.flat_machine.specs.declared.run.End.TheVariants as told
-use Rattle.flat_machine.specs.Runs.{repeated, Ends, Stops, Runs}
+use Rattle.stays_laws.specs.Stays.{AreRight, stays}
+use Rattle.stays_laws.specs.Sound.{IsSound}
+use Rattle.stays_laws.proofs.SoundRuns.{turns_keep_sound}
+use Rattle.stays_laws.proofs.StaysRuns.{runs_keep_stays}
+use Rattle.flat_machine.specs.Runs.{repeated, Ends, Stops, Runs, KeepsStays}
 use Rattle.flat_machine.specs.State.{State, about_of, world}
 use Rattle.syscall_layer.specs.Kept.{Kept}
 use Rattle.syscall_layer.specs.Stands.{About, later, world_of}
@@ -71,6 +75,18 @@ unfolding world_of
 turn_loads a b n pid count done old new (Ok None) x are = subst (λ (w : World). AreLoaded n w.notes) x.0 (turn_loads_nothing n count pid (world_of a old) are)
 turn_loads a b n pid count done old new (Ok (Some end)) x are = subst (λ (w : World). AreLoaded n w.notes) x.0 (turn_loads_nothing n count pid (world_of a old) are)
 turn_loads a b n pid count done old new (Err error) x are = subst (λ (w : World). AreLoaded n w.notes) x.walked (turn_loads_nothing n done pid (world_of a old) are)
+
+-- every turn leaves a sound world
+pub turn_sound : (a b : About) (pid count done : ℕ) (old new : Kept) (r : Result (Option Told) AllocError) → TurnLeaves pid count (world_of a old) done (world_of b new) r
+    → IsSound (world_of a old) → IsSound (world_of b new)
+turn_sound a b pid count done old new (Ok None) x sound = subst IsSound x.0 (turns_keep_sound count pid (world_of a old) sound)
+turn_sound a b pid count done old new (Ok (Some end)) x sound = subst IsSound x.0 (turns_keep_sound count pid (world_of a old) sound)
+turn_sound a b pid count done old new (Err error) x sound = subst IsSound x.walked (turns_keep_sound done pid (world_of a old) sound)
+
+-- and every run what is right of the stays
+pub run_keeps_stays : (qs : List Quantum) (old new : State) (r : Result Told AllocError) → IsSound (world old) → Runs qs old new r → KeepsStays qs old new r
+run_keeps_stays qs old new (Ok end) sound x = λ told right. subst (AreRight (stays told (world old) qs)) (sym x.0) (runs_keep_stays told qs (world old) sound right)
+run_keeps_stays qs old new (Err error) sound x = tt
 
 -- ---- one after the other
 

@@ -1,11 +1,12 @@
 -- What a boot gives.
-use Rattle.std.specs.Prelude.{◌≡◌, ℕ, Option, Some, None, Result, Ok, Err, ⊤}
+use Rattle.std.specs.Prelude.{◌≡◌, ℕ, List, IfOk, Option, Some, None, Result, Ok, Err, ⊤}
 use Rattle.call_log.specs.declared.errno.Errno.{Errno}
 use Rattle.mem_files.specs.Inodes.{Inodes, program_of}
-use Rattle.machine_world.specs.World.{World}
-use Rattle.machine_world.specs.Boot.{BootFault, bad_start, args_too_big, no_run}
+use Rattle.machine_world.specs.World.{Rest, World}
+use Rattle.machine_world.specs.Boot.{StartLine, BootFault, bad_start, args_too_big, no_run, empty_world}
 use Rattle.flat_machine.specs.declared.boot.BootRefusal.{BootRefusal}
 use Rattle.flat_machine.specs.declared.boot.BootRefusal.TheVariants as refusal
+use Rattle.stays_laws.specs.Stays.{AreRight, first_stays}
 use Rattle.syscall_layer.specs.Kept.{Kept}
 use Rattle.syscall_layer.specs.Stands.{About, world_of}
 use Rattle.flat_machine.specs.State.{State, world}
@@ -39,3 +40,7 @@ Begins a (Ok now) new (Err refusal.Memory) = Unit {0}
 Begins a (Ok now) new (Err other) = ⊥
 Begins a (Err fault) new (Ok done) = ⊥
 Begins a (Err fault) new (Err refusal) = IsFault fault refusal
+
+-- the stays of the start lines are right for the machine's world: a program each, with no call and no event
+abbrev pub BeginsStays : Rest → List StartLine → Result State BootRefusal → Type 0
+BeginsStays rest starts result = IfOk result (λ machine. AreRight (first_stays (empty_world rest) starts) (world machine))

@@ -3,7 +3,8 @@ use Rattle.std.specs.Prelude.{◌≡◌, length}
 use Rattle.call_log.specs.Programs.{paths_of}
 use Rattle.machine_world.specs.Programs.{AreLoaded}
 use Rattle.flat_machine.specs.declared.machine.Machine.TheInside.{Inside}
-use Rattle.flat_machine.specs.State.{State}
+use Rattle.stays_laws.specs.Sound.{IsSound}
+use Rattle.flat_machine.specs.State.{State, world}
 
 abbrev pub state_of : Inside → State
 state_of m = record {
@@ -14,7 +15,8 @@ state_of m = record {
   events = m.events;
 }
 
--- each program has a path, and each load note names a program that is there
-pub record Named (m : Inside) : Type 0 where
+-- each program has a path, each load note names a program that is there, and the world is a sound one
+pub record Holds (m : Inside) : Type 0 where
   pub paths : length m.paths.items ≡ length m.programs.items
   pub loads : AreLoaded (length m.programs.items) m.parts.notes
+  pub sound : IsSound (world (state_of m))

@@ -1,5 +1,5 @@
 -- What a run leaves, and why it stops.
-use Rattle.std.specs.Prelude.{◌≡◌, ◌≢◌, ℕ, zero, suc, ◌<◌, List, [], ◌∷◌, ◌++◌, map, Option, Some, None, Result, Ok, Err}
+use Rattle.std.specs.Prelude.{◌≡◌, ◌≢◌, ℕ, zero, suc, ◌<◌, List, [], ◌∷◌, ◌++◌, map, Option, Some, None, Result, Ok, Err, OnOk}
 use Rattle.std.specs.declared.alloc.AllocError.{AllocError}
 use Rattle.byte_words.specs.ByteMap.{Bytes}
 use Rattle.rv32im_step.specs.declared.regs.Regs.{Regs}
@@ -10,6 +10,7 @@ use Rattle.quantum_sched.specs.Picked.{picked}
 use Rattle.vfork_exec.specs.Keyed.{find}
 use Rattle.machine_world.specs.World.{World, Process, LiveSpace, pid_of, id_of}
 use Rattle.machine_world.specs.Turns.{End, all_ended, out_of_quanta, stray_at, log_full, turn, turns}
+use Rattle.stays_laws.specs.Stays.{Stay, AreRight, stays}
 use Rattle.flat_machine.specs.declared.run.End.{End as Told}
 use Rattle.flat_machine.specs.declared.run.End.TheVariants as told
 use Rattle.flat_machine.specs.State.{State, world}
@@ -56,3 +57,9 @@ pub record Stops (quanta : List Quantum) (old new : World) : Type 0 where
 abbrev pub Runs : List Quantum → State → State → Result Told AllocError → Type 0
 Runs quanta old new (Ok end) = (world new ≡ (turns quanta (world old)).world) × Ends (turns quanta (world old)).end end
 Runs quanta old new (Err error) = Stops quanta (world old) (world new)
+
+-- where what is told of each space's stay was right, it is right as it goes on along the turns: each process does what its program
+-- does alone under the same replies
+abbrev pub KeepsStays : List Quantum → State → State → Result Told AllocError → Type 0
+KeepsStays quanta old new result =
+    OnOk result ((told : List Stay) → AreRight told (world old) → AreRight (stays told (world old) quanta) (world new))

@@ -30,11 +30,11 @@ impl Model for Machine {
 
     ghost Value = { State };
 
-    ghost use Rattle.flat_machine.specs.Inside.{state_of, Named};
+    ghost use Rattle.flat_machine.specs.Inside.{state_of, Holds};
 
     ghost view = { state_of };
 
-    ghost invariant = { Named };
+    ghost invariant = { Holds };
 }
 
 impl Machine {

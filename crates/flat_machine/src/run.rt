@@ -8,7 +8,7 @@ ghost use Rattle.machine_world.specs.World.{pid_of};
 ghost use Rattle.machine_world.specs.Turns.{turns};
 ghost use Rattle.syscall_layer.specs.Stands.{About, world_of};
 ghost use Rattle.flat_machine.specs.State.{world};
-ghost use Rattle.flat_machine.specs.Runs.{Ends, Runs, repeated};
+ghost use Rattle.flat_machine.specs.Runs.{Ends, Runs, KeepsStays, repeated};
 ghost use Rattle.flat_machine.specs.Leaves.{Leaves};
 
 use crate::machine::Machine;
@@ -105,7 +105,8 @@ impl Machine {
         requires chooser { IsChooser F.pre F.post chooser.now }
         requires kind { kind_of chooser.now ≡ self.old.kind }
         requires events { self.old.events + count * sum_by (λ q. q.count) quanta.now < 2 ^ 64 }
-        ensures { Runs (repeated count quanta.now) self.old self.new result }
+        ensures turns { Runs (repeated count quanta.now) self.old self.new result }
+        ensures alone { KeepsStays (repeated count quanta.now) self.old self.new result }
     {
         for _time in 0..count {
             if let Some(end) = self.round(quanta, chooser)? {

@@ -21,7 +21,7 @@ use Rattle.vfork_exec.specs.Procs.{Lives, value_at}
 use Rattle.machine_world.specs.World.{Process, LiveSpace, World, pid_of, id_of}
 use Rattle.machine_world.specs.Asks.{Ask, Reply, Row, replies, waits}
 use Rattle.machine_world.specs.Rows.{row}
-use Rattle.machine_world.specs.Event.{Trace, Outcome, went, strays, full, with_space, counted, noted, departed, ended, number_of, args_of, entry_of, call_access, replied, served, put, put_got, answered, exit_code, exited, is_exit, classed, answer, asked, trapped, called, died, at_process, by_process, in_space}
+use Rattle.machine_world.specs.Event.{Trace, Outcome, went, strays, full, with_space, counted, noted, departed, ended, number_of, args_of, entry_of, item_of, call_access, replied, served, put, put_got, answered, exit_code, exited, is_exit, classed, answer, asked, trapped, called, died, at_process, by_process, in_space}
 use Rattle.syscall_layer.specs.declared.task.Task.{Task}
 use Rattle.file_calls.specs.declared.call.Call.{Call}
 use Rattle.file_calls.specs.declared.outcome.Outcome.{Outcome as Output}
@@ -92,7 +92,7 @@ class_row w a r goes is = rw goes (ap (answered w a) is)
 served_when : (w : World) (a : Ask) (r : Reply) (bytes : Bytes) → has_room w.notes (weight_of a.sent r.got) ≡ true →
     served w a r bytes
     ≡ went (noted (call_note (entry_of a r.value r.got)) (counted (with_space (record w { rest = r.rest }) a.process (replied a.process.regs r.value) (record r.space { bytes = bytes }))))
-    (record { space = a.process.space; events = 1; entries = entry_of a r.value r.got ∷ []; over = r.over })
+    (record { space = a.process.space; events = 1; items = item_of (entry_of a r.value r.got) bytes ∷ []; over = r.over })
 unfolding served
 served_when w a r bytes room = rw room refl
 
@@ -103,7 +103,7 @@ served_full w a r bytes room = rw room refl
 exited_when : (w : World) (a : Ask) → has_room w.notes (weight_of a.sent []) ≡ true →
     exited w a
     ≡ went (ended (noted (call_note (entry_of a 0 [])) (counted w)) a.process (Exit (exit_code a)))
-    (record { space = a.process.space; events = 1; entries = entry_of a 0 [] ∷ []; over = true })
+    (record { space = a.process.space; events = 1; items = record { entry = entry_of a 0 []; brought = [] } ∷ []; over = true })
 unfolding exited
 exited_when w a room = rw room refl
 
@@ -187,7 +187,7 @@ module _ (a : About) (k : Kept) (e : Entry Task) (h : Held) (call : Call) (runs 
           (s : Served) → ((t : Trace) (new : Kept) → t.over ≡ over → Lives new.procs call.pid → Went t new call.pid s) →
           Answered a (answered (world_of a k) ask (replies reply)) k then_kept call.pid s
       reply_serves others room s goes =
-          let t : Trace = record { space = e.value.space; events = 1; entries = entry_of ask value got ∷ []; over = over } in
+          let t : Trace = record { space = e.value.space; events = 1; items = item_of (entry_of ask value got) then_space.bytes ∷ []; over = over } in
           it_went a (answered (world_of a k) ask (replies reply)) (noted (call_note (entry_of ask value got)) (counted (then_state then_space))) t k then_kept call.pid s
           (answered_is (Ok then_space.bytes) puts ∙ served_when (world_of a k) ask reply then_space.bytes (room_in a k call.sent.items got true room))
           (after_world others)
@@ -334,7 +334,7 @@ module _ (a : About) (k : Kept) (e : Entry Task) (h : Held) (call : Call) (runs 
   pub exit_serves : has_room k.notes (length call.sent.items) ≡ true → Answered a (exited (world_of a k) (ask_in a k e h call)) k (after_exit k e h call) call.pid Ended
   exit_serves room =
       it_went a (exited (world_of a k) (ask_in a k e h call)) _
-      (record { space = e.value.space; events = 1; entries = entry_of (ask_in a k e h call) 0 [] ∷ []; over = true })
+      (record { space = e.value.space; events = 1; items = record { entry = entry_of (ask_in a k e h call) 0 []; brought = [] } ∷ []; over = true })
       k (after_exit k e h call) call.pid Ended
       (exited_when (world_of a k) (ask_in a k e h call) (room_in a k call.sent.items [] true (weighs call.sent.items true room)))
       after_exit_world
@@ -402,7 +402,7 @@ module _ (a : About) (k : Kept) (pid : ℕ) (e : Entry Task) (h : Held) (runs : 
       gone_world k pid e h runs a 1 (end_note pid (Signal signal) ∷ k.notes)
       ∙ ap (λ (n : ℕ). record (departed (world_of a k) (process_of e)) { notes = end_note n (Signal signal) ∷ k.notes; events = a.events + 1 }) (pid_found k.procs pid e runs.lives)
 
-  trapped_is : trapped (world_of a k) (process_of e) signal ≡ went (counted (ended (world_of a k) (process_of e) (Signal signal))) (record { space = e.value.space; events = 1; entries = []; over = true })
+  trapped_is : trapped (world_of a k) (process_of e) signal ≡ went (counted (ended (world_of a k) (process_of e) (Signal signal))) (record { space = e.value.space; events = 1; items = []; over = true })
   unfolding trapped
   trapped_is = refl
 

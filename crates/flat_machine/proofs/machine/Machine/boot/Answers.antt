@@ -60,6 +60,7 @@ invariant_of-result g c =
     record {
       paths = c.requires.paths;
       loads = subst (λ n. AreLoaded n c.loop-start.parts.notes) (programs_count (paths_of c.args.setup.paths.items) c.args.setup.programs.items same) loads;
+      sound = rw (c.kind.ensures) (boots_are_sound rest (lines_of c.deref-start-items.result.now) (world_of a c.loop-start.parts) (can_boot c.requires) (sym (all ∙ first_is)));
     }
 
 pub returns : goal.returns

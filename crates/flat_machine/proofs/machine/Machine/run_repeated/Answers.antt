@@ -19,13 +19,13 @@ round-requires-clause-events g c =
     let events = c.loop-time.invariant.events in
     omega arith
 
-pub returns-in_err-end : goal.returns-in_err-end
-returns-in_err-end g c =
+pub returns-in_err-end-clause-turns : goal.returns-in_err-end-clause-turns
+returns-in_err-end-clause-turns g c =
     runs_fail (repeated c.args.count c.args.quanta.now) c.args.self.now c.round.new.self c.from_residual.result c.from_residual.ensures.0
     (time_fails c.args.quanta.now c.loop-time._time c.args.count c.loop-time-test.true (world c.args.self.now) (world c.loop-time.self) (world c.round.new.self) c.loop-time.invariant.comes c.in_err-end.ensures.leaves)
 
-pub returns-in-Some : goal.returns-in-Some
-returns-in-Some g c =
+pub returns-in-Some-clause-turns : goal.returns-in-Some-clause-turns
+returns-in-Some-clause-turns g c =
     let leaves = rw c.in-Some.is at c.in_ok-end.ensures.leaves in
     time_ends c.args.quanta.now c.loop-time._time c.args.count c.loop-time-test.true (world c.args.self.now) (world c.loop-time.self) (world c.round.new.self) c.loop-time.invariant.comes c.in-Some.end leaves
 
@@ -38,8 +38,8 @@ loop-time-preserved g c =
     let here = c.in_ok-end.ensures.events in
     record { kind = c.in_ok-end.ensures.kind ∙ c.loop-time.invariant.kind; comes = time_on c.args.quanta.now c.loop-time._time c.args.count c.loop-time-test.true (world c.args.self.now) (world c.loop-time.self) (world c.round.new.self) c.loop-time.invariant.comes leaves; events = omega arith }
 
-pub returns : goal.returns
-returns g c =
+pub returns-clause-turns : goal.returns-clause-turns
+returns-clause-turns g c =
     let all : c.loop-time._time ≡ c.args.count = omega (arith, c.loop-time.auto._time-end) in
     machine_ends (repeated c.args.count c.args.quanta.now) (world c.args.self.now) c.loop-time.self (state_of c.self.inside) c.last_end.result c.self.view_is
     (rw all at c.loop-time.invariant.comes) (c.last_end.ensures (about_of (state_of c.self.inside)))

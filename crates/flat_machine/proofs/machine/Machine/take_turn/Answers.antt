@@ -3,7 +3,7 @@ use Rattle.std.proofs.Common.{length, sym, ap, ◌∙◌}
 use Rattle.syscall_layer.specs.Stands.{later}
 use Rattle.flat_machine.specs.State.{State, about_of, world}
 use Rattle.flat_machine.specs.Inside.{state_of}
-use Rattle.flat_machine.proofs.Rounds.{quantum_none, machine_leaves, turn_loads}
+use Rattle.flat_machine.proofs.Rounds.{quantum_none, machine_leaves, turn_loads, turn_sound}
 use Rattle.flat_machine.proofs.machine.Machine.take_turn.Goals as goal
 
 pub returns-in_default-clause-leaves : goal.returns-in_default-clause-leaves
@@ -22,8 +22,11 @@ returns-clause-leaves g c =
 pub invariant_of-self : goal.invariant_of-self
 invariant_of-self g c =
     let a = about_of (state_of c.self.inside) in
+    let leaves = c.turn-events.ensures.leaves a (ap (λ (m : State). m.kind) c.self.view_is ∙ sym c.requires.kind) in
     record {
       paths = c.self.invariant.paths;
       loads = turn_loads a (later c.turn-events.result.events a) (length c.self.inside.programs.items) c.in-Some.pid c.args.quantum.count c.turn-events.result.events c.self.inside.parts
-          c.turn-events.new.parts c.turn-events.result.end (c.turn-events.ensures.leaves a (ap (λ (m : State). m.kind) c.self.view_is ∙ sym c.requires.kind)) c.self.invariant.loads;
+          c.turn-events.new.parts c.turn-events.result.end leaves c.self.invariant.loads;
+      sound = rw (c.from.ensures) (turn_sound a (later c.turn-events.result.events a) c.in-Some.pid c.args.quantum.count c.turn-events.result.events c.self.inside.parts
+          c.turn-events.new.parts c.turn-events.result.end leaves c.self.invariant.sound);
     }
