@@ -6,7 +6,9 @@ use Rattle.page_runs.specs.declared.place.Kind.{Kind}
 use Rattle.manifest_text.specs.Values.{Item, Manifest}
 use Rattle.manifest_text.specs.Manifest.{manifest_of}
 use Rattle.machine_world.specs.World.{World}
-use Rattle.machine_world.specs.Boot.{boot}
+use Rattle.machine_world.specs.Boot.{boot, empty_world}
+use Rattle.machine_world.specs.Turns.{turns}
+use Rattle.stays_laws.specs.Stays.{Stay, AreRight, stays, first_stays}
 use Rattle.flat_machine.specs.Runs.{repeated}
 use Rattle.suite_top.specs.declared.status.Status.{Status}
 use Rattle.suite_top.specs.declared.status.Status.TheVariants.{Done, HostRead, Refused, Stray, OutOfQuanta, LogFull}
@@ -72,3 +74,18 @@ IsEarly ending = (ending.out ≡ []) × ((ending.status ≡ HostRead) ⊎ (endin
 abbrev pub RunsStopOrEndEarly : Type 0
 RunsStopOrEndEarly = (name : List ℕ) (log : Bool) (kind : Kind) (inputs : Inputs)
     → IsStop (run_outcome name log kind inputs).ending.status ⊎ IsEarly (run_outcome name log kind inputs).ending
+
+-- ---- each process by itself
+
+-- the stays of the start lines, along the turns: of an elf line's program the image is that of its ELF file
+abbrev pub opened_stays : {t : Files} {name : List ℕ} {kind : Kind} → Opens t name kind → List Stay
+opened_stays {kind = kind} o =
+    stays (first_stays (empty_world (opening kind o.manifest o.brought)) (map start_line o.manifest.starts)) o.world (repeated o.manifest.repeat o.manifest.quanta)
+
+-- the world behind the turns, from which all texts are told
+abbrev pub opened_end : {t : Files} {name : List ℕ} {kind : Kind} → Opens t name kind → World
+opened_end o = (turns (repeated o.manifest.repeat o.manifest.quanta) o.world).world
+
+-- what each process does is what its program does alone, under the replies that it had
+abbrev pub RunsAreAsAlone : Type 0
+RunsAreAsAlone = (t : Files) (name : List ℕ) (kind : Kind) (o : Opens t name kind) → AreRight (opened_stays o) (opened_end o)

@@ -1,5 +1,5 @@
 //! Laws over every run. No code runs.
-ghost use Rattle.suite_top.specs.Run.Laws.{RunsWhereItOpens, OpensWhereItStops, RunsStopOrEndEarly};
+ghost use Rattle.suite_top.specs.Run.Laws.{RunsWhereItOpens, OpensWhereItStops, RunsStopOrEndEarly, RunsAreAsAlone};
 ghost use Rattle.run_setup.specs.Originals.{OriginalsAreSame};
 
 /// A run reaches its machine exactly where all files are there and nothing has a fault.
@@ -12,4 +12,11 @@ pub fn run_law()
 /// The program of an ELF file, relocated by the psABI, is that of the flat file to which it is converted.
 pub fn originals_law()
     ensures { OriginalsAreSame }
+{}
+
+/// Each process of a run does what its own program does alone, loaded at its place, under the replies that it had: its calls are
+/// those that were kept, and its registers, own ranges and own bytes are those of its space. An ELF file's program is the file
+/// itself, relocated by the psABI.
+pub fn alone_law()
+    ensures { RunsAreAsAlone }
 {}
