@@ -1,6 +1,8 @@
 -- Lists     one item that is changed, by its place; and items that belong to places
 -- Runners   the processes of a space, after one process changes or goes
+-- RowSpaces  what a row leaves of the space
 -- SoloRuns  a run alone goes on behind its events, with more items
 pub mod Lists
 pub mod Runners
+pub mod RowSpaces
 pub mod SoloRuns
