@@ -51,6 +51,12 @@ module _ {A : Type 0} (f : A → A) where
   changed_beside (suc i) zero (x ∷ xs) other = refl
   changed_beside (suc i) (suc j) (x ∷ xs) other = changed_beside i j xs (λ e. other (ap suc e))
 
+  pub change_at-same : ((x : A) → f x ≡ x) → (i : ℕ) (xs : List A) → change_at i f xs ≡ xs
+  unfolding change_at
+  change_at-same same i [] = refl
+  change_at-same same zero (x ∷ xs) = ap (λ y. y ∷ xs) (same x)
+  change_at-same same (suc i) (x ∷ xs) = ap (λ ys. x ∷ ys) (change_at-same same i xs)
+
 -- ---- what belongs to a place
 
 module _ {A : Type 0} (i : ℕ) where
