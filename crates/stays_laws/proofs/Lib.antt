@@ -3,10 +3,12 @@
 -- RowSpaces  what a row leaves of the space
 -- Frame     what is told stays right where one space changes
 -- EventStays  one event keeps what is told right
+-- PlainCalls  calls that are refused, and those that leave the mappings
 -- SoloRuns  a run alone goes on behind its events, with more items
 pub mod Lists
 pub mod Runners
 pub mod RowSpaces
 pub mod Frame
 pub mod EventStays
+pub mod PlainCalls
 pub mod SoloRuns
