@@ -51,7 +51,7 @@ found_below key k b (y ∷ ys) x falls is = elim (decide (key y == k)) [
 
 -- ---- each stay agrees
 
-agrees_same : (j : ℕ) (ps qs : List Process) (y : Stay) (o : Option LiveSpace) → runners j qs ≡ runners j ps → Agrees j ps y o → Agrees j qs y o
+pub agrees_same : (j : ℕ) (ps qs : List Process) (y : Stay) (o : Option LiveSpace) → runners j qs ≡ runners j ps → Agrees j ps y o → Agrees j qs y o
 agrees_same j ps qs y None same h = h
 agrees_same j ps qs y (Some s) same h = h ∙ ap (λ l. Some (record { stack = l; memory = memory_of s.space })) (sym same)
 
