@@ -1,0 +1,18 @@
+-- Lists     one item that is changed, by its place; and items that belong to places
+-- Runners   the processes of a space, after one process changes or goes
+-- RowSpaces  what a row leaves of the space
+-- Frame     what is told stays right where one space changes
+-- EventStays  one event keeps what is told right
+-- PlainCalls  calls that are refused, and those that leave the mappings
+-- TurnStays  and so turns and runs
+-- BootStays  the first stays are right
+-- SoloRuns  a run alone goes on behind its events, with more items
+pub mod Lists
+pub mod Runners
+pub mod RowSpaces
+pub mod Frame
+pub mod EventStays
+pub mod PlainCalls
+pub mod TurnStays
+pub mod BootStays
+pub mod SoloRuns
