@@ -1,5 +1,5 @@
 -- Each start line in order.
-use Rattle.std.proofs.Common.{refl, ap, ◌∙◌, ◌≡◌, ◌+◌, length, subst}
+use Rattle.std.proofs.Common.{refl, sym, ap, ◌∙◌, ◌≡◌, ◌+◌, length, subst}
 use Rattle.std.proofs.lemmas.List.{length-map}
 use Rattle.call_log.specs.Programs.{paths_of}
 use Rattle.machine_world.specs.Programs.{AreLoaded}
@@ -9,6 +9,8 @@ use Rattle.machine_world.specs.Boot.{all_started, boot}
 use Rattle.fd_tables.specs.Files.{OpenFiles}
 use Rattle.syscall_layer.specs.Kept.{Kept}
 use Rattle.syscall_layer.specs.Stands.{world_of}
+use Rattle.stays_laws.proofs.SoundRuns.{boots_are_sound}
+use Rattle.stays_laws.proofs.StaysRuns.{boots_begin_stays}
 use Rattle.flat_machine.specs.State.{about_boot, line_of, lines_of, rest_of}
 use Rattle.flat_machine.proofs.Booted.{more_pids, more_spaces, more_entries, left_on, left_fails, left_none, fails_as, boots_from, machine_boots, machine_loads}
 use Rattle.flat_machine.proofs.machine.Machine.boot.Goals as goal
@@ -37,8 +39,8 @@ loop-start-preserved g c =
       entries = more_entries a c.loop-start.parts c.begin.new.parts s c.in_ok-begin.field-0 begins ∙ ap (λ n. n + 1) c.loop-start.invariant.entries;
     }
 
-pub returns-in_err-begin : goal.returns-in_err-begin
-returns-in_err-begin g c =
+pub returns-in_err-begin-clause-world : goal.returns-in_err-begin-clause-world
+returns-in_err-begin-clause-world g c =
     let a = about_boot (kind_of c.args.chooser.now) c.args.setup.paths.items c.args.setup.programs.items in
     let rest = rest_of c.args.setup.pages (kind_of c.args.chooser.now) c.args.setup.paths.items c.args.setup.programs.items c.args.setup.tree c.args.setup.stdin.items in
     let first_is = boots_from a c.args.setup.pages c.args.setup.tree c.in_ok-files.files.open_files rest c.in_ok-parts.parts (lines_of c.deref-start-items.result.now) c.in_ok-parts.ensures (ap (λ (files : OpenFiles). record rest { files = files }) c.in_ok-files.ensures) refl in
@@ -60,11 +62,11 @@ invariant_of-result g c =
     record {
       paths = c.requires.paths;
       loads = subst (λ n. AreLoaded n c.loop-start.parts.notes) (programs_count (paths_of c.args.setup.paths.items) c.args.setup.programs.items same) loads;
-      sound = rw (c.kind.ensures) (boots_are_sound rest (lines_of c.deref-start-items.result.now) (world_of a c.loop-start.parts) (can_boot c.requires) (sym (all ∙ first_is)));
+      sound = rw (c.kind.ensures) (boots_are_sound rest (lines_of c.deref-start-items.result.now) (world_of a c.loop-start.parts) (record { some = c.requires.some; most = c.requires.most; changes = c.requires.changes }) (sym (all ∙ first_is)));
     }
 
-pub returns : goal.returns
-returns g c =
+pub returns-clause-world : goal.returns-clause-world
+returns-clause-world g c =
     let a = about_boot (kind_of c.args.chooser.now) c.args.setup.paths.items c.args.setup.programs.items in
     let rest = rest_of c.args.setup.pages (kind_of c.args.chooser.now) c.args.setup.paths.items c.args.setup.programs.items c.args.setup.tree c.args.setup.stdin.items in
     let first_is = boots_from a c.args.setup.pages c.args.setup.tree c.in_ok-files.files.open_files rest c.in_ok-parts.parts (lines_of c.deref-start-items.result.now) c.in_ok-parts.ensures (ap (λ (files : OpenFiles). record rest { files = files }) c.in_ok-files.ensures) refl in
@@ -75,3 +77,14 @@ returns g c =
     (machine_boots (world_of a c.loop-start.parts)
     (record { kept = c.loop-start.parts; kind = kind_of c.args.chooser.now; paths = paths_of c.args.setup.paths.items; programs = c.args.setup.programs.items; events = 0 })
     (boot rest (lines_of c.deref-start-items.result.now)) (all ∙ first_is) refl)
+
+pub returns-clause-alone : goal.returns-clause-alone
+returns-clause-alone g c =
+    let a = about_boot (kind_of c.args.chooser.now) c.args.setup.paths.items c.args.setup.programs.items in
+    let rest = rest_of c.args.setup.pages (kind_of c.args.chooser.now) c.args.setup.paths.items c.args.setup.programs.items c.args.setup.tree c.args.setup.stdin.items in
+    let first_is = boots_from a c.args.setup.pages c.args.setup.tree c.in_ok-files.files.open_files rest c.in_ok-parts.parts (lines_of c.deref-start-items.result.now) c.in_ok-parts.ensures (ap (λ (files : OpenFiles). record rest { files = files }) c.in_ok-files.ensures) refl in
+    let all = left_none c.deref-start-items.result.now c.loop-start.start-index (world_of a c.loop-start.parts) (all_started (world_of a c.in_ok-parts.parts) (lines_of c.deref-start-items.result.now))
+    c.loop-start-test.false c.loop-start.invariant.left in
+    let kind = c.kind.ensures in
+    rw (← c.deref-start-items.ensures.value, kind)
+    (boots_begin_stays rest (lines_of c.deref-start-items.result.now) (world_of a c.loop-start.parts) (record { some = c.requires.some; most = c.requires.most; changes = c.requires.changes }) (sym (all ∙ first_is)))
