@@ -6,6 +6,7 @@
 -- PlainCalls  calls that are refused, and those that leave the mappings
 -- TurnStays  and so turns and runs
 -- BootStays  the first stays are right
+-- Unmapping  munmap leaves alone what it leaves in the world
 -- SoloRuns  a run alone goes on behind its events, with more items
 pub mod Lists
 pub mod Runners
@@ -15,4 +16,5 @@ pub mod EventStays
 pub mod PlainCalls
 pub mod TurnStays
 pub mod BootStays
+pub mod Unmapping
 pub mod SoloRuns
