@@ -7,6 +7,7 @@
 -- TurnStays  and so turns and runs
 -- BootStays  the first stays are right
 -- Unmapping  munmap leaves alone what it leaves in the world
+-- LaidBytes  bytes that are laid from an address on
 -- SoloRuns  a run alone goes on behind its events, with more items
 pub mod Lists
 pub mod Runners
@@ -17,4 +18,5 @@ pub mod PlainCalls
 pub mod TurnStays
 pub mod BootStays
 pub mod Unmapping
+pub mod LaidBytes
 pub mod SoloRuns
