@@ -9,6 +9,7 @@
 -- Unmapping  munmap leaves alone what it leaves in the world
 -- LaidBytes  bytes that are laid from an address on
 -- SharedPages  which mappings of a world share pages
+-- Grants    where mmap2 puts a mapping, its bytes may lie
 -- SoloRuns  a run alone goes on behind its events, with more items
 pub mod Lists
 pub mod Runners
@@ -21,4 +22,5 @@ pub mod BootStays
 pub mod Unmapping
 pub mod LaidBytes
 pub mod SharedPages
+pub mod Grants
 pub mod SoloRuns
