@@ -10,6 +10,7 @@
 -- LaidBytes  bytes that are laid from an address on
 -- SharedPages  which mappings of a world share pages
 -- Grants    where mmap2 puts a mapping, its bytes may lie
+-- RowStays  alone, every call does in its space what it does in the world
 -- SoloRuns  a run alone goes on behind its events, with more items
 pub mod Lists
 pub mod Runners
@@ -23,4 +24,5 @@ pub mod Unmapping
 pub mod LaidBytes
 pub mod SharedPages
 pub mod Grants
+pub mod RowStays
 pub mod SoloRuns
