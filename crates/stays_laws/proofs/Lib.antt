@@ -11,6 +11,7 @@
 -- SharedPages  which mappings of a world share pages
 -- Grants    where mmap2 puts a mapping, its bytes may lie
 -- RowStays  alone, every call does in its space what it does in the world
+-- StaysKept  what is told is right behind every event
 -- SoloRuns  a run alone goes on behind its events, with more items
 pub mod Lists
 pub mod Runners
@@ -25,4 +26,5 @@ pub mod LaidBytes
 pub mod SharedPages
 pub mod Grants
 pub mod RowStays
+pub mod StaysKept
 pub mod SoloRuns
