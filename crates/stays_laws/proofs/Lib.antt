@@ -1,0 +1,6 @@
+-- Apart    mappings that share pages of copies alone, in lists that change
+-- AllMaps  the mappings of all live spaces, when one space changes or goes
+-- Runners  the processes of a space, when one process changes or goes
+pub mod Apart
+pub mod AllMaps
+pub mod Runners
