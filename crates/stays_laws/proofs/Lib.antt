@@ -4,3 +4,5 @@
 pub mod Apart
 pub mod AllMaps
 pub mod Runners
+pub mod Bytes
+pub mod Files
