@@ -14,7 +14,7 @@ use Rattle.machine_world.specs.World.{Process, LiveSpace, World, pid_of, id_of}
 use Rattle.fd_tables.specs.Files.{table_at}
 use Rattle.machine_world.specs.Asks.{Ask, Reply, Row, replies, waits, storage_of}
 use Rattle.machine_world.specs.Rows.{row}
-use Rattle.machine_world.specs.Event.{Outcome, went, strays, full, idle, with_space, counted, noted, departed, entry_of, replied, exit_code, number_of, args_of, ask_of, put_got, stepped, trapped, ended, served, put, waited, answered, exited, is_exit, asked, answer, effect, in_space, by_process, at_process, event}
+use Rattle.machine_world.specs.Event.{Outcome, went, strays, full, idle, with_space, counted, noted, departed, entry_of, replied, exit_code, number_of, args_of, ask_of, put_got, item_of, stepped, trapped, ended, served, put, waited, answered, exited, is_exit, asked, answer, effect, in_space, by_process, at_process, event}
 use Rattle.machine_world.specs.Others.{LeavesOthers, EventsLeaveOthers}
 use Rattle.machine_world.proofs.States.{find_has}
 use Rattle.machine_world.proofs.Kept.{Answers}
@@ -60,7 +60,7 @@ module _ (w : World) (p : Process) (s : Space) where
   beside_served bytes r m tables =
       let a : Ask = ask_of w p s bytes in
       let now : World = noted (call_note (entry_of a r.value r.got)) (counted (with_space (record w { rest = r.rest }) p (replied p.regs r.value) (record r.space { bytes = m }))) in
-      beside_if w p (has_room w.notes (weight_of bytes r.got)) (went now (record { space = p.space; events = 1; entries = entry_of a r.value r.got ∷ []; over = r.over })) full
+      beside_if w p (has_room w.notes (weight_of bytes r.got)) (went now (record { space = p.space; events = 1; items = item_of (entry_of a r.value r.got) m ∷ []; over = r.over })) full
       (refl, beside_state w p now (replied p.regs r.value) (record r.space { bytes = m }) refl refl tables) tt
 
   beside_put : (bytes : List ℕ) (r : Reply) (found : Result Bytes Span) → OthersAsIn p.table w.rest.files r.rest → Beside w p (put w (ask_of w p s bytes) r found)
@@ -82,7 +82,7 @@ module _ (w : World) (p : Process) (s : Space) where
   beside_exited bytes =
       let a : Ask = ask_of w p s bytes in
       let now : World = ended (noted (call_note (entry_of a 0 [])) (counted w)) p (Exit (exit_code a)) in
-      beside_if w p (has_room w.notes (weight_of bytes [])) (went now (record { space = p.space; events = 1; entries = entry_of a 0 [] ∷ []; over = true })) full
+      beside_if w p (has_room w.notes (weight_of bytes [])) (went now (record { space = p.space; events = 1; items = record { entry = entry_of a 0 []; brought = [] } ∷ []; over = true })) full
       (refl, beside_departed w p now refl refl refl) tt
 
   beside_asked : (found : Result (List ℕ) Span) → Beside w p (asked w p s found)

@@ -17,6 +17,7 @@
 -- InOrder   counts are exact and the nodes a tree after every row
 -- OrderKept  and so after every event, turn and run
 -- OrderBegins  and in the opening world
+-- Refused   a refused call brings nothing, and leaves its space
 -- PlacementLaws  which pages a block and a mapping of its own get
 -- NodesAge  nodes age by each change of the tree
 -- Aging     and so by rows and events
@@ -39,6 +40,7 @@ pub mod Steady
 pub mod InOrder
 pub mod OrderKept
 pub mod OrderBegins
+pub mod Refused
 mod PlacementLaws
 pub mod NodesAge
 pub mod Aging

@@ -39,7 +39,7 @@ module _ (pid : ℕ) where
       → meaning p.regs s.space.bytes (writable_in s.space.maps) ≡ next after now → Leads pid w 1 (moved w p after (record s.space { bytes = now }) 1)
   unfolding stepped
   one w p s lives has after now is =
-      leads_event pid w (moved w p after (record s.space { bytes = now }) 1) (record { space = p.space; events = 1; entries = []; over = false })
+      leads_event pid w (moved w p after (record s.space { bytes = now }) 1) (record { space = p.space; events = 1; items = []; over = false })
       (event_is w pid p s lives has ∙ ap (effect w p s.space) is) refl
 
   pub run_on : (n : ℕ) (w : World) (p : Process) (s : LiveSpace) → find pid_of pid w.procs ≡ Some p → find id_of p.space w.spaces ≡ Some s
