@@ -6,3 +6,4 @@ pub mod AllMaps
 pub mod Runners
 pub mod Bytes
 pub mod Files
+pub mod Moved
