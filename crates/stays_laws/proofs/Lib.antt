@@ -7,3 +7,4 @@ pub mod Runners
 pub mod Bytes
 pub mod Files
 pub mod Moved
+pub mod RowSpaces
