@@ -10,6 +10,12 @@ use Rattle.mem_files.specs.Inodes.{Inodes, bytes_in}
 use Rattle.machine_world.specs.Ages.{Follows}
 use Rattle.stays_laws.specs.Sound.{copied_byte, HoldsSource, HoldCopies}
 
+pub follows_itself : (nodes : Inodes) → Follows nodes nodes
+follows_itself nodes = record {
+  grows = omega arith;
+  nodes = λ id n given there. record { was = n; there = there; ages = record { up = omega arith; same = λ e. refl } };
+}
+
 -- the same mapping over nodes that follow, with the same bytes where it is a copy
 pub holds_later : (s t : Space) (old new : Inodes) (m : Mapping) (source : Source) → Follows old new
     → (is_copy source ≡ true → (a : ℕ) → in_range m.range a ≡ true → t.bytes a ≡ s.bytes a) → HoldsSource s old m source → HoldsSource t new m source

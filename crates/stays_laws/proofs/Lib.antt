@@ -8,3 +8,5 @@ pub mod Bytes
 pub mod Files
 pub mod Moved
 pub mod RowSpaces
+pub mod Spaces
+pub mod Unmaps
