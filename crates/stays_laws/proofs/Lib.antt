@@ -10,3 +10,6 @@ pub mod Moved
 pub mod RowSpaces
 pub mod Spaces
 pub mod Unmaps
+pub mod FilePages
+pub mod Wanted
+pub mod MoreMaps
