@@ -13,3 +13,5 @@ pub mod Unmaps
 pub mod FilePages
 pub mod Wanted
 pub mod MoreMaps
+pub mod FreePages
+pub mod Maps
