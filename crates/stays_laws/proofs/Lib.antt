@@ -15,3 +15,4 @@ pub mod Wanted
 pub mod MoreMaps
 pub mod FreePages
 pub mod Maps
+pub mod SoundRuns
