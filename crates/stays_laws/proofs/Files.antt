@@ -6,7 +6,7 @@ use Rattle.nommu_regions.specs.declared.region.Source.TheVariants.{Own, Copy}
 use Rattle.nommu_regions.specs.Regions.{is_copy}
 use Rattle.mmap_rules.specs.declared.mapping.Mapping.{Mapping}
 use Rattle.mmap_rules.specs.Space.{Space, in_range}
-use Rattle.mem_files.specs.Inodes.{Inodes, bytes_in}
+use Rattle.mem_files.specs.Inodes.{Inodes}
 use Rattle.machine_world.specs.Ages.{Follows}
 use Rattle.stays_laws.specs.Sound.{copied_byte, HoldsSource, HoldCopies}
 

@@ -1,6 +1,6 @@
 -- A run that is chosen is free, and the mappings of all spaces lie in memory.
-use Rattle.std.proofs.Common.{◌≡◌, ℕ, ◌+◌, ◌-◌, ◌<◌, ◌≤◌, Bool, true, false, ◌&&◌, not, inl, inr, List, [], ◌∷◌, ◌++◌, Option, Some, None, refl, sym, ap, ◌∙◌, arith}
-use Rattle.std.specs.Prelude.{◌==◌, ◌||◌, nat_lt, slice_get, option_map}
+use Rattle.std.proofs.Common.{◌≡◌, ℕ, ◌+◌, ◌-◌, ◌<◌, ◌≤◌, true, false, not, inl, inr, List, [], ◌∷◌, Option, Some, None, refl, sym, ap, ◌∙◌, arith}
+use Rattle.std.specs.Prelude.{◌==◌, nat_lt, slice_get, option_map}
 use Rattle.std.specs.List.{list_any}
 use Rattle.std.proofs.lemmas.Bool.{and_parts, ltb-true, not-true, or_left, or_right, both_ways, eq-eqb, eqb-true, cases_Bool}
 use Rattle.std.proofs.lemmas.Bool.Decides.{nat_tests}
@@ -58,7 +58,7 @@ module _ (pages : ℕ) (ss : List LiveSpace) (kind : Kind) (need first : ℕ) (s
 
 -- ---- what holds of the mappings of each space
 
-below : (i b : ℕ) (s : LiveSpace) (ss : List LiveSpace) → Falls id_of b ss → find id_of i ss ≡ Some s → i < b
+pub below : (i b : ℕ) (s : LiveSpace) (ss : List LiveSpace) → Falls id_of b ss → find id_of i ss ≡ Some s → i < b
 unfolding find
 below i b s [] falls is = absurd (none-some s is)
 below i b s (x ∷ ss) falls is = elim (cases_Bool (x.id == i)) [

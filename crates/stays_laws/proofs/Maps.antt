@@ -1,7 +1,7 @@
 -- A space of a sound world behind mmap2.
-use Rattle.std.proofs.Common.{◌≡◌, ℕ, zero, suc, ◌+◌, ◌-◌, ◌*◌, ◌<◌, ◌≤◌, Bool, true, false, inl, inr, List, [], ◌∷◌, ◌++◌, length, replicate, Option, Some, None, Ok, Err, refl, sym, ap, subst, ◌∙◌, arith}
+use Rattle.std.proofs.Common.{◌≡◌, ℕ, zero, suc, ◌+◌, ◌-◌, ◌*◌, ◌<◌, ◌≤◌, Bool, true, false, List, [], ◌∷◌, ◌++◌, Option, Some, None, Ok, Err, refl, sym, ap, subst, ◌∙◌, arith}
 use Rattle.std.specs.Prelude.{◌==◌, ◌&&◌, nat_le, Result, slice_get, option_map, if◌then◌else◌}
-use Rattle.std.proofs.lemmas.Bool.{cases_Bool, and_parts, eqb-true, leb-true, false≢true}
+use Rattle.std.proofs.lemmas.Bool.{and_parts, eqb-true, leb-true, false≢true}
 use Rattle.std.proofs.lemmas.Option.{none-some, same_Some}
 use Rattle.std.proofs.lemmas.List.{length-replicate}
 use Rattle.call_log.specs.declared.errno.Errno.{Errno}
@@ -12,16 +12,14 @@ use Rattle.nommu_regions.specs.Regions.{is_copy, copy_covers}
 use Rattle.mmap_rules.specs.declared.mapping.Mapping.{Mapping}
 use Rattle.mmap_rules.specs.declared.want.Want.{Want}
 use Rattle.mmap_rules.specs.declared.want.Want.TheVariants.{Anon, File}
-use Rattle.mmap_rules.specs.Space.{Space}
-use Rattle.mmap_rules.specs.Held.{IsMapping, page_address}
+use Rattle.mmap_rules.specs.Held.{page_address}
 use Rattle.mmap_rules.specs.Want.{wanted}
 use Rattle.mmap_rules.specs.Mappings.{copied_from, file_pages}
 use Rattle.mmap_rules.proofs.Mapped.{run_is, part_is}
 use Rattle.mem_files.specs.Inodes.{Inodes, bytes_of}
-use Rattle.machine_world.specs.World.{LiveSpace}
 use Rattle.machine_world.specs.Free.{free_runs_in}
 use Rattle.machine_world.specs.Asks.{Ask, arg, view_of, with_ok}
-use Rattle.machine_world.specs.MapCalls.{all_maps, with_mapping, lower, lowest, has_pages, shared, in_copy, pages_of, own_run, in_free_run, first_bytes, maps, or_own, mapped, file_side, mmap2_row}
+use Rattle.machine_world.specs.MapCalls.{all_maps, with_mapping, lower, lowest, has_pages, shared, pages_of, own_run, in_free_run, first_bytes, maps, or_own, mapped, file_side, mmap2_row}
 use Rattle.stays_laws.specs.Sound.{ShareCopy, Apart, AreApart, HoldsSource}
 use Rattle.stays_laws.proofs.Apart.{apart_copy}
 use Rattle.stays_laws.proofs.FilePages.{length-file_pages}
@@ -142,8 +140,8 @@ module _ (a : Ask) (front back : List Mapping) (are : all_maps a.spaces ≡ fron
         inside = within;
         apart = subst (λ (ms : List Mapping). (j : ℕ) (n : Mapping) → slice_get ms j ≡ Some n → Apart n (shared first pages c)) are
             (λ j n is page on_n on_c. (
-              let shares : ShareCopy n c = apart_copy (all_maps a.spaces) low.at c apart low.there copy j n is page on_n on_c in
-              record { copy = shares.copy; first = shares.first; pages = shares.pages; source = shares.source }));
+            let shares : ShareCopy n c = apart_copy (all_maps a.spaces) low.at c apart low.there copy j n is page on_n on_c in
+            record { copy = shares.copy; first = shares.first; pages = shares.pages; source = shares.source }));
         long = length-file_pages (bytes_of nodes id) first pages;
         holds = subst (HoldsSource (with_mapping a.space (shared first pages c) (file_pages (bytes_of nodes id) first pages)) nodes (shared first pages c)) (sym has.source)
             (file_laid a.space nodes (shared first pages c) id change has.from first pages there has.least has.source

@@ -1,5 +1,5 @@
 -- A space of a sound world with a mapping more.
-use Rattle.std.proofs.Common.{◌≡◌, ℕ, ◌+◌, ◌-◌, ◌*◌, ◌^◌, ◌<◌, ◌≤◌, Bool, true, false, inl, inr, List, [], ◌∷◌, ◌++◌, append_assoc, length, get_or, Some, None, refl, sym, ap, subst, ◌∙◌, arith}
+use Rattle.std.proofs.Common.{◌≡◌, ℕ, ◌+◌, ◌-◌, ◌*◌, ◌<◌, ◌≤◌, true, false, inl, inr, List, [], ◌∷◌, ◌++◌, length, get_or, Some, None, refl, sym, ap, subst, ◌∙◌, arith}
 use Rattle.std.specs.Prelude.{slice_get}
 use Rattle.std.proofs.lemmas.Bool.{cases_Bool, cases_lt}
 use Rattle.std.proofs.lemmas.Bool.Decides.{nat_tests}
@@ -15,7 +15,7 @@ use Rattle.mmap_rules.proofs.Lists.{each_append, each_one}
 use Rattle.mmap_rules.proofs.Mapped.{mapped_more}
 use Rattle.mem_files.specs.Inodes.{Inode, Inodes, inode_at, bytes_in, content_in, bytes_of}
 use Rattle.machine_world.specs.MapCalls.{with_mapping}
-use Rattle.stays_laws.specs.Sound.{HasBlock, IsSpace, ShareCopy, Apart, AreApart, copied_byte, HoldsFile, HoldsSource, HoldCopies}
+use Rattle.stays_laws.specs.Sound.{HasBlock, ShareCopy, Apart, copied_byte, HoldsFile, HoldsSource}
 use Rattle.stays_laws.proofs.Apart.{each_front, each_back, apart_more}
 use Rattle.stays_laws.proofs.Bytes.{bytes_inside, bytes_before, bytes_behind, page_of, in_page}
 use Rattle.stays_laws.proofs.FilePages.{file_byte, length-file_pages}

@@ -1,17 +1,15 @@
 -- A world in which one process has other registers and its space is another one, and one that a process has left.
-use Rattle.std.proofs.Common.{◌≡◌, ◌≢◌, ℕ, ◌+◌, ◌≤◌, inl, inr, List, [], ◌∷◌, ◌++◌, Option, Some, None, refl, sym, ap, subst, ◌∙◌, arith}
-use Rattle.std.specs.Prelude.{IsSome, option_map, slice_get}
+use Rattle.std.proofs.Common.{◌≡◌, ◌≢◌, ℕ, ◌+◌, ◌≤◌, inl, inr, List, [], ◌∷◌, ◌++◌, Option, Some, None, refl, sym, ap, subst, ◌∙◌}
+use Rattle.std.specs.Prelude.{IsSome, option_map}
 use Rattle.std.proofs.lemmas.Bool.{cases_eq}
 use Rattle.std.proofs.lemmas.Option.{none-some, same_Some}
 use Rattle.rv32im_step.specs.declared.regs.Regs.{Regs}
 use Rattle.call_log.specs.Notes.{Note, most_calls}
-use Rattle.mmap_rules.specs.declared.mapping.Mapping.{Mapping}
 use Rattle.mmap_rules.specs.Space.{Space}
 use Rattle.flat_loader.specs.Alone.{Runner}
-use Rattle.vfork_exec.specs.Keyed.{Falls, find, change, without}
+use Rattle.vfork_exec.specs.Keyed.{find, change, without}
 use Rattle.vfork_exec.proofs.Keyed.{falls_change, falls_without, find_changed, find_gone, find_beside_change, find_beside_without}
 use Rattle.machine_world.specs.World.{Process, LiveSpace, Rest, World, pid_of, id_of}
-use Rattle.machine_world.specs.MapCalls.{all_maps}
 use Rattle.machine_world.specs.Ages.{Follows, AreChanged}
 use Rattle.machine_world.proofs.States.{find_has}
 use Rattle.stays_laws.specs.Stays.{runners, runner_of}

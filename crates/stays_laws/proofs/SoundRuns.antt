@@ -1,27 +1,27 @@
--- Each event, turn and run of a sound world leaves a sound one.
-use Rattle.std.proofs.Common.{◌≡◌, ℕ, zero, suc, ◌+◌, ◌^◌, ◌<◌, ◌≤◌, Bool, true, false, List, [], ◌∷◌, ◌++◌, length, map, sum, Option, Some, None, Result, Ok, Err, refl, sym, ap, subst, ◌∙◌, arith}
+-- The opening world is sound, and each event, turn and run of a sound world leaves a sound one.
+pub use Rattle.stays_laws.proofs.SoundBegins.{boots_are_sound}
+use Rattle.std.proofs.Common.{◌≡◌, ℕ, zero, suc, ◌+◌, ◌<◌, ◌≤◌, Bool, true, false, List, [], ◌∷◌, ◌++◌, map, sum, Option, Some, None, Result, Ok, Err, refl, subst, arith}
 use Rattle.std.specs.Prelude.{nat_le, slice_get, if◌then◌else◌}
-use Rattle.std.proofs.lemmas.Bool.{cases_Bool, and_parts, leb-true}
+use Rattle.std.proofs.lemmas.Bool.{and_parts, leb-true}
 use Rattle.std.proofs.lemmas.List.Sums.{sum_by-cons}
 use Rattle.byte_words.specs.ByteMap.{Bytes}
 use Rattle.rv32im_step.specs.Meaning.{Meaning, next, call, trap, refused, meaning}
 use Rattle.rv32im_step.proofs.MeaningLaws.{keeps}
-use Rattle.call_log.specs.declared.how.How.{How}
 use Rattle.call_log.specs.declared.how.How.TheVariants.{Exit, Signal}
 use Rattle.call_log.specs.Notes.{Note, call_note, end_note, stray_note, calls_in, bytes_in, most_calls, most_bytes, has_room, weight_of}
 use Rattle.call_log.specs.Sent.{Span, sent}
 use Rattle.mmap_rules.specs.declared.mapping.Mapping.{Mapping}
-use Rattle.mmap_rules.specs.Space.{Space, writable_in}
+use Rattle.mmap_rules.specs.Space.{writable_in}
 use Rattle.mmap_rules.specs.Mappings.{Hit, hit}
 use Rattle.mem_files.specs.Inodes.{Inodes}
 use Rattle.quantum_sched.specs.Picked.{picked}
 use Rattle.vfork_exec.specs.Keyed.{find}
 use Rattle.fd_tables.specs.Changes.{without_table}
-use Rattle.machine_world.specs.World.{Process, LiveSpace, Rest, World, pid_of, id_of}
+use Rattle.machine_world.specs.World.{Process, LiveSpace, World, pid_of, id_of}
 use Rattle.machine_world.specs.Asks.{Ask, arg, Reply, Row, replies, waits, storage_of, with_storage}
-use Rattle.machine_world.specs.MapCalls.{all_maps, unmaps, munmap_row, mmap2_row}
+use Rattle.machine_world.specs.MapCalls.{all_maps, unmaps, munmap_row}
 use Rattle.machine_world.specs.Rows.{next_brk, brk_row, row}
-use Rattle.machine_world.specs.Event.{Outcome, went, strays, full, idle, number_of, args_of, replied, entry_of, exit_code, noted, counted, put_got, stepped, trapped, ended, served, put, waited, answered, exited, is_exit, asked, ask_of, answer, effect, in_space, by_process, at_process, event}
+use Rattle.machine_world.specs.Event.{Outcome, went, strays, full, idle, number_of, args_of, replied, entry_of, exit_code, noted, put_got, stepped, trapped, ended, served, put, waited, answered, exited, is_exit, asked, ask_of, answer, effect, in_space, by_process, at_process, event}
 use Rattle.machine_world.specs.Turns.{Walk, End, traced, stays_at, turned, turn, seen_of, going_on, quantum_turn, turns}
 use Rattle.machine_world.specs.Ages.{AreChanged, Follows, most_changes}
 use Rattle.machine_world.proofs.Kept.{Answers, Kept}
@@ -29,9 +29,8 @@ use Rattle.machine_world.proofs.ByRows.{by_rows}
 use Rattle.machine_world.proofs.Aging.{rows_age, table_ages}
 use Rattle.stays_laws.specs.Sound.{kept_calls, most_at_boot, IsSound}
 use Rattle.stays_laws.specs.Laws.{EventsKeepSound, TurnsKeepSound, RunsKeepSound}
-use Rattle.stays_laws.proofs.AllMaps.{Around}
 use Rattle.stays_laws.proofs.Bytes.{put_keeps}
-use Rattle.stays_laws.proofs.Files.{follows_itself, copies_later}
+use Rattle.stays_laws.proofs.Files.{follows_itself}
 use Rattle.stays_laws.proofs.FreePages.{each_of_all}
 use Rattle.stays_laws.proofs.Moved.{Goes, own_around, moved_sound, left_sound}
 use Rattle.stays_laws.proofs.Spaces.{IsFit, fit_later, fit_there}
@@ -200,12 +199,12 @@ module _ (w : World) (h : IsSound w) (pid : ℕ) (p : Process) (s : LiveSpace) (
       let a : Ask = ask_of w p s.space bytes in
       leaves_if (has_room w.notes (weight_of bytes [])) (went _ _) full
       (λ room. (
-        let left = room_left w.notes (weight_of bytes []) room in
-        let one = noted_more (call_note (entry_of a 0 [])) w.notes in
-        let both = noted_more (end_note p.pid (Exit (exit_code a))) (call_note (entry_of a 0 []) ∷ w.notes) in
-        left_sound w h pid p s lives has (with_storage w.rest (without_table (storage_of w.rest) p.table))
-        (end_note p.pid (Exit (exit_code a)) ∷ call_note (entry_of a 0 []) ∷ w.notes) (w.events + 1)
-        (table_gone (end_note p.pid (Exit (exit_code a)) ∷ call_note (entry_of a 0 []) ∷ w.notes) (omega (arith, one, both)) (omega (arith, left, one, both))))) tt
+      let left = room_left w.notes (weight_of bytes []) room in
+      let one = noted_more (call_note (entry_of a 0 [])) w.notes in
+      let both = noted_more (end_note p.pid (Exit (exit_code a))) (call_note (entry_of a 0 []) ∷ w.notes) in
+      left_sound w h pid p s lives has (with_storage w.rest (without_table (storage_of w.rest) p.table))
+      (end_note p.pid (Exit (exit_code a)) ∷ call_note (entry_of a 0 []) ∷ w.notes) (w.events + 1)
+      (table_gone (end_note p.pid (Exit (exit_code a)) ∷ call_note (entry_of a 0 []) ∷ w.notes) (omega (arith, one, both)) (omega (arith, left, one, both))))) tt
 
   leaves_asked : (found : Result (List ℕ) Span) → Leaves (asked w p s.space found)
   leaves_asked (Ok bytes) =

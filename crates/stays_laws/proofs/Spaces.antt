@@ -1,6 +1,5 @@
 -- A space of a sound world, and how it changes: its bytes, its break.
-use Rattle.std.proofs.Common.{◌≡◌, ℕ, Bool, false, List, ◌++◌, Some, sym, subst}
-use Rattle.byte_words.specs.ByteMap.{Bytes}
+use Rattle.std.proofs.Common.{◌≡◌, ℕ, false, List, ◌++◌, Some, sym, subst}
 use Rattle.mmap_rules.specs.declared.mapping.Mapping.{Mapping}
 use Rattle.mmap_rules.specs.Space.{Space, writable_in}
 use Rattle.mem_files.specs.Inodes.{Inodes}
@@ -9,7 +8,6 @@ use Rattle.machine_world.specs.World.{LiveSpace, World, Process, id_of, pid_of}
 use Rattle.machine_world.specs.Ages.{Follows}
 use Rattle.stays_laws.specs.Sound.{IsSpace, AreApart, HoldCopies, IsSound}
 use Rattle.stays_laws.proofs.Apart.{apart_front, apart_rest}
-use Rattle.stays_laws.proofs.AllMaps.{Around}
 use Rattle.stays_laws.proofs.Bytes.{copy_locked}
 use Rattle.stays_laws.proofs.Files.{copies_later}
 use Rattle.stays_laws.proofs.Moved.{own_around}

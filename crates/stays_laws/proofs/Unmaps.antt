@@ -1,18 +1,16 @@
 -- A space of a sound world behind munmap.
 use Rattle.std.proofs.Common.{◌≡◌, ◌≢◌, ℕ, zero, suc, ◌+◌, ◌-◌, ◌*◌, ◌/◌, ◌%◌, ◌^◌, ◌<◌, ◌≤◌, ◌⊎◌, inl, inr, Bool, true, false, not, ◌&&◌, ◌||◌, List, [], ◌∷◌, ◌++◌, append_assoc, take, drop, cond, Option, Some, None, refl, sym, ap, subst, ◌∙◌, arith}
 use Rattle.std.specs.Prelude.{◌==◌, nat_le, slice_get, position}
-use Rattle.std.specs.List.{list_any}
-use Rattle.std.proofs.lemmas.Bool.{cases_Bool, cases_eq, and_parts, eqb-true, leb-true, ne_eqb, eq-eqb, false≢true}
+use Rattle.std.proofs.lemmas.Bool.{and_parts, eqb-true, eq-eqb, false≢true}
 use Rattle.std.proofs.lemmas.Bool.Decides.{nat_tests}
 use Rattle.std.proofs.lemmas.Option.{none-some, same_Some}
-use Rattle.nommu_regions.specs.declared.region.Source.{Source}
-use Rattle.nommu_regions.specs.declared.region.Source.TheVariants.{Own, Copy}
+use Rattle.nommu_regions.specs.declared.region.Source.TheVariants.{Own}
 use Rattle.nommu_regions.specs.Regions.{is_copy}
 use Rattle.mmap_rules.specs.declared.mapping.Mapping.{Mapping}
 use Rattle.mmap_rules.specs.Space.{Space, page_size, in_range, has_page, own_in}
 use Rattle.mmap_rules.specs.Held.{IsMapping, AreMappings}
 use Rattle.mmap_rules.specs.Want.{pages_for}
-use Rattle.mmap_rules.specs.Mappings.{is_range, can_lose, page_at, part_of, left_of, Hit, hit, hit_in, hit_at, or_hit, without_hit}
+use Rattle.mmap_rules.specs.Mappings.{is_range, can_lose, part_of, left_of, Hit, hit, hit_in, hit_at, or_hit, without_hit}
 use Rattle.mmap_rules.proofs.Lists.{each_cut, any_found}
 use Rattle.mmap_rules.proofs.Hits.{first_passes}
 use Rattle.mmap_rules.proofs.Parts.{Cuts, both, run_of, each_left, left_mapped}
@@ -20,8 +18,8 @@ use Rattle.mmap_rules.proofs.Mapped.{mapped_cut}
 use Rattle.region_watch.specs.Private.{only}
 use Rattle.mem_files.specs.Inodes.{Inodes}
 use Rattle.machine_world.specs.MapCalls.{over_maps}
-use Rattle.stays_laws.specs.Sound.{HasBlock, IsSpace, ShareCopy, Apart, AreApart, HoldsSource, HoldCopies}
-use Rattle.stays_laws.proofs.Apart.{ApartFrom, Across, each_front, each_back, apart_append, apart_front, apart_rest, apart_across, apart_under}
+use Rattle.stays_laws.specs.Sound.{HasBlock, Apart, AreApart, HoldsSource}
+use Rattle.stays_laws.proofs.Apart.{ApartFrom, apart_append, apart_under}
 use Rattle.stays_laws.proofs.Files.{holds_later, follows_itself}
 use Rattle.stays_laws.proofs.Spaces.{IsFit, own_apart}
 
@@ -150,9 +148,9 @@ module _ (pages : ℕ) (m : Mapping) (addr size : ℕ) (cuts : Cuts pages m addr
       apart_append (part_of m m.range.from addr) (part_of m (addr + size) (m.range.from + m.range.size)) (part_apart m m.range.from addr)
       (part_apart m (addr + size) (m.range.from + m.range.size))
       (λ i n is j o there page on_n on_o. (
-        let low = before_cut i n is page on_n in
-        let high = behind_cut j o there page on_o in
-        absurd (omega arith)))
+      let low = before_cut i n is page on_n in
+      let high = behind_cut j o there page on_o in
+      absurd (omega arith)))
 
   -- they lie in memory, and are no copies
   part_inside : (j : ℕ) (n : Mapping) → slice_get (left_of m addr size) j ≡ Some n → n.first + n.pages ≤ pages
@@ -177,7 +175,7 @@ module _ (pages : ℕ) (m : Mapping) (addr size : ℕ) (cuts : Cuts pages m addr
 cut_is : {X : Type 0} (xs : List X) (k : ℕ) (x : X) → slice_get xs k ≡ Some x → xs ≡ take k xs ++ (x ∷ drop (k + 1) xs)
 cut_is {X} [] k x is = absurd (none-some x is)
 cut_is {X} (y ∷ xs) zero x is = ap (λ z. z ∷ xs) (same_Some y x is)
-cut_is {X} (y ∷ xs) (suc k) x is = 
+cut_is {X} (y ∷ xs) (suc k) x is =
     let next : suc (k + 1) ≡ suc k + 1 = omega arith in
     ap (λ (zs : List X). y ∷ zs) (cut_is xs k x is) ∙ ap (λ (n : ℕ). y ∷ (take k xs ++ (x ∷ drop n (y ∷ xs)))) next
 

@@ -1,7 +1,7 @@
 -- What an mmap2 asks for: a page at least, and of a file one that is there, as it is.
-use Rattle.std.proofs.Common.{◌≡◌, ◌≢◌, ℕ, ◌+◌, ◌^◌, ◌<◌, Bool, true, false, not, ◌||◌, inl, inr, Option, Some, None, Ok, Err, refl, subst, arith}
+use Rattle.std.proofs.Common.{◌≡◌, ◌≢◌, ℕ, ◌+◌, ◌^◌, ◌<◌, Bool, true, false, not, ◌||◌, Option, Some, None, Ok, Err, refl, subst, arith}
 use Rattle.std.specs.Prelude.{◌==◌, nat_lt, Result, if◌then◌else◌}
-use Rattle.std.proofs.lemmas.Bool.{cases_eq, eq-eqb}
+use Rattle.std.proofs.lemmas.Bool.{eq-eqb}
 use Rattle.call_log.specs.declared.errno.Errno.{Errno}
 use Rattle.call_log.specs.declared.errno.Errno.TheVariants.{Einval, Eoverflow}
 use Rattle.call_log.specs.Flags.{has_flag}
