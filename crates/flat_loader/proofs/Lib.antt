@@ -6,6 +6,7 @@
 -- Written   memory after loading, by address
 -- Started   a program in a run of pages
 -- Begun     the parts of a space at its start
+-- AloneSamples  a program by itself, on worked examples
 pub mod Laying
 pub mod Pictures
 pub mod Frames
@@ -14,3 +15,4 @@ pub mod Images
 pub mod Written
 pub mod Started
 pub mod Begun
+mod AloneSamples

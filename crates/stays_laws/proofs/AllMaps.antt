@@ -1,6 +1,6 @@
 -- The mappings of all live spaces, when one space changes or goes.
 use Rattle.std.proofs.Common.{◌≡◌, ℕ, Bool, true, false, not, cond, inl, inr, List, [], ◌∷◌, ◌++◌, append_assoc, Some, sym, ap, ◌∙◌, arith}
-use Rattle.std.specs.Prelude.{◌==◌, slice_get, filter}
+use Rattle.std.specs.Prelude.{◌==◌, filter}
 use Rattle.std.proofs.lemmas.Bool.{cases_Bool, eqb-true}
 use Rattle.std.proofs.lemmas.Option.{none-some, same_Some}
 use Rattle.mmap_rules.specs.declared.mapping.Mapping.{Mapping}
@@ -8,7 +8,6 @@ use Rattle.vfork_exec.specs.Keyed.{Falls, find, change, without}
 use Rattle.vfork_exec.proofs.Keyed.{find_head, none_below}
 use Rattle.machine_world.specs.World.{LiveSpace, id_of}
 use Rattle.machine_world.specs.MapCalls.{all_maps}
-use Rattle.stays_laws.proofs.Apart.{each_back, each_front}
 
 module _ (i : ℕ) where
   change_head : (f : LiveSpace → LiveSpace) (s : LiveSpace) (ss : List LiveSpace) (b : Bool) → (s.id == i) ≡ b → change id_of i f (s ∷ ss) ≡ cond b (f s ∷ ss) (s ∷ change id_of i f ss)
@@ -52,16 +51,4 @@ around i b s (x ∷ ss) falls is = elim (cases_Bool (x.id == i)) [
             ∙ sym (append_assoc x.space.maps r.front ((f s).space.maps ++ r.back));
         gone = ap all_maps (without_head i x ss false other) ∙ ap (λ (ms : List Mapping). x.space.maps ++ ms) r.gone ∙ sym (append_assoc x.space.maps r.front r.back);
       })
-]
-
--- what holds of each mapping of all spaces holds of each of one
-pub each_in : (P : Mapping → Type 0) (i : ℕ) (s : LiveSpace) (ss : List LiveSpace) → find id_of i ss ≡ Some s
-    → ((j : ℕ) (m : Mapping) → slice_get (all_maps ss) j ≡ Some m → P m) → (j : ℕ) (m : Mapping) → slice_get s.space.maps j ≡ Some m → P m
-unfolding find
-each_in P i s [] is each j m there = absurd (none-some s is)
-each_in P i s (x ∷ ss) is each j m there = elim (cases_Bool (x.id == i)) [
-  | inl here ↦ (
-      let same : x ≡ s = same_Some x s (sym (find_head id_of i x ss true here) ∙ is) in
-      each_front P x.space.maps (all_maps ss) each j m (ap (λ (y : LiveSpace). slice_get y.space.maps j) same ∙ there))
-  | inr other ↦ each_in P i s ss (sym (find_head id_of i x ss false other) ∙ is) (each_back P x.space.maps (all_maps ss) each) j m there
 ]

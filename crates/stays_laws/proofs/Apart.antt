@@ -20,7 +20,7 @@ each_back P (y ∷ xs) ys each j x is = each_back P xs ys (λ i. each (suc i)) j
 
 -- ---- two mappings
 
-pub shared_back : (m n : Mapping) → ShareCopy m n → ShareCopy n m
+shared_back : (m n : Mapping) → ShareCopy m n → ShareCopy n m
 shared_back m n s = record { copy = ap is_copy (sym s.source) ∙ s.copy; first = sym s.first; pages = sym s.pages; source = sym s.source }
 
 pub apart_back : (m n : Mapping) → Apart m n → Apart n m
@@ -39,9 +39,6 @@ ApartFrom m ns = (j : ℕ) (n : Mapping) → slice_get ns j ≡ Some n → Apart
 -- each of one list is apart from each of another
 abbrev pub Across : List Mapping → List Mapping → Type 0
 Across ms ns = (i : ℕ) (m : Mapping) → slice_get ms i ≡ Some m → ApartFrom m ns
-
-pub across_back : (ms ns : List Mapping) → Across ms ns → Across ns ms
-across_back ms ns across = λ j n there i m is. apart_back m n (across i m is j n there)
 
 pub apart_append : (ms ns : List Mapping) → AreApart ms → AreApart ns → Across ms ns → AreApart (ms ++ ns)
 apart_append [] ns front back across = back

@@ -26,8 +26,7 @@ use Rattle.stays_laws.proofs.FilePages.{length-file_pages}
 use Rattle.stays_laws.proofs.Wanted.{IsThere, IsWanted, is_wanted}
 use Rattle.stays_laws.proofs.MoreMaps.{file_laid, IsMore, fit_more}
 use Rattle.stays_laws.proofs.FreePages.{free_inside, free_apart}
-use Rattle.stays_laws.proofs.Spaces.{IsFit}
-use Rattle.stays_laws.proofs.RowSpaces.{InSpace}
+use Rattle.stays_laws.proofs.Spaces.{IsFit, InSpace}
 
 -- ---- the lowest mapping that passes stands in the list
 

@@ -42,7 +42,6 @@ module _ (s : Space) (nodes : Inodes) (m : Mapping) (id change from first pages 
   byte_laid n a there within =
       let low : m.range.from ≤ a = grind (arith, nat_tests) in
       let high : a < m.range.from + m.range.size = grind (arith, nat_tests) in
-      let k : ℕ = a - m.range.from in
       let at : a ≡ m.range.from + (a - m.range.from) = omega (arith, low) in
       let inside_it : a - m.range.from < 4096 * pages = omega (arith, low, high, size) in
       let len = length-file_pages (bytes_of nodes id) first pages in

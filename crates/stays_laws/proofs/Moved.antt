@@ -11,12 +11,12 @@ use Rattle.vfork_exec.specs.Keyed.{find, change, without}
 use Rattle.vfork_exec.proofs.Keyed.{falls_change, falls_without, find_changed, find_gone, find_beside_change, find_beside_without}
 use Rattle.machine_world.specs.World.{Process, LiveSpace, Rest, World, pid_of, id_of}
 use Rattle.machine_world.specs.Ages.{Follows, AreChanged}
-use Rattle.machine_world.proofs.States.{find_has}
+use Rattle.machine_world.proofs.States.{find_has, with_regs, with_own}
 use Rattle.stays_laws.specs.Stays.{runners, runner_of}
 use Rattle.stays_laws.specs.Sound.{IsSpace, AreApart, HoldCopies, kept_calls, most_at_boot, IsSound}
 use Rattle.stays_laws.proofs.Apart.{apart_under}
 use Rattle.stays_laws.proofs.AllMaps.{Around, around}
-use Rattle.stays_laws.proofs.Runners.{AreOthers, runners_beside_change, runners_beside_without, runners_changed}
+use Rattle.stays_laws.proofs.Runners.{runners_change, runners_beside_change, runners_beside_without}
 use Rattle.stays_laws.proofs.Files.{copies_later}
 
 some_mapped : {A : Type 0} (f : A → A) (o : Option A) → IsSome o → IsSome (option_map f o)
@@ -32,15 +32,9 @@ there_changed key k j f same xs there = elim (cases_eq j k) [
   | inr other ↦ subst IsSome (sym (find_beside_change key k j other f same xs)) there
 ]
 
-abbrev pub with_new : Process → Regs → Process
-with_new p regs = record p { regs = regs }
-
-abbrev pub with_own : LiveSpace → Space → LiveSpace
-with_own s space = record s { space = space }
-
 abbrev pub moved_to : World → Process → Regs → Space → Rest → List Note → ℕ → World
 moved_to w p regs space rest notes events = record {
-  procs = change pid_of p.pid (λ q. with_new q regs) w.procs;
+  procs = change pid_of p.pid (λ q. with_regs q regs) w.procs;
   spaces = change id_of p.space (λ s. with_own s space) w.spaces;
   loads = w.loads;
   next_pid = w.next_pid;
@@ -71,6 +65,9 @@ module _ (w : World) (h : IsSound w) (pid : ℕ) (p : Process) (s : LiveSpace) (
   pub own_pid : p.pid ≡ pid
   own_pid = find_has pid_of pid w.procs p lives
 
+  own_lives : find pid_of p.pid w.procs ≡ Some p
+  own_lives = ap (λ (n : ℕ). find pid_of n w.procs) own_pid ∙ lives
+
   pub own_around : Around p.space s w.spaces
   own_around = around p.space w.loads s w.spaces h.numbers has
 
@@ -85,9 +82,6 @@ module _ (w : World) (h : IsSound w) (pid : ℕ) (p : Process) (s : LiveSpace) (
         let one : runner_of q ≡ runner_of p = cc in
         other_pid (ap (λ (r : Runner). r.pid) one)
 
-    pub others_run : AreOthers p.pid (runners q.space w.procs)
-    others_run = subst (AreOthers p.pid) (sym (h.owners k q found)) (other_pid, tt)
-
   module _ (rest : Rest) (notes : List Note) (events : ℕ) (goes : Goes w rest notes) where
     -- the copies of another space
     other_copies : (i : ℕ) (l : LiveSpace) → find id_of i w.spaces ≡ Some l → HoldCopies rest.tree l.space
@@ -96,16 +90,15 @@ module _ (w : World) (h : IsSound w) (pid : ℕ) (p : Process) (s : LiveSpace) (
     module _ (regs : Regs) (space : Space) (is_space : IsSpace w.rest.pages space.maps) (apart : AreApart (own_around.front ++ (space.maps ++ own_around.back)))
         (holds : HoldCopies rest.tree space) where
       -- a process of the world after that
-      by_pid : (P : Process → Type 0) (k : ℕ) (q : Process) → find pid_of k (change pid_of p.pid (λ x. with_new x regs) w.procs) ≡ Some q
-          → P (with_new p regs) → (k ≢ p.pid → find pid_of k w.procs ≡ Some q → P q) → P q
+      by_pid : (P : Process → Type 0) (k : ℕ) (q : Process) → find pid_of k (change pid_of p.pid (λ x. with_regs x regs) w.procs) ≡ Some q
+          → P (with_regs p regs) → (k ≢ p.pid → find pid_of k w.procs ≡ Some q → P q) → P q
       by_pid P k q found here away = elim (cases_eq k p.pid) [
         | inl is ↦ (
-            let at : find pid_of p.pid w.procs ≡ Some p = ap (λ (n : ℕ). find pid_of n w.procs) own_pid ∙ lives in
-            let changed : find pid_of p.pid (change pid_of p.pid (λ x. with_new x regs) w.procs) ≡ Some (with_new p regs) =
-            find_changed pid_of p.pid (λ x. with_new x regs) (λ x. refl) w.procs ∙ ap (option_map (λ x. with_new x regs)) at in
-            let same : with_new p regs ≡ q = same_Some _ _ (sym changed ∙ ap (λ (n : ℕ). find pid_of n (change pid_of p.pid (λ x. with_new x regs) w.procs)) (sym is) ∙ found) in
+            let changed : find pid_of p.pid (change pid_of p.pid (λ x. with_regs x regs) w.procs) ≡ Some (with_regs p regs) =
+            find_changed pid_of p.pid (λ x. with_regs x regs) (λ x. refl) w.procs ∙ ap (option_map (λ x. with_regs x regs)) own_lives in
+            let same : with_regs p regs ≡ q = same_Some _ _ (sym changed ∙ ap (λ (n : ℕ). find pid_of n (change pid_of p.pid (λ x. with_regs x regs) w.procs)) (sym is) ∙ found) in
             subst P same here)
-        | inr other ↦ away other (sym (find_beside_change pid_of p.pid k other (λ x. with_new x regs) (λ x. refl) w.procs) ∙ found)
+        | inr other ↦ away other (sym (find_beside_change pid_of p.pid k other (λ x. with_regs x regs) (λ x. refl) w.procs) ∙ found)
       ]
 
       by_id : (P : LiveSpace → Type 0) (i : ℕ) (l : LiveSpace) → find id_of i (change id_of p.space (λ x. with_own x space) w.spaces) ≡ Some l
@@ -123,16 +116,16 @@ module _ (w : World) (h : IsSound w) (pid : ℕ) (p : Process) (s : LiveSpace) (
       moved_sound = record {
         some = subst (λ (n : ℕ). 1 ≤ n) (sym goes.pages) h.some;
         most = subst (λ (n : ℕ). n ≤ 16384) (sym goes.pages) h.most;
-        pids = falls_change pid_of p.pid (λ x. with_new x regs) (λ x. refl) w.next_pid w.procs h.pids;
+        pids = falls_change pid_of p.pid (λ x. with_regs x regs) (λ x. refl) w.next_pid w.procs h.pids;
         numbers = falls_change id_of p.space (λ x. with_own x space) (λ x. refl) w.loads w.spaces h.numbers;
         homes = λ k q found.
             by_pid (λ x. IsSome (find id_of x.space (change id_of p.space (λ y. with_own y space) w.spaces))) k q found
             (there_changed id_of p.space p.space (λ y. with_own y space) (λ y. refl) w.spaces (h.homes pid p lives))
             (λ other was. there_changed id_of p.space q.space (λ y. with_own y space) (λ y. refl) w.spaces (h.homes k q was));
         owners = λ k q found.
-            by_pid (λ x. runners x.space (change pid_of p.pid (λ y. with_new y regs) w.procs) ≡ runner_of x ∷ []) k q found
-            (runners_changed p.space p.pid (λ y. with_new y regs) (λ y. refl) w.procs p (runner_of p) (ap (λ (n : ℕ). find pid_of n w.procs) own_pid ∙ lives) refl (h.owners pid p lives))
-            (λ other was. runners_beside_change q.space p.pid (λ y. with_new y regs) (λ y. refl) w.procs (others_run k q was other) ∙ h.owners k q was);
+            by_pid (λ x. runners x.space (change pid_of p.pid (λ y. with_regs y regs) w.procs) ≡ runner_of x ∷ []) k q found
+            (runners_change p.pid p refl regs w.procs own_lives (h.owners pid p lives))
+            (λ other was. runners_beside_change p.pid p q.space (λ e. other_space k q was other (sym e)) regs w.procs own_lives ∙ h.owners k q was);
         spaces = λ i l found.
             subst (λ (n : ℕ). IsSpace n l.space.maps) (sym goes.pages)
             (by_id (λ x. IsSpace w.rest.pages x.space.maps) i l found is_space (λ was. h.spaces i l was));
@@ -166,7 +159,7 @@ module _ (w : World) (h : IsSound w) (pid : ℕ) (p : Process) (s : LiveSpace) (
           subst IsSome (sym (find_beside_without id_of p.space q.space (other_space k q was.1 was.0) w.spaces)) (h.homes k q was.1));
       owners = λ k q found. (
           let was = by_left k q found in
-          runners_beside_without q.space p.pid w.procs (others_run k q was.1 was.0) ∙ h.owners k q was.1);
+          runners_beside_without p.pid p q.space (λ e. other_space k q was.1 was.0 (sym e)) w.next_pid w.procs h.pids own_lives ∙ h.owners k q was.1);
       spaces = λ i l found. subst (λ (n : ℕ). IsSpace n l.space.maps) (sym goes.pages) (h.spaces i l (by_gone i l found));
       apart = subst AreApart (sym own_around.gone)
           (apart_under own_around.front s.space.maps [] own_around.back (subst AreApart own_around.is h.apart) tt (λ j n there. absurd (none-some n there)));

@@ -1,111 +1,99 @@
--- The processes of a space, when one process changes or goes.
-use Rattle.std.proofs.Common.{◌≡◌, ◌≢◌, ℕ, Bool, true, false, not, cond, inl, inr, List, [], ◌∷◌, Some, refl, sym, ap, subst, ◌∙◌}
+-- The processes of a space, after one process changes or goes.
+use Rattle.std.proofs.Common.{◌≡◌, ◌≢◌, ℕ, ◌≤◌, ◌<◌, Bool, true, false, cond, ◌⊎◌, inl, inr, List, [], ◌∷◌, Some, refl, sym, ap, ◌∙◌, arith, not}
 use Rattle.std.specs.Prelude.{◌==◌, filter}
-use Rattle.std.proofs.lemmas.Bool.{cases_Bool, eq-eqb, ne_eqb}
-use Rattle.std.proofs.lemmas.Option.{none-some, same_Some}
+use Rattle.rv32im_step.specs.declared.regs.Regs.{Regs}
+use Rattle.vfork_exec.specs.Keyed.{find, change, without, Falls}
+use Rattle.vfork_exec.proofs.Keyed.{find_head, none_below}
 use Rattle.flat_loader.specs.Alone.{Runner}
-use Rattle.vfork_exec.specs.Keyed.{find, change, without}
-use Rattle.vfork_exec.proofs.Keyed.{find_head}
 use Rattle.machine_world.specs.World.{Process, pid_of}
+use Rattle.machine_world.proofs.States.{with_regs}
 use Rattle.stays_laws.specs.Stays.{runners, runner_of}
+use Rattle.stays_laws.proofs.Lists.{eqb_other, eqb_same, eqb_is, eqb_isnt}
 
--- ---- at a list's head
-
-change_head : (k : ℕ) (f : Process → Process) (p : Process) (ps : List Process) (b : Bool) → (p.pid == k) ≡ b → change pid_of k f (p ∷ ps) ≡ cond b (f p ∷ ps) (p ∷ change pid_of k f ps)
-unfolding change
-change_head k f p ps b is = ap (λ (t : Bool). cond t (f p ∷ ps) (p ∷ change pid_of k f ps)) is
-
-without_head : (k : ℕ) (p : Process) (ps : List Process) (b : Bool) → (p.pid == k) ≡ b → without pid_of k (p ∷ ps) ≡ cond (not b) (p ∷ without pid_of k ps) (without pid_of k ps)
-unfolding without
-without_head k p ps b is = ap (λ (t : Bool). cond (not t) (p ∷ filter (λ q. not (q.pid == k)) ps) (filter (λ q. not (q.pid == k)) ps)) is
+decide : (b : Bool) → (b ≡ true) ⊎ (b ≡ false)
+decide true = inl refl
+decide false = inr refl
 
 pub runners_head : (i : ℕ) (p : Process) (ps : List Process) (b : Bool) → (p.space == i) ≡ b → runners i (p ∷ ps) ≡ cond b (runner_of p ∷ runners i ps) (runners i ps)
 unfolding runners
 runners_head i p ps b is = ap (λ (t : Bool). cond t (runner_of p ∷ runners i ps) (runners i ps)) is
 
--- ---- no process of the space has a pid
+change_head : (f : Process → Process) (k : ℕ) (x : Process) (xs : List Process) (b : Bool) → (x.pid == k) ≡ b
+    → change pid_of k f (x ∷ xs) ≡ cond b (f x ∷ xs) (x ∷ change pid_of k f xs)
+unfolding change
+change_head f k x xs b is = ap (λ (t : Bool). cond t (f x ∷ xs) (x ∷ change pid_of k f xs)) is
 
-abbrev pub AreOthers : ℕ → List Runner → Type 0
-AreOthers k [] = Unit {0}
-AreOthers k (r ∷ rs) = (r.pid ≢ k) × AreOthers k rs
+without_head : (k : ℕ) (x : Process) (xs : List Process) (b : Bool) → (x.pid == k) ≡ b
+    → without pid_of k (x ∷ xs) ≡ cond (not b) (x ∷ without pid_of k xs) (without pid_of k xs)
+unfolding without
+without_head k x xs b is = ap (λ (t : Bool). cond (not t) (x ∷ filter (λ y. not (pid_of y == k)) xs) (filter (λ y. not (pid_of y == k)) xs)) is
 
-module _ (i k : ℕ) where
-  -- the process at the head isn't that one, and so on
-  head_other : (p : Process) (ps : List Process) → (p.space == i) ≡ true → AreOthers k (runners i (p ∷ ps)) → (p.pid ≢ k) × AreOthers k (runners i ps)
-  head_other p ps here others = subst (AreOthers k) (runners_head i p ps true here) others
+alike : (i : ℕ) (p : Process) (ps qs : List Process) → runners i ps ≡ runners i qs → runners i (p ∷ ps) ≡ runners i (p ∷ qs)
+alike i p ps qs same =
+    runners_head i p ps (p.space == i) refl ∙ ap (λ (l : List Runner). cond (p.space == i) (runner_of p ∷ l) l) same ∙ sym (runners_head i p qs (p.space == i) refl)
 
-  pub runners_beside_change : (f : Process → Process) → ((p : Process) → (f p).space ≡ p.space) → (ps : List Process) → AreOthers k (runners i ps)
-      → runners i (change pid_of k f ps) ≡ runners i ps
-  unfolding change
-  runners_beside_change f same [] others = refl
-  runners_beside_change f same (p ∷ ps) others = elim (cases_Bool (p.space == i)) [
-    | inl here ↦ (
-        let parts = head_other p ps here others in
-        ap (runners i) (change_head k f p ps false (ne_eqb p.pid k parts.0)) ∙ runners_head i p (change pid_of k f ps) true here
-        ∙ ap (λ (rs : List Runner). runner_of p ∷ rs) (runners_beside_change f same ps parts.1) ∙ sym (runners_head i p ps true here))
-    | inr away ↦ (
-        let rest : AreOthers k (runners i ps) = subst (AreOthers k) (runners_head i p ps false away) others in
-        elim (cases_Bool (p.pid == k)) [
-          | inl that ↦
-              ap (runners i) (change_head k f p ps true that) ∙ runners_head i (f p) ps false (ap (λ (n : ℕ). n == i) (same p) ∙ away)
-              ∙ sym (runners_head i p ps false away)
-          | inr other ↦
-              ap (runners i) (change_head k f p ps false other) ∙ runners_head i p (change pid_of k f ps) false away
-              ∙ runners_beside_change f same ps rest ∙ sym (runners_head i p ps false away)
-        ])
-  ]
+module _ (pid : ℕ) (p : Process) where
+  -- what is found
+  found_head : (q : Process) (qs : List Process) → find pid_of pid (q ∷ qs) ≡ Some p → (q.pid == pid) ≡ true → q ≡ p
+  found_head q qs lives is = let e = sym (find_head pid_of pid q qs true is) ∙ lives in cc
 
-  pub runners_beside_without : (ps : List Process) → AreOthers k (runners i ps) → runners i (without pid_of k ps) ≡ runners i ps
-  unfolding without
-  runners_beside_without [] others = refl
-  runners_beside_without (p ∷ ps) others = elim (cases_Bool (p.space == i)) [
-    | inl here ↦ (
-        let parts = head_other p ps here others in
-        ap (runners i) (without_head k p ps false (ne_eqb p.pid k parts.0)) ∙ runners_head i p (without pid_of k ps) true here
-        ∙ ap (λ (rs : List Runner). runner_of p ∷ rs) (runners_beside_without ps parts.1) ∙ sym (runners_head i p ps true here))
-    | inr away ↦ (
-        let rest : AreOthers k (runners i ps) = subst (AreOthers k) (runners_head i p ps false away) others in
-        elim (cases_Bool (p.pid == k)) [
-          | inl that ↦ ap (runners i) (without_head k p ps true that) ∙ runners_beside_without ps rest ∙ sym (runners_head i p ps false away)
-          | inr other ↦
-              ap (runners i) (without_head k p ps false other) ∙ runners_head i p (without pid_of k ps) false away
-              ∙ runners_beside_without ps rest ∙ sym (runners_head i p ps false away)
-        ])
-  ]
+  found_behind : (q : Process) (qs : List Process) → find pid_of pid (q ∷ qs) ≡ Some p → (q.pid == pid) ≡ false → find pid_of pid qs ≡ Some p
+  found_behind q qs lives is = sym (find_head pid_of pid q qs false is) ∙ lives
 
-  -- a process that is found in the space is one of its processes
-  some_runs : (ps : List Process) (p : Process) → find pid_of k ps ≡ Some p → p.space ≡ i → runners i ps ≡ [] → ⊥
-  unfolding find
-  some_runs [] p is at none = none-some p is
-  some_runs (q ∷ ps) p is at none = elim (cases_Bool (q.space == i)) [
-    | inl here ↦ (let e = sym (runners_head i q ps true here) ∙ none in cc)
-    | inr away ↦ elim (cases_Bool (q.pid == k)) [
-      | inl that ↦ (
-          let same : q ≡ p = same_Some q p (sym (find_head pid_of k q ps true that) ∙ is) in
-          let there : (q.space == i) ≡ true = eq-eqb q.space i (ap (λ (r : Process). r.space) same ∙ at) in
-          let e = sym there ∙ away in cc)
-      | inr other ↦ some_runs ps p (sym (find_head pid_of k q ps false other) ∙ is) at (sym (runners_head i q ps false away) ∙ none)
+  -- ---- of another space
+
+  module _ (i : ℕ) (other : p.space ≢ i) where
+    pub runners_beside_change : (regs : Regs) (ps : List Process) → find pid_of pid ps ≡ Some p
+        → runners i (change pid_of pid (λ q. with_regs q regs) ps) ≡ runners i ps
+    unfolding find change
+    runners_beside_change regs [] lives = absurd cc
+    runners_beside_change regs (q ∷ qs) lives = elim (decide (q.pid == pid)) [
+      | inl is ↦
+          let outside : (q.space == i) ≡ false = eqb_other q.space i (λ e. other (sym (ap (λ (x : Process). x.space) (found_head q qs lives is)) ∙ e)) in
+          ap (runners i) (change_head (λ x. with_regs x regs) pid q qs true is) ∙ runners_head i (with_regs q regs) qs false outside
+          ∙ sym (runners_head i q qs false outside)
+      | inr is ↦
+          ap (runners i) (change_head (λ x. with_regs x regs) pid q qs false is)
+          ∙ alike i q (change pid_of pid (λ x. with_regs x regs) qs) qs (runners_beside_change regs qs (found_behind q qs lives is))
     ]
-  ]
 
-  -- the one process of a space changes
-  pub runners_changed : (f : Process → Process) → ((p : Process) → (f p).space ≡ p.space) → (ps : List Process) (p : Process) (r : Runner) → find pid_of k ps ≡ Some p → p.space ≡ i
-      → runners i ps ≡ r ∷ [] → runners i (change pid_of k f ps) ≡ runner_of (f p) ∷ []
-  unfolding change find
-  runners_changed f same [] p r is at alone = absurd (none-some p is)
-  runners_changed f same (q ∷ ps) p r is at alone = elim (cases_Bool (q.pid == k)) [
-    | inl that ↦ (
-        let it : q ≡ p = same_Some q p (sym (find_head pid_of k q ps true that) ∙ is) in
-        let here : (q.space == i) ≡ true = eq-eqb q.space i (ap (λ (z : Process). z.space) it ∙ at) in
-        let none : runners i ps ≡ [] = (let e = sym (runners_head i q ps true here) ∙ alone in cc) in
-        ap (runners i) (change_head k f q ps true that) ∙ runners_head i (f q) ps true (ap (λ (n : ℕ). n == i) (same q) ∙ here)
-        ∙ (λ j. runner_of (f (it j)) ∷ none j))
-    | inr other ↦ (
-        let later : find pid_of k ps ≡ Some p = sym (find_head pid_of k q ps false other) ∙ is in
-        elim (cases_Bool (q.space == i)) [
-          | inl here ↦ absurd (some_runs ps p later at (let e = sym (runners_head i q ps true here) ∙ alone in cc))
-          | inr away ↦
-              ap (runners i) (change_head k f q ps false other) ∙ runners_head i q (change pid_of k f ps) false away
-              ∙ runners_changed f same ps p r later at (sym (runners_head i q ps false away) ∙ alone)
-        ])
+    pub runners_beside_without : (b : ℕ) (ps : List Process) → Falls pid_of b ps → find pid_of pid ps ≡ Some p → runners i (without pid_of pid ps) ≡ runners i ps
+    unfolding find without
+    runners_beside_without b [] falls lives = absurd cc
+    runners_beside_without b (q ∷ qs) falls lives = elim (decide (q.pid == pid)) [
+      | inl is ↦
+          let outside : (q.space == i) ≡ false = eqb_other q.space i (λ e. other (sym (ap (λ (x : Process). x.space) (found_head q qs lives is)) ∙ e)) in
+          let at : q.pid ≡ pid = eqb_is q.pid pid is in
+          ap (runners i) (without_head pid q qs true is) ∙ ap (runners i) (none_below pid_of pid q.pid qs falls.1 (omega (arith, at)))
+          ∙ sym (runners_head i q qs false outside)
+      | inr is ↦
+          ap (runners i) (without_head pid q qs false is) ∙ alike i q (without pid_of pid qs) qs (runners_beside_without q.pid qs falls.1 (found_behind q qs lives is))
+    ]
+
+  -- ---- of its own space, where no other process is
+
+  pub runners_change : p.pid ≡ pid → (regs : Regs) (ps : List Process) → find pid_of pid ps ≡ Some p → runners p.space ps ≡ runner_of p ∷ []
+      → runners p.space (change pid_of pid (λ q. with_regs q regs) ps) ≡ runner_of (with_regs p regs) ∷ []
+  unfolding find change
+  runners_change is_pid regs [] lives alone = absurd cc
+  runners_change is_pid regs (q ∷ qs) lives alone = elim (decide (q.pid == pid)) [
+    | inl is ↦
+        let same : q ≡ p = found_head q qs lives is in
+        let inside : (q.space == p.space) ≡ true = eqb_same q.space p.space (ap (λ (x : Process). x.space) same) in
+        let all : runner_of q ∷ runners p.space qs ≡ runner_of p ∷ [] = sym (runners_head p.space q qs true inside) ∙ alone in
+        let none : runners p.space qs ≡ [] = cc in
+        ap (runners p.space) (change_head (λ x. with_regs x regs) pid q qs true is) ∙ runners_head p.space (with_regs q regs) qs true inside
+        ∙ (λ i. runner_of (with_regs (same i) regs) ∷ none i)
+    | inr is ↦
+        let later = found_behind q qs lives is in
+        elim (decide (q.space == p.space)) [
+          | inl inside ↦
+              let all : runner_of q ∷ runners p.space qs ≡ runner_of p ∷ [] = sym (runners_head p.space q qs true inside) ∙ alone in
+              let same : runner_of q ≡ runner_of p = cc in
+              absurd (eqb_isnt q.pid pid is (ap (λ (r : Runner). r.pid) same ∙ is_pid))
+          | inr outside ↦
+              ap (runners p.space) (change_head (λ x. with_regs x regs) pid q qs false is)
+              ∙ runners_head p.space q (change pid_of pid (λ x. with_regs x regs) qs) false outside
+              ∙ runners_change is_pid regs qs later (sym (runners_head p.space q qs false outside) ∙ alone)
+        ]
   ]

@@ -1,8 +1,8 @@
 -- The opening world is sound, and each event, turn and run of a sound world leaves a sound one.
 pub use Rattle.stays_laws.proofs.SoundBegins.{boots_are_sound}
-use Rattle.std.proofs.Common.{◌≡◌, ℕ, zero, suc, ◌+◌, ◌<◌, ◌≤◌, Bool, true, false, List, [], ◌∷◌, ◌++◌, map, sum, Option, Some, None, Result, Ok, Err, refl, subst, arith}
-use Rattle.std.specs.Prelude.{nat_le, slice_get, if◌then◌else◌}
-use Rattle.std.proofs.lemmas.Bool.{and_parts, leb-true}
+use Rattle.std.proofs.Common.{◌≡◌, ℕ, zero, suc, ◌+◌, ◌<◌, ◌≤◌, Bool, true, false, inl, inr, List, [], ◌∷◌, ◌++◌, map, sum, Option, Some, None, Result, Ok, Err, refl, sym, ap, subst, arith}
+use Rattle.std.specs.Prelude.{◌==◌, nat_le, slice_get, if◌then◌else◌}
+use Rattle.std.proofs.lemmas.Bool.{cases_Bool, eqb-true, and_parts, leb-true}
 use Rattle.std.proofs.lemmas.List.Sums.{sum_by-cons}
 use Rattle.byte_words.specs.ByteMap.{Bytes}
 use Rattle.rv32im_step.specs.Meaning.{Meaning, next, call, trap, refused, meaning}
@@ -20,7 +20,7 @@ use Rattle.fd_tables.specs.Changes.{without_table}
 use Rattle.machine_world.specs.World.{Process, LiveSpace, World, pid_of, id_of}
 use Rattle.machine_world.specs.Asks.{Ask, arg, Reply, Row, replies, waits, storage_of, with_storage}
 use Rattle.machine_world.specs.MapCalls.{all_maps, unmaps, munmap_row}
-use Rattle.machine_world.specs.Rows.{next_brk, brk_row, row}
+use Rattle.machine_world.specs.Rows.{row}
 use Rattle.machine_world.specs.Event.{Outcome, went, strays, full, idle, number_of, args_of, replied, entry_of, exit_code, noted, put_got, stepped, trapped, ended, served, put, waited, answered, exited, is_exit, asked, ask_of, answer, effect, in_space, by_process, at_process, event}
 use Rattle.machine_world.specs.Turns.{Walk, End, traced, stays_at, turned, turn, seen_of, going_on, quantum_turn, turns}
 use Rattle.machine_world.specs.Ages.{AreChanged, Follows, most_changes}
@@ -33,14 +33,14 @@ use Rattle.stays_laws.proofs.Bytes.{put_keeps}
 use Rattle.stays_laws.proofs.Files.{follows_itself}
 use Rattle.stays_laws.proofs.FreePages.{each_of_all}
 use Rattle.stays_laws.proofs.Moved.{Goes, own_around, moved_sound, left_sound}
-use Rattle.stays_laws.proofs.Spaces.{IsFit, fit_later, fit_there}
-use Rattle.stays_laws.proofs.RowSpaces.{InSpace, by_spaces}
+use Rattle.stays_laws.proofs.Spaces.{IsFit, InSpace, fit_later, fit_there}
+use Rattle.stays_laws.proofs.RowSpaces.{LeavesSpace, row_leaves, row-munmap, row-mmap2}
 use Rattle.stays_laws.proofs.Unmaps.{is_hit, fit_unmapped}
 use Rattle.stays_laws.proofs.Maps.{fit_mapped}
 
 -- ---- notes
 
-pub noted_more : (n : Note) (notes : List Note) → kept_calls (n ∷ notes) ≡ calls_in n + kept_calls notes
+noted_more : (n : Note) (notes : List Note) → kept_calls (n ∷ notes) ≡ calls_in n + kept_calls notes
 noted_more n notes = sum_by-cons (λ (k : ℕ). k) (calls_in n) (map calls_in notes)
 
 low_enough : (notes : List Note) → kept_calls notes ≤ most_calls → most_at_boot + kept_calls notes < most_changes
@@ -77,11 +77,12 @@ same_pages a = by_rows (λ rest. rest.pages ≡ a.rest.pages) a kept refl
     }
 
 module _ (a : Ask) (front back : List Mapping) (fit : IsFit a.rest.pages front back a.rest.tree a.space) where
-  fit_brk : InSpace (IsFit a.rest.pages front back a.rest.tree) (brk_row a)
-  unfolding brk_row
-  fit_brk =
-      fit_later a.rest.pages front back a.space (record a.space { brk = next_brk a.space (arg a 0) }) a.rest.tree a.rest.tree refl (follows_itself a.rest.tree)
-      (λ addr locked. refl) fit
+  -- a row that leaves the mappings and the bytes
+  fit_same : (r : Row) → LeavesSpace a.space r → InSpace (IsFit a.rest.pages front back a.rest.tree) r
+  fit_same (replies r) same =
+      fit_later a.rest.pages front back a.space r.space a.rest.tree a.rest.tree same.maps (follows_itself a.rest.tree)
+      (λ addr locked. ap (λ (f : Bytes). f addr) same.bytes) fit
+  fit_same waits same = tt
 
   fit_munmap : InSpace (IsFit a.rest.pages front back a.rest.tree) (munmap_row a)
   unfolding munmap_row
@@ -93,7 +94,13 @@ module _ (a : Ask) (front back : List Mapping) (fit : IsFit a.rest.pages front b
 
   fit_row : all_maps a.spaces ≡ front ++ (a.space.maps ++ back) → ((j : ℕ) (m : Mapping) → slice_get (all_maps a.spaces) j ≡ Some m → m.first + m.pages ≤ a.rest.pages)
       → InSpace (IsFit a.rest.pages front back a.rest.tree) (row a)
-  fit_row are inside = by_spaces (IsFit a.rest.pages front back a.rest.tree) a fit fit_brk fit_munmap (fit_mapped a front back are inside fit)
+  fit_row are inside = elim (cases_Bool (a.number == 215)) [
+    | inl munmap ↦ subst (InSpace (IsFit a.rest.pages front back a.rest.tree)) (sym (row-munmap a (eqb-true a.number 215 munmap))) fit_munmap
+    | inr other ↦ elim (cases_Bool (a.number == 222)) [
+      | inl mmap2 ↦ subst (InSpace (IsFit a.rest.pages front back a.rest.tree)) (sym (row-mmap2 a (eqb-true a.number 222 mmap2))) (fit_mapped a front back are inside fit)
+      | inr neither ↦ fit_same (row a) (row_leaves a other neither)
+    ]
+  ]
 
 -- ---- an event
 
@@ -141,12 +148,9 @@ module _ (w : World) (h : IsSound w) (pid : ℕ) (p : Process) (s : LiveSpace) (
   unfolding served
   leaves_served bytes r m is wrote =
       leaves_if (has_room w.notes (weight_of bytes r.got)) (went _ _) full
-      (λ room. moved_sound w h pid p s lives has r.rest (call_note (entry_of a r.value r.got) ∷ w.notes) (w.events + 1) (goes room) (replied p.regs r.value) (record r.space { bytes = m })
+      (λ room. moved_sound w h pid p s lives has r.rest (call_note (entry_of (ask_of w p s.space bytes) r.value r.got) ∷ w.notes) (w.events + 1) (goes room) (replied p.regs r.value) (record r.space { bytes = m })
       now.is_space now.apart now.holds) tt
     where
-      a : Ask
-      a = ask_of w p s.space bytes
-
       ages : Follows w.rest.tree r.rest.tree × AreChanged (most_at_boot + kept_calls w.notes + 1) r.rest.tree
       ages = rows_age (ask_of w p s.space bytes) r (most_at_boot + kept_calls w.notes) is h.changes (low_enough w.notes h.calls)
 

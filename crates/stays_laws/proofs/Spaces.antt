@@ -5,6 +5,7 @@ use Rattle.mmap_rules.specs.Space.{Space, writable_in}
 use Rattle.mem_files.specs.Inodes.{Inodes}
 use Rattle.vfork_exec.specs.Keyed.{find}
 use Rattle.machine_world.specs.World.{LiveSpace, World, Process, id_of, pid_of}
+use Rattle.machine_world.specs.Asks.{Row, replies, waits}
 use Rattle.machine_world.specs.Ages.{Follows}
 use Rattle.stays_laws.specs.Sound.{IsSpace, AreApart, HoldCopies, IsSound}
 use Rattle.stays_laws.proofs.Apart.{apart_front, apart_rest}
@@ -46,3 +47,8 @@ fit_there w h pid p s lives has = record {
   apart = subst AreApart (own_around w h pid p s lives has).is h.apart;
   holds = h.copies p.space s has;
 }
+
+-- what a row leaves of the caller's space, if it replies
+abbrev pub InSpace : (Space → Type 0) → Row → Type 0
+InSpace P (replies r) = P r.space
+InSpace P waits = Unit {0}

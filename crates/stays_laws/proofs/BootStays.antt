@@ -1,0 +1,156 @@
+-- What is told of the first stays is right for the opening world.
+use Rattle.std.proofs.Common.{◌≡◌, ◌≢◌, ℕ, zero, suc, ◌+◌, ◌<◌, ◌≤◌, Bool, true, false, ◌⊎◌, inl, inr, List, [], ◌∷◌, ◌++◌, map, length, Option, Some, None, Result, Ok, Err, refl, sym, ap, subst, ◌∙◌, arith, length-append}
+use Rattle.std.specs.Prelude.{◌==◌, slice_get, if◌then◌else◌}
+use Rattle.std.proofs.lemmas.List.{map-append, append-nil}
+use Rattle.std.proofs.Common.{append_assoc}
+use Rattle.vfork_exec.specs.Keyed.{find}
+use Rattle.vfork_exec.proofs.Keyed.{find_head}
+use Rattle.flat_loader.specs.Original.{block_pages}
+use Rattle.flat_loader.specs.Frame.{frame_fits}
+use Rattle.flat_loader.specs.Begin.{Loading, begin_space, begin_regs}
+use Rattle.flat_loader.specs.Alone.{Item, solo_run, solo_begin, alone, memory_of}
+use Rattle.fd_tables.specs.Files.{free_number}
+use Rattle.machine_world.specs.World.{Process, LiveSpace, Rest, World, id_of}
+use Rattle.machine_world.specs.Free.{free}
+use Rattle.machine_world.specs.Boot.{StartLine, BootFault, Found, found, path_of, begun, address_of, taken, placed, fitting, located, started, then_started, all_started, empty_world, boot}
+use Rattle.stays_laws.specs.Stays.{Stay, loading_at, loading_in, loading_of, first_stay, behind_start, first_stays, runner_of, runners, Agrees, kept_calls_of, loads_of, belonging, head_of, loaded_head, AreTold, AreRight}
+use Rattle.stays_laws.specs.Laws.{BootsBeginStays}
+use Rattle.stays_laws.proofs.Lists.{eqb_other, eqb_same}
+use Rattle.stays_laws.proofs.Runners.{runners_head}
+use Rattle.stays_laws.proofs.Frame.{agrees_same, entries_of}
+
+-- ---- an item more at the end
+
+module _ {A : Type 0} where
+  more_item : (xs : List A) (x : A) (j : ℕ) (y : A) → slice_get (xs ++ x ∷ []) j ≡ Some y → (slice_get xs j ≡ Some y) ⊎ ((j ≡ length xs) × (y ≡ x))
+  more_item [] x zero y there = let same : y ≡ x = cc in inr (refl, same)
+  more_item [] x (suc j) y there = absurd cc
+  more_item (z ∷ xs) x zero y there = inl there
+  more_item (z ∷ xs) x (suc j) y there = elim (more_item xs x j y there) [
+    | inl old ↦ inl old
+    | inr new ↦ inr (let e = new.0 in omega (arith, e), new.1)
+  ]
+
+  item_below : (xs : List A) (j : ℕ) (y : A) → slice_get xs j ≡ Some y → j < length xs
+  item_below [] j y there = absurd cc
+  item_below (x ∷ xs) zero y there = omega arith
+  item_below (x ∷ xs) (suc j) y there = let less = item_below xs j y there in omega (arith, less)
+
+-- ---- a program begins
+
+-- right, and no process is in a space to come
+pub record Opens (ys : List Stay) (w : World) : Type 0 where
+  pub right : AreRight ys w
+  pub none : (i : ℕ) → w.loads ≤ i → runners i w.procs ≡ []
+
+begins_alone : (l : Loading) (pid : ℕ) → alone l pid [] 0 ≡ Some (solo_begin l pid)
+unfolding alone solo_run
+begins_alone l pid = refl
+
+module _ (ys : List Stay) (w : World) (opens : Opens ys w) (index : ℕ) (l : Loading) where
+  abbrev now : World
+  now = begun w index l
+
+  abbrev new : Stay
+  new = record { loading = l; pid = w.next_pid; items = []; events = 0 }
+
+  abbrev process : Process
+  process = record { pid = w.next_pid; parent = 0; regs = begin_regs l; space = w.loads; table = free_number w.rest.files.tables }
+
+  len : length (ys ++ new ∷ []) ≡ w.loads + 1
+  len = let e = length-append ys (new ∷ []) in omega (arith, e, opens.right.count)
+
+  agree_old : (j : ℕ) (y : Stay) → slice_get ys j ≡ Some y → Agrees j now.procs y (find id_of j now.spaces)
+  agree_old j y there =
+      let less = item_below ys j y there in
+      let apart : w.loads ≢ j = omega (arith, less, opens.right.count) in
+      let outside = eqb_other w.loads j apart in
+      subst (λ o. Agrees j now.procs y o) (sym (find_head id_of j _ w.spaces false outside))
+      (agrees_same j w.procs now.procs y (find id_of j w.spaces) (runners_head j _ w.procs false outside) (opens.right.agree j y there))
+
+  agree_new : Agrees w.loads now.procs new (find id_of w.loads now.spaces)
+  agree_new =
+      let here = eqb_same w.loads w.loads refl in
+      subst (λ o. Agrees w.loads now.procs new o) (sym (find_head id_of w.loads _ w.spaces true here))
+      (begins_alone l w.next_pid
+      ∙ ap (λ rs. Some (record { stack = rs; memory = memory_of (begin_space l) }))
+      (sym (runners_head w.loads process w.procs true here ∙ ap (λ rs. runner_of process ∷ rs) (opens.none w.loads (omega arith)))))
+
+  begins : Opens (ys ++ new ∷ []) now
+  unfolding kept_calls_of loads_of
+  begins = record {
+    right = record {
+      count = len;
+      loads = map-append head_of ys (new ∷ []) ∙ ap (λ hs. hs ++ head_of new ∷ []) opens.right.loads ∙ sym (map-append loaded_head (loads_of w.notes) (_ ∷ []));
+      agree = λ j y there. elim (more_item ys new j y there) [
+        | inl old ↦ agree_old j y old
+        | inr new_one ↦
+            let at : w.loads ≡ j = omega (arith, new_one.0, opens.right.count) in
+            subst (λ k. Agrees k now.procs y (find id_of k now.spaces)) at (subst (λ z. Agrees w.loads now.procs z (find id_of w.loads now.spaces)) (sym new_one.1) agree_new)
+      ];
+      told = record {
+        places = opens.right.told.places;
+        each = opens.right.told.each;
+        entries = λ j y there. elim (more_item ys new j y there) [
+          | inl old ↦ opens.right.told.entries j y old
+          | inr new_one ↦ ap (λ (z : Stay). entries_of z.items) new_one.1 ∙ sym (opens.right.told.no_others j (omega (arith, new_one.0)))
+        ];
+        no_others = λ j past. opens.right.told.no_others j (let e = length-append ys (new ∷ []) in omega (arith, e, past));
+      };
+    };
+    none = λ j past.
+        let outside = eqb_other w.loads j (omega (arith, past)) in
+        runners_head j _ w.procs false outside ∙ opens.none j (omega (arith, past));
+  }
+
+-- ---- the start lines
+
+-- behind a start line the stays that it adds are there
+abbrev OpensBehind : List Stay → Result World BootFault → Type 0
+OpensBehind ys (Ok now) = Opens ys now
+OpensBehind ys (Err fault) = Unit {0}
+
+module _ (ys : List Stay) (w : World) (opens : Opens ys w) (s : StartLine) where
+  opens_placed : (f : Found) (page : Option ℕ) → OpensBehind (ys ++ first_stay w.next_pid (loading_at s f page)) (placed w s f page)
+  opens_placed f None = tt
+  opens_placed f (Some page) = begins ys w opens f.index (record { original = f.original; block = address_of page; args = s.args; env = [] })
+
+  opens_fitting : (f : Found) (fits : Bool) → OpensBehind (ys ++ first_stay w.next_pid (loading_in w s (Some f))) (fitting w s f fits)
+  opens_fitting f true = opens_placed f (taken w (block_pages f.original) (free w))
+  opens_fitting f false = tt
+
+  opens_located : (o : Option Found) → OpensBehind (ys ++ first_stay w.next_pid (loading_in w s o)) (located w s o)
+  opens_located None = tt
+  opens_located (Some f) = opens_fitting f (frame_fits f.original s.args [])
+
+  opens_started : OpensBehind (ys ++ first_stay w.next_pid (loading_of w s)) (started w s)
+  unfolding started
+  opens_started = opens_located (found w.rest (path_of s))
+
+opens_all : (ss : List StartLine) (ys : List Stay) (w : World) → Opens ys w → OpensBehind (ys ++ first_stays w ss) (all_started w ss)
+unfolding all_started first_stays
+opens_all [] ys w opens = subst (λ l. Opens l w) (sym (append-nil ys)) opens
+opens_all (s ∷ ss) ys w opens = on (started w s) (opens_started ys w opens s) (λ zs v o. opens_all ss zs v o)
+  where
+    on : (r : Result World BootFault) → OpensBehind (ys ++ first_stay w.next_pid (loading_of w s)) r
+        → ((zs : List Stay) (v : World) → Opens zs v → OpensBehind (zs ++ first_stays v ss) (all_started v ss))
+        → OpensBehind (ys ++ (first_stay w.next_pid (loading_of w s) ++ behind_start (λ now. first_stays now ss) r)) (then_started r (λ now. all_started now ss))
+    on (Ok v) o more = subst (λ l. OpensBehind l (all_started v ss)) (append_assoc ys (first_stay w.next_pid (loading_of w s)) (first_stays v ss)) (more (ys ++ first_stay w.next_pid (loading_of w s)) v o)
+    on (Err fault) o more = tt
+
+opens_empty : (rest : Rest) → Opens [] (empty_world rest)
+unfolding runners kept_calls_of loads_of belonging
+opens_empty rest = record {
+  right = record {
+    count = refl;
+    loads = refl;
+    agree = λ i y there. absurd cc;
+    told = record { places = []; each = refl; entries = λ i y there. absurd cc; no_others = λ i past. refl };
+  };
+  none = λ i past. refl;
+}
+
+pub boots_begin_stays : BootsBeginStays
+unfolding boot
+boots_begin_stays rest starts w can is =
+    (subst (OpensBehind (first_stays (empty_world rest) starts)) is (opens_all starts [] (empty_world rest) (opens_empty rest))).right
