@@ -21,6 +21,8 @@
 -- TurnStays    and so turns and runs
 -- BootStays    the first stays are right
 -- Unmapping    munmap leaves alone what it leaves in the world
+-- LaidBytes    bytes that are laid from an address on
+-- SharedPages  which mappings of a world share pages
 -- SoloRuns     a run alone goes on behind its events, with more items
 pub mod Lists
 pub mod Runners
@@ -45,4 +47,6 @@ pub mod PlainCalls
 pub mod TurnStays
 pub mod BootStays
 pub mod Unmapping
+pub mod LaidBytes
+pub mod SharedPages
 pub mod SoloRuns

@@ -19,7 +19,7 @@ use Rattle.mmap_rules.proofs.Mapped.{run_is, part_is}
 use Rattle.mem_files.specs.Inodes.{Inodes, bytes_of}
 use Rattle.machine_world.specs.Free.{free_runs_in}
 use Rattle.machine_world.specs.Asks.{Ask, arg, view_of, with_ok}
-use Rattle.machine_world.specs.MapCalls.{all_maps, with_mapping, lower, lowest, has_pages, shared, pages_of, own_run, in_free_run, first_bytes, maps, or_own, mapped, file_side, mmap2_row}
+use Rattle.machine_world.specs.MapCalls.{all_maps, in_copy, with_mapping, lower, lowest, has_pages, shared, pages_of, own_run, in_free_run, first_bytes, maps, or_own, mapped, file_side, mmap2_row}
 use Rattle.stays_laws.specs.Sound.{ShareCopy, Apart, AreApart, HoldsSource}
 use Rattle.stays_laws.proofs.Apart.{apart_copy}
 use Rattle.stays_laws.proofs.FilePages.{length-file_pages}
@@ -147,38 +147,49 @@ module _ (a : Ask) (front back : List Mapping) (are : all_maps a.spaces ≡ fron
             (ap (λ (n : ℕ). page_address (c.first + (first - n))) from) refl);
       }
 
+  -- ---- what is chosen
+
+  abbrev own_choice : Want → Option Mapping
+  own_choice want = in_free_run a.rest.kind (free_runs_in a.rest.pages a.spaces) want
+
+  own_chosen : (want : Want) (m : Mapping) (o : Option ℕ) → IsWanted nodes want
+      → first_of (free_runs_in a.rest.pages a.spaces) (place a.rest.kind (free_runs_in a.rest.pages a.spaces) (pages_of want)) ≡ o
+      → option_map (own_run want) o ≡ Some m → More want m
+  own_chosen want m None known chosen is = absurd (none-some m is)
+  own_chosen want m (Some page) known chosen is = subst (More want) (same_Some (own_run want page) m is) (own_more want page known chosen)
+
+  by_own : (want : Want) (m : Mapping) → IsWanted nodes want → own_choice want ≡ Some m → More want m
+  by_own want m known is =
+      own_chosen want m (first_of (free_runs_in a.rest.pages a.spaces) (place a.rest.kind (free_runs_in a.rest.pages a.spaces) (pages_of want))) known refl is
+
+  by_copy : (pages first id change : ℕ) (m : Mapping) (o : Option Mapping) → IsWanted nodes (File pages first false id change)
+      → lowest (has_pages id change first pages) (all_maps a.spaces) ≡ o
+      → or_own (option_map (shared first pages) o) (own_choice (File pages first false id change)) ≡ Some m → More (File pages first false id change) m
+  by_copy pages first id change m None known low is = by_own (File pages first false id change) m known is
+  by_copy pages first id change m (Some c) known low is =
+      subst (More (File pages first false id change)) (same_Some (shared first pages c) m is)
+      (copy_more id change first pages c known.0 known.1 (lowest_there (has_pages id change first pages) (all_maps a.spaces) c low))
+
+  pub chosen_more : (want : Want) (m : Mapping) → IsWanted nodes want → or_own (in_copy a.spaces want) (own_choice want) ≡ Some m → More want m
+  chosen_more (Anon pages) m known is = by_own (Anon pages) m known is
+  chosen_more (File pages first true id change) m known is = by_own (File pages first true id change) m known is
+  chosen_more (File pages first false id change) m known is =
+      by_copy pages first id change m (lowest (has_pages id change first pages) (all_maps a.spaces)) known refl is
+
   -- ---- the row
 
-  with_more : (want : Want) (m : Mapping) → More want m → InSpace (IsFit a.rest.pages front back nodes) (maps a want (Some m))
-  with_more want m more = fit_more a.rest.pages front back nodes a.space m (first_bytes nodes want) fit more
+  fit_maps : (want : Want) (o : Option Mapping) → IsWanted nodes want → or_own (in_copy a.spaces want) (own_choice want) ≡ o
+      → InSpace (IsFit a.rest.pages front back nodes) (maps a want o)
+  fit_maps want None known is = fit
+  fit_maps want (Some m) known is = fit_more a.rest.pages front back nodes a.space m (first_bytes nodes want) fit (chosen_more want m known is)
 
-  by_own : (want : Want) (o : Option ℕ) → IsWanted nodes want
-      → first_of (free_runs_in a.rest.pages a.spaces) (place a.rest.kind (free_runs_in a.rest.pages a.spaces) (pages_of want)) ≡ o
-      → InSpace (IsFit a.rest.pages front back nodes) (maps a want (option_map (own_run want) o))
-  by_own want None known chosen = fit
-  by_own want (Some page) known chosen = with_more want (own_run want page) (own_more want page known chosen)
-
-  own_fit : (want : Want) → IsWanted nodes want → InSpace (IsFit a.rest.pages front back nodes) (maps a want (in_free_run a.rest.kind (free_runs_in a.rest.pages a.spaces) want))
-  own_fit want known =
-      by_own want (first_of (free_runs_in a.rest.pages a.spaces) (place a.rest.kind (free_runs_in a.rest.pages a.spaces) (pages_of want))) known refl
-
-  by_copy : (pages first id change : ℕ) (o : Option Mapping) → IsWanted nodes (File pages first false id change) → lowest (has_pages id change first pages) (all_maps a.spaces) ≡ o
-      → InSpace (IsFit a.rest.pages front back nodes)
-      (maps a (File pages first false id change) (or_own (option_map (shared first pages) o) (in_free_run a.rest.kind (free_runs_in a.rest.pages a.spaces) (File pages first false id change))))
-  by_copy pages first id change None known is = own_fit (File pages first false id change) known
-  by_copy pages first id change (Some c) known is =
-      with_more (File pages first false id change) (shared first pages c)
-      (copy_more id change first pages c known.0 known.1 (lowest_there (has_pages id change first pages) (all_maps a.spaces) c is))
-
-  by_want : (want : Want) → IsWanted nodes want → InSpace (IsFit a.rest.pages front back nodes) (mapped a want)
-  by_want (Anon pages) known = own_fit (Anon pages) known
-  by_want (File pages first true id change) known = own_fit (File pages first true id change) known
-  by_want (File pages first false id change) known = by_copy pages first id change (lowest (has_pages id change first pages) (all_maps a.spaces)) known refl
+  fit_wanted : (o : Result Want Errno) → wanted (arg a 0) (arg a 1) (arg a 2) (arg a 3) (arg a 5) (file_side a) ≡ o
+      → InSpace (IsFit a.rest.pages front back nodes) (with_ok a o (mapped a))
+  fit_wanted (Ok want) is =
+      fit_maps want (or_own (in_copy a.spaces want) (own_choice want))
+      (is_wanted nodes (view_of a (arg a 4)) (arg a 0) (arg a 1) (arg a 2) (arg a 3) (arg a 5) want is) refl
+  fit_wanted (Err errno) is = fit
 
   pub fit_mapped : InSpace (IsFit a.rest.pages front back nodes) (mmap2_row a)
   unfolding mmap2_row
-  fit_mapped = by (wanted (arg a 0) (arg a 1) (arg a 2) (arg a 3) (arg a 5) (file_side a)) refl
-    where
-      by : (o : Result Want Errno) → wanted (arg a 0) (arg a 1) (arg a 2) (arg a 3) (arg a 5) (file_side a) ≡ o → InSpace (IsFit a.rest.pages front back nodes) (with_ok a o (mapped a))
-      by (Ok want) is = by_want want (is_wanted nodes (view_of a (arg a 4)) (arg a 0) (arg a 1) (arg a 2) (arg a 3) (arg a 5) want is)
-      by (Err errno) is = fit
+  fit_mapped = fit_wanted (wanted (arg a 0) (arg a 1) (arg a 2) (arg a 3) (arg a 5) (file_side a)) refl
