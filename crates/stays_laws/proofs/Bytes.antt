@@ -1,5 +1,5 @@
 -- The bytes that a write leaves, and that no write changes a copy's.
-use Rattle.std.proofs.Common.{◌≡◌, ℕ, zero, suc, ◌+◌, ◌-◌, ◌/◌, ◌^◌, ◌<◌, ◌≤◌, Bool, true, false, ◌&&◌, List, [], ◌∷◌, length, Some, Ok, refl, sym, ap, ◌∙◌, arith}
+use Rattle.std.proofs.Common.{◌≡◌, ℕ, zero, suc, ◌+◌, ◌<◌, ◌≤◌, Bool, true, false, ◌&&◌, List, [], ◌∷◌, length, Some, Ok, refl, sym, ap, ◌∙◌, arith}
 use Rattle.std.specs.Prelude.{Result, Err, slice_get, if◌then◌else◌}
 use Rattle.std.specs.List.{slice_index_or}
 use Rattle.std.proofs.lemmas.Bool.{and_parts, false_from_ne_true, false≢true}
@@ -9,12 +9,13 @@ use Rattle.call_log.specs.Notes.{Written}
 use Rattle.call_log.specs.Sent.{Span}
 use Rattle.nommu_regions.specs.Regions.{is_copy}
 use Rattle.mmap_rules.specs.declared.mapping.Mapping.{Mapping}
-use Rattle.mmap_rules.specs.Space.{in_range, has_page, all_pass, may_use, writable_in}
-use Rattle.mmap_rules.specs.Held.{IsMapping, AreMappings}
+use Rattle.mmap_rules.specs.Space.{in_range, all_pass, may_use, writable_in}
+use Rattle.mmap_rules.specs.Held.{AreMappings}
 use Rattle.mmap_rules.proofs.Lists.{found_any}
 use Rattle.region_watch.proofs.Accesses.{range_parts}
 use Rattle.machine_world.specs.Event.{put_got}
 use Rattle.stays_laws.specs.Sound.{AreApart}
+use Rattle.stays_laws.proofs.SharedPages.{page_of, in_page}
 use Rattle.stays_laws.proofs.Apart.{apart_copy}
 
 -- ---- bytes that are written
@@ -66,16 +67,7 @@ put_keeps (got ∷ gots) m now w a is locked =
         let parts = by (may_use w got.addr (length got.bytes)) (put_got (with_bytes m got.addr got.bytes) w gots) is in
         more (with_bytes m got.addr got.bytes) parts.1 ∙ unwritten m w got.addr got.bytes a (range_parts w got.addr (length got.bytes) parts.0).1 locked
 
--- ---- the pages of a mapping's own bytes
-
-abbrev pub page_of : ℕ → ℕ
-page_of a = (a - 2 ^ 31) / 4096
-
-pub in_page : (pages : ℕ) (m : Mapping) (a : ℕ) → IsMapping pages m → in_range m.range a ≡ true → has_page (page_of a) m ≡ true
-in_page pages m a is inside =
-    let from = is.from in
-    let to = is.to in
-    grind (arith, nat_tests)
+-- ---- copies
 
 -- no byte of a copy may be written
 pub copy_locked : (pages : ℕ) (maps : List Mapping) (k : ℕ) (c : Mapping) (a : ℕ) → AreApart maps → AreMappings pages maps → slice_get maps k ≡ Some c → is_copy c.source ≡ true

@@ -8,10 +8,9 @@
 -- Moved        a sound world in which one process and its space change, or go
 -- Spaces       a space of a sound world, and how its bytes change
 -- Unmaps       a space of a sound world behind munmap
--- FilePages    pages of a file, byte by byte
 -- Wanted       what an mmap2 asks for
 -- MoreMaps     a space of a sound world with a mapping more
--- FreePages    a run that is chosen is free
+-- FreePages    a run that is chosen is apart from all mappings
 -- Maps         a space of a sound world behind mmap2
 -- SoundBegins  the opening world is sound
 -- SoundRuns    each event, turn and run keeps a world sound
@@ -34,7 +33,6 @@ pub mod Files
 pub mod Moved
 pub mod Spaces
 pub mod Unmaps
-pub mod FilePages
 pub mod Wanted
 pub mod MoreMaps
 pub mod FreePages

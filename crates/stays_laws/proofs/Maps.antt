@@ -17,15 +17,18 @@ use Rattle.mmap_rules.specs.Want.{wanted}
 use Rattle.mmap_rules.specs.Mappings.{copied_from, file_pages}
 use Rattle.mmap_rules.proofs.Mapped.{run_is, part_is}
 use Rattle.mem_files.specs.Inodes.{Inodes, bytes_of}
+use Rattle.vfork_exec.specs.Keyed.{Falls}
+use Rattle.machine_world.specs.World.{id_of}
 use Rattle.machine_world.specs.Free.{free_runs_in}
 use Rattle.machine_world.specs.Asks.{Ask, arg, view_of, with_ok}
 use Rattle.machine_world.specs.MapCalls.{all_maps, in_copy, with_mapping, lower, lowest, has_pages, shared, pages_of, own_run, in_free_run, first_bytes, maps, or_own, mapped, file_side, mmap2_row}
 use Rattle.stays_laws.specs.Sound.{ShareCopy, Apart, AreApart, HoldsSource}
 use Rattle.stays_laws.proofs.Apart.{apart_copy}
-use Rattle.stays_laws.proofs.FilePages.{length-file_pages}
+use Rattle.stays_laws.proofs.LaidBytes.{length-file_pages}
 use Rattle.stays_laws.proofs.Wanted.{IsThere, IsWanted, is_wanted}
 use Rattle.stays_laws.proofs.MoreMaps.{file_laid, IsMore, fit_more}
-use Rattle.stays_laws.proofs.FreePages.{free_inside, free_apart}
+use Rattle.stays_laws.proofs.SharedPages.{IsFree, fresh_run}
+use Rattle.stays_laws.proofs.FreePages.{free_apart}
 use Rattle.stays_laws.proofs.Spaces.{IsFit, InSpace}
 
 -- ---- the lowest mapping that passes stands in the list
@@ -79,7 +82,7 @@ has_copy id change first pages m has = by m.source refl has
 
 -- ---- the mapping
 
-module _ (a : Ask) (front back : List Mapping) (are : all_maps a.spaces ≡ front ++ (a.space.maps ++ back))
+module _ (a : Ask) (front back : List Mapping) (b : ℕ) (falls : Falls id_of b a.spaces) (are : all_maps a.spaces ≡ front ++ (a.space.maps ++ back))
     (inside : (j : ℕ) (m : Mapping) → slice_get (all_maps a.spaces) j ≡ Some m → m.first + m.pages ≤ a.rest.pages) (fit : IsFit a.rest.pages front back a.rest.tree a.space) where
   apart : AreApart (all_maps a.spaces)
   apart = subst AreApart (sym are) fit.apart
@@ -90,36 +93,37 @@ module _ (a : Ask) (front back : List Mapping) (are : all_maps a.spaces ≡ fron
   abbrev More : Want → Mapping → Type 0
   More want m = IsMore a.rest.pages (front ++ (a.space.maps ++ back)) a.space nodes m (first_bytes nodes want)
 
+  apart_here : (m : Mapping) → ((j : ℕ) (n : Mapping) → slice_get (all_maps a.spaces) j ≡ Some n → Apart n m)
+      → (j : ℕ) (n : Mapping) → slice_get (front ++ (a.space.maps ++ back)) j ≡ Some n → Apart n m
+  apart_here m each = subst (λ (ms : List Mapping). (j : ℕ) (n : Mapping) → slice_get ms j ≡ Some n → Apart n m) are each
+
   -- a run of its own
   own_more : (want : Want) (page : ℕ) → IsWanted nodes want
       → first_of (free_runs_in a.rest.pages a.spaces) (place a.rest.kind (free_runs_in a.rest.pages a.spaces) (pages_of want)) ≡ Some page → More want (own_run want page)
   own_more (Anon pages) page some chosen =
-      let within = free_inside a.rest.pages a.spaces a.rest.kind pages page some chosen in
+      let free : IsFree a.rest.pages a.spaces page pages = fresh_run a.rest.pages a.spaces a.rest.kind pages page some chosen in
       record {
-        mapping = run_is a.rest.pages page pages true true Own some within (λ is. refl) (λ is. refl);
-        inside = within;
-        apart = subst (λ (ms : List Mapping). (j : ℕ) (n : Mapping) → slice_get ms j ≡ Some n → Apart n (own_run (Anon pages) page)) are
-            (free_apart a.rest.pages a.spaces a.rest.kind pages page some chosen (own_run (Anon pages) page) refl refl);
+        mapping = run_is a.rest.pages page pages true true Own some free.inside (λ is. refl) (λ is. refl);
+        inside = free.inside;
+        apart = apart_here (own_run (Anon pages) page) (free_apart a.rest.pages b a.spaces page pages (own_run (Anon pages) page) falls free refl refl);
         long = length-replicate (4096 * pages) zero;
         holds = tt;
       }
   own_more (File pages first true id change) page known chosen =
-      let within = free_inside a.rest.pages a.spaces a.rest.kind pages page known.0 chosen in
+      let free : IsFree a.rest.pages a.spaces page pages = fresh_run a.rest.pages a.spaces a.rest.kind pages page known.0 chosen in
       record {
-        mapping = run_is a.rest.pages page pages true false Own known.0 within (λ is. refl) (λ is. refl);
-        inside = within;
-        apart = subst (λ (ms : List Mapping). (j : ℕ) (n : Mapping) → slice_get ms j ≡ Some n → Apart n (own_run (File pages first true id change) page)) are
-            (free_apart a.rest.pages a.spaces a.rest.kind pages page known.0 chosen (own_run (File pages first true id change) page) refl refl);
+        mapping = run_is a.rest.pages page pages true false Own known.0 free.inside (λ is. refl) (λ is. refl);
+        inside = free.inside;
+        apart = apart_here (own_run (File pages first true id change) page) (free_apart a.rest.pages b a.spaces page pages (own_run (File pages first true id change) page) falls free refl refl);
         long = length-file_pages (bytes_of nodes id) first pages;
         holds = tt;
       }
   own_more (File pages first false id change) page known chosen =
-      let within = free_inside a.rest.pages a.spaces a.rest.kind pages page known.0 chosen in
+      let free : IsFree a.rest.pages a.spaces page pages = fresh_run a.rest.pages a.spaces a.rest.kind pages page known.0 chosen in
       record {
-        mapping = run_is a.rest.pages page pages false false (Copy id change first) known.0 within (λ is. absurd (false≢true is)) (λ is. absurd (false≢true is));
-        inside = within;
-        apart = subst (λ (ms : List Mapping). (j : ℕ) (n : Mapping) → slice_get ms j ≡ Some n → Apart n (own_run (File pages first false id change) page)) are
-            (free_apart a.rest.pages a.spaces a.rest.kind pages page known.0 chosen (own_run (File pages first false id change) page) refl refl);
+        mapping = run_is a.rest.pages page pages false false (Copy id change first) known.0 free.inside (λ is. absurd (false≢true is)) (λ is. absurd (false≢true is));
+        inside = free.inside;
+        apart = apart_here (own_run (File pages first false id change) page) (free_apart a.rest.pages b a.spaces page pages (own_run (File pages first false id change) page) falls free refl refl);
         long = length-file_pages (bytes_of nodes id) first pages;
         holds = file_laid a.space nodes (own_run (File pages first false id change) page) id change first first pages known.1 (omega arith) refl (omega arith) refl;
       }
@@ -137,7 +141,7 @@ module _ (a : Ask) (front back : List Mapping) (are : all_maps a.spaces ≡ fron
       record {
         mapping = part_is a.rest.pages c.first c.pages (first - copied_from c.source) pages c.source some (omega arith) within;
         inside = within;
-        apart = subst (λ (ms : List Mapping). (j : ℕ) (n : Mapping) → slice_get ms j ≡ Some n → Apart n (shared first pages c)) are
+        apart = apart_here (shared first pages c)
             (λ j n is page on_n on_c. (
             let shares : ShareCopy n c = apart_copy (all_maps a.spaces) low.at c apart low.there copy j n is page on_n on_c in
             record { copy = shares.copy; first = shares.first; pages = shares.pages; source = shares.source }));

@@ -3,7 +3,7 @@ use Rattle.std.proofs.Common.{◌≡◌, ℕ, ◌+◌, ◌-◌, ◌*◌, ◌<◌
 use Rattle.std.specs.Prelude.{slice_get}
 use Rattle.std.proofs.lemmas.Bool.{cases_Bool, cases_lt}
 use Rattle.std.proofs.lemmas.Bool.Decides.{nat_tests}
-use Rattle.std.proofs.lemmas.Option.{same_Some, slice_get_past}
+use Rattle.std.proofs.lemmas.Option.{same_Some, slice_get_past, slice_get-get_or}
 use Rattle.byte_words.specs.ByteMap.{Bytes, with_bytes}
 use Rattle.nommu_regions.specs.declared.region.Source.{Source}
 use Rattle.nommu_regions.specs.declared.region.Source.TheVariants.{Own, Copy}
@@ -17,8 +17,9 @@ use Rattle.mem_files.specs.Inodes.{Inode, Inodes, inode_at, bytes_in, content_in
 use Rattle.machine_world.specs.MapCalls.{with_mapping}
 use Rattle.stays_laws.specs.Sound.{HasBlock, ShareCopy, Apart, copied_byte, HoldsFile, HoldsSource}
 use Rattle.stays_laws.proofs.Apart.{each_front, each_back, apart_more}
-use Rattle.stays_laws.proofs.Bytes.{bytes_inside, bytes_before, bytes_behind, page_of, in_page}
-use Rattle.stays_laws.proofs.FilePages.{file_byte, length-file_pages}
+use Rattle.stays_laws.proofs.SharedPages.{page_of, in_page}
+use Rattle.stays_laws.proofs.LaidBytes.{page_byte, length-file_pages}
+use Rattle.stays_laws.proofs.Bytes.{bytes_inside, bytes_before, bytes_behind}
 use Rattle.stays_laws.proofs.Wanted.{IsThere}
 use Rattle.stays_laws.proofs.Spaces.{IsFit}
 
@@ -29,6 +30,11 @@ given nodes id n there = elim (cases_lt id (length nodes)) [
 ]
 
 -- ---- the bytes of a copy of a file that is as it was
+
+file_byte : (bytes : List ℕ) (first pages i : ℕ) → i < 4096 * pages → get_or (file_pages bytes first pages) i 0 ≡ get_or bytes (4096 * first + i) 0
+file_byte bytes first pages i less =
+    sym (page_byte bytes first pages i (get_or (file_pages bytes first pages) i 0) less
+    (slice_get-get_or (file_pages bytes first pages) i 0 (omega (arith, less, length-file_pages bytes first pages))))
 
 module _ (s : Space) (nodes : Inodes) (m : Mapping) (id change from first pages : ℕ) (is : IsThere nodes id change) (least : from ≤ first) (source : m.source ≡ Copy id change from)
     (begins : m.range.from ≡ page_address (m.first + (first - from))) (size : m.range.size ≡ 4096 * pages) where

@@ -1,7 +1,7 @@
 -- The opening world is sound.
 use Rattle.std.proofs.Common.{◌≡◌, ◌≢◌, ℕ, ◌+◌, ◌-◌, ◌*◌, ◌/◌, ◌%◌, ◌<◌, ◌≤◌, Bool, true, false, inl, inr, List, [], ◌∷◌, ◌++◌, Option, Some, None, Result, Ok, Err, refl, sym, ap, subst, ◌∙◌, arith}
 use Rattle.std.specs.Prelude.{◌==◌, IsSome, slice_get}
-use Rattle.std.proofs.lemmas.Bool.{cases_Bool, eq-eqb, eqb-true, ne_eqb}
+use Rattle.std.proofs.lemmas.Bool.{cases_Bool, eq-eqb, ne_eqb}
 use Rattle.std.proofs.lemmas.Option.{none-some, same_Some}
 use Rattle.call_log.specs.Notes.{most_calls}
 use Rattle.nommu_regions.specs.declared.region.Source.TheVariants.{Own}
@@ -28,7 +28,9 @@ use Rattle.stays_laws.specs.Sound.{IsSpace, Apart, AreApart, HoldsSource, HoldCo
 use Rattle.stays_laws.specs.Laws.{CanBoot, BootsAreSound}
 use Rattle.stays_laws.proofs.Apart.{apart_back}
 use Rattle.stays_laws.proofs.Runners.{runners_head}
-use Rattle.stays_laws.proofs.FreePages.{free_inside, free_apart, below}
+use Rattle.stays_laws.proofs.Frame.{found_below}
+use Rattle.stays_laws.proofs.SharedPages.{IsFree, fresh_run}
+use Rattle.stays_laws.proofs.FreePages.{free_apart}
 
 -- ---- the program's block
 
@@ -76,21 +78,13 @@ some_pages o = omega arith
 
 -- ---- processes of a space that isn't there
 
-pid_below : (k b : ℕ) (p : Process) (ps : List Process) → Falls pid_of b ps → find pid_of k ps ≡ Some p → k < b
-unfolding find
-pid_below k b p [] falls is = absurd (none-some p is)
-pid_below k b p (x ∷ ps) falls is = elim (cases_Bool (x.pid == k)) [
-  | inl here ↦ (let same = eqb-true x.pid k here in let low = falls.0 in omega (arith, same, low))
-  | inr other ↦ (let less = pid_below k x.pid p ps falls.1 (sym (find_head pid_of k x ps false other) ∙ is) in let low = falls.0 in omega (arith, less, low))
-]
-
 none_run : (i b : ℕ) (ps : List Process) → Falls pid_of b ps → ((k : ℕ) (q : Process) → find pid_of k ps ≡ Some q → q.space ≢ i) → runners i ps ≡ []
 unfolding runners
 none_run i b [] falls away = refl
 none_run i b (p ∷ ps) falls away =
     let other : p.space ≢ i = away p.pid p (find_head pid_of p.pid p ps true (eq-eqb p.pid p.pid refl)) in
     runners_head i p ps false (ne_eqb p.space i other)
-    ∙ none_run i p.pid ps falls.1 (λ k q is. away k q (find_head pid_of k p ps false (eqb_other p.pid k (λ e. (let less = pid_below k p.pid q ps falls.1 is in omega (arith, less, e)))) ∙ is))
+    ∙ none_run i p.pid ps falls.1 (λ k q is. away k q (find_head pid_of k p ps false (eqb_other p.pid k (λ e. (let less = found_below pid_of k p.pid ps q falls.1 is in omega (arith, less, e)))) ∙ is))
 
 -- ---- one program more
 
@@ -104,8 +98,8 @@ module _ (w : World) (h : IsSound w) (index page : ℕ) (l : Loading) (is : l.bl
   abbrev now : World
   now = begun w index l
 
-  inside : page + block_pages l.original ≤ w.rest.pages
-  inside = free_inside w.rest.pages w.spaces w.rest.kind (block_pages l.original) page (some_pages l.original) chosen
+  pages_free : IsFree w.rest.pages w.spaces page (block_pages l.original)
+  pages_free = fresh_run w.rest.pages w.spaces w.rest.kind (block_pages l.original) page (some_pages l.original) chosen
 
   -- the process of a number
   by_pid : (P : Process → Type 0) (k : ℕ) (q : Process) → find pid_of k (it ∷ w.procs) ≡ Some q → P it → (find pid_of k w.procs ≡ Some q → P q) → P q
@@ -126,7 +120,7 @@ module _ (w : World) (h : IsSound w) (index page : ℕ) (l : Loading) (is : l.bl
     where
       by : (o : Option LiveSpace) → find id_of q.space w.spaces ≡ o → IsSome o → ⊥
       by None is some = absurd cc
-      by (Some s) is some = let less = below q.space w.loads s w.spaces h.numbers is in omega (arith, less, e)
+      by (Some s) is some = let less = found_below id_of q.space w.loads w.spaces s h.numbers is in omega (arith, less, e)
 
   counted : kept_calls now.notes ≡ kept_calls w.notes
   counted = omega arith
@@ -145,9 +139,9 @@ module _ (w : World) (h : IsSound w) (index page : ℕ) (l : Loading) (is : l.bl
         by_pid (λ x. runners x.space (it ∷ w.procs) ≡ runner_of x ∷ []) k q found
         (runners_head w.loads it w.procs true (eq-eqb w.loads w.loads refl) ∙ ap (λ (rs : List Runner). runner_of it ∷ rs) (none_run w.loads w.next_pid w.procs h.pids other_space))
         (λ was. runners_head q.space it w.procs false (ne_eqb w.loads q.space (λ e. other_space k q was (sym e))) ∙ h.owners k q was);
-    spaces = λ i s found. by_id (λ x. IsSpace w.rest.pages x.space.maps) i s found (block_space l page is w.rest.pages (some_pages l.original) inside) (λ was. h.spaces i s was);
+    spaces = λ i s found. by_id (λ x. IsSpace w.rest.pages x.space.maps) i s found (block_space l page is w.rest.pages (some_pages l.original) pages_free.inside) (λ was. h.spaces i s was);
     apart = block_apart l page is (all_maps w.spaces) h.apart
-        (free_apart w.rest.pages w.spaces w.rest.kind (block_pages l.original) page (some_pages l.original) chosen);
+        (λ m begins long. free_apart w.rest.pages w.loads w.spaces page (block_pages l.original) m h.numbers pages_free begins long);
     copies = λ i s found. by_id (λ x. HoldCopies w.rest.tree x.space) i s found (block_holds l page is w.rest.tree) (λ was. h.copies i s was);
     changes = subst (λ (k : ℕ). AreChanged (most_at_boot + k) w.rest.tree) (sym counted) h.changes;
     calls = subst (λ (k : ℕ). k ≤ most_calls) (sym counted) h.calls;

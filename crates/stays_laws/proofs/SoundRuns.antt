@@ -15,7 +15,7 @@ use Rattle.mmap_rules.specs.Space.{writable_in}
 use Rattle.mmap_rules.specs.Mappings.{Hit, hit}
 use Rattle.mem_files.specs.Inodes.{Inodes}
 use Rattle.quantum_sched.specs.Picked.{picked}
-use Rattle.vfork_exec.specs.Keyed.{find}
+use Rattle.vfork_exec.specs.Keyed.{Falls, find}
 use Rattle.fd_tables.specs.Changes.{without_table}
 use Rattle.machine_world.specs.World.{Process, LiveSpace, World, pid_of, id_of}
 use Rattle.machine_world.specs.Asks.{Ask, arg, Reply, Row, replies, waits, storage_of, with_storage}
@@ -92,12 +92,12 @@ module _ (a : Ask) (front back : List Mapping) (fit : IsFit a.rest.pages front b
       by None is = fit
       by (Some h) is = fit_unmapped a.rest.pages front back a.rest.tree a.space (arg a 0) (arg a 1) h fit (is_hit a.space.maps (arg a 0) (arg a 1) h is)
 
-  fit_row : all_maps a.spaces ≡ front ++ (a.space.maps ++ back) → ((j : ℕ) (m : Mapping) → slice_get (all_maps a.spaces) j ≡ Some m → m.first + m.pages ≤ a.rest.pages)
+  fit_row : (b : ℕ) → Falls id_of b a.spaces → all_maps a.spaces ≡ front ++ (a.space.maps ++ back) → ((j : ℕ) (m : Mapping) → slice_get (all_maps a.spaces) j ≡ Some m → m.first + m.pages ≤ a.rest.pages)
       → InSpace (IsFit a.rest.pages front back a.rest.tree) (row a)
-  fit_row are inside = elim (cases_Bool (a.number == 215)) [
+  fit_row b falls are inside = elim (cases_Bool (a.number == 215)) [
     | inl munmap ↦ subst (InSpace (IsFit a.rest.pages front back a.rest.tree)) (sym (row-munmap a (eqb-true a.number 215 munmap))) fit_munmap
     | inr other ↦ elim (cases_Bool (a.number == 222)) [
-      | inl mmap2 ↦ subst (InSpace (IsFit a.rest.pages front back a.rest.tree)) (sym (row-mmap2 a (eqb-true a.number 222 mmap2))) (fit_mapped a front back are inside fit)
+      | inl mmap2 ↦ subst (InSpace (IsFit a.rest.pages front back a.rest.tree)) (sym (row-mmap2 a (eqb-true a.number 222 mmap2))) (fit_mapped a front back b falls are inside fit)
       | inr neither ↦ fit_same (row a) (row_leaves a other neither)
     ]
   ]
@@ -168,7 +168,7 @@ module _ (w : World) (h : IsSound w) (pid : ℕ) (p : Process) (s : LiveSpace) (
       there : IsFit w.rest.pages front back w.rest.tree r.space
       there =
           subst (InSpace (IsFit w.rest.pages front back w.rest.tree)) is
-          (fit_row (ask_of w p s.space bytes) front back fit (own_around w h pid p s lives has).is (all_inside w h))
+          (fit_row (ask_of w p s.space bytes) front back fit w.loads h.numbers (own_around w h pid p s lives has).is (all_inside w h))
 
       now : IsFit w.rest.pages front back r.rest.tree (record r.space { bytes = m })
       now =
