@@ -1,14 +1,12 @@
 -- Where mmap2 puts a mapping, its bytes may lie: nothing has a byte in a fresh run, and all that share a copy have the file's bytes.
-use Rattle.std.proofs.Common.{◌≡◌, ◌≢◌, ℕ, zero, suc, ◌+◌, ◌-◌, ◌*◌, ◌/◌, ◌%◌, ◌^◌, ◌<◌, ◌≤◌, Bool, true, false, not, ◌⊎◌, inl, inr, List, [], ◌∷◌, ◌++◌, map, length, get_or, Option, Some, None, Result, Ok, Err, refl, sym, ap, subst, ◌∙◌, arith}
+use Rattle.std.proofs.Common.{◌≡◌, ◌≢◌, ℕ, suc, ◌+◌, ◌-◌, ◌*◌, ◌%◌, ◌^◌, ◌<◌, ◌≤◌, Bool, true, false, not, ◌⊎◌, inl, inr, List, [], ◌∷◌, length, get_or, Option, Some, None, Ok, Err, refl, sym, ap, subst, ◌∙◌, arith}
 use Rattle.std.specs.Prelude.{◌==◌, ◌||◌, ◌&&◌, nat_le, nat_lt, slice_get, option_map, if◌then◌else◌}
 use Rattle.std.specs.List.{list_any}
 use Rattle.std.proofs.lemmas.Bool.Decides.{nat_tests}
 use Rattle.std.proofs.lemmas.List.{length-replicate}
 use Rattle.std.proofs.lemmas.Option.{slice_get_within}
-use Rattle.call_log.specs.declared.errno.Errno.{Errno}
 use Rattle.call_log.specs.declared.errno.Errno.TheVariants.{Einval, Eoverflow}
 use Rattle.call_log.specs.Flags.{has_flag}
-use Rattle.page_runs.specs.declared.place.Kind.{Kind}
 use Rattle.page_runs.specs.Place.{place, first_of}
 use Rattle.nommu_regions.specs.declared.region.Source.{Source}
 use Rattle.nommu_regions.specs.declared.region.Source.TheVariants.{Own, Copy}
@@ -29,12 +27,12 @@ use Rattle.mmap_rules.specs.Mappings.{copied_from}
 use Rattle.vfork_exec.specs.Keyed.{find}
 use Rattle.flat_loader.specs.Alone.{memory_of, own_of, writable_of, may_lie}
 use Rattle.machine_world.specs.World.{LiveSpace, World, id_of}
-use Rattle.machine_world.specs.Free.{is_held, free_runs_in}
+use Rattle.machine_world.specs.Free.{free_runs_in}
 use Rattle.machine_world.specs.MapCalls.{side_of_content, side_of_node, side_of_target, side_of, all_maps, lowest, has_pages, shared, in_copy, pages_of, own_run, in_free_run, first_bytes, or_own}
-use Rattle.stays_laws.specs.Sound.{HoldsFile, HoldsSource, copied_byte, IsSound}
+use Rattle.stays_laws.specs.Sound.{HoldsFile, HoldsSource, IsSound}
 use Rattle.stays_laws.proofs.Frame.{ranges_of, owned, writable}
 use Rattle.stays_laws.proofs.LaidBytes.{LiesOver, lies_all, page_byte, length-file_pages}
-use Rattle.stays_laws.proofs.SharedPages.{In, in_all, from_all, same_run, page_of, in_page, Passes, lowest_passes, page_from, page_to, IsFree, fresh_run, not_held}
+use Rattle.stays_laws.proofs.SharedPages.{In, in_all, from_all, same_run, page_of, in_page, lowest_passes, page_from, page_to, IsFree, fresh_run, not_held}
 use Rattle.stays_laws.proofs.Lists.{eqb_isnt}
 
 decide : (b : Bool) → (b ≡ true) ⊎ (b ≡ false)
@@ -93,7 +91,7 @@ module _ (len prot flags : ℕ) (seen : FileSide) where
     where
       by : (none fixed both anon : Bool) → (len == 0) ≡ none → has_flag flags map_anonymous ≡ anon
           → (if none then Err Einval else if fixed then Err Einval else if both then Err Einval
-            else if anon then Ok (Anon (pages_for len)) else wanted_file (pages_for len) prot flags first seen) ≡ Ok want → Asks want
+          else if anon then Ok (Anon (pages_for len)) else wanted_file (pages_for len) prot flags first seen) ≡ Ok want → Asks want
       by true fixed both anon len_is flag asks = absurd cc
       by false true both anon len_is flag asks = absurd cc
       by false false true anon len_is flag asks = absurd cc

@@ -1,11 +1,11 @@
 -- Bytes that are laid from an address on: they are read back, and lie where nothing differs. And the pages of a file.
-use Rattle.std.proofs.Common.{◌≡◌, ◌≢◌, ℕ, zero, suc, ◌+◌, ◌-◌, ◌*◌, ◌<◌, ◌≤◌, Bool, true, false, not, cond, ◌⊎◌, inl, inr, List, [], ◌∷◌, ◌++◌, length, take, drop, replicate, get_or, Option, Some, None, refl, sym, ap, subst, ◌∙◌, arith, length-append}
-use Rattle.std.specs.Prelude.{◌==◌, ◌||◌, ◌&&◌, min, slice_get, if◌then◌else◌}
+use Rattle.std.proofs.Common.{◌≡◌, ℕ, zero, suc, ◌+◌, ◌-◌, ◌*◌, ◌<◌, ◌≤◌, Bool, true, false, not, List, [], ◌∷◌, ◌++◌, length, take, drop, replicate, get_or, Option, Some, refl, sym, ap, subst, ◌∙◌, arith, length-append}
+use Rattle.std.specs.Prelude.{◌==◌, ◌||◌, ◌&&◌, slice_get, if◌then◌else◌}
 use Rattle.std.proofs.lemmas.List.{get_or-drop, get_or-replicate, length-replicate, length-take}
 use Rattle.std.proofs.lemmas.Option.{get_or_from_slice_get}
-use Rattle.byte_words.specs.ByteMap.{Bytes, with_byte, with_bytes}
+use Rattle.byte_words.specs.ByteMap.{Bytes, with_bytes}
 use Rattle.call_log.specs.Sent.{cons_byte, bytes_from}
-use Rattle.mmap_rules.specs.Mappings.{filled, file_pages}
+use Rattle.mmap_rules.specs.Mappings.{file_pages}
 use Rattle.flat_loader.specs.Alone.{OwnMemory, own_of, writable_of, has_byte, may_lie}
 use Rattle.stays_laws.proofs.Lists.{eqb_other, eqb_same}
 

@@ -1,37 +1,32 @@
 -- Alone, every call does in its space what it does in the world.
-use Rattle.std.proofs.Common.{◌≡◌, ◌≢◌, ℕ, zero, suc, ◌+◌, ◌-◌, ◌*◌, ◌/◌, ◌%◌, ◌^◌, ◌<◌, ◌≤◌, Bool, true, false, not, ◌⊎◌, inl, inr, List, [], ◌∷◌, ◌++◌, map, length, replicate, Option, Some, None, Result, Ok, Err, refl, sym, ap, subst, ◌∙◌, arith}
-use Rattle.std.specs.Prelude.{◌==◌, ◌||◌, ◌&&◌, nat_le, nat_lt, slice_index, unwrap_or, if◌then◌else◌}
+use Rattle.std.proofs.Common.{◌≡◌, ℕ, ◌+◌, ◌*◌, ◌%◌, ◌^◌, ◌<◌, ◌≤◌, Bool, true, false, not, ◌⊎◌, inl, inr, List, [], ◌∷◌, ◌++◌, length, replicate, Option, Some, None, Result, Ok, Err, refl, sym, ap, subst, ◌∙◌, arith}
+use Rattle.std.specs.Prelude.{◌==◌, ◌||◌, ◌&&◌, nat_le, nat_lt, unwrap_or, if◌then◌else◌}
 use Rattle.std.proofs.lemmas.Bool.Decides.{nat_tests}
 use Rattle.std.proofs.lemmas.List.{map-append}
 use Rattle.byte_words.specs.ByteMap.{Bytes, with_bytes}
-use Rattle.rv32im_step.specs.declared.regs.Regs.{Regs}
 use Rattle.call_log.specs.declared.errno.Errno.{Errno}
 use Rattle.call_log.specs.declared.errno.Errno.TheVariants.{Enosys, Enomem, Einval}
 use Rattle.call_log.specs.Flags.{has_flag}
 use Rattle.call_log.specs.Notes.{CallEntry}
-use Rattle.call_log.specs.Sent.{bytes_from, sent}
-use Rattle.mmap_rules.specs.declared.mapping.Range.{Range}
+use Rattle.call_log.specs.Sent.{bytes_from}
 use Rattle.mmap_rules.specs.declared.mapping.Mapping.{Mapping}
-use Rattle.mmap_rules.specs.declared.want.FileSide.{FileSide}
 use Rattle.mmap_rules.specs.declared.want.Want.{Want}
 use Rattle.mmap_rules.specs.declared.want.Want.TheVariants.{Anon, File}
-use Rattle.mmap_rules.specs.Space.{Space}
 use Rattle.mmap_rules.specs.Want.{pages_for, map_anonymous, prot_write, wanted}
 use Rattle.mmap_rules.specs.Mappings.{Hit, hit, without_hit}
 use Rattle.vfork_exec.specs.Keyed.{find}
-use Rattle.flat_loader.specs.Alone.{Solo, Item, OwnMemory, memory_of, number_of, args_of, replied, put_got, is_errno, new_range, new_bytes, brings_all, is_placed, may_lie, may_map, with_range, with_memory, without_pages, solo_mapped, solo_unmapped, solo_put}
-use Rattle.machine_world.specs.World.{Process, LiveSpace, World, pid_of, id_of}
+use Rattle.flat_loader.specs.Alone.{Solo, Item, OwnMemory, memory_of, number_of, replied, is_errno, new_range, new_bytes, brings_all, is_placed, may_lie, may_map, with_range, with_memory, solo_mapped}
+use Rattle.machine_world.specs.World.{Process, LiveSpace, World, id_of}
 use Rattle.machine_world.specs.Free.{free_runs_in}
-use Rattle.machine_world.specs.Asks.{Ask, arg, Row, with_ok, view_of, refuses}
+use Rattle.machine_world.specs.Asks.{Ask, arg, with_ok, view_of}
 use Rattle.machine_world.specs.MapCalls.{file_side, in_copy, in_free_run, or_own, pages_of, first_bytes, with_mapping, maps, mapped, mmap2_row, over_maps, unmaps, munmap_row}
 use Rattle.machine_world.specs.Rows.{row}
 use Rattle.machine_world.specs.Event.{ask_of, entry_of, item_of, maps_file, brought, is_exit}
 use Rattle.machine_world.proofs.States.{with_regs}
-use Rattle.stays_laws.specs.Stays.{runner_of}
 use Rattle.stays_laws.specs.Sound.{IsSound}
 use Rattle.stays_laws.proofs.Frame.{ranges_of}
 use Rattle.stays_laws.proofs.LaidBytes.{read_back}
-use Rattle.stays_laws.proofs.Grants.{AsksAnon, AsksFile, Asks, asked, is_file, writes_of, anonymous_of, Grant, length-first_bytes, granted}
+use Rattle.stays_laws.proofs.Grants.{Asks, asked, is_file, Grant, length-first_bytes, granted}
 use Rattle.stays_laws.proofs.Lists.{eqb_same, eqb_is}
 use Rattle.stays_laws.proofs.RowSpaces.{row-munmap, row-mmap2, row-clone, row-execve}
 use Rattle.stays_laws.proofs.Unmapping.{unmaps_alone}

@@ -1,5 +1,5 @@
 -- Which mappings of a world share pages: those of one copy alone, and none shares a fresh run.
-use Rattle.std.proofs.Common.{◌≡◌, ◌≢◌, ℕ, zero, suc, ◌+◌, ◌-◌, ◌*◌, ◌/◌, ◌^◌, ◌<◌, ◌≤◌, Bool, true, false, not, ◌⊎◌, inl, inr, List, [], ◌∷◌, ◌++◌, length, Option, Some, None, refl, sym, ap, subst, ◌∙◌, arith}
+use Rattle.std.proofs.Common.{◌≡◌, ℕ, zero, suc, ◌+◌, ◌-◌, ◌*◌, ◌/◌, ◌^◌, ◌<◌, ◌≤◌, Bool, true, false, not, ◌⊎◌, inl, inr, List, [], ◌∷◌, ◌++◌, Option, Some, None, refl, sym, ap, subst, ◌∙◌, arith}
 use Rattle.std.specs.Prelude.{◌==◌, ◌||◌, ◌&&◌, nat_le, nat_lt, slice_get, option_map, if◌then◌else◌}
 use Rattle.std.specs.List.{list_any}
 use Rattle.std.proofs.lemmas.Bool.Decides.{nat_tests}
@@ -12,7 +12,6 @@ use Rattle.page_runs.specs.Place.{Placed, place, first_of}
 use Rattle.page_runs.proofs.Places.{placed}
 use Rattle.page_runs.proofs.Changes.{page_of_run}
 use Rattle.page_runs.proofs.Maximal.{has_page-free_runs}
-use Rattle.nommu_regions.specs.declared.region.Source.{Source}
 use Rattle.mmap_rules.specs.declared.mapping.Mapping.{Mapping}
 use Rattle.mmap_rules.specs.Space.{in_range, has_page}
 use Rattle.mmap_rules.specs.Held.{IsMapping}
@@ -22,7 +21,7 @@ use Rattle.machine_world.specs.World.{LiveSpace, id_of}
 use Rattle.machine_world.specs.Free.{is_held, free_runs_in}
 use Rattle.machine_world.specs.MapCalls.{all_maps, lower, lowest}
 use Rattle.stays_laws.specs.Sound.{Apart, AreApart}
-use Rattle.stays_laws.proofs.Lists.{eqb_other, eqb_same, eqb_is}
+use Rattle.stays_laws.proofs.Lists.{eqb_other, eqb_same}
 use Rattle.stays_laws.proofs.Frame.{found_below}
 
 decide : (b : Bool) → (b ≡ true) ⊎ (b ≡ false)

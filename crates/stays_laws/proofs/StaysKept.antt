@@ -1,7 +1,7 @@
 -- What is told of the stays is right behind every event.
-use Rattle.std.proofs.Common.{◌≡◌, ℕ, List, Option, Some, None, Ok, refl, ap, subst, ◌∙◌}
+use Rattle.std.proofs.Common.{◌≡◌, ℕ, List, Option, Some, None, refl, ap, subst, ◌∙◌}
 use Rattle.rv32im_step.specs.Meaning.{meaning}
-use Rattle.mmap_rules.specs.Space.{Space, writable_in}
+use Rattle.mmap_rules.specs.Space.{writable_in}
 use Rattle.vfork_exec.specs.Keyed.{find}
 use Rattle.machine_world.specs.World.{Process, LiveSpace, World, pid_of, id_of}
 use Rattle.machine_world.specs.Event.{effect, in_space, by_process, at_process, event}

@@ -1,20 +1,18 @@
 -- munmap leaves alone just what it leaves in the world.
-use Rattle.std.proofs.Common.{◌≡◌, ◌≢◌, ℕ, zero, suc, ◌+◌, ◌-◌, ◌*◌, ◌/◌, ◌%◌, ◌^◌, ◌<◌, ◌≤◌, Bool, true, false, not, cond, ◌⊎◌, inl, inr, List, [], ◌∷◌, ◌++◌, map, length, take, drop, Option, Some, None, Result, Ok, Err, refl, sym, ap, subst, ◌∙◌, arith}
-use Rattle.std.specs.Prelude.{◌==◌, ◌||◌, ◌&&◌, nat_lt, nat_le, slice_get, slice_index, position, option_map, if◌then◌else◌}
+use Rattle.std.proofs.Common.{◌≡◌, ◌≢◌, ℕ, suc, ◌+◌, ◌-◌, ◌*◌, ◌/◌, ◌%◌, ◌^◌, ◌<◌, Bool, true, false, not, cond, ◌⊎◌, inl, inr, List, [], ◌∷◌, ◌++◌, length, take, drop, Option, Some, None, refl, sym, ap, subst, ◌∙◌, arith}
+use Rattle.std.specs.Prelude.{◌==◌, ◌||◌, ◌&&◌, nat_lt, nat_le, slice_get, position, option_map, if◌then◌else◌}
 use Rattle.std.specs.List.{position_or_len}
 use Rattle.std.proofs.lemmas.Bool.Decides.{nat_tests}
-use Rattle.std.proofs.lemmas.List.{map-append, append-nil}
-use Rattle.byte_words.specs.ByteMap.{Bytes}
+use Rattle.std.proofs.lemmas.List.{map-append}
 use Rattle.mmap_rules.specs.declared.mapping.Range.{Range}
 use Rattle.mmap_rules.specs.declared.mapping.Mapping.{Mapping}
-use Rattle.mmap_rules.specs.Space.{Space, page_size, own_in}
+use Rattle.mmap_rules.specs.Space.{Space, own_in}
 use Rattle.mmap_rules.specs.Want.{pages_for}
 use Rattle.mmap_rules.specs.Mappings.{is_range, can_lose, part_of, left_of, Hit, hit_at, or_hit, hit_in, hit, without_hit}
 use Rattle.mmap_rules.proofs.Parts.{WholePages, Cuts, both, run_of}
 use Rattle.region_watch.specs.Private.{only}
-use Rattle.flat_loader.specs.Alone.{OwnMemory, Item, memory_of, own_of, cons_to, or_else, with_first, is_exact, can_cut, part, parts, without_range, over_ranges, without_pages}
-use Rattle.machine_world.specs.MapCalls.{over_maps}
-use Rattle.stays_laws.specs.Sound.{HasBlock, IsSpace}
+use Rattle.flat_loader.specs.Alone.{OwnMemory, memory_of, cons_to, or_else, with_first, is_exact, can_cut, part, parts, without_range, over_ranges, without_pages}
+use Rattle.stays_laws.specs.Sound.{IsSpace}
 use Rattle.stays_laws.proofs.Lists.{eqb_other, eqb_is, eqb_isnt}
 use Rattle.stays_laws.proofs.Frame.{ranges_of, owned}
 use Rattle.stays_laws.proofs.PlainCalls.{if_yes, if_no}
