@@ -1,6 +1,6 @@
 -- What is told of the first stays is right for the opening world.
-use Rattle.std.proofs.Common.{◌≡◌, ◌≢◌, ℕ, zero, suc, ◌+◌, ◌<◌, ◌≤◌, Bool, true, false, ◌⊎◌, inl, inr, List, [], ◌∷◌, ◌++◌, map, length, Option, Some, None, Result, Ok, Err, refl, sym, ap, subst, ◌∙◌, arith, length-append}
-use Rattle.std.specs.Prelude.{◌==◌, slice_get, if◌then◌else◌}
+use Rattle.std.proofs.Common.{◌≡◌, ◌≢◌, ℕ, zero, suc, ◌+◌, ◌<◌, ◌≤◌, Bool, true, false, ◌⊎◌, inl, inr, List, [], ◌∷◌, ◌++◌, length, Option, Some, None, Result, Ok, Err, refl, sym, ap, subst, ◌∙◌, arith, length-append}
+use Rattle.std.specs.Prelude.{slice_get}
 use Rattle.std.proofs.lemmas.List.{map-append, append-nil}
 use Rattle.std.proofs.Common.{append_assoc}
 use Rattle.vfork_exec.specs.Keyed.{find}
@@ -8,12 +8,12 @@ use Rattle.vfork_exec.proofs.Keyed.{find_head}
 use Rattle.flat_loader.specs.Original.{block_pages}
 use Rattle.flat_loader.specs.Frame.{frame_fits}
 use Rattle.flat_loader.specs.Begin.{Loading, begin_space, begin_regs}
-use Rattle.flat_loader.specs.Alone.{Item, solo_run, solo_begin, alone, memory_of}
+use Rattle.flat_loader.specs.Alone.{solo_run, solo_begin, alone, memory_of}
 use Rattle.fd_tables.specs.Files.{free_number}
-use Rattle.machine_world.specs.World.{Process, LiveSpace, Rest, World, id_of}
+use Rattle.machine_world.specs.World.{Process, Rest, World, id_of}
 use Rattle.machine_world.specs.Free.{free}
 use Rattle.machine_world.specs.Boot.{StartLine, BootFault, Found, found, path_of, begun, address_of, taken, placed, fitting, located, started, then_started, all_started, empty_world, boot}
-use Rattle.stays_laws.specs.Stays.{Stay, loading_at, loading_in, loading_of, first_stay, behind_start, first_stays, runner_of, runners, Agrees, kept_calls_of, loads_of, belonging, head_of, loaded_head, AreTold, AreRight}
+use Rattle.stays_laws.specs.Stays.{Stay, loading_at, loading_in, loading_of, first_stay, behind_start, first_stays, runner_of, runners, Agrees, kept_calls_of, loads_of, belonging, head_of, loaded_head, AreRight}
 use Rattle.stays_laws.specs.Laws.{BootsBeginStays}
 use Rattle.stays_laws.proofs.Lists.{eqb_other, eqb_same}
 use Rattle.stays_laws.proofs.Runners.{runners_head}

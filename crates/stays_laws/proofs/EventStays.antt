@@ -1,27 +1,23 @@
 -- One event keeps what is told of the stays right, if rows are followed alone.
-use Rattle.std.proofs.Common.{◌≡◌, ◌≢◌, ℕ, zero, suc, ◌+◌, ◌<◌, Bool, true, false, ◌⊎◌, inl, inr, List, [], ◌∷◌, ◌++◌, map, length, Option, Some, None, Result, Ok, Err, refl, sym, ap, subst, ◌∙◌, arith}
+use Rattle.std.proofs.Common.{◌≡◌, ℕ, ◌+◌, ◌<◌, Bool, true, false, ◌⊎◌, inl, inr, List, [], ◌∷◌, ◌++◌, map, length, Some, None, Result, Ok, Err, refl, sym, ap, subst, ◌∙◌, arith}
 use Rattle.std.specs.Prelude.{◌==◌, ◌||◌, ◌&&◌, slice_get, option_map, if◌then◌else◌}
 use Rattle.std.proofs.lemmas.List.{append-nil}
 use Rattle.byte_words.specs.ByteMap.{Bytes}
 use Rattle.rv32im_step.specs.declared.regs.Regs.{Regs}
-use Rattle.rv32im_step.specs.Registers.{register}
 use Rattle.rv32im_step.specs.Meaning.{Meaning, next, call, trap, refused, meaning}
-use Rattle.call_log.specs.declared.how.How.{How}
-use Rattle.call_log.specs.declared.how.How.TheVariants.{Exit, Signal}
-use Rattle.call_log.specs.Notes.{CallEntry, Written, Note, has_room, weight_of}
+use Rattle.call_log.specs.Notes.{Written, has_room, weight_of}
 use Rattle.call_log.specs.Sent.{Span, sent}
 use Rattle.mmap_rules.specs.Space.{Space, writable_in}
 use Rattle.vfork_exec.specs.Keyed.{find, change, without}
 use Rattle.vfork_exec.proofs.Keyed.{find_changed, find_beside_change, find_beside_without, find_gone}
-use Rattle.flat_loader.specs.Alone.{Runner, OwnMemory, Solo, Item, memory_of, writable_of, number_of, args_of, replied, put_got, is_same, is_call, is_errno, leaves_space, with_items, solo_effect, solo_put, solo_called, solo_moved, solo_step, none_left}
+use Rattle.flat_loader.specs.Alone.{OwnMemory, Solo, Item, memory_of, writable_of, number_of, args_of, replied, put_got, is_same, is_call, is_errno, leaves_space, with_items, solo_effect, solo_put, solo_called, solo_moved, solo_step, none_left}
 use Rattle.machine_world.specs.World.{Process, LiveSpace, World, pid_of, id_of}
 use Rattle.machine_world.specs.Asks.{Ask, Reply, Row, replies, waits}
 use Rattle.machine_world.specs.Rows.{row}
-use Rattle.machine_world.specs.Event.{Trace, Outcome, went, strays, full, idle, with_space, counted, noted, ended, stepped, trapped, ask_of, entry_of, item_of, served, put, waited, answered, exit_code, exited, is_exit, asked, answer, effect, in_space, by_process, at_process, event}
-use Rattle.machine_world.proofs.States.{find_has, with_regs, with_own}
-use Rattle.stays_laws.specs.Stays.{Stay, change_at, longer, collect, runner_of, runners, alone_end, IsOver, Agrees, kept_calls_of, loads_of, head_of, loaded_head, AreRight}
+use Rattle.machine_world.specs.Event.{Trace, Outcome, went, strays, full, idle, counted, ended, stepped, trapped, ask_of, entry_of, item_of, served, put, waited, answered, exited, is_exit, asked, answer, effect}
+use Rattle.machine_world.proofs.States.{with_regs, with_own}
+use Rattle.stays_laws.specs.Stays.{Stay, longer, collect, runner_of, runners, alone_end, Agrees, kept_calls_of, loads_of, head_of, loaded_head, AreRight}
 use Rattle.stays_laws.specs.Sound.{IsSound}
-use Rattle.stays_laws.specs.Laws.{EventsKeepStays}
 use Rattle.stays_laws.proofs.Lists.{eqb_same, length-change_at, map-change_at, change_at-same}
 use Rattle.stays_laws.proofs.Runners.{runners_beside_change, runners_beside_without, runners_change}
 use Rattle.stays_laws.proofs.Frame.{ranges_of, writable, found_below, BesideSpace, agree_after, entries_of, told_after}
@@ -65,7 +61,7 @@ tells p s w bytes value got =
 
 -- ---- one event
 
-abbrev Keeps : List Stay → Outcome → Type 0
+abbrev pub Keeps : List Stay → Outcome → Type 0
 Keeps ys (went now t) = AreRight (collect ys t) now
 Keeps ys (strays access) = Unit {0}
 Keeps ys full = Unit {0}
@@ -119,13 +115,13 @@ module _ (ys : List Stay) (w : World) (sound : IsSound w) (right : AreRight ys w
           spaces = λ j other. ap (find id_of j) spaces ∙ find_beside_change id_of p.space j other (λ l. with_own l space) (λ l. refl) w.spaces;
         })
         (λ y there.
-          let live : find id_of p.space now.spaces ≡ Some (with_own s space) =
-          ap (find id_of p.space) spaces ∙ find_changed id_of p.space (λ l. with_own l space) (λ l. refl) w.spaces ∙ ap (option_map (λ l. with_own l space)) has in
-          let runs : runners p.space now.procs ≡ runner_of (with_regs p regs) ∷ [] =
-          ap (runners p.space) procs ∙ runners_change p.pid p refl regs w.procs lives (sound.owners p.pid p lives) in
-          subst (λ o. Agrees p.space now.procs (longer trace y) o) (sym live)
-          (alone_more y.loading y.pid y.items items y.events solo (end_of y there) ∙ ap none_left steps
-          ∙ ap (λ l. Some (record { stack = l; memory = memory_of space })) (sym runs)))
+        let live : find id_of p.space now.spaces ≡ Some (with_own s space) =
+        ap (find id_of p.space) spaces ∙ find_changed id_of p.space (λ l. with_own l space) (λ l. refl) w.spaces ∙ ap (option_map (λ l. with_own l space)) has in
+        let runs : runners p.space now.procs ≡ runner_of (with_regs p regs) ∷ [] =
+        ap (runners p.space) procs ∙ runners_change p.pid p refl regs w.procs lives (sound.owners p.pid p lives) in
+        subst (λ o. Agrees p.space now.procs (longer trace y) o) (sym live)
+        (alone_more y.loading y.pid y.items items y.events solo (end_of y there) ∙ ap none_left steps
+        ∙ ap (λ l. Some (record { stack = l; memory = memory_of space })) (sym runs)))
 
     -- it goes, and its space
     keeps_departed : (m : OwnMemory) → now.procs ≡ without pid_of p.pid w.procs → now.spaces ≡ without id_of p.space w.spaces
@@ -137,13 +133,13 @@ module _ (ys : List Stay) (w : World) (sound : IsSound w) (right : AreRight ys w
           spaces = λ j other. ap (find id_of j) spaces ∙ find_beside_without id_of p.space j other w.spaces;
         })
         (λ y there.
-          let gone : find id_of p.space now.spaces ≡ None = ap (find id_of p.space) spaces ∙ find_gone id_of p.space w.spaces in
-          subst (λ o. Agrees p.space now.procs (longer trace y) o) (sym gone)
-          (record {
-            end = record { stack = []; memory = m };
-            is = alone_more y.loading y.pid y.items items y.events solo (end_of y there) ∙ ap none_left steps;
-            empty = refl;
-          }))
+        let gone : find id_of p.space now.spaces ≡ None = ap (find id_of p.space) spaces ∙ find_gone id_of p.space w.spaces in
+        subst (λ o. Agrees p.space now.procs (longer trace y) o) (sym gone)
+        (record {
+          end = record { stack = []; memory = m };
+          is = alone_more y.loading y.pid y.items items y.events solo (end_of y there) ∙ ap none_left steps;
+          empty = refl;
+        }))
 
   -- ---- the same event alone
 
@@ -211,7 +207,7 @@ module _ (ys : List Stay) (w : World) (sound : IsSound w) (right : AreRight ys w
         keeps_test ys (is_exit (number_of p.regs)) (exited w a) (answered w a (row a)) (keeps_exited is bytes reads)
         (λ stays. keeps_answered is bytes reads (row a) (rows bytes reads stays))
 
-    keeps_effect : (m : Meaning) → means ≡ m → Keeps ys (effect w p s.space m)
+    pub keeps_effect : (m : Meaning) → means ≡ m → Keeps ys (effect w p s.space m)
     unfolding stepped trapped ended answer kept_calls_of loads_of
     keeps_effect (next regs bytes) is =
         keeps_state _ [] false refl refl (sym (append-nil (kept_calls_of w.notes))) regs (record s.space { bytes = bytes }) refl refl (steps [] (next regs bytes) is)

@@ -1,5 +1,5 @@
 -- What is told stays right where one space changes: the other stays and spaces are as they were.
-use Rattle.std.proofs.Common.{◌≡◌, ◌≢◌, ℕ, ◌+◌, ◌<◌, ◌≤◌, Bool, true, false, ◌⊎◌, inl, inr, List, [], ◌∷◌, ◌++◌, map, length, Option, Some, None, refl, sym, ap, subst, ◌∙◌, arith, length-append}
+use Rattle.std.proofs.Common.{◌≡◌, ◌≢◌, ℕ, ◌<◌, Bool, true, false, ◌⊎◌, inl, inr, List, [], ◌∷◌, ◌++◌, map, length, Option, Some, None, refl, sym, ap, subst, ◌∙◌, arith, length-append}
 use Rattle.std.specs.Prelude.{◌==◌, ◌||◌, ◌&&◌, slice_get}
 use Rattle.std.proofs.lemmas.List.{length-map, map-append, append-nil}
 use Rattle.call_log.specs.Notes.{CallEntry, Note}
@@ -109,11 +109,11 @@ module _ (ys : List Stay) (notes now : List Note) (i n : ℕ) (items : List Item
           let same : i ≡ j = sym (eqb_is j i is) in
           subst (λ k. slice_get (change_at i (longer trace) ys) k ≡ Some y → entries_of y.items ≡ belonging k places (kept_calls_of now)) same
           (λ at. let was = changed_here (longer trace) i ys y at in
-              ap (λ (z : Stay). entries_of z.items) (sym was.is)
-              ∙ map-append (λ (x : Item). x.entry) was.old.items items
-              ∙ ap (λ (l : List CallEntry). l ++ entries_of items) (told.entries i was.old was.there)
-              ∙ ap (λ (l : List CallEntry). belonging i told.places (kept_calls_of notes) ++ l) (sym (belonging_here i (λ (x : Item). x.entry) i items refl))
-              ∙ sym (belong i)) there
+          ap (λ (z : Stay). entries_of z.items) (sym was.is)
+          ∙ map-append (λ (x : Item). x.entry) was.old.items items
+          ∙ ap (λ (l : List CallEntry). l ++ entries_of items) (told.entries i was.old was.there)
+          ∙ ap (λ (l : List CallEntry). belonging i told.places (kept_calls_of notes) ++ l) (sym (belonging_here i (λ (x : Item). x.entry) i items refl))
+          ∙ sym (belong i)) there
       | inr isnt ↦
           let other = eqb_isnt j i isnt in
           told.entries j y (sym (changed_beside (longer trace) i j ys other) ∙ there) ∙ sym (others_belong j other)

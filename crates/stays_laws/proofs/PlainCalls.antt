@@ -1,23 +1,22 @@
 -- Calls that are refused, and those that leave the space's mappings, are followed alone.
-use Rattle.std.proofs.Common.{◌≡◌, ◌≢◌, ℕ, ◌<◌, ◌≤◌, Bool, true, false, ◌⊎◌, inl, inr, List, [], ◌∷◌, map, Option, Some, None, Result, Ok, Err, refl, sym, ap, subst, ◌∙◌, arith}
-use Rattle.std.specs.Prelude.{◌==◌, ◌||◌, ◌&&◌, nat_le, if◌then◌else◌, slice_index}
+use Rattle.std.proofs.Common.{◌≡◌, ℕ, Bool, true, false, List, [], ◌∷◌, Some, Ok, refl, sym, ap, ◌∙◌, arith}
+use Rattle.std.specs.Prelude.{◌==◌, ◌||◌, ◌&&◌, if◌then◌else◌}
 use Rattle.std.proofs.lemmas.Bool.Decides.{nat_tests}
 use Rattle.byte_words.specs.ByteMap.{Bytes}
 use Rattle.call_log.specs.declared.errno.Errno.{Errno}
 use Rattle.call_log.specs.Errno.{refusal}
-use Rattle.call_log.specs.Notes.{CallEntry}
 use Rattle.mmap_rules.specs.Space.{Space, writable_in}
-use Rattle.flat_loader.specs.Alone.{OwnMemory, Solo, Item, memory_of, number_of, replied, put_got, is_errno, leaves_space, solo_mapped, solo_unmapped, solo_forked, solo_effect, solo_answered, solo_put}
+use Rattle.flat_loader.specs.Alone.{Solo, Item, memory_of, number_of, replied, put_got, is_errno, leaves_space, solo_mapped, solo_unmapped, solo_forked, solo_effect, solo_answered, solo_put}
 use Rattle.machine_world.specs.World.{Process, World}
-use Rattle.machine_world.specs.Asks.{Ask, Reply, Row, replies, waits, refuses}
+use Rattle.machine_world.specs.Asks.{Ask, Row, replies, waits, refuses}
 use Rattle.machine_world.specs.Rows.{row}
 use Rattle.machine_world.specs.Event.{ask_of, entry_of, item_of, is_exit}
 use Rattle.machine_world.proofs.Refused.{is_refused}
 use Rattle.machine_world.proofs.States.{with_regs}
 use Rattle.stays_laws.specs.Stays.{runner_of}
 use Rattle.stays_laws.proofs.Frame.{ranges_of}
-use Rattle.stays_laws.proofs.RowSpaces.{SameSpace, LeavesSpace, row_leaves}
-use Rattle.stays_laws.proofs.EventStays.{solo_of, Follows}
+use Rattle.stays_laws.proofs.RowSpaces.{LeavesSpace, row_leaves}
+use Rattle.stays_laws.proofs.EventStays.{Follows}
 
 pub if_yes : {A : Type 0} (b : Bool) (x y : A) → b ≡ true → (if b then x else y) ≡ x
 if_yes true x y is = refl

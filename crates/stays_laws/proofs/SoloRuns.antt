@@ -1,7 +1,6 @@
 -- A run alone goes on behind its events, with more items.
 use Rattle.std.proofs.Common.{◌≡◌, ℕ, zero, suc, ◌+◌, Bool, true, false, List, [], ◌∷◌, ◌++◌, Option, Some, None, refl, sym, ap, subst, ◌∙◌, arith}
 use Rattle.std.specs.Prelude.{Result, Ok, Err, if◌then◌else◌}
-use Rattle.byte_words.specs.ByteMap.{Bytes}
 use Rattle.rv32im_step.specs.Meaning.{Meaning, next, call, trap, refused, meaning}
 use Rattle.call_log.specs.Sent.{Span, sent}
 use Rattle.flat_loader.specs.Begin.{Loading}

@@ -1,13 +1,13 @@
 -- What is told of the stays is right behind turns and runs, where every event keeps it so, and the world sound.
-use Rattle.std.proofs.Common.{◌≡◌, ℕ, zero, suc, Bool, true, false, List, [], ◌∷◌, ◌++◌, map, length, Option, Some, None, refl, sym, subst}
-use Rattle.std.specs.Prelude.{◌==◌, if◌then◌else◌}
+use Rattle.std.proofs.Common.{◌≡◌, ℕ, zero, suc, Bool, true, false, List, [], ◌∷◌, ◌++◌, map, Option, Some, None, refl, sym, subst}
+use Rattle.std.specs.Prelude.{if◌then◌else◌}
 use Rattle.call_log.specs.declared.how.Seen.{Seen}
 use Rattle.call_log.specs.Notes.{stray_note}
 use Rattle.quantum_sched.specs.Picked.{picked}
 use Rattle.machine_world.specs.World.{World, pid_of}
 use Rattle.machine_world.specs.Event.{Trace, Outcome, went, strays, full, idle, noted, event}
-use Rattle.machine_world.specs.Turns.{Walk, End, all_ended, out_of_quanta, seen_of, traced, stays_at, turned, turn, walked, going_on, quantum_turn, turns}
-use Rattle.stays_laws.specs.Stays.{Stay, collect, collect_all, kept_calls_of, loads_of, AreTold, AreRight}
+use Rattle.machine_world.specs.Turns.{Walk, End, seen_of, traced, stays_at, turned, turn, going_on, quantum_turn, turns}
+use Rattle.stays_laws.specs.Stays.{Stay, collect, collect_all, kept_calls_of, loads_of, AreRight}
 use Rattle.stays_laws.specs.Sound.{IsSound}
 use Rattle.stays_laws.specs.Laws.{EventsKeepSound, TurnsKeepSound, EventsKeepStays, TurnsKeepStays, RunsKeepStays}
 

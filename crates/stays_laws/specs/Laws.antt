@@ -1,7 +1,6 @@
 -- Each process does what its own program, loaded at its place, does alone under the same replies.
 use Rattle.std.specs.Prelude.{◌≡◌, ℕ, ◌≤◌, List, Ok}
 use Rattle.quantum_sched.specs.declared.Quantum.{Quantum}
-use Rattle.fd_tables.specs.Files.{nothing_open}
 use Rattle.machine_world.specs.World.{Rest, World}
 use Rattle.machine_world.specs.Event.{Trace, went, event}
 use Rattle.machine_world.specs.Turns.{turn, turns}
