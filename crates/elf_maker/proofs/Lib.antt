@@ -7,3 +7,5 @@ pub mod Entries
 pub mod Sections
 pub mod Clear
 pub mod Made
+pub mod ByValues
+mod DemoSamples

@@ -5,6 +5,7 @@ ghost use Rattle.std.specs.List.{All, AllByRecursion, flat_map};
 ghost use Rattle.elf_maker.specs.Given.{IsPart, HasPlainName, IsRela, total};
 ghost use Rattle.elf_maker.specs.Fits.{FitsPart, FitsSymbol, FitsAll};
 ghost use Rattle.elf_maker.specs.Makes.{Makes};
+ghost use Rattle.elf_maker.specs.Values.{part_value, symbol_value, file_bytes};
 ghost use Rattle.elf_maker.specs.Spelling.{Adds, header_of, part_header, part_item, table_header, symtab_item, strtab_item, symtab_text, strtab_text, relas_items, spelled};
 
 use crate::given::{MakeRela, MakeSymbol, Part};
@@ -179,7 +180,8 @@ pub fn make(
     requires parts { AllByRecursion IsPart parts.now }
     requires symbols { AllByRecursion HasPlainName symbols.now }
     requires relas { AllByRecursion (IsRela parts.now symbols.now) relas.now }
-    ensures { IfOk result (λ file. Makes parts.now symbols.now relas.now entry file.items) }
+    ensures makes { IfOk result (λ file. Makes parts.now symbols.now relas.now entry file.items) }
+    ensures bytes { IfOk result (λ file. file.items ≡ file_bytes (map part_value parts.now) (map symbol_value symbols.now) relas.now entry) }
 {
     written(alloc, parts, symbols, relas, entry)
 }

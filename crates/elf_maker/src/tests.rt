@@ -212,3 +212,23 @@ fn nothing(rt: HostRuntime) -> Result<(), Fail> {
     assert_eq!(rt; section_in(&elf, 2), Some([3, 0, 0, 1, 0, 0, 0]));
     Ok(())
 }
+
+/// The last program of the demo: its sections, its pointer, and the relocations of its code.
+#[test]
+fn last_program(rt: HostRuntime) -> Result<(), Fail> {
+    let file = demo(rt.alloc(), 64)?;
+    let elf = Elf::read(&file).expect(&rt, "it is read");
+    assert_eq!(rt; (elf.entry(), elf.sections()), (0x10000, 7));
+    assert_eq!(rt; section_in(&elf, 1), Some([1, 6, 0x10000, 48, 0, 0, 0]));
+    assert_eq!(rt; section_in(&elf, 2), Some([1, 3, 0x10040, 8, 0, 0, 0]));
+    assert_eq!(rt;
+        content_in(&elf, 2).expect(&rt, ".data"),
+        b"l\n\0\0\x40\x00\x01\x00".as_slice()
+    );
+    let kinds = [(5, 0, 23), (5, 1, 24), (5, 2, 16), (6, 0, 1)];
+    for (section, entry, kind) in kinds {
+        let rela = rela_in(&elf, section, entry).expect(&rt, "an entry");
+        assert_eq!(rt; rela.kind, kind, "entry {entry} of {section}");
+    }
+    Ok(())
+}

@@ -2,6 +2,7 @@
 
 mod callers;
 mod calls;
+mod demo;
 mod examples;
 mod files;
 mod mappings;

@@ -17,6 +17,7 @@ use Rattle.flat_machine.specs.declared.boot.BootRefusal.{BootRefusal}
 use Rattle.flat_machine.specs.declared.boot.BootRefusal.TheVariants as refusal
 use Rattle.flat_machine.specs.State.{State, world, lines_of}
 use Rattle.flat_machine.specs.Boots.{Boots}
+use Rattle.suite_top.specs.declared.telling.Telling.{Telling}
 use Rattle.suite_top.specs.Ending.{Ending, memory_ending, OrMemory}
 use Rattle.run_setup.specs.Faults.{IsMemory}
 use Rattle.suite_top.specs.Refusing.{told_fault}
@@ -90,11 +91,11 @@ booted (Ok w) machine is = ap Ok (sym is)
 booted (Err fault) machine is = absurd is
 
 -- what the machine was started with, as the definition has it
-pub boots_as : (rest : Rest) (starts : List StoredStart) (machine : State) (log : Bool) (m : Manifest) (ending : Ending) → m.starts ≡ map start_value starts
-    → Boots (boot rest (lines_of starts)) (Ok machine) → OrMemory (booted_ending log m (Ok (world machine))) ending → OrMemory (booted_ending log m (boot rest (map start_line m.starts))) ending
-boots_as rest starts machine log m ending are boots ends =
+pub boots_as : (rest : Rest) (starts : List StoredStart) (machine : State) (telling : Telling) (m : Manifest) (ending : Ending) → m.starts ≡ map start_value starts
+    → Boots (boot rest (lines_of starts)) (Ok machine) → OrMemory (booted_ending telling m (Ok (world machine))) ending → OrMemory (booted_ending telling m (boot rest (map start_line m.starts))) ending
+boots_as rest starts machine telling m ending are boots ends =
     let same : boot rest (map start_line m.starts) ≡ Ok (world machine) = ap (λ ss. boot rest (map start_line ss)) are ∙ ap (boot rest) (sym (lines_are starts)) ∙ booted _ _ boots in
-    subst (λ (r : Result World BootFault). OrMemory (booted_ending log m r) ending) (sym same) ends
+    subst (λ (r : Result World BootFault). OrMemory (booted_ending telling m r) ending) (sym same) ends
 
 pub machine_events : (machine : State) → (world machine).events ≡ machine.events
 unfolding world_of
@@ -105,23 +106,23 @@ unfolding world_of
 machine_kind machine = refl
 
 -- a machine that doesn't start
-refused_by : (fault : BootFault) (r : BootRefusal) (log : Bool) (m : Manifest) (ending : Ending) → Boots (Err fault) (Err r)
-    → OrMemory (fault_ending (told_fault r)) ending → (IsMemory (told_fault r).fault → ending ≡ memory_ending) → OrMemory (booted_ending log m (Err fault)) ending
-refused_by fault refusal.Memory log m ending is ends memory = inr (memory tt)
-refused_by (bad_start number) (refusal.BadStart at) log m ending is ends memory = subst (λ n. OrMemory (fault_ending (boot_fault (bad_start n))) ending) is ends
-refused_by (args_too_big number) (refusal.E2big at) log m ending is ends memory = subst (λ n. OrMemory (fault_ending (boot_fault (args_too_big n))) ending) is ends
-refused_by (no_run number) (refusal.NoRun at) log m ending is ends memory = subst (λ n. OrMemory (fault_ending (boot_fault (no_run n))) ending) is ends
-refused_by fault r log m ending is ends memory = absurd is
+refused_by : (fault : BootFault) (r : BootRefusal) (telling : Telling) (m : Manifest) (ending : Ending) → Boots (Err fault) (Err r)
+    → OrMemory (fault_ending (told_fault r)) ending → (IsMemory (told_fault r).fault → ending ≡ memory_ending) → OrMemory (booted_ending telling m (Err fault)) ending
+refused_by fault refusal.Memory telling m ending is ends memory = inr (memory tt)
+refused_by (bad_start number) (refusal.BadStart at) telling m ending is ends memory = subst (λ n. OrMemory (fault_ending (boot_fault (bad_start n))) ending) is ends
+refused_by (args_too_big number) (refusal.E2big at) telling m ending is ends memory = subst (λ n. OrMemory (fault_ending (boot_fault (args_too_big n))) ending) is ends
+refused_by (no_run number) (refusal.NoRun at) telling m ending is ends memory = subst (λ n. OrMemory (fault_ending (boot_fault (no_run n))) ending) is ends
+refused_by fault r telling m ending is ends memory = absurd is
 
-pub boot_refused : (b : Result World BootFault) (r : BootRefusal) (log : Bool) (m : Manifest) (ending : Ending) → Boots b (Err r)
-    → OrMemory (fault_ending (told_fault r)) ending → (IsMemory (told_fault r).fault → ending ≡ memory_ending) → OrMemory (booted_ending log m b) ending
-boot_refused (Ok w) refusal.Memory log m ending is ends memory = inr (memory tt)
-boot_refused (Ok w) r log m ending is ends memory = absurd is
-boot_refused (Err fault) r log m ending is ends memory = refused_by fault r log m ending is ends memory
+pub boot_refused : (b : Result World BootFault) (r : BootRefusal) (telling : Telling) (m : Manifest) (ending : Ending) → Boots b (Err r)
+    → OrMemory (fault_ending (told_fault r)) ending → (IsMemory (told_fault r).fault → ending ≡ memory_ending) → OrMemory (booted_ending telling m b) ending
+boot_refused (Ok w) refusal.Memory telling m ending is ends memory = inr (memory tt)
+boot_refused (Ok w) r telling m ending is ends memory = absurd is
+boot_refused (Err fault) r telling m ending is ends memory = refused_by fault r telling m ending is ends memory
 
-pub refused_as : (rest : Rest) (starts : List StoredStart) (r : BootRefusal) (log : Bool) (m : Manifest) (ending : Ending) → m.starts ≡ map start_value starts
+pub refused_as : (rest : Rest) (starts : List StoredStart) (r : BootRefusal) (telling : Telling) (m : Manifest) (ending : Ending) → m.starts ≡ map start_value starts
     → Boots (boot rest (lines_of starts)) (Err r) → OrMemory (fault_ending (told_fault r)) ending → (IsMemory (told_fault r).fault → ending ≡ memory_ending)
-    → OrMemory (booted_ending log m (boot rest (map start_line m.starts))) ending
-refused_as rest starts r log m ending are boots ends memory =
+    → OrMemory (booted_ending telling m (boot rest (map start_line m.starts))) ending
+refused_as rest starts r telling m ending are boots ends memory =
     let same : boot rest (map start_line m.starts) ≡ boot rest (lines_of starts) = ap (λ ss. boot rest (map start_line ss)) are ∙ ap (boot rest) (sym (lines_are starts)) in
-    subst (λ (b : Result World BootFault). OrMemory (booted_ending log m b) ending) (sym same) (boot_refused (boot rest (lines_of starts)) r log m ending boots ends memory)
+    subst (λ (b : Result World BootFault). OrMemory (booted_ending telling m b) ending) (sym same) (boot_refused (boot rest (lines_of starts)) r telling m ending boots ends memory)

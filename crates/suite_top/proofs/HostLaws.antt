@@ -4,7 +4,7 @@ use Rattle.std.specs.Prelude.{option_map}
 use Rattle.std.proofs.lemmas.List.{append-nil}
 use Rattle.host_io.specs.Host.{Told}
 use Rattle.suite_top.specs.Outcome.{Request, load, store, Inputs, name_of}
-use Rattle.suite_top.specs.Arguments.{Invocation, convert, list, check, run, command_of}
+use Rattle.suite_top.specs.Arguments.{Invocation, convert, list, check, run, demo, command_of}
 use Rattle.suite_top.specs.Result.{command_outcome}
 use Rattle.suite_top.specs.HostCourse.{HostCourse, complete, failed, out_of_memory, AreLoads, IsCourseOf, FaultsAfter, after_answer, after_answers, told_after}
 use Rattle.suite_top.specs.Call.{outcome_of}
@@ -44,7 +44,7 @@ names_are_a_prefix c t t_after (ending, performs, delivers) is_old is_new =
 
 -- ---- arguments that are no command
 
-untouched_at : (requests : List Request) → requests ≡ [] → (k : HostCourse) → IsCourseOf requests k → (old new : Option Told) → new ≡ option_map (told_after requests k) old → (before now : ℕ) → FaultsAfter k before now → (new ≡ old) × (now ≡ before)
+pub untouched_at : (requests : List Request) → requests ≡ [] → (k : HostCourse) → IsCourseOf requests k → (old new : Option Told) → new ≡ option_map (told_after requests k) old → (before now : ℕ) → FaultsAfter k before now → (new ≡ old) × (now ≡ before)
 untouched_at (request ∷ requests) none k is old new told before now faults = absurd cc
 untouched_at [] none complete is None new told before now faults = (told, faults)
 untouched_at [] none complete is (Some t) new told before now faults = (told, faults)
@@ -71,6 +71,7 @@ others_load (Some (convert elf flt stack)) inputs other = absurd (other elf flt 
 others_load (Some (list flt)) inputs other = subst AreLoads (sym (list_requests flt inputs)) tt
 others_load (Some (check elf)) inputs other = subst AreLoads (sym (check_requests elf inputs)) tt
 others_load (Some (run manifest log kind)) inputs other = run_requests manifest log kind inputs
+others_load (Some (demo programs)) inputs other = tt
 
 files_stay : (requests : List Request) (k : HostCourse) (t : Told) → IsCourseOf requests k → AreLoads requests → (told_after requests k t).files ≡ t.files
 files_stay requests complete t is are = loads_keep requests t are

@@ -1,5 +1,5 @@
 -- HostCourses, HostSteps, Stops: a course of the host, step by step.
--- Lines, Usage, Stacks, Addresses: the ends and texts of private functions.
+-- Lines, Usage, SpelledNumbers, Addresses: the ends and texts of private functions.
 -- Conversions, Listed: what the commands do behind their load.
 -- Outcomes, RunOutcomes: what an outcome can be.
 -- StatusLaws, HostLaws: the laws over every call.
@@ -10,6 +10,7 @@
 -- Opened: a list opened at one place.
 -- LoadedItems: the loads of a manifest's lines.
 -- Booted, RunEndings, RunLaws: what a boot of the machine gives, how a run ends, and when it reaches its machine.
+-- Told, Demos, DemoFaults, DemoLaws: what a run tells, the manifest of a demo and its programs, and the laws of the command.
 -- Samples, ListSamples, RunSamples: the definitions on the worked example and on small manifests.
 pub mod HostCourses
 pub mod HostSteps
@@ -17,7 +18,7 @@ pub mod OneFileSteps
 pub mod Stops
 pub mod Lines
 pub mod Usage
-pub mod Stacks
+pub mod SpelledNumbers
 pub mod Addresses
 pub mod Conversions
 pub mod Listed
@@ -37,6 +38,10 @@ pub mod LoadedItems
 pub mod Booted
 pub mod RunEndings
 pub mod RunLaws
+pub mod Told
+pub mod Demos
+pub mod DemoFaults
+pub mod DemoLaws
 pub mod Samples
 pub mod ListSamples
 pub mod RunSamples

@@ -14,7 +14,7 @@ use Rattle.suite_top.specs.Texts.Listing.{listing, flat_tail}
 use Rattle.bflt_format.specs.Header.{flat_values}
 use Rattle.suite_top.specs.Ending.{Ending, done_ending, usage_ending, refused_ending}
 use Rattle.suite_top.specs.Outcome.{Request, load, store, failure_ending, Outcome, Inputs, after}
-use Rattle.suite_top.specs.Arguments.{Invocation, convert, list, check, run, IsNoRun, default_stack, command_of}
+use Rattle.suite_top.specs.Arguments.{Invocation, convert, list, check, run, demo, IsNoRun, default_stack, command_of}
 use Rattle.suite_top.specs.OneFile.{file_limit, with_found, with_file}
 use Rattle.suite_top.specs.Convert.{judged_outcome, converted_outcome}
 use Rattle.suite_top.specs.Check.{verdict, checked_outcome, check_outcome}
@@ -22,11 +22,12 @@ use Rattle.suite_top.specs.List.{judged_ending, listed_outcome, list_outcome}
 use Rattle.page_runs.specs.declared.place.Kind.{Kind}
 use Rattle.manifest_text.specs.declared.manifest.Dump.{Dump}
 use Rattle.machine_world.specs.Turns.{Walk}
+use Rattle.suite_top.specs.declared.telling.Telling.{Telling}
 use Rattle.suite_top.specs.Run.{walked_ending, run_outcome}
 use Rattle.suite_top.specs.Result.{command_outcome, result_of}
 use Rattle.suite_top.specs.StatusLaws.{IsOneText, TextsAreApart, UsageIsExact}
 use Rattle.suite_top.specs.HostCourse.{AreLoads}
-use Rattle.suite_top.proofs.RunOutcomes.{run_by, other_status}
+use Rattle.suite_top.proofs.RunOutcomes.{run_by, demo_by, told_status}
 
 -- what holds of a refusal and of `rest` holds of what was found
 pub found_by : (P : Outcome → Type 0) (name : List ℕ) (rest : List ℕ → Outcome) (e : List ℕ) → P (record { requests = []; ending = refused_ending too_long_tail }) → P (rest e) → P (with_found name (Some e) rest)
@@ -56,10 +57,12 @@ module _ (P : Ending → Type 0) (read : (name : List ℕ) → P (failure_ending
   other_than_run (check elf) inputs other = found_ending elf checked_outcome (λ e. check_judged e (fault e)) (inputs 0 elf)
   other_than_run (list flt) inputs other = found_ending flt listed_outcome (λ y. list_judged y (flat_fault y)) (inputs 0 flt)
   other_than_run (run manifest log kind) inputs other = absurd other
+  other_than_run (demo programs) inputs other = absurd other
 
-  module _ (walked : (log : Bool) (dumps : List Dump) (walk : Walk) → P (walked_ending log dumps walk)) where
+  module _ (walked : (telling : Telling) (dumps : List Dump) (walk : Walk) → P (walked_ending telling dumps walk)) where
     pub invoked : (k : Invocation) (inputs : Inputs) → P (command_outcome (Some k) inputs).ending
     invoked (run manifest log kind) inputs = run_by (λ (o : Outcome). P o.ending) (λ name o p. p) read refused walked manifest log kind inputs
+    invoked (demo programs) inputs = demo_by (λ (o : Outcome). P o.ending) (λ name o p. p) read refused walked programs
     invoked (convert elf flt stack) inputs = other_than_run (convert elf flt stack) inputs tt
     invoked (check elf) inputs = other_than_run (check elf) inputs tt
     invoked (list flt) inputs = other_than_run (list flt) inputs tt
@@ -73,7 +76,7 @@ pub never : (s : Status) → (HostRead ≡ s → ⊥) → (Refused ≡ s → ⊥
     → (arguments : List (List ℕ)) (inputs : Inputs) → (result_of arguments inputs).ending.status ≡ s → ⊥
 never s read refused done usage stray quanta full arguments inputs =
     result_by (λ t. t.status ≡ s → ⊥) (λ name. read) (λ tail. refused) (λ text. done)
-    (λ log dumps walk. other_status (λ t. t ≡ s → ⊥) done stray quanta full walk.end)
+    (λ telling dumps walk. told_status (λ t. t ≡ s → ⊥) done stray quanta full telling dumps walk.world walk.end)
     usage (command_of arguments) inputs
 
 one_text : (o : Option Invocation) (inputs : Inputs) → IsNoRun o → IsOneText (command_outcome o inputs).ending
@@ -86,7 +89,7 @@ texts_are_apart arguments inputs = one_text (command_of arguments) inputs
 no_command : (o : Option Invocation) (inputs : Inputs) → (command_outcome o inputs).ending.status ≡ Usage → o ≡ None
 no_command None inputs is = refl
 no_command (Some k) inputs is =
-    absurd (invoked (λ t. t.status ≡ Usage → ⊥) (λ name e. cc) (λ tail e. cc) (λ text e. cc) (λ log dumps walk. other_status (λ t. t ≡ Usage → ⊥) (λ e. cc) (λ e. cc) (λ e. cc) (λ e. cc) walk.end) k inputs is)
+    absurd (invoked (λ t. t.status ≡ Usage → ⊥) (λ name e. cc) (λ tail e. cc) (λ text e. cc) (λ telling dumps walk. told_status (λ t. t ≡ Usage → ⊥) (λ e. cc) (λ e. cc) (λ e. cc) (λ e. cc) telling dumps walk.world walk.end) k inputs is)
 
 pub usage_is_exact : UsageIsExact
 usage_is_exact arguments inputs = (
@@ -119,4 +122,4 @@ pub check_requests : (elf : List ℕ) (inputs : Inputs) → (check_outcome elf i
 check_requests elf inputs = one_load elf checked_outcome (λ e. refl) (inputs 0 elf)
 
 pub run_requests : (manifest : List ℕ) (log : Bool) (kind : Kind) (inputs : Inputs) → AreLoads (run_outcome manifest log kind inputs).requests
-run_requests = run_by (λ (o : Outcome). AreLoads o.requests) (λ name o are. are) (λ name. tt) (λ tail. tt) (λ log dumps walk. tt)
+run_requests = run_by (λ (o : Outcome). AreLoads o.requests) (λ name o are. are) (λ name. tt) (λ tail. tt) (λ telling dumps walk. tt)

@@ -7,39 +7,33 @@ use Rattle.manifest_text.specs.Values.{Manifest}
 use Rattle.manifest_text.specs.Manifest.{Fault}
 use Rattle.machine_world.specs.World.{World}
 use Rattle.machine_world.specs.Boot.{BootFault, boot}
-use Rattle.machine_world.specs.Turns.{End, all_ended, out_of_quanta, stray_at, log_full}
 use Rattle.suite_top.specs.declared.status.Status.TheVariants as status
 use Rattle.suite_top.specs.Ending.{Ending, refused_ending, memory_ending, OrMemory}
 use Rattle.suite_top.specs.Texts.Refusals.{manifest_tail}
 use Rattle.suite_top.specs.Observed.{Observed}
 use Rattle.suite_top.specs.HostCourse.{PerformsCommand}
-use Rattle.suite_top.specs.Report.{status_of_end}
+use Rattle.suite_top.specs.declared.telling.Telling.{Telling}
+use Rattle.suite_top.specs.declared.telling.Telling.TheVariants.{Report, Demo}
 use Rattle.run_setup.specs.Brought.{Brought, FaultAt, nothing_brought, all_brought}
 use Rattle.run_setup.specs.Faults.{IsMemory}
 use Rattle.suite_top.specs.ItemLoads.{GaveFiles}
 use Rattle.suite_top.specs.Load.{at_once}
 use Rattle.suite_top.specs.Run.{fault_ending, booted_ending, brought_ending, files_ending, items_outcome, manifest_outcome, start_line, opening}
 use Rattle.suite_top.proofs.HostSteps.{asks_nothing}
+use Rattle.suite_top.proofs.RunOutcomes.{told_status}
 
 -- no end is that of a failed load
-end_is_told : (o : Option End) → status_of_end o ≢ status.HostRead
-end_is_told None = λ h. cc
-end_is_told (Some all_ended) = λ h. cc
-end_is_told (Some out_of_quanta) = λ h. cc
-end_is_told (Some (stray_at pid access)) = λ h. cc
-end_is_told (Some log_full) = λ h. cc
+booted_is_told : (telling : Telling) (m : Manifest) (b : Result World BootFault) → (booted_ending telling m b).status ≢ status.HostRead
+booted_is_told telling m (Err fault) = λ h. cc
+booted_is_told telling m (Ok w) = told_status (λ s. s ≢ status.HostRead) (λ h. cc) (λ h. cc) (λ h. cc) (λ h. cc) telling m.dumps _ _
 
-booted_is_told : (log : Bool) (m : Manifest) (b : Result World BootFault) → (booted_ending log m b).status ≢ status.HostRead
-booted_is_told log m (Err fault) = λ h. cc
-booted_is_told log m (Ok w) = end_is_told _
+brought_is_told : (telling : Telling) (kind : Kind) (m : Manifest) (r : Result Brought FaultAt) → (brought_ending telling kind m r).status ≢ status.HostRead
+brought_is_told telling kind m (Err at) = λ h. cc
+brought_is_told telling kind m (Ok b) = booted_is_told telling m (boot (opening kind m b) (map start_line m.starts))
 
-brought_is_told : (log : Bool) (kind : Kind) (m : Manifest) (r : Result Brought FaultAt) → (brought_ending log kind m r).status ≢ status.HostRead
-brought_is_told log kind m (Err at) = λ h. cc
-brought_is_told log kind m (Ok b) = booted_is_told log m (boot (opening kind m b) (map start_line m.starts))
-
-files_are_told : (log : Bool) (kind : Kind) (m : Manifest) (files : List (List ℕ)) → (files_ending log kind m files).status ≢ status.HostRead
+pub files_are_told : (telling : Telling) (kind : Kind) (m : Manifest) (files : List (List ℕ)) → (files_ending telling kind m files).status ≢ status.HostRead
 unfolding files_ending
-files_are_told log kind m files = brought_is_told log kind m (all_brought m.items files nothing_brought)
+files_are_told telling kind m files = brought_is_told telling kind m (all_brought m.items files nothing_brought)
 
 -- a manifest with a fault
 pub refuses_manifest : (old : Observed Told) (log : Bool) (kind : Kind) (r : Result Manifest Fault) (first : Fault) (ending : Ending)
@@ -49,18 +43,18 @@ refuses_manifest old log kind r first ending is ends =
 
 -- behind all loads nothing more is asked
 pub runs_files : (old now : Observed Told) (log : Bool) (kind : Kind) (m : Manifest) (files : List (List ℕ)) (ending : Ending)
-    → GaveFiles old now m.items files → OrMemory (files_ending log kind m files) ending → PerformsCommand old now (items_outcome log kind m) ending
+    → GaveFiles old now m.items files → OrMemory (files_ending (Report log) kind m files) ending → PerformsCommand old now (items_outcome log kind m) ending
 runs_files old now log kind m files ending gave ends =
-    gave.goes_on (λ fs. at_once (files_ending log kind m fs)) now ending (asks_nothing now (files_ending log kind m files) ending (files_are_told log kind m files) ends)
+    gave.goes_on (λ fs. at_once (files_ending (Report log) kind m fs)) now ending (asks_nothing now (files_ending (Report log) kind m files) ending (files_are_told (Report log) kind m files) ends)
 
-module _ (log : Bool) (kind : Kind) (m : Manifest) (files : List (List ℕ)) (ending : Ending) where
-  pub brings_all : (b : Brought) → all_brought m.items files nothing_brought ≡ Ok b → OrMemory (brought_ending log kind m (Ok b)) ending → OrMemory (files_ending log kind m files) ending
+module _ (telling : Telling) (kind : Kind) (m : Manifest) (files : List (List ℕ)) (ending : Ending) where
+  pub brings_all : (b : Brought) → all_brought m.items files nothing_brought ≡ Ok b → OrMemory (brought_ending telling kind m (Ok b)) ending → OrMemory (files_ending telling kind m files) ending
   unfolding files_ending
-  brings_all b brings ends = subst (λ (r : Result Brought FaultAt). OrMemory (brought_ending log kind m r) ending) (sym brings) ends
+  brings_all b brings ends = subst (λ (r : Result Brought FaultAt). OrMemory (brought_ending telling kind m r) ending) (sym brings) ends
 
-  pub refuses_line : (at : FaultAt) → IsMemory at.fault ⊎ (all_brought m.items files nothing_brought ≡ Err at) → OrMemory (fault_ending at) ending → (IsMemory at.fault → ending ≡ memory_ending) → OrMemory (files_ending log kind m files) ending
+  pub refuses_line : (at : FaultAt) → IsMemory at.fault ⊎ (all_brought m.items files nothing_brought ≡ Err at) → OrMemory (fault_ending at) ending → (IsMemory at.fault → ending ≡ memory_ending) → OrMemory (files_ending telling kind m files) ending
   unfolding files_ending
   refuses_line at why ends memory = elim why [
     | inl is ↦ inr (memory is)
-    | inr is ↦ subst (λ (r : Result Brought FaultAt). OrMemory (brought_ending log kind m r) ending) (sym is) ends
+    | inr is ↦ subst (λ (r : Result Brought FaultAt). OrMemory (brought_ending telling kind m r) ending) (sym is) ends
   ]

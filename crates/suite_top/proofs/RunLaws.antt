@@ -10,6 +10,8 @@ use Rattle.manifest_text.specs.Manifest.{Fault, manifest_of}
 use Rattle.machine_world.specs.World.{World}
 use Rattle.machine_world.specs.Boot.{BootFault, boot}
 use Rattle.suite_top.specs.Texts.Refusals.{too_long_at}
+use Rattle.suite_top.specs.declared.telling.Telling.{Telling}
+use Rattle.suite_top.specs.declared.telling.Telling.TheVariants.{Report}
 use Rattle.suite_top.specs.Ending.{refused_ending}
 use Rattle.suite_top.specs.Outcome.{Request, load, Outcome, Inputs, after}
 use Rattle.suite_top.specs.HostCourse.{inputs_in}
@@ -17,7 +19,7 @@ use Rattle.suite_top.specs.Load.{at_once, with_limited, with_load}
 use Rattle.run_setup.specs.Brought.{Brought, FaultAt, nothing_brought, all_brought}
 use Rattle.suite_top.specs.Run.{manifest_limit, load_limit, files_limit, has_file, with_item, with_items, start_line, opening, booted_ending, brought_ending, files_ending, items_outcome, manifest_outcome, run_outcome}
 use Rattle.suite_top.specs.Run.Laws.{IsThere, AreThere, opened_outcome, IsStop, IsEarly, RunsWhereItOpens, OpensWhereItStops, RunsStopOrEndEarly}
-use Rattle.suite_top.proofs.RunOutcomes.{run_by, other_status}
+use Rattle.suite_top.proofs.RunOutcomes.{run_by, told_status}
 
 -- ---- from what is there to the outcome
 
@@ -59,9 +61,9 @@ runs_where_it_opens t name log kind o =
     ap (after (load name))
     (is_within manifest_limit None name (get t name) o.text (λ bytes. manifest_outcome log kind (manifest_of bytes) (inputs_in t)) o.found o.fits
     ∙ ap (λ (r : Result Manifest Fault). manifest_outcome log kind r (inputs_in t)) o.reads
-    ∙ items_there t files_limit o.manifest.items o.files (λ files. at_once (files_ending log kind o.manifest files)) o.there
-    ∙ ap (λ (r : Result Brought FaultAt). behind_all o.manifest.items (at_once (brought_ending log kind o.manifest r))) o.brings
-    ∙ ap (λ (r : Result World BootFault). behind_all o.manifest.items (at_once (booted_ending log o.manifest r))) o.boots
+    ∙ items_there t files_limit o.manifest.items o.files (λ files. at_once (files_ending (Report log) kind o.manifest files)) o.there
+    ∙ ap (λ (r : Result Brought FaultAt). behind_all o.manifest.items (at_once (brought_ending (Report log) kind o.manifest r))) o.brings
+    ∙ ap (λ (r : Result World BootFault). behind_all o.manifest.items (at_once (booted_ending (Report log) o.manifest r))) o.boots
     ∙ ap (λ (rs : List Request). record { requests = rs; ending = (opened_outcome log o).ending }) (append-nil (loads_of o.manifest.items)))
 
 -- ---- from the status to what is there
@@ -100,26 +102,26 @@ ok_manifest : (t : Files) (log : Bool) (kind : Kind) (r : Result Manifest Fault)
 ok_manifest t log kind (Err fault) stop = absurd stop
 ok_manifest t log kind (Ok m) stop = (m, refl, stop)
 
-ok_brought : (log : Bool) (kind : Kind) (m : Manifest) (r : Result Brought FaultAt) → IsStop (brought_ending log kind m r).status
-    → (b : Brought) × (r ≡ Ok b) × IsStop (booted_ending log m (boot (opening kind m b) (map start_line m.starts))).status
-ok_brought log kind m (Err at) stop = absurd stop
-ok_brought log kind m (Ok b) stop = (b, refl, stop)
+ok_brought : (telling : Telling) (kind : Kind) (m : Manifest) (r : Result Brought FaultAt) → IsStop (brought_ending telling kind m r).status
+    → (b : Brought) × (r ≡ Ok b) × IsStop (booted_ending telling m (boot (opening kind m b) (map start_line m.starts))).status
+ok_brought telling kind m (Err at) stop = absurd stop
+ok_brought telling kind m (Ok b) stop = (b, refl, stop)
 
-ok_world : (log : Bool) (m : Manifest) (r : Result World BootFault) → IsStop (booted_ending log m r).status → (w : World) × (r ≡ Ok w)
-ok_world log m (Err fault) stop = absurd stop
-ok_world log m (Ok w) stop = (w, refl)
+ok_world : (telling : Telling) (m : Manifest) (r : Result World BootFault) → IsStop (booted_ending telling m r).status → (w : World) × (r ≡ Ok w)
+ok_world telling m (Err fault) stop = absurd stop
+ok_world telling m (Ok w) stop = (w, refl)
 
 pub opens_where_it_stops : OpensWhereItStops
 unfolding run_outcome files_ending
 opens_where_it_stops t name log kind stop =
     let (text, found, fits, reads_on) = within manifest_limit None name (get t name) (λ bytes. manifest_outcome log kind (manifest_of bytes) (inputs_in t)) stop in
     let (m, reads, loads_on) = ok_manifest t log kind (manifest_of text) reads_on in
-    let (files, there, makes_on) = items_within t files_limit m.items (λ fs. at_once (files_ending log kind m fs)) loads_on in
-    let (brought, brings, boots_on) = ok_brought log kind m (all_brought m.items files nothing_brought) makes_on in
-    let (world, boots) = ok_world log m (boot (opening kind m brought) (map start_line m.starts)) boots_on in
+    let (files, there, makes_on) = items_within t files_limit m.items (λ fs. at_once (files_ending (Report log) kind m fs)) loads_on in
+    let (brought, brings, boots_on) = ok_brought (Report log) kind m (all_brought m.items files nothing_brought) makes_on in
+    let (world, boots) = ok_world (Report log) m (boot (opening kind m brought) (map start_line m.starts)) boots_on in
     record { text = text; found = found; fits = fits; manifest = m; reads = reads; files = files; there = there; brought = brought; brings = brings; world = world; boots = boots }
 
 pub runs_stop_or_end_early : RunsStopOrEndEarly
 runs_stop_or_end_early =
     run_by (λ (o : Outcome). IsStop o.ending.status ⊎ IsEarly o.ending) (λ name o p. p) (λ name. inr (refl, inl refl)) (λ tail. inr (refl, inr refl))
-    (λ log dumps walk. inl (other_status IsStop tt tt tt tt walk.end))
+    (λ telling dumps walk. inl (told_status IsStop tt tt tt tt telling dumps walk.world walk.end))

@@ -16,10 +16,16 @@ use Rattle.suite_top.specs.Outcome.{load, failure_ending, Outcome, Inputs, after
 use Rattle.suite_top.specs.Load.{at_once, behind, with_limited, with_load}
 use Rattle.run_setup.specs.Brought.{Brought, FaultAt, nothing_brought, all_brought}
 use Rattle.suite_top.specs.Report.{status_of_end}
+use Rattle.suite_top.specs.declared.telling.Telling.{Telling}
+use Rattle.suite_top.specs.declared.telling.Telling.TheVariants.{Report, Demo}
+use Rattle.suite_top.specs.Telling.{told_ending}
+use Rattle.page_runs.specs.declared.place.Kind.TheVariants.{First}
+use Rattle.elf_maker.specs.Demo.{demo_file}
+use Rattle.suite_top.specs.Demo.{each_of, demo_manifest, demo_ending}
 use Rattle.suite_top.specs.Run.{manifest_limit, files_limit, load_limit, has_file, with_item, with_items, start_line, opening, boot_fault, walked_ending, booted_ending, brought_ending, files_ending, manifest_outcome, run_outcome}
 
 -- what holds of each end, and of a load in front of an outcome of which it holds
-module _ (P : Outcome → Type 0) (step : (name : List ℕ) (o : Outcome) → P o → P (after (load name) o)) (read : (name : List ℕ) → P (at_once (failure_ending (load name)))) (refused : (tail : List ℕ) → P (at_once (refused_ending tail))) (walked : (log : Bool) (dumps : List Dump) (walk : Walk) → P (at_once (walked_ending log dumps walk))) where
+module _ (P : Outcome → Type 0) (step : (name : List ℕ) (o : Outcome) → P o → P (after (load name) o)) (read : (name : List ℕ) → P (at_once (failure_ending (load name)))) (refused : (tail : List ℕ) → P (at_once (refused_ending tail))) (walked : (telling : Telling) (dumps : List Dump) (walk : Walk) → P (at_once (walked_ending telling dumps walk))) where
   limited : (limit : ℕ) (line : Option ℕ) (name : List ℕ) (rest : List ℕ → Outcome) → ((bytes : List ℕ) → P (rest bytes)) → (found : Option (List ℕ)) → P (with_limited limit line name found rest)
   limited limit line name rest each None = read name
   limited limit line name rest each (Some bytes) =
@@ -41,21 +47,21 @@ module _ (P : Outcome → Type 0) (step : (name : List ℕ) (o : Outcome) → P 
       item_run left item (λ bytes. with_items (left - length bytes) items (λ files. rest (bytes ∷ files)))
       (λ bytes more. items_run (left - length bytes) items (λ files. rest (bytes ∷ files)) (λ files. each (bytes ∷ files)) more) inputs
 
-  booted : (log : Bool) (m : Manifest) (r : Result World BootFault) → P (at_once (booted_ending log m r))
-  booted log m (Err first) = refused (line_tail (boot_fault first).line (boot_fault first).fault)
-  booted log m (Ok w) = walked log m.dumps (turns (repeated m.repeat m.quanta) w)
+  booted : (telling : Telling) (m : Manifest) (r : Result World BootFault) → P (at_once (booted_ending telling m r))
+  booted telling m (Err first) = refused (line_tail (boot_fault first).line (boot_fault first).fault)
+  booted telling m (Ok w) = walked telling m.dumps (turns (repeated m.repeat m.quanta) w)
 
-  made : (log : Bool) (kind : Kind) (m : Manifest) (r : Result Brought FaultAt) → P (at_once (brought_ending log kind m r))
-  made log kind m (Err at) = refused (line_tail at.line at.fault)
-  made log kind m (Ok b) = booted log m (boot (opening kind m b) (map start_line m.starts))
+  made : (telling : Telling) (kind : Kind) (m : Manifest) (r : Result Brought FaultAt) → P (at_once (brought_ending telling kind m r))
+  made telling kind m (Err at) = refused (line_tail at.line at.fault)
+  made telling kind m (Ok b) = booted telling m (boot (opening kind m b) (map start_line m.starts))
 
-  from_files : (log : Bool) (kind : Kind) (m : Manifest) (files : List (List ℕ)) → P (at_once (files_ending log kind m files))
+  from_files : (telling : Telling) (kind : Kind) (m : Manifest) (files : List (List ℕ)) → P (at_once (files_ending telling kind m files))
   unfolding files_ending
-  from_files log kind m files = made log kind m (all_brought m.items files nothing_brought)
+  from_files telling kind m files = made telling kind m (all_brought m.items files nothing_brought)
 
   from_manifest : (log : Bool) (kind : Kind) (r : Result Manifest Fault) (inputs : Inputs) → P (manifest_outcome log kind r inputs)
   from_manifest log kind (Err first) inputs = refused (manifest_tail first.line first.fault)
-  from_manifest log kind (Ok m) inputs = items_run files_limit m.items (λ files. at_once (files_ending log kind m files)) (from_files log kind m) inputs
+  from_manifest log kind (Ok m) inputs = items_run files_limit m.items (λ files. at_once (files_ending (Report log) kind m files)) (from_files (Report log) kind m) inputs
 
   pub run_by : (name : List ℕ) (log : Bool) (kind : Kind) (inputs : Inputs) → P (run_outcome name log kind inputs)
   unfolding run_outcome
@@ -64,6 +70,10 @@ module _ (P : Outcome → Type 0) (step : (name : List ℕ) (o : Outcome) → P 
       step name (with_limited manifest_limit None name (inputs 0 name) next)
       (limited manifest_limit None name next (λ bytes. from_manifest log kind (manifest_of bytes) (behind inputs)) (inputs 0 name))
 
+  pub demo_by : (n : ℕ) → P (at_once (demo_ending n))
+  unfolding demo_ending
+  demo_by n = from_files (Demo n) First (demo_manifest n) (each_of demo_file n)
+
 -- the statuses of a machine that stopped
 pub other_status : (P : Status → Type 0) → P Done → P Stray → P OutOfQuanta → P LogFull → (end : Option End) → P (status_of_end end)
 other_status P done stray quanta full None = quanta
@@ -71,3 +81,13 @@ other_status P done stray quanta full (Some all_ended) = done
 other_status P done stray quanta full (Some (stray_at pid access)) = stray
 other_status P done stray quanta full (Some out_of_quanta) = quanta
 other_status P done stray quanta full (Some log_full) = full
+
+-- those of what a run tells
+pub told_status : (P : Status → Type 0) → P Done → P Stray → P OutOfQuanta → P LogFull
+    → (telling : Telling) (dumps : List Dump) (w : World) (end : Option End) → P (told_ending telling dumps w end).status
+told_status P done stray quanta full (Report log) dumps w end = other_status P done stray quanta full end
+told_status P done stray quanta full (Demo n) dumps w None = quanta
+told_status P done stray quanta full (Demo n) dumps w (Some all_ended) = done
+told_status P done stray quanta full (Demo n) dumps w (Some (stray_at pid access)) = stray
+told_status P done stray quanta full (Demo n) dumps w (Some out_of_quanta) = quanta
+told_status P done stray quanta full (Demo n) dumps w (Some log_full) = full

@@ -13,6 +13,7 @@ pub data Invocation : Type 0 where
   list : (flt : List ℕ) → Invocation
   check : (elf : List ℕ) → Invocation
   run : (manifest : List ℕ) (log : Bool) (kind : Kind) → Invocation
+  demo : (programs : ℕ) → Invocation
 
 -- the bytes of stack that a program gets where no argument says it
 abbrev pub default_stack : ℕ
@@ -25,19 +26,33 @@ least_stack = 16
 abbrev pub most_stack : ℕ
 most_stack = 1048576
 
-abbrev pub is_stack : ℕ → Bool
-is_stack n = nat_le least_stack n && nat_le n most_stack
+-- the fewest and the most programs of a demo
+abbrev pub least_programs : ℕ
+least_programs = 1
+
+abbrev pub most_programs : ℕ
+most_programs = 64
+
+abbrev pub is_between : (least most n : ℕ) → Bool
+is_between least most n = nat_le least n && nat_le n most
 
 -- the text is the decimal spelling of n: its digits, without a sign and without a zero in front
 abbrev pub is_spelling : List ℕ → ℕ → Bool
 is_spelling text n = bytes_eq text (decimal n)
 
-abbrev pub spelled_stack : List ℕ → ℕ → Option ℕ
-spelled_stack text n = if is_spelling text n && is_stack n then Some n else None
+abbrev pub spelled_number : (least most : ℕ) → List ℕ → ℕ → Option ℕ
+spelled_number least most text n = if is_spelling text n && is_between least most n then Some n else None
 
--- the stack that a text spells: no number but that of its digits can be spelled so
+-- the number of a range that a text spells: no number but that of its digits can be spelled so
+abbrev pub number_of : (least most : ℕ) → List ℕ → Option ℕ
+number_of least most text = spelled_number least most text (digits_value 10 text)
+
+-- the stack that a text spells, and the number of programs
 abbrev pub stack_of : List ℕ → Option ℕ
-stack_of text = spelled_stack text (digits_value 10 text)
+stack_of text = number_of least_stack most_stack text
+
+abbrev pub programs_of : List ℕ → Option ℕ
+programs_of text = number_of least_programs most_programs text
 
 -- the first byte is a digit from 1 to 9
 abbrev pub StartsWell : List ℕ → Type 0
@@ -76,7 +91,12 @@ run_of (manifest ∷ option ∷ words) =
     if bytes_eq option (codes "--log") then option_map (run manifest true) (placement_of words)
     else option_map (run manifest false) (placement_of (option ∷ words))
 
--- `convert` with its words, `list FLT`, `check ELF`, and `run` with its words; any other arguments are no command
+-- `N`
+abbrev pub demo_of : List (List ℕ) → Option Invocation
+demo_of (number ∷ []) = option_map demo (programs_of number)
+demo_of words = None
+
+-- `convert` with its words, `list FLT`, `check ELF`, `run` with its words, and `demo N`; any other arguments are no command
 abbrev pub command_of : List (List ℕ) → Option Invocation
 command_of [] = None
 command_of (first ∷ words) =
@@ -84,11 +104,13 @@ command_of (first ∷ words) =
     else if bytes_eq first (codes "list") then option_map list (only words)
     else if bytes_eq first (codes "check") then option_map check (only words)
     else if bytes_eq first (codes "run") then run_of words
+    else if bytes_eq first (codes "demo") then demo_of words
     else None
 
--- no command, or another one than `run`
+-- no command, or one that runs no program
 abbrev pub IsNoRun : Option Invocation → Type 0
 IsNoRun (Some (run manifest log kind)) = ⊥
+IsNoRun (Some (demo programs)) = ⊥
 IsNoRun other = Unit {0}
 
 -- the command that the program read
@@ -97,3 +119,4 @@ invocation (command.Convert elf flt stack) = convert elf.now flt.now stack
 invocation (command.List flt) = list flt.now
 invocation (command.Check elf) = check elf.now
 invocation (command.Run manifest log kind) = run manifest.now log kind
+invocation (command.Demo programs) = demo programs

@@ -11,7 +11,9 @@
 -- OneFile     a command that begins with the load of a file
 -- Convert, Check, List   the commands of one file
 -- Report      the report of a run, and the status that it ends with
+-- Telling     what a run of programs tells: a report, or the line of a demo
 -- Run         the command `run`, and when it reaches its machine
+-- Demo        the command `demo`
 -- Result      result_of: the outcome of each command line
 --
 -- Observed    what a host or a sink tells at one moment, and its count of faults
@@ -33,7 +35,9 @@ pub mod Convert
 pub mod Check
 pub mod List
 pub mod Report
+pub mod Telling
 pub mod Run
+pub mod Demo
 pub mod Result
 pub mod Observed
 pub mod HostCourse

@@ -2,11 +2,12 @@
 use Rattle.std.specs.Prelude.{ℕ, List, [], Option, Some, None}
 use Rattle.suite_top.specs.Outcome.{Outcome, Inputs}
 use Rattle.suite_top.specs.Ending.{usage_ending}
-use Rattle.suite_top.specs.Arguments.{Invocation, convert, list, check, run, command_of}
+use Rattle.suite_top.specs.Arguments.{Invocation, convert, list, check, run, demo, command_of}
 use Rattle.suite_top.specs.Convert.{convert_outcome}
 use Rattle.suite_top.specs.List.{list_outcome}
 use Rattle.suite_top.specs.Check.{check_outcome}
 use Rattle.suite_top.specs.Run.{run_outcome}
+use Rattle.suite_top.specs.Demo.{demo_outcome}
 
 abbrev pub command_outcome : Option Invocation → Inputs → Outcome
 command_outcome None inputs = record { requests = []; ending = usage_ending }
@@ -14,6 +15,7 @@ command_outcome (Some (convert elf flt stack)) inputs = convert_outcome elf flt 
 command_outcome (Some (list flt)) inputs = list_outcome flt inputs
 command_outcome (Some (check elf)) inputs = check_outcome elf inputs
 command_outcome (Some (run manifest log kind)) inputs = run_outcome manifest log kind inputs
+command_outcome (Some (demo programs)) inputs = demo_outcome programs inputs
 
 -- the command of these arguments, where its loads give these files
 abbrev pub result_of : List (List ℕ) → Inputs → Outcome

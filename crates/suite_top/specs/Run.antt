@@ -20,7 +20,9 @@ use Rattle.suite_top.specs.Texts.Refusals.{manifest_tail, line_tail}
 use Rattle.suite_top.specs.Ending.{Ending, refused_ending}
 use Rattle.suite_top.specs.Outcome.{Outcome, Inputs}
 use Rattle.suite_top.specs.Load.{at_once, with_load}
-use Rattle.suite_top.specs.Report.{status_of_end, report_text}
+use Rattle.suite_top.specs.declared.telling.Telling.{Telling}
+use Rattle.suite_top.specs.declared.telling.Telling.TheVariants.{Report}
+use Rattle.suite_top.specs.Telling.{told_ending}
 
 -- ---- the loads
 
@@ -86,35 +88,30 @@ boot_fault (no_run number) = record { line = number; fault = line.NoRun }
 abbrev pub fault_ending : FaultAt → Ending
 fault_ending at = refused_ending (line_tail at.line at.fault)
 
--- the console goes to `out`, and the report to `report`, whatever the end
-abbrev pub walked_ending : (log : Bool) → List Dump → Walk → Ending
-walked_ending log dumps walk = record {
-  status = status_of_end walk.end;
-  out = walk.world.rest.console;
-  report = report_text log dumps walk.world walk.end;
-}
+abbrev pub walked_ending : Telling → List Dump → Walk → Ending
+walked_ending telling dumps walk = told_ending telling dumps walk.world walk.end
 
 -- a run from the opening world
-abbrev pub world_ending : (log : Bool) → List Quantum → List Dump → World → Ending
-world_ending log quanta dumps w = walked_ending log dumps (turns quanta w)
+abbrev pub world_ending : Telling → List Quantum → List Dump → World → Ending
+world_ending telling quanta dumps w = walked_ending telling dumps (turns quanta w)
 
 -- ---- all in order
 
-abbrev pub booted_ending : (log : Bool) → Manifest → Result World BootFault → Ending
-booted_ending log m (Err first) = fault_ending (boot_fault first)
-booted_ending log m (Ok w) = world_ending log (repeated m.repeat m.quanta) m.dumps w
+abbrev pub booted_ending : Telling → Manifest → Result World BootFault → Ending
+booted_ending telling m (Err first) = fault_ending (boot_fault first)
+booted_ending telling m (Ok w) = world_ending telling (repeated m.repeat m.quanta) m.dumps w
 
-abbrev pub brought_ending : (log : Bool) → Kind → Manifest → Result Brought FaultAt → Ending
-brought_ending log kind m (Err at) = fault_ending at
-brought_ending log kind m (Ok b) = booted_ending log m (boot (opening kind m b) (map start_line m.starts))
+abbrev pub brought_ending : Telling → Kind → Manifest → Result Brought FaultAt → Ending
+brought_ending telling kind m (Err at) = fault_ending at
+brought_ending telling kind m (Ok b) = booted_ending telling m (boot (opening kind m b) (map start_line m.starts))
 
 -- where the item lines' files are there
-unfoldable pub files_ending : (log : Bool) → Kind → Manifest → List (List ℕ) → Ending
-files_ending log kind m files = brought_ending log kind m (all_brought m.items files nothing_brought)
+unfoldable pub files_ending : Telling → Kind → Manifest → List (List ℕ) → Ending
+files_ending telling kind m files = brought_ending telling kind m (all_brought m.items files nothing_brought)
 
 -- behind the manifest
 abbrev pub items_outcome : (log : Bool) → Kind → Manifest → Inputs → Outcome
-items_outcome log kind m inputs = with_items files_limit m.items (λ files. at_once (files_ending log kind m files)) inputs
+items_outcome log kind m inputs = with_items files_limit m.items (λ files. at_once (files_ending (Report log) kind m files)) inputs
 
 abbrev pub manifest_outcome : (log : Bool) → Kind → Result Manifest Fault → Inputs → Outcome
 manifest_outcome log kind (Err first) inputs = at_once (refused_ending (manifest_tail first.line first.fault))

@@ -81,7 +81,7 @@ pub record CutAtReport (stop : SinkStop) (c : Call) : Type 0 where
   pub out : TookAll c.out c.out_after ending.out
   pub report : CutShort stop c.report c.report_after ending.report
 
--- a text stands in one sink alone: with Done in `out`, and else in `report`. `run` alone has a text for each
+-- a text stands in one sink alone: with Done in `out`, and else in `report`. Only where programs run both may have one
 abbrev pub IsOneText : Ending → Type 0
 IsOneText ending = (ending.out ≡ []) ⊎ ((ending.status ≡ Done) × (ending.report ≡ []))
 

@@ -106,5 +106,15 @@ convert_line s = joined
     ∷ codes "\n"
     ∷ [])
 
+-- of a demo of n programs: how many events came, how many bytes the console took, and the sum of the exit codes
+abbrev pub demo_line : (n events console exits : ℕ) → List ℕ
+demo_line n events console exits = joined
+    (codes "demo " ∷ decimal n
+    ∷ codes " events " ∷ decimal events
+    ∷ codes " console " ∷ decimal console
+    ∷ codes " exits " ∷ decimal exits
+    ∷ codes "\n"
+    ∷ [])
+
 abbrev pub check_line : Sizes → List ℕ
 check_line s = joined (codes "accepted " ∷ parts_text s ∷ codes " records " ∷ decimal s.records ∷ codes "\n" ∷ [])

@@ -1,6 +1,6 @@
 //! The table of commands.
-ghost use Rattle.std.specs.Prelude.{◌≡◌, ◌↔◌, IsTrue, map, option_map, string_bytes};
-ghost use Rattle.suite_top.specs.Arguments.{is_stack, StartsWell, stack_of, kind_of_word, only, convert_of, placement_of, run_of, command_of, invocation};
+ghost use Rattle.std.specs.Prelude.{◌≡◌, ◌≤◌, ◌↔◌, IsTrue, map, option_map, string_bytes};
+ghost use Rattle.suite_top.specs.Arguments.{is_between, StartsWell, number_of, kind_of_word, only, convert_of, placement_of, run_of, demo_of, command_of, invocation};
 
 use page_runs::Kind;
 
@@ -12,6 +12,11 @@ const LEAST_STACK: u32 = 16;
 
 /// The most.
 const MOST_STACK: u32 = 1_048_576;
+
+/// The fewest programs of a demo, and the most.
+const LEAST_PROGRAMS: u32 = 1;
+
+const MOST_PROGRAMS: u32 = 64;
 
 /// A command with its arguments.
 #[derive(Clone, Copy, Debug, PartialEq, Eq)]
@@ -37,13 +42,16 @@ pub enum Command<'a> {
         log: bool,
         kind: Kind,
     },
+    /// `demo N`.
+    Demo {
+        programs: u32,
+    },
 }
 
-/// Whether an argument may say so many bytes of stack.
-fn is_stack(bytes: u32) -> bool
-    ensures { result ≡ is_stack bytes }
+fn is_between(least: u32, most: u32, number: u32) -> bool
+    ensures { result ≡ is_between least most number }
 {
-    (LEAST_STACK..=MOST_STACK).contains(&bytes)
+    (least..=most).contains(&number)
 }
 
 /// Whether a text starts with a digit other than 0.
@@ -53,16 +61,17 @@ fn starts_well(text: &str) -> bool
     matches!(text.as_bytes(), [b'1'..=b'9', ..])
 }
 
-/// The stack that a text spells, if it is one that an argument may say. `parse` alone would take a sign
-/// and zeros in front.
-fn read_stack(text: &str) -> Option<u32>
-    ensures { result ≡ stack_of text.now }
+/// The number that a text spells, if it is one of the range. `parse` alone would take a sign and zeros in
+/// front.
+fn read_number(text: &str, least: u32, most: u32) -> Option<u32>
+    requires { 1 ≤ least }
+    ensures { result ≡ number_of least most text.now }
 {
     if !starts_well(text) {
         return None;
     }
     match text.parse() {
-        Ok(stack) if is_stack(stack) => Some(stack),
+        Ok(number) if is_between(least, most, number) => Some(number),
         Ok(_) => None,
         Err(_) => None,
     }
@@ -101,7 +110,7 @@ fn read_convert(words: &[String]) -> Option<Command<'_>>
             stack: DEFAULT_STACK,
         }),
         [elf, flt, option, number] if option.as_str() == "--stack" => {
-            let stack = read_stack(number)?;
+            let stack = read_number(number, LEAST_STACK, MOST_STACK)?;
             Some(Command::Convert { elf, flt, stack })
         }
         _ => None,
@@ -144,6 +153,15 @@ fn read_run(words: &[String]) -> Option<Command<'_>>
     }
 }
 
+/// The words behind `demo`.
+fn read_demo(words: &[String]) -> Option<Command<'_>>
+    ensures { option_map invocation result ≡ demo_of (map string_bytes words.now) }
+{
+    let number = only(words)?;
+    let programs = read_number(number, LEAST_PROGRAMS, MOST_PROGRAMS)?;
+    Some(Command::Demo { programs })
+}
+
 /// The command that these arguments are, or none. They are those after the program's name.
 pub fn read_arguments(arguments: &[String]) -> Option<Command<'_>>
     ensures { option_map invocation result ≡ command_of (map string_bytes arguments.now) }
@@ -160,6 +178,7 @@ pub fn read_arguments(arguments: &[String]) -> Option<Command<'_>>
             Some(Command::Check { elf })
         }
         "run" => read_run(words),
+        "demo" => read_demo(words),
         _ => None,
     }
 }

@@ -19,8 +19,8 @@ ghost use Rattle.suite_top.specs.HostCourse.{PerformsCommand};
 use crate::answer::Answer;
 use crate::file_load::{FileLoad, load_limited};
 use crate::items::{ItemsLoad, load_items};
-use crate::report::{report, status_of};
 use crate::status::Status;
+use crate::telling::{Telling, told};
 use crate::texts::refusals::{refused_line, refused_manifest};
 use flat_machine::{BootRefusal, Machine, Setup};
 use host_io::Host;
@@ -87,26 +87,28 @@ fn run_items<H: Host, F: Fn(&[Run], u32) -> Option<usize>>(
     ensures { PerformsCommand (observed H.told H.faults host.old) (observed H.told H.faults host.new) (items_outcome log (kind_of chooser.now) (manifest_value manifest)) (ending_of result) }
 {
     match load_items(alloc, &manifest.items, host) {
-        ItemsLoad::Whole(files) => run_files(alloc, manifest, files, log, chooser),
+        ItemsLoad::Whole(files) => {
+            run_files(alloc, manifest, files, Telling::Report { log }, chooser)
+        }
         ItemsLoad::Ended(ends) => ends,
     }
 }
 
 /// Goes on with the files of all lines.
-fn run_files<F: Fn(&[Run], u32) -> Option<usize>>(
+pub fn run_files<F: Fn(&[Run], u32) -> Option<usize>>(
     alloc: Global,
     manifest: Manifest,
     files: Vec<Vec<u8>>,
-    log: bool,
+    telling: Telling,
     chooser: &Chooser<F>,
 ) -> Result<Answer, AllocError>
     requires chooser { IsChooser F.pre F.post chooser.now }
     requires manifest { Reasonable (manifest_value manifest) }
     requires files { length files.items ≡ length manifest.items.items }
-    ensures { OrMemory (files_ending log (kind_of chooser.now) (manifest_value manifest) (vec_texts files.items)) (ending_of result) }
+    ensures { OrMemory (files_ending telling (kind_of chooser.now) (manifest_value manifest) (vec_texts files.items)) (ending_of result) }
 {
     match bring(alloc, &manifest.items, files) {
-        Ok(files) => run_brought(alloc, manifest, files, log, chooser),
+        Ok(files) => run_brought(alloc, manifest, files, telling, chooser),
         Err(at) => refuse_line(alloc, &at),
     }
 }
@@ -116,7 +118,7 @@ fn run_brought<F: Fn(&[Run], u32) -> Option<usize>>(
     alloc: Global,
     manifest: Manifest,
     files: RunFiles,
-    log: bool,
+    telling: Telling,
     chooser: &Chooser<F>,
 ) -> Result<Answer, AllocError>
     requires chooser { IsChooser F.pre F.post chooser.now }
@@ -124,7 +126,7 @@ fn run_brought<F: Fn(&[Run], u32) -> Option<usize>>(
     requires paths { HasPaths files }
     requires few { length files.flats.items ≤ length manifest.items.items }
     requires unchanged { AreChanged 0 files.tree }
-    ensures { OrMemory (brought_ending log (kind_of chooser.now) (manifest_value manifest) (Ok (brought_value files))) (ending_of result) }
+    ensures { OrMemory (brought_ending telling (kind_of chooser.now) (manifest_value manifest) (Ok (brought_value files))) (ending_of result) }
 {
     let setup = Setup {
         pages: manifest.pages,
@@ -141,7 +143,7 @@ fn run_brought<F: Fn(&[Run], u32) -> Option<usize>>(
             &manifest.quanta,
             manifest.repeat,
             &manifest.dumps,
-            log,
+            telling,
             chooser,
         ),
         Err(refusal) => refuse_line(alloc, &boot_fault(refusal)),
@@ -172,29 +174,23 @@ fn boot_fault(refusal: BootRefusal) -> FaultAt
     }
 }
 
-/// Runs the machine, and writes what it did.
+/// Runs the machine, and tells of it.
 fn run_machine<F: Fn(&[Run], u32) -> Option<usize>>(
     alloc: Global,
     mut machine: Machine,
     quanta: &[Quantum],
     repeat: u32,
     dumps: &[Dump],
-    log: bool,
+    telling: Telling,
     chooser: &Chooser<F>,
 ) -> Result<Answer, AllocError>
     requires chooser { IsChooser F.pre F.post chooser.now }
     requires kind { kind_of chooser.now ≡ machine.kind }
     requires events { machine.events + repeat * sum_by (λ q. q.count) quanta.now < 2 ^ 64 }
-    ensures { OrMemory (world_ending log (repeated repeat quanta.now) dumps.now (world machine)) (ending_of result) }
+    ensures { OrMemory (world_ending telling (repeated repeat quanta.now) dumps.now (world machine)) (ending_of result) }
 {
     let end = machine.run_repeated(quanta, repeat, chooser)?;
-    let report = report(alloc, &machine, log, dumps, end)?;
-    let out = Vec::from_slice(alloc, machine.console())?;
-    Ok(Answer {
-        status: status_of(end),
-        out,
-        report,
-    })
+    told(alloc, &machine, telling, dumps, end)
 }
 
 /// The answer for a line with a fault.

@@ -1,6 +1,6 @@
 //! The texts that users see; those of a listing stand in `listing`.
 ghost use Rattle.std.specs.Prelude.{◌≡◌, IfOk, IsErr, string_bytes};
-ghost use Rattle.suite_top.specs.Texts.{usage_line, cannot_read_line, cannot_write_line, refused_line, elf_fault_words, layout_fault_words, reloc_fault_words, address_words, reloc_tail, refusal_tail, parts_text, convert_line, check_line};
+ghost use Rattle.suite_top.specs.Texts.{usage_line, cannot_read_line, cannot_write_line, refused_line, elf_fault_words, layout_fault_words, reloc_fault_words, address_words, reloc_tail, refusal_tail, parts_text, convert_line, check_line, demo_line};
 ghost use Rattle.suite_top.specs.Sizes.{sizes_of};
 
 use bflt_format::Flat;
@@ -180,4 +180,17 @@ pub fn check_line(alloc: Global, flat: &Flat) -> Result<String, AllocError>
     let parts = parts_text(alloc, flat)?;
     let records = flat.records().len();
     format!(in alloc; "accepted {parts} records {records}\n")
+}
+
+/// The line of a demo: its programs, the events of the machine, the bytes of the console, and the sum of the exit codes.
+pub fn demo_line(
+    alloc: Global,
+    programs: u32,
+    events: u64,
+    console: usize,
+    exits: u128,
+) -> Result<String, AllocError>
+    ensures { IfOk result (λ line. string_bytes line ≡ demo_line programs events console exits) }
+{
+    format!(in alloc; "demo {programs} events {events} console {console} exits {exits}\n")
 }

@@ -14,6 +14,7 @@ use crate::arguments::{Command, read_arguments};
 use crate::check::check_file;
 use crate::convert::convert_file;
 use crate::delivery::deliver;
+use crate::demo_run::run_demo;
 use crate::list::list_file;
 use crate::placements::Placements;
 use crate::run::run_file;
@@ -80,6 +81,7 @@ where
                 kind,
             },
         ) => run_placed(alloc, manifest, log, kind, host, place),
+        Some(Command::Demo { programs }) => run_demo(alloc, programs, &place.first),
         None => Answer::early(alloc, Status::Usage, texts::usage(alloc)),
     }
 }

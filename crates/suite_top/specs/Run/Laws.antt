@@ -12,6 +12,7 @@ use Rattle.stays_laws.specs.Stays.{Stay, AreRight, stays, first_stays}
 use Rattle.flat_machine.specs.Runs.{repeated}
 use Rattle.suite_top.specs.declared.status.Status.{Status}
 use Rattle.suite_top.specs.declared.status.Status.TheVariants.{Done, HostRead, Refused, Stray, OutOfQuanta, LogFull}
+use Rattle.suite_top.specs.declared.telling.Telling.TheVariants.{Report}
 use Rattle.suite_top.specs.Ending.{Ending}
 use Rattle.suite_top.specs.Outcome.{load, Outcome, Inputs}
 use Rattle.suite_top.specs.HostCourse.{inputs_in}
@@ -48,7 +49,7 @@ pub record Opens (t : Files) (name : List ℕ) (kind : Kind) : Type 0 where
 abbrev pub opened_outcome : {t : Files} {name : List ℕ} {kind : Kind} → (log : Bool) → Opens t name kind → Outcome
 opened_outcome {name = name} log o = record {
   requests = load name ∷ map (λ i. load i.name) (filter (λ i. has_file i.kind) o.manifest.items);
-  ending = world_ending log (repeated o.manifest.repeat o.manifest.quanta) o.manifest.dumps o.world;
+  ending = world_ending (Report log) (repeated o.manifest.repeat o.manifest.quanta) o.manifest.dumps o.world;
 }
 
 -- the statuses of a machine that stopped

@@ -92,7 +92,7 @@ fn faults_are_refused(rt: HostRuntime) -> Result<(), Fail> {
 /// Arguments that are no command.
 #[test]
 fn other_arguments_are_no_command(rt: HostRuntime) -> Result<(), Fail> {
-    let faulty: [&[&str]; 17] = [
+    let faulty: [&[&str]; 23] = [
         &[],
         &["--help"],
         &["Convert", "a.elf", "a.flt"],
@@ -110,6 +110,12 @@ fn other_arguments_are_no_command(rt: HostRuntime) -> Result<(), Fail> {
         &["run", "a.run", "--place", "worst"],
         &["run", "a.run", "--place", "best", "--log"],
         &["run", "a.run", "--log", "best"],
+        &["demo"],
+        &["demo", "0"],
+        &["demo", "65"],
+        &["demo", "01"],
+        &["demo", "+1"],
+        &["demo", "1", "2"],
     ];
     for arguments in faulty {
         let mut outside = with_file(rt.alloc(), "a.elf", &ELF)?;

@@ -1,6 +1,6 @@
 -- Each law by its proof over plain values.
 use Rattle.suite_top.proofs.Outcomes.{texts_are_apart, usage_is_exact}
-use Rattle.suite_top.proofs.Stacks.{stack_is_spelled}
+use Rattle.suite_top.proofs.SpelledNumbers.{stack_is_spelled}
 use Rattle.suite_top.proofs.StatusLaws.{answers_are_whole, completes, reads_fail, writes_fail, sinks_fail, memory_is_told}
 use Rattle.suite_top.proofs.laws.status_law.Goals as goal
 

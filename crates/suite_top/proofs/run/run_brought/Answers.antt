@@ -34,10 +34,10 @@ run_machine-requires-clause-events g c =
 pub returns-in-Ok : goal.returns-in-Ok
 returns-in-Ok g c =
     let ends = rw (c.deref.ensures.value, c.deref-in-Ok.ensures.value) at c.run_machine.ensures in
-    boots_as (opening (kind_of c.args.chooser.now) (manifest_value c.args.manifest) (brought_value c.args.files)) c.args.manifest.starts.items _ c.args.log (manifest_value c.args.manifest) _ refl c.in-Ok.ensures ends
+    boots_as (opening (kind_of c.args.chooser.now) (manifest_value c.args.manifest) (brought_value c.args.files)) c.args.manifest.starts.items _ c.args.telling (manifest_value c.args.manifest) _ refl c.in-Ok.ensures ends
 
 pub returns : goal.returns
 returns g c =
     let ends = subst (λ (at : FaultAt). OrMemory (fault_ending at) (ending_of c.refuse_line.result)) c.boot_fault.ensures c.refuse_line.ensures.ending in
-    refused_as (opening (kind_of c.args.chooser.now) (manifest_value c.args.manifest) (brought_value c.args.files)) c.args.manifest.starts.items _ c.args.log (manifest_value c.args.manifest) _ refl c.in-Err.ensures ends
+    refused_as (opening (kind_of c.args.chooser.now) (manifest_value c.args.manifest) (brought_value c.args.files)) c.args.manifest.starts.items _ c.args.telling (manifest_value c.args.manifest) _ refl c.in-Err.ensures ends
     (λ is. c.refuse_line.ensures.memory (subst (λ (at : FaultAt). IsMemory at.fault) (sym c.boot_fault.ensures) is))

@@ -1,0 +1,47 @@
+-- What a run of programs tells: with `run` its report, and with `demo` a line.
+use Rattle.std.specs.Prelude.{ℕ, Bool, false, List, ◌++◌, reverse, length, sum_by, Option, Some, None}
+use Rattle.call_log.specs.declared.how.How.TheVariants as how
+use Rattle.call_log.specs.Notes.{Note, end_note}
+use Rattle.manifest_text.specs.declared.manifest.Dump.{Dump}
+use Rattle.machine_world.specs.World.{World}
+use Rattle.machine_world.specs.Turns.{End, all_ended}
+use Rattle.flat_machine.specs.declared.run.End.{End as Told}
+use Rattle.flat_machine.specs.Runs.{Ends}
+use Rattle.suite_top.specs.declared.telling.Telling.{Telling}
+use Rattle.suite_top.specs.declared.telling.Telling.TheVariants as telling
+use Rattle.suite_top.specs.Texts.{demo_line}
+use Rattle.suite_top.specs.Ending.{Ending, done_ending, OrMemory}
+use Rattle.suite_top.specs.Report.{status_of_end, report_text}
+
+-- the exit code of a process that ends, and 0 of any other note
+abbrev pub exit_code : Note → ℕ
+exit_code (end_note pid (how.Exit code)) = code
+exit_code note = 0
+
+abbrev pub exit_sum : World → ℕ
+exit_sum w = sum_by exit_code (reverse w.notes)
+
+-- the console goes to `out`, and the report to `report`, whatever the end
+abbrev pub reported_ending : (log : Bool) → List Dump → World → Option End → Ending
+reported_ending log dumps w end = record { status = status_of_end end; out = w.rest.console; report = report_text log dumps w end }
+
+-- where all n programs of a demo ended, the console and the line go to `out`, and nothing to `report`
+abbrev pub demo_text : (n : ℕ) → World → List ℕ
+demo_text n w = w.rest.console ++ demo_line n w.events (length w.rest.console) (exit_sum w)
+
+-- and else what the run tells without its calls
+abbrev pub demonstrated_ending : (n : ℕ) → List Dump → World → Option End → Ending
+demonstrated_ending n dumps w (Some all_ended) = done_ending (demo_text n w)
+demonstrated_ending n dumps w end = reported_ending false dumps w end
+
+-- in this world, with this end
+abbrev pub told_ending : Telling → List Dump → World → Option End → Ending
+told_ending (telling.Report log) dumps w end = reported_ending log dumps w end
+told_ending (telling.Demo programs) dumps w end = demonstrated_ending programs dumps w end
+
+-- of each end that the code's end says
+abbrev pub IsReported : (log : Bool) → List Dump → World → Told → Ending → Type 0
+IsReported log dumps w told ending = (end : Option End) → Ends end told → OrMemory (reported_ending log dumps w end) ending
+
+abbrev pub IsTold : Telling → List Dump → World → Told → Ending → Type 0
+IsTold telling dumps w told ending = (end : Option End) → Ends end told → OrMemory (told_ending telling dumps w end) ending

@@ -1,0 +1,104 @@
+//! What a run of programs tells when it has stopped.
+ghost use Rattle.std.specs.Prelude.{◌≡◌, map, sum_by};
+ghost use Rattle.call_log.specs.Values.{note_value};
+ghost use Rattle.flat_machine.specs.State.{world};
+ghost use Rattle.suite_top.specs.Ending.{done_ending, OrMemory};
+ghost use Rattle.suite_top.specs.Answer.{ending_of};
+ghost use Rattle.suite_top.specs.Telling.{exit_code, demo_text, IsReported, IsTold};
+
+use crate::answer::Answer;
+use crate::report::{report, status_of};
+use crate::status::Status;
+use crate::texts;
+use call_log::{How, Note};
+use flat_machine::{End, Machine};
+use manifest_text::Dump;
+use std::alloc::{AllocError, Global};
+
+/// What a run tells.
+#[derive(Clone, Copy, Debug, PartialEq, Eq)]
+pub enum Telling {
+    /// Its report, with the system calls if they are asked for.
+    Report { log: bool },
+    /// The line of a demo of so many programs, and no report where all of them ended.
+    Demo { programs: u32 },
+}
+
+/// What a machine tells that stopped so.
+pub fn told(
+    alloc: Global,
+    machine: &Machine,
+    telling: Telling,
+    dumps: &[Dump],
+    end: End,
+) -> Result<Answer, AllocError>
+    ensures { IsTold telling dumps.now (world machine.now) end (ending_of result) }
+{
+    match telling {
+        Telling::Report { log } => reported(alloc, machine, log, dumps, end),
+        Telling::Demo { programs } => match end {
+            End::AllEnded => demonstrated(alloc, machine, programs),
+            End::Stray(_) | End::OutOfQuanta | End::LogFull => {
+                reported(alloc, machine, false, dumps, end)
+            }
+        },
+    }
+}
+
+/// The console, and the report.
+fn reported(
+    alloc: Global,
+    machine: &Machine,
+    log: bool,
+    dumps: &[Dump],
+    end: End,
+) -> Result<Answer, AllocError>
+    ensures { IsReported log dumps.now (world machine.now) end (ending_of result) }
+{
+    let report = report(alloc, machine, log, dumps, end)?;
+    let out = Vec::from_slice(alloc, machine.console())?;
+    Ok(Answer {
+        status: status_of(end),
+        out,
+        report,
+    })
+}
+
+/// The console, and the line of a demo behind it.
+fn demonstrated(alloc: Global, machine: &Machine, programs: u32) -> Result<Answer, AllocError>
+    ensures { OrMemory (done_ending (demo_text programs (world machine.now))) (ending_of result) }
+{
+    let console = machine.console();
+    let exits = exit_sum(machine.notes());
+    let line = texts::demo_line(alloc, programs, machine.events(), console.len(), exits)?;
+    let mut out = Vec::from_slice(alloc, console)?;
+    out.extend_from_slice(line.as_bytes())?;
+    Ok(Answer {
+        status: Status::Done,
+        out,
+        report: Vec::new(alloc),
+    })
+}
+
+/// The exit code of a process that ended, and 0 of any other note.
+fn exit_code(note: &Note) -> u8
+    ensures { result ≡ exit_code (note_value note.now) }
+{
+    match note {
+        Note::End {
+            how: How::Exit(code),
+            ..
+        } => *code,
+        _ => 0,
+    }
+}
+
+fn exit_sum(notes: &[Note]) -> u128
+    ensures { result ≡ sum_by exit_code (map note_value notes.now) }
+{
+    let mut sum = 0;
+    for note in notes {
+        sum += u128::from(exit_code(note));
+    }
+    sum
+}
