@@ -23,21 +23,21 @@ boot-requires-clause-changes g c = λ id n is. omega (arith, c.requires.unchange
 
 pub run_machine-requires-clause-kind : goal.run_machine-requires-clause-kind
 run_machine-requires-clause-kind g c =
-    let is = booted _ _ c.in-Ok.ensures in
+    let is = booted _ _ c.in-Ok.ensures.world in
     sym (sym (machine_kind _) ∙ kind_stays _ _ _ is)
 
 pub run_machine-requires-clause-events : goal.run_machine-requires-clause-events
 run_machine-requires-clause-events g c =
-    let is = booted _ _ c.in-Ok.ensures in
+    let is = booted _ _ c.in-Ok.ensures.world in
     rw c.deref.ensures.value (events_fit (manifest_value c.args.manifest) c.requires.manifest _ (sym (machine_events _) ∙ no_event_yet _ _ _ is))
 
 pub returns-in-Ok : goal.returns-in-Ok
 returns-in-Ok g c =
     let ends = rw (c.deref.ensures.value, c.deref-in-Ok.ensures.value) at c.run_machine.ensures in
-    boots_as (opening (kind_of c.args.chooser.now) (manifest_value c.args.manifest) (brought_value c.args.files)) c.args.manifest.starts.items _ c.args.telling (manifest_value c.args.manifest) _ refl c.in-Ok.ensures ends
+    boots_as (opening (kind_of c.args.chooser.now) (manifest_value c.args.manifest) (brought_value c.args.files)) c.args.manifest.starts.items _ c.args.telling (manifest_value c.args.manifest) _ refl c.in-Ok.ensures.world ends
 
 pub returns : goal.returns
 returns g c =
     let ends = subst (λ (at : FaultAt). OrMemory (fault_ending at) (ending_of c.refuse_line.result)) c.boot_fault.ensures c.refuse_line.ensures.ending in
-    refused_as (opening (kind_of c.args.chooser.now) (manifest_value c.args.manifest) (brought_value c.args.files)) c.args.manifest.starts.items _ c.args.telling (manifest_value c.args.manifest) _ refl c.in-Err.ensures ends
+    refused_as (opening (kind_of c.args.chooser.now) (manifest_value c.args.manifest) (brought_value c.args.files)) c.args.manifest.starts.items _ c.args.telling (manifest_value c.args.manifest) _ refl c.in-Err.ensures.world ends
     (λ is. c.refuse_line.ensures.memory (subst (λ (at : FaultAt). IsMemory at.fault) (sym c.boot_fault.ensures) is))
