@@ -25,6 +25,7 @@
 -- Grants       where mmap2 puts a mapping, its bytes may lie
 -- RowStays     alone, every call does in its space what it does in the world
 -- StaysKept    what is told is right behind every event
+-- StaysRuns  and every turn and run
 -- SoloRuns     a run alone goes on behind its events, with more items
 pub mod Lists
 pub mod Runners
@@ -53,4 +54,5 @@ pub mod SharedPages
 pub mod Grants
 pub mod RowStays
 pub mod StaysKept
+pub mod StaysRuns
 pub mod SoloRuns
