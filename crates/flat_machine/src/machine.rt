@@ -5,6 +5,7 @@ ghost use Rattle.call_log.specs.Values.{note_value};
 ghost use Rattle.call_log.specs.Programs.{paths_of};
 ghost use Rattle.machine_world.specs.World.{program_path};
 ghost use Rattle.machine_world.specs.Programs.{AreLoaded};
+ghost use Rattle.stays_laws.specs.Sound.{IsSound};
 ghost use Rattle.flat_machine.specs.State.{world};
 
 use bflt_format::Flat;
@@ -41,7 +42,8 @@ impl Machine {
     /// How free runs are chosen.
     #[tactic(auto, unfolding(syscall_layer::specs::Stands::world_of))]
     pub fn kind(&self) -> Kind
-        ensures { result ≡ (world self.now).rest.kind }
+        ensures kind { result ≡ (world self.now).rest.kind }
+        ensures sound { IsSound (world self.now) }
     {
         self.kind
     }

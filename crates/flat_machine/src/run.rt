@@ -108,6 +108,7 @@ impl Machine {
         ensures turns { Runs (repeated count quanta.now) self.old self.new result }
         ensures alone { KeepsStays (repeated count quanta.now) self.old self.new result }
     {
+        let _kind = self.kind();
         for _time in 0..count {
             if let Some(end) = self.round(quanta, chooser)? {
                 return Ok(end);

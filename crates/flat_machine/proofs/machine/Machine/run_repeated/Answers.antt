@@ -1,12 +1,12 @@
 -- The times so far, and the next.
-use Rattle.std.proofs.Common.{ℕ, ◌≡◌, refl, ◌∙◌, arith}
+use Rattle.std.proofs.Common.{ℕ, ◌≡◌, refl, ◌∙◌, arith, Ok}
 use Rattle.std.specs.Prelude.{sum_by}
 use Rattle.quantum_sched.specs.declared.Quantum.{Quantum}
 use Rattle.machine_world.proofs.RunLaws.{comes_none}
 use Rattle.flat_machine.specs.State.{about_of, world}
 use Rattle.flat_machine.specs.Inside.{state_of}
 use Rattle.flat_machine.specs.Runs.{repeated}
-use Rattle.flat_machine.proofs.Rounds.{time_fits, one_more_time, time_on, time_ends, time_fails, machine_ends, runs_fail}
+use Rattle.flat_machine.proofs.Rounds.{time_fits, one_more_time, time_on, time_ends, time_fails, machine_ends, runs_fail, run_keeps_stays}
 use Rattle.flat_machine.proofs.machine.Machine.run_repeated.Goals as goal
 
 pub loop-time-init : goal.loop-time-init
@@ -41,5 +41,13 @@ loop-time-preserved g c =
 pub returns-clause-turns : goal.returns-clause-turns
 returns-clause-turns g c =
     let all : c.loop-time._time ≡ c.args.count = omega (arith, c.loop-time.auto._time-end) in
-    machine_ends (repeated c.args.count c.args.quanta.now) (world c.args.self.now) c.loop-time.self (state_of c.self.inside) c.last_end.result c.self.view_is
-    (rw all at c.loop-time.invariant.comes) (c.last_end.ensures (about_of (state_of c.self.inside)))
+    machine_ends (repeated c.args.count c.args.quanta.now) (world c.args.self.now) c.loop-time.self (state_of c.self-2.inside) c.last_end.result c.self-2.view_is
+    (rw all at c.loop-time.invariant.comes) (c.last_end.ensures (about_of (state_of c.self-2.inside)))
+
+pub returns-in-Some-clause-alone : goal.returns-in-Some-clause-alone
+returns-in-Some-clause-alone g c =
+    run_keeps_stays (repeated c.args.count c.args.quanta.now) c.args.self.now c.round.new.self (Ok c.in-Some.end) c.kind-kind.ensures.sound (returns-in-Some-clause-turns g c)
+
+pub returns-clause-alone : goal.returns-clause-alone
+returns-clause-alone g c =
+    run_keeps_stays (repeated c.args.count c.args.quanta.now) c.args.self.now c.loop-time.self (Ok c.last_end.result) c.kind-kind.ensures.sound (returns-clause-turns g c)
