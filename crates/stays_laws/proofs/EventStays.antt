@@ -65,7 +65,7 @@ tells p s w bytes value got =
 
 -- ---- one event
 
-abbrev Keeps : List Stay → Outcome → Type 0
+abbrev pub Keeps : List Stay → Outcome → Type 0
 Keeps ys (went now t) = AreRight (collect ys t) now
 Keeps ys (strays access) = Unit {0}
 Keeps ys full = Unit {0}
@@ -211,7 +211,7 @@ module _ (ys : List Stay) (w : World) (sound : IsSound w) (right : AreRight ys w
         keeps_test ys (is_exit (number_of p.regs)) (exited w a) (answered w a (row a)) (keeps_exited is bytes reads)
         (λ stays. keeps_answered is bytes reads (row a) (rows bytes reads stays))
 
-    keeps_effect : (m : Meaning) → means ≡ m → Keeps ys (effect w p s.space m)
+    pub keeps_effect : (m : Meaning) → means ≡ m → Keeps ys (effect w p s.space m)
     unfolding stepped trapped ended answer kept_calls_of loads_of
     keeps_effect (next regs bytes) is =
         keeps_state _ [] false refl refl (sym (append-nil (kept_calls_of w.notes))) regs (record s.space { bytes = bytes }) refl refl (steps [] (next regs bytes) is)

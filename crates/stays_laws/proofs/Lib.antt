@@ -22,6 +22,9 @@
 -- Unmapping    munmap leaves alone what it leaves in the world
 -- LaidBytes    bytes that are laid from an address on
 -- SharedPages  which mappings of a world share pages
+-- Grants       where mmap2 puts a mapping, its bytes may lie
+-- RowStays     alone, every call does in its space what it does in the world
+-- StaysKept    what is told is right behind every event
 -- SoloRuns     a run alone goes on behind its events, with more items
 pub mod Lists
 pub mod Runners
@@ -47,4 +50,7 @@ pub mod BootStays
 pub mod Unmapping
 pub mod LaidBytes
 pub mod SharedPages
+pub mod Grants
+pub mod RowStays
+pub mod StaysKept
 pub mod SoloRuns

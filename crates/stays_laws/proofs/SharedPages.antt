@@ -142,12 +142,21 @@ in_page pages m a is inside =
     let below : (a - 2 ^ 31) / 4096 < m.first + m.pages = omega arith in
     grind (arith, nat_tests)
 
+-- and a byte behind a page's first one in a page from that on
+pub page_from : (first k : ℕ) → first ≤ page_of (2 ^ 31 + 4096 * first + k)
+unfolding page_of
+page_from first k = omega arith
+
+pub page_to : (first count k : ℕ) → k < 4096 * count → page_of (2 ^ 31 + 4096 * first + k) < first + count
+unfolding page_of
+page_to first count k less = omega arith
+
 -- the lowest one that passes is one that passes
 pub record Passes (test : Mapping → Bool) (ms : List Mapping) (m : Mapping) : Type 0 where
   pub one : In ms m
   pub passes : test m ≡ true
 
-lowest_passes : (test : Mapping → Bool) (ms : List Mapping) (m : Mapping) → lowest test ms ≡ Some m → Passes test ms m
+pub lowest_passes : (test : Mapping → Bool) (ms : List Mapping) (m : Mapping) → lowest test ms ≡ Some m → Passes test ms m
 lowest_passes test [] m is = absurd cc
 lowest_passes test (x ∷ ms) m is = by (λ n e. lowest_passes test ms n e) (test x) (lowest test ms) refl refl is
   where
