@@ -1,5 +1,5 @@
 -- One event keeps what is told of the stays right, if rows are followed alone.
-use Rattle.std.proofs.Common.{◌≡◌, ℕ, ◌+◌, ◌<◌, Bool, true, false, ◌⊎◌, inl, inr, List, [], ◌∷◌, ◌++◌, map, length, Some, None, Result, Ok, Err, refl, sym, ap, subst, ◌∙◌, arith}
+use Rattle.std.proofs.Common.{◌≡◌, ℕ, ◌+◌, ◌<◌, Bool, true, false, List, [], ◌∷◌, ◌++◌, map, length, Some, None, Result, Ok, Err, refl, sym, ap, subst, ◌∙◌, arith}
 use Rattle.std.specs.Prelude.{◌==◌, ◌||◌, ◌&&◌, slice_get, option_map, if◌then◌else◌}
 use Rattle.std.proofs.lemmas.List.{append-nil}
 use Rattle.byte_words.specs.ByteMap.{Bytes}
@@ -18,18 +18,10 @@ use Rattle.machine_world.specs.Event.{Trace, Outcome, went, strays, full, idle, 
 use Rattle.machine_world.proofs.States.{with_regs, with_own}
 use Rattle.stays_laws.specs.Stays.{Stay, longer, collect, runner_of, runners, alone_end, Agrees, kept_calls_of, loads_of, head_of, loaded_head, AreRight}
 use Rattle.stays_laws.specs.Sound.{IsSound}
-use Rattle.stays_laws.proofs.Lists.{eqb_same, length-change_at, map-change_at, change_at-same}
+use Rattle.stays_laws.proofs.Lists.{if_yes, eqb_same, length-change_at, map-change_at, change_at-same}
 use Rattle.stays_laws.proofs.Runners.{runners_beside_change, runners_beside_without, runners_change}
 use Rattle.stays_laws.proofs.Frame.{ranges_of, writable, found_below, BesideSpace, agree_after, entries_of, told_after}
 use Rattle.stays_laws.proofs.SoloRuns.{alone_more}
-
-decide : (b : Bool) → (b ≡ true) ⊎ (b ≡ false)
-decide true = inl refl
-decide false = inr refl
-
-if_true : {A : Type 0} (b : Bool) (x y : A) → b ≡ true → (if b then x else y) ≡ x
-if_true true x y is = refl
-if_true false x y is = absurd cc
 
 -- ---- a process in its space, alone
 
@@ -195,7 +187,7 @@ module _ (ys : List Stay) (w : World) (sound : IsSound w) (right : AreRight ys w
         keeps_if ys (has_room w.notes (weight_of bytes [])) (went _ (record { space = p.space; events = 1; items = i ∷ []; over = true })) full
         (keeps_departed _ (i ∷ []) true refl refl refl (memory_of s.space) refl refl
         (takes i (tells p s.space w bytes 0 [])
-        ∙ ap (with_items []) (if_true (leaves_space i.entry) (Some (record { stack = []; memory = memory_of s.space })) (if is_errno 0 then Some now else solo_effect now p.regs i) leaves)))
+        ∙ ap (with_items []) (if_yes (leaves_space i.entry) (Some (record { stack = []; memory = memory_of s.space })) (if is_errno 0 then Some now else solo_effect now p.regs i) leaves)))
         tt
 
   module _ (rows : (bytes : List ℕ) → sent (number_of p.regs) (args_of p.regs) s.space.bytes ≡ Ok bytes → is_exit (number_of p.regs) ≡ false

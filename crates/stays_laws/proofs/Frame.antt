@@ -1,7 +1,8 @@
 -- What is told stays right where one space changes: the other stays and spaces are as they were.
-use Rattle.std.proofs.Common.{◌≡◌, ◌≢◌, ℕ, ◌<◌, Bool, true, false, ◌⊎◌, inl, inr, List, [], ◌∷◌, ◌++◌, map, length, Option, Some, None, refl, sym, ap, subst, ◌∙◌, arith, length-append}
+use Rattle.std.proofs.Common.{◌≡◌, ◌≢◌, ℕ, ◌<◌, Bool, false, inl, inr, List, [], ◌∷◌, ◌++◌, map, length, Option, Some, None, refl, sym, ap, subst, ◌∙◌, arith, length-append}
 use Rattle.std.specs.Prelude.{◌==◌, ◌||◌, ◌&&◌, slice_get}
 use Rattle.std.proofs.lemmas.List.{length-map, map-append, append-nil}
+use Rattle.std.proofs.lemmas.Bool.{cases_Bool}
 use Rattle.call_log.specs.Notes.{CallEntry, Note}
 use Rattle.mmap_rules.specs.declared.mapping.Range.{Range}
 use Rattle.mmap_rules.specs.declared.mapping.Mapping.{Mapping}
@@ -13,10 +14,6 @@ use Rattle.machine_world.specs.World.{Process, LiveSpace, World, id_of}
 use Rattle.machine_world.specs.Event.{Trace}
 use Rattle.stays_laws.specs.Stays.{Stay, change_at, longer, collect, runners, Agrees, AllAgree, kept_calls_of, belonging, AreTold}
 use Rattle.stays_laws.proofs.Lists.{eqb_is, eqb_isnt, length-change_at, changed_here, changed_beside, belonging_behind, belonging_here, belonging_beside}
-
-decide : (b : Bool) → (b ≡ true) ⊎ (b ≡ false)
-decide true = inl refl
-decide false = inr refl
 
 -- ---- own ranges are those of the mappings
 
@@ -44,7 +41,7 @@ writable maps = λ i a. writable_at maps a i
 pub found_below : {A : Type 0} (key : A → ℕ) (k b : ℕ) (xs : List A) (x : A) → Falls key b xs → find key k xs ≡ Some x → k < b
 unfolding find
 found_below key k b [] x falls is = absurd cc
-found_below key k b (y ∷ ys) x falls is = elim (decide (key y == k)) [
+found_below key k b (y ∷ ys) x falls is = elim (cases_Bool (key y == k)) [
   | inl here ↦ (let same = eqb_is (key y) k here in omega (arith, same, falls.0))
   | inr later ↦ (let below = found_below key k (key y) ys x falls.1 (sym (find_head key k y ys false later) ∙ is) in omega (arith, below, falls.0))
 ]
@@ -62,7 +59,7 @@ pub record BesideSpace (i : ℕ) (w now : World) : Type 0 where
 
 pub agree_after : (ys : List Stay) (w now : World) (i : ℕ) (f : Stay → Stay) → AllAgree ys w → BesideSpace i w now
     → ((y : Stay) → slice_get ys i ≡ Some y → Agrees i now.procs (f y) (find id_of i now.spaces)) → AllAgree (change_at i f ys) now
-agree_after ys w now i f agree beside here = λ j y there. elim (decide (j == i)) [
+agree_after ys w now i f agree beside here = λ j y there. elim (cases_Bool (j == i)) [
   | inl is ↦
       let same : i ≡ j = sym (eqb_is j i is) in
       subst (λ k. slice_get (change_at i f ys) k ≡ Some y → Agrees k now.procs y (find id_of k now.spaces)) same
@@ -104,7 +101,7 @@ module _ (ys : List Stay) (notes now : List Note) (i n : ℕ) (items : List Item
         let a = length-map items (λ (x : Item). i) in
         let b = length-map items (λ (x : Item). x.entry) in
         omega (arith, l, r, a, b, told.each);
-    entries = λ j y there. elim (decide (j == i)) [
+    entries = λ j y there. elim (cases_Bool (j == i)) [
       | inl is ↦
           let same : i ≡ j = sym (eqb_is j i is) in
           subst (λ k. slice_get (change_at i (longer trace) ys) k ≡ Some y → entries_of y.items ≡ belonging k places (kept_calls_of now)) same

@@ -1,20 +1,17 @@
 -- Where mmap2 puts a mapping, its bytes may lie: nothing has a byte in a fresh run, and all that share a copy have the file's bytes.
-use Rattle.std.proofs.Common.{◌≡◌, ◌≢◌, ℕ, suc, ◌+◌, ◌-◌, ◌*◌, ◌%◌, ◌^◌, ◌<◌, ◌≤◌, Bool, true, false, not, ◌⊎◌, inl, inr, List, [], ◌∷◌, length, get_or, Option, Some, None, Ok, Err, refl, sym, ap, subst, ◌∙◌, arith}
+use Rattle.std.proofs.Common.{◌≡◌, ◌≢◌, ℕ, ◌+◌, ◌-◌, ◌*◌, ◌%◌, ◌^◌, ◌<◌, ◌≤◌, Bool, true, false, not, List, length, get_or, Option, Some, None, Ok, Err, refl, sym, ap, subst, ◌∙◌, arith}
 use Rattle.std.specs.Prelude.{◌==◌, ◌||◌, ◌&&◌, nat_le, nat_lt, slice_get, option_map, if◌then◌else◌}
-use Rattle.std.specs.List.{list_any}
 use Rattle.std.proofs.lemmas.Bool.Decides.{nat_tests}
 use Rattle.std.proofs.lemmas.List.{length-replicate}
 use Rattle.std.proofs.lemmas.Option.{slice_get_within}
+use Rattle.std.proofs.lemmas.Bool.{and_parts}
 use Rattle.call_log.specs.declared.errno.Errno.TheVariants.{Einval, Eoverflow}
 use Rattle.call_log.specs.Flags.{has_flag}
 use Rattle.page_runs.specs.Place.{place, first_of}
 use Rattle.nommu_regions.specs.declared.region.Source.{Source}
 use Rattle.nommu_regions.specs.declared.region.Source.TheVariants.{Own, Copy}
 use Rattle.nommu_regions.specs.Regions.{copy_covers}
-use Rattle.mem_files.specs.Inodes.{Content, file, folder, Inode, Inodes, inode_at, content_in, bytes_of, bytes_in}
-use Rattle.fd_tables.specs.declared.view.View.{View}
-use Rattle.fd_tables.specs.declared.view.Target.{Target}
-use Rattle.fd_tables.specs.declared.view.Target.TheVariants.{Console, Node as a_node}
+use Rattle.mem_files.specs.Inodes.{Inode, Inodes, content_in, bytes_of, bytes_in}
 use Rattle.mmap_rules.specs.declared.mapping.Mapping.{Mapping}
 use Rattle.mmap_rules.specs.declared.want.FileSide.{FileSide}
 use Rattle.mmap_rules.specs.declared.want.FileSide.TheVariants as side
@@ -24,25 +21,18 @@ use Rattle.mmap_rules.specs.Space.{Space, in_range, has_page, own_in, writable_i
 use Rattle.mmap_rules.specs.Held.{IsMapping, page_address}
 use Rattle.mmap_rules.specs.Want.{pages_for, map_shared, map_private, map_fixed, map_anonymous, prot_write, of_side, shared_side, wanted_file, just_one, wanted}
 use Rattle.mmap_rules.specs.Mappings.{copied_from}
+use Rattle.mmap_rules.proofs.Lists.{Found, found_any}
 use Rattle.vfork_exec.specs.Keyed.{find}
 use Rattle.flat_loader.specs.Alone.{memory_of, own_of, writable_of, may_lie}
 use Rattle.machine_world.specs.World.{LiveSpace, World, id_of}
 use Rattle.machine_world.specs.Free.{free_runs_in}
-use Rattle.machine_world.specs.MapCalls.{side_of_content, side_of_node, side_of_target, side_of, all_maps, lowest, has_pages, shared, in_copy, pages_of, own_run, in_free_run, first_bytes, or_own}
+use Rattle.machine_world.specs.MapCalls.{all_maps, lowest, has_pages, shared, in_copy, pages_of, own_run, in_free_run, first_bytes, or_own}
 use Rattle.stays_laws.specs.Sound.{HoldsFile, HoldsSource, IsSound}
 use Rattle.stays_laws.proofs.Frame.{ranges_of, owned, writable}
+use Rattle.stays_laws.proofs.Wanted.{IsThere}
 use Rattle.stays_laws.proofs.LaidBytes.{LiesOver, lies_all, page_byte, length-file_pages}
 use Rattle.stays_laws.proofs.SharedPages.{In, in_all, from_all, same_run, page_of, in_page, lowest_passes, page_from, page_to, IsFree, fresh_run, not_held}
 use Rattle.stays_laws.proofs.Lists.{eqb_isnt}
-
-decide : (b : Bool) → (b ≡ true) ⊎ (b ≡ false)
-decide true = inl refl
-decide false = inr refl
-
-and_both : (b c : Bool) → (b && c) ≡ true → (b ≡ true) × (c ≡ true)
-and_both true true h = (refl, refl)
-and_both true false h = absurd cc
-and_both false c h = absurd cc
 
 -- ---- what is asked for
 
@@ -100,32 +90,6 @@ module _ (len prot flags : ℕ) (seen : FileSide) where
           subst Asks same (record { some = eqb_isnt len 0 len_is; pages_are = refl; flag = flag })
       by false false false false len_is flag asks = by_file first want (nat_lt (2 ^ 32) (first + pages_for len)) (has_flag flags map_shared) (eqb_isnt len 0 len_is) flag asks
 
--- the file to which a descriptor leads
-pub record IsFile (nodes : Inodes) (id change : ℕ) : Type 0 where
-  pub node : Inode
-  pub at : inode_at nodes id ≡ Some node
-  pub count : change ≡ node.change
-
-pub is_file : (nodes : Inodes) (o : Option View) (id change : ℕ) → side_of nodes o ≡ side.File id change → IsFile nodes id change
-is_file nodes None id change is = absurd cc
-is_file nodes (Some v) id change is = by_target v.target is
-  where
-    by_content : (k : ℕ) (n : Inode) (reads : Bool) (c : Content) → inode_at nodes k ≡ Some n → side_of_content k n.change reads c ≡ side.File id change → IsFile nodes id change
-    by_content k n reads (folder parent entries) at e = absurd cc
-    by_content k n false (file bytes) at e = absurd cc
-    by_content k n true (file bytes) at e =
-        let same : k ≡ id = cc in
-        let count : n.change ≡ change = cc in
-        record { node = n; at = ap (inode_at nodes) (sym same) ∙ at; count = sym count }
-
-    by_node : (k : ℕ) (o : Option Inode) → inode_at nodes k ≡ o → side_of_node k v.way.read o ≡ side.File id change → IsFile nodes id change
-    by_node k None at e = absurd cc
-    by_node k (Some n) at e = by_content k n v.way.read n.content at e
-
-    by_target : (t : Target) → side_of_target nodes v.way.read t ≡ side.File id change → IsFile nodes id change
-    by_target Console e = absurd cc
-    by_target (a_node k) e = by_node k (inode_at nodes k) refl e
-
 -- ---- where it is put
 
 abbrev pub writes_of : Want → Bool
@@ -150,28 +114,13 @@ pub length-first_bytes : (nodes : Inodes) (want : Want) → length (first_bytes 
 length-first_bytes nodes (Anon pages) = length-replicate {A = ℕ} (4096 * pages) 0
 length-first_bytes nodes (File pages first write id change) = length-file_pages (bytes_of nodes id) first pages
 
--- one that passes
-pub record Any (p : Mapping → Bool) (ms : List Mapping) : Type 0 where
-  pub at : ℕ
-  pub mapping : Mapping
-  pub there : slice_get ms at ≡ Some mapping
-  pub passes : p mapping ≡ true
-
-any_passes : (p : Mapping → Bool) (ms : List Mapping) → list_any p ms ≡ true → Any p ms
-any_passes p [] is = absurd cc
-any_passes p (m ∷ ms) is = by (p m) refl is (λ e. any_passes p ms e)
-  where
-    by : (b : Bool) → p m ≡ b → (b || list_any p ms) ≡ true → (list_any p ms ≡ true → Any p ms) → Any p (m ∷ ms)
-    by true passes e rec = record { at = 0; mapping = m; there = refl; passes = passes }
-    by false passes e rec = let r = rec e in record { at = suc r.at; mapping = r.mapping; there = r.there; passes = r.passes }
-
-own_some : (s : Space) (a : ℕ) → own_of (ranges_of s.maps) a ≡ true → Any (λ m. in_range m.range a) s.maps
+own_some : (s : Space) (a : ℕ) → own_of (ranges_of s.maps) a ≡ true → Found Mapping (λ m. in_range m.range a) s.maps
 unfolding own_in
-own_some s a is = any_passes (λ m. in_range m.range a) s.maps (sym (ap (λ (f : ℕ → Bool). f a) (owned s.maps)) ∙ is)
+own_some s a is = found_any (λ m. in_range m.range a) s.maps (sym (ap (λ (f : ℕ → Bool). f a) (owned s.maps)) ∙ is)
 
-writable_some : (s : Space) (a : ℕ) → writable_of (ranges_of s.maps) a ≡ true → Any (λ m. m.range.writes && in_range m.range a) s.maps
+writable_some : (s : Space) (a : ℕ) → writable_of (ranges_of s.maps) a ≡ true → Found Mapping (λ m. m.range.writes && in_range m.range a) s.maps
 unfolding writable_in
-writable_some s a is = any_passes (λ m. m.range.writes && in_range m.range a) s.maps (sym (ap (λ (f : ℕ → Bool). f a) (writable s.maps)) ∙ is)
+writable_some s a is = found_any (λ m. m.range.writes && in_range m.range a) s.maps (sym (ap (λ (f : ℕ → Bool). f a) (writable s.maps)) ∙ is)
 
 module _ (w : World) (sound : IsSound w) (i : ℕ) (s : LiveSpace) (has : find id_of i w.spaces ≡ Some s) where
   is_mapping : (j : ℕ) (n : Mapping) → slice_get s.space.maps j ≡ Some n → IsMapping w.rest.pages n
@@ -189,8 +138,8 @@ module _ (w : World) (sound : IsSound w) (i : ℕ) (s : LiveSpace) (has : find i
         nobody k less own =
             let n = own_some s.space (page_address page + k) own in
             let len = length-first_bytes w.rest.tree want in
-            let here = in_page w.rest.pages n.mapping (page_address page + k) (is_mapping n.at n.mapping n.there) n.passes in
-            let not_here = not_held w.spaces (page_of (page_address page + k)) i s n.at n.mapping
+            let here = in_page w.rest.pages n.item (page_address page + k) (is_mapping n.at n.item n.there) n.passes in
+            let not_here = not_held w.spaces (page_of (page_address page + k)) i s n.at n.item
             (free.free (page_of (page_address page + k)) (page_from page k) (page_to page (pages_of want) k (omega (arith, less, len)))) has n.there in
             let e : true ≡ false = sym here ∙ not_here in cc
 
@@ -213,7 +162,7 @@ module _ (w : World) (sound : IsSound w) (i : ℕ) (s : LiveSpace) (has : find i
 
   -- ---- in a copy that is there
 
-  module _ (pages first id change : ℕ) (f : IsFile w.rest.tree id change) (c : Mapping) (one : In (all_maps w.spaces) c)
+  module _ (pages first id change : ℕ) (f : IsThere w.rest.tree id change) (c : Mapping) (one : In (all_maps w.spaces) c)
       (from : ℕ) (source : c.source ≡ Copy id change from) (low : from ≤ first) (high : first + pages ≤ from + c.pages) where
     abbrev start : ℕ
     start = page_address (c.first + (first - from))
@@ -254,9 +203,9 @@ module _ (w : World) (sound : IsSound w) (i : ℕ) (s : LiveSpace) (has : find i
         never : writable_of (ranges_of s.space.maps) (start + k) ≡ true → ⊥
         never is =
             let n = writable_some s.space (start + k) is in
-            let both = and_both n.mapping.range.writes (in_range n.mapping.range (start + k)) n.passes in
-            let sh = shares k less n.at n.mapping n.there both.1 in
-            let own : n.mapping.source ≡ Own = (is_mapping n.at n.mapping n.there).writes both.0 in
+            let both = and_parts n.item.range.writes (in_range n.item.range (start + k)) n.passes in
+            let sh = shares k less n.at n.item n.there both.1 in
+            let own : n.item.source ≡ Own = (is_mapping n.at n.item n.there).writes both.0 in
             let e : Own ≡ Copy id change from = sym own ∙ sh.source_is in cc
 
         by : (b : Bool) → writable_of (ranges_of s.space.maps) (start + k) ≡ b → b ≡ false
@@ -270,18 +219,18 @@ module _ (w : World) (sound : IsSound w) (i : ℕ) (s : LiveSpace) (has : find i
         let len = length-first_bytes w.rest.tree want in
         let less : k < 4096 * pages = omega (arith, within, len) in
         let n = own_some s.space (start + k) own in
-        let sh = shares k less n.at n.mapping n.there n.passes in
-        let holds : HoldsFile s.space w.rest.tree n.mapping id change =
-        subst (HoldsSource s.space w.rest.tree n.mapping) sh.source_is (sound.copies i s has n.at n.mapping n.there) in
-        let content : bytes ≡ bytes_in f.node.content = ap (λ (o : Option Inode). bytes_in (content_in o)) f.at in
-        let copied : copied_from n.mapping.source ≡ from = ap copied_from sh.source_is in
-        let at : 4096 * copied_from n.mapping.source + (start + k - page_address n.mapping.first) ≡ 4096 * first + k = omega (arith, copied, sh.first_page, low) in
+        let sh = shares k less n.at n.item n.there n.passes in
+        let holds : HoldsFile s.space w.rest.tree n.item id change =
+        subst (HoldsSource s.space w.rest.tree n.item) sh.source_is (sound.copies i s has n.at n.item n.there) in
+        let content : bytes ≡ bytes_in f.node.content = ap (λ (o : Option Inode). bytes_in (content_in o)) f.there in
+        let copied : copied_from n.item.source ≡ from = ap copied_from sh.source_is in
+        let at : 4096 * copied_from n.item.source + (start + k - page_address n.item.first) ≡ 4096 * first + k = omega (arith, copied, sh.first_page, low) in
         record {
           reads = refl;
           others = not_writable k less;
           same =
-              holds.same f.node (start + k) f.at f.count n.passes
-              ∙ ap (λ (l : List ℕ). Some (get_or l (4096 * copied_from n.mapping.source + (start + k - page_address n.mapping.first)) 0)) (sym content)
+              holds.same f.node (start + k) f.there (sym f.count) n.passes
+              ∙ ap (λ (l : List ℕ). Some (get_or l (4096 * copied_from n.item.source + (start + k - page_address n.item.first)) 0)) (sym content)
               ∙ ap (λ (x : ℕ). Some (get_or bytes x 0)) at
               ∙ ap (λ (x : ℕ). Some x) (page_byte bytes first pages k b less there);
         }
@@ -306,7 +255,7 @@ module _ (w : World) (sound : IsSound w) (i : ℕ) (s : LiveSpace) (has : find i
 
   -- ---- what mmap2 chooses
 
-  module _ (len prot flags : ℕ) (seen : FileSide) (file_is : (id change : ℕ) → seen ≡ side.File id change → IsFile w.rest.tree id change) where
+  module _ (len prot flags : ℕ) (seen : FileSide) (file_is : (id change : ℕ) → seen ≡ side.File id change → IsThere w.rest.tree id change) where
     some_pages : (want : Want) → Asks len prot flags seen want → 0 < pages_of want
     some_pages (Anon pages) asks = (let some = asks.some in let are = asks.pages_are in omega (arith, some, are))
     some_pages (File pages first write id change) asks = (let some = asks.some in let are = asks.pages_are in omega (arith, some, are))

@@ -1,13 +1,13 @@
 -- Bytes that are laid from an address on: they are read back, and lie where nothing differs. And the pages of a file.
 use Rattle.std.proofs.Common.{◌≡◌, ℕ, zero, suc, ◌+◌, ◌-◌, ◌*◌, ◌<◌, ◌≤◌, Bool, true, false, not, List, [], ◌∷◌, ◌++◌, length, take, drop, replicate, get_or, Option, Some, refl, sym, ap, subst, ◌∙◌, arith, length-append}
-use Rattle.std.specs.Prelude.{◌==◌, ◌||◌, ◌&&◌, slice_get, if◌then◌else◌}
+use Rattle.std.specs.Prelude.{◌==◌, ◌||◌, ◌&&◌, slice_get}
 use Rattle.std.proofs.lemmas.List.{get_or-drop, get_or-replicate, length-replicate, length-take}
 use Rattle.std.proofs.lemmas.Option.{get_or_from_slice_get}
 use Rattle.byte_words.specs.ByteMap.{Bytes, with_bytes}
 use Rattle.call_log.specs.Sent.{cons_byte, bytes_from}
 use Rattle.mmap_rules.specs.Mappings.{file_pages}
 use Rattle.flat_loader.specs.Alone.{OwnMemory, own_of, writable_of, has_byte, may_lie}
-use Rattle.stays_laws.proofs.Lists.{eqb_other, eqb_same}
+use Rattle.stays_laws.proofs.Lists.{if_yes, if_no, eqb_other, eqb_same}
 
 -- ---- reading back
 
@@ -17,21 +17,13 @@ same_from m n a (suc len) same =
     (λ i. cons_byte (same a (omega arith) i) (bytes_from m (a + 1) len))
     ∙ ap (cons_byte (n a)) (same_from m n (a + 1) len (λ k from. same k (omega (arith, from))))
 
-if_byte : (b : Bool) (x y : Option ℕ) → b ≡ true → (if b then x else y) ≡ x
-if_byte true x y is = refl
-if_byte false x y is = absurd cc
-
-if_not_byte : (b : Bool) (x y : Option ℕ) → b ≡ false → (if b then x else y) ≡ y
-if_not_byte true x y is = absurd cc
-if_not_byte false x y is = refl
-
 pub read_back : (m : Bytes) (a : ℕ) (bytes : List ℕ) → bytes_from (with_bytes m a bytes) a (length bytes) ≡ Some bytes
 read_back m a [] = refl
 read_back m a (b ∷ bytes) =
-    let here : with_bytes m a (b ∷ bytes) a ≡ Some b = if_byte (a == a) (Some b) (with_bytes m (a + 1) bytes a) (eqb_same a a refl) in
+    let here : with_bytes m a (b ∷ bytes) a ≡ Some b = if_yes (a == a) (Some b) (with_bytes m (a + 1) bytes a) (eqb_same a a refl) in
     let above : bytes_from (with_bytes m a (b ∷ bytes)) (a + 1) (length bytes) ≡ bytes_from (with_bytes m (a + 1) bytes) (a + 1) (length bytes) =
     same_from (with_bytes m a (b ∷ bytes)) (with_bytes m (a + 1) bytes) (a + 1) (length bytes)
-    (λ k from. if_not_byte (k == a) (Some b) (with_bytes m (a + 1) bytes k) (eqb_other k a (omega (arith, from)))) in
+    (λ k from. if_no (k == a) (Some b) (with_bytes m (a + 1) bytes k) (eqb_other k a (omega (arith, from)))) in
     (λ i. cons_byte (here i) (bytes_from (with_bytes m a (b ∷ bytes)) (a + 1) (length bytes)))
     ∙ ap (cons_byte (Some b)) (above ∙ read_back m (a + 1) bytes)
 

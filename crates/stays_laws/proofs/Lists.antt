@@ -1,6 +1,6 @@
 -- Lists: one item that is changed, by its place; and items that belong to places.
 use Rattle.std.proofs.Common.{◌≡◌, ◌≢◌, ℕ, zero, suc, Bool, true, false, cond, List, [], ◌∷◌, ◌++◌, map, length, Some, refl, sym, ap, ◌∙◌, arith}
-use Rattle.std.specs.Prelude.{◌==◌, slice_get}
+use Rattle.std.specs.Prelude.{if◌then◌else◌, ◌==◌, slice_get}
 use Rattle.std.proofs.lemmas.Bool.Decides.{nat_tests}
 use Rattle.stays_laws.specs.Stays.{change_at, belonging}
 
@@ -15,6 +15,16 @@ eqb_is n k h = grind (arith, nat_tests)
 
 pub eqb_isnt : (n k : ℕ) → (n == k) ≡ false → n ≢ k
 eqb_isnt n k h = grind (arith, nat_tests)
+
+-- ---- tests
+
+pub if_yes : {A : Type 0} (b : Bool) (x y : A) → b ≡ true → (if b then x else y) ≡ x
+if_yes true x y is = refl
+if_yes false x y is = absurd cc
+
+pub if_no : {A : Type 0} (b : Bool) (x y : A) → b ≡ false → (if b then x else y) ≡ y
+if_no true x y is = absurd cc
+if_no false x y is = refl
 
 -- ---- one item that is changed
 

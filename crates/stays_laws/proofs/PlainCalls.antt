@@ -15,16 +15,9 @@ use Rattle.machine_world.proofs.Refused.{is_refused}
 use Rattle.machine_world.proofs.States.{with_regs}
 use Rattle.stays_laws.specs.Stays.{runner_of}
 use Rattle.stays_laws.proofs.Frame.{ranges_of}
+use Rattle.stays_laws.proofs.Lists.{if_yes, if_no}
 use Rattle.stays_laws.proofs.RowSpaces.{LeavesSpace, row_leaves}
 use Rattle.stays_laws.proofs.EventStays.{Follows}
-
-pub if_yes : {A : Type 0} (b : Bool) (x y : A) → b ≡ true → (if b then x else y) ≡ x
-if_yes true x y is = refl
-if_yes false x y is = absurd cc
-
-pub if_no : {A : Type 0} (b : Bool) (x y : A) → b ≡ false → (if b then x else y) ≡ y
-if_no true x y is = absurd cc
-if_no false x y is = refl
 
 if_either : {A : Type 0} (b : Bool) (x y z : A) → x ≡ z → y ≡ z → (if b then x else y) ≡ z
 if_either true x y z hx hy = hx

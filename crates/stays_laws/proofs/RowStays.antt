@@ -1,8 +1,9 @@
 -- Alone, every call does in its space what it does in the world.
-use Rattle.std.proofs.Common.{◌≡◌, ℕ, ◌+◌, ◌*◌, ◌%◌, ◌^◌, ◌<◌, ◌≤◌, Bool, true, false, not, ◌⊎◌, inl, inr, List, [], ◌∷◌, ◌++◌, length, replicate, Option, Some, None, Result, Ok, Err, refl, sym, ap, subst, ◌∙◌, arith}
+use Rattle.std.proofs.Common.{◌≡◌, ℕ, ◌+◌, ◌*◌, ◌%◌, ◌^◌, ◌<◌, ◌≤◌, Bool, true, false, not, inl, inr, List, [], ◌∷◌, ◌++◌, length, replicate, Option, Some, None, Result, Ok, Err, refl, sym, ap, subst, ◌∙◌, arith}
 use Rattle.std.specs.Prelude.{◌==◌, ◌||◌, ◌&&◌, nat_le, nat_lt, unwrap_or, if◌then◌else◌}
 use Rattle.std.proofs.lemmas.Bool.Decides.{nat_tests}
 use Rattle.std.proofs.lemmas.List.{map-append}
+use Rattle.std.proofs.lemmas.Bool.{cases_Bool}
 use Rattle.byte_words.specs.ByteMap.{Bytes, with_bytes}
 use Rattle.call_log.specs.declared.errno.Errno.{Errno}
 use Rattle.call_log.specs.declared.errno.Errno.TheVariants.{Enosys, Enomem, Einval}
@@ -26,16 +27,13 @@ use Rattle.machine_world.proofs.States.{with_regs}
 use Rattle.stays_laws.specs.Sound.{IsSound}
 use Rattle.stays_laws.proofs.Frame.{ranges_of}
 use Rattle.stays_laws.proofs.LaidBytes.{read_back}
-use Rattle.stays_laws.proofs.Grants.{Asks, asked, is_file, Grant, length-first_bytes, granted}
-use Rattle.stays_laws.proofs.Lists.{eqb_same, eqb_is}
+use Rattle.stays_laws.proofs.Wanted.{There, there_side}
+use Rattle.stays_laws.proofs.Grants.{Asks, asked, Grant, length-first_bytes, granted}
+use Rattle.stays_laws.proofs.Lists.{if_yes, if_no, eqb_same, eqb_is}
 use Rattle.stays_laws.proofs.RowSpaces.{row-munmap, row-mmap2, row-clone, row-execve}
 use Rattle.stays_laws.proofs.Unmapping.{unmaps_alone}
 use Rattle.stays_laws.proofs.EventStays.{solo_of, Follows}
-use Rattle.stays_laws.proofs.PlainCalls.{if_yes, if_no, follows_refused, follows_plain, answers_map, answers_unmap}
-
-decide : (b : Bool) → (b ≡ true) ⊎ (b ≡ false)
-decide true = inl refl
-decide false = inr refl
+use Rattle.stays_laws.proofs.PlainCalls.{follows_refused, follows_plain, answers_map, answers_unmap}
 
 not_errno : (n : ℕ) → n < 0xfffff001 → is_errno n ≡ false
 unfolding is_errno
@@ -198,7 +196,7 @@ module _ (w : World) (sound : IsSound w) (p : Process) (s : LiveSpace) (has : fi
   follows_maps is want asks None choice = follows_refused w p s.space bytes stays Enomem
   follows_maps is want asks (Some m) choice =
       follows_map is want m
-      (granted w sound p.space s has (arg a 1) (arg a 2) (arg a 3) (file_side a) (λ id change leads. is_file w.rest.tree (view_of a (arg a 4)) id change leads) want m asks choice) asks
+      (granted w sound p.space s has (arg a 1) (arg a 2) (arg a 3) (file_side a) (λ id change leads. subst (There w.rest.tree) leads (there_side w.rest.tree (view_of a (arg a 4)))) want m asks choice) asks
 
   follows_wanted : n ≡ 222 → (o : Result Want Errno) → wanted (arg a 0) (arg a 1) (arg a 2) (arg a 3) (arg a 5) (file_side a) ≡ o → Follows p s.space a (with_ok a o (mapped a))
   follows_wanted is (Err e) asks = follows_refused w p s.space bytes stays e
@@ -213,13 +211,13 @@ module _ (w : World) (sound : IsSound w) (p : Process) (s : LiveSpace) (has : fi
   -- ---- any row
 
   pub follows_row : Follows p s.space a (row a)
-  follows_row = elim (decide (n == 222)) [
+  follows_row = elim (cases_Bool (n == 222)) [
     | inl is ↦ subst (Follows p s.space a) (sym (row-mmap2 a (eqb_is n 222 is))) (follows_mmap2 (eqb_is n 222 is))
-    | inr no_mmap2 ↦ elim (decide (n == 215)) [
+    | inr no_mmap2 ↦ elim (cases_Bool (n == 215)) [
       | inl is ↦ subst (Follows p s.space a) (sym (row-munmap a (eqb_is n 215 is))) (follows_munmap (eqb_is n 215 is))
-      | inr no_munmap ↦ elim (decide (n == 220)) [
+      | inr no_munmap ↦ elim (cases_Bool (n == 220)) [
         | inl is ↦ subst (Follows p s.space a) (sym (row-clone a (eqb_is n 220 is))) (follows_refused w p s.space bytes stays Enosys)
-        | inr no_clone ↦ elim (decide (n == 221)) [
+        | inr no_clone ↦ elim (cases_Bool (n == 221)) [
           | inl is ↦ subst (Follows p s.space a) (sym (row-execve a (eqb_is n 221 is))) (follows_refused w p s.space bytes stays Enosys)
           | inr no_execve ↦ follows_plain w p s.space bytes stays no_munmap no_mmap2 no_clone no_execve
         ]

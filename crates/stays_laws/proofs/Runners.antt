@@ -1,6 +1,7 @@
 -- The processes of a space, after one process changes or goes.
-use Rattle.std.proofs.Common.{◌≡◌, ◌≢◌, ℕ, Bool, true, false, cond, ◌⊎◌, inl, inr, List, [], ◌∷◌, Some, refl, sym, ap, ◌∙◌, arith, not}
+use Rattle.std.proofs.Common.{◌≡◌, ◌≢◌, ℕ, Bool, true, false, cond, inl, inr, List, [], ◌∷◌, Some, refl, sym, ap, ◌∙◌, arith, not}
 use Rattle.std.specs.Prelude.{◌==◌, filter}
+use Rattle.std.proofs.lemmas.Bool.{cases_Bool}
 use Rattle.rv32im_step.specs.declared.regs.Regs.{Regs}
 use Rattle.vfork_exec.specs.Keyed.{find, change, without, Falls}
 use Rattle.vfork_exec.proofs.Keyed.{find_head, none_below}
@@ -9,10 +10,6 @@ use Rattle.machine_world.specs.World.{Process, pid_of}
 use Rattle.machine_world.proofs.States.{with_regs}
 use Rattle.stays_laws.specs.Stays.{runners, runner_of}
 use Rattle.stays_laws.proofs.Lists.{eqb_other, eqb_same, eqb_is, eqb_isnt}
-
-decide : (b : Bool) → (b ≡ true) ⊎ (b ≡ false)
-decide true = inl refl
-decide false = inr refl
 
 pub runners_head : (i : ℕ) (p : Process) (ps : List Process) (b : Bool) → (p.space == i) ≡ b → runners i (p ∷ ps) ≡ cond b (runner_of p ∷ runners i ps) (runners i ps)
 unfolding runners
@@ -47,7 +44,7 @@ module _ (pid : ℕ) (p : Process) where
         → runners i (change pid_of pid (λ q. with_regs q regs) ps) ≡ runners i ps
     unfolding find change
     runners_beside_change regs [] lives = absurd cc
-    runners_beside_change regs (q ∷ qs) lives = elim (decide (q.pid == pid)) [
+    runners_beside_change regs (q ∷ qs) lives = elim (cases_Bool (q.pid == pid)) [
       | inl is ↦
           let outside : (q.space == i) ≡ false = eqb_other q.space i (λ e. other (sym (ap (λ (x : Process). x.space) (found_head q qs lives is)) ∙ e)) in
           ap (runners i) (change_head (λ x. with_regs x regs) pid q qs true is) ∙ runners_head i (with_regs q regs) qs false outside
@@ -60,7 +57,7 @@ module _ (pid : ℕ) (p : Process) where
     pub runners_beside_without : (b : ℕ) (ps : List Process) → Falls pid_of b ps → find pid_of pid ps ≡ Some p → runners i (without pid_of pid ps) ≡ runners i ps
     unfolding find without
     runners_beside_without b [] falls lives = absurd cc
-    runners_beside_without b (q ∷ qs) falls lives = elim (decide (q.pid == pid)) [
+    runners_beside_without b (q ∷ qs) falls lives = elim (cases_Bool (q.pid == pid)) [
       | inl is ↦
           let outside : (q.space == i) ≡ false = eqb_other q.space i (λ e. other (sym (ap (λ (x : Process). x.space) (found_head q qs lives is)) ∙ e)) in
           let at : q.pid ≡ pid = eqb_is q.pid pid is in
@@ -76,7 +73,7 @@ module _ (pid : ℕ) (p : Process) where
       → runners p.space (change pid_of pid (λ q. with_regs q regs) ps) ≡ runner_of (with_regs p regs) ∷ []
   unfolding find change
   runners_change is_pid regs [] lives alone = absurd cc
-  runners_change is_pid regs (q ∷ qs) lives alone = elim (decide (q.pid == pid)) [
+  runners_change is_pid regs (q ∷ qs) lives alone = elim (cases_Bool (q.pid == pid)) [
     | inl is ↦
         let same : q ≡ p = found_head q qs lives is in
         let inside : (q.space == p.space) ≡ true = eqb_same q.space p.space (ap (λ (x : Process). x.space) same) in
@@ -86,7 +83,7 @@ module _ (pid : ℕ) (p : Process) where
         ∙ (λ i. runner_of (with_regs (same i) regs) ∷ none i)
     | inr is ↦
         let later = found_behind q qs lives is in
-        elim (decide (q.space == p.space)) [
+        elim (cases_Bool (q.space == p.space)) [
           | inl inside ↦
               let all : runner_of q ∷ runners p.space qs ≡ runner_of p ∷ [] = sym (runners_head p.space q qs true inside) ∙ alone in
               let same : runner_of q ≡ runner_of p = cc in

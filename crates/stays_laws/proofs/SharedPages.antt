@@ -4,6 +4,7 @@ use Rattle.std.specs.Prelude.{◌==◌, ◌||◌, ◌&&◌, nat_le, nat_lt, slic
 use Rattle.std.specs.List.{list_any}
 use Rattle.std.proofs.lemmas.Bool.Decides.{nat_tests}
 use Rattle.std.proofs.lemmas.Option.{none-some, same_Some}
+use Rattle.std.proofs.lemmas.Bool.{cases_Bool}
 use Rattle.page_runs.specs.declared.place.Kind.{Kind}
 use Rattle.page_runs.specs.declared.run.Run.{Run}
 use Rattle.page_runs.specs.Free.{free_runs}
@@ -23,10 +24,6 @@ use Rattle.machine_world.specs.MapCalls.{all_maps, lower, lowest}
 use Rattle.stays_laws.specs.Sound.{Apart, AreApart}
 use Rattle.stays_laws.proofs.Lists.{eqb_other, eqb_same}
 use Rattle.stays_laws.proofs.Frame.{found_below}
-
-decide : (b : Bool) → (b ≡ true) ⊎ (b ≡ false)
-decide true = inl refl
-decide false = inr refl
 
 -- ---- an item of a list
 
@@ -58,7 +55,7 @@ module _ {A : Type 0} where
   found_in : (key : A → ℕ) (k : ℕ) (xs : List A) (x : A) → find key k xs ≡ Some x → In xs x
   unfolding find
   found_in key k [] x is = absurd cc
-  found_in key k (y ∷ ys) x is = elim (decide (key y == k)) [
+  found_in key k (y ∷ ys) x is = elim (cases_Bool (key y == k)) [
     | inl here ↦ record { at = 0; there = sym (find_head key k y ys true here) ∙ is }
     | inr later ↦ in_later y ys x (found_in key k ys x (sym (find_head key k y ys false later) ∙ is))
   ]
@@ -81,7 +78,7 @@ module _ {A : Type 0} where
 pub in_all : (i : ℕ) (ss : List LiveSpace) (s : LiveSpace) (j : ℕ) (m : Mapping) → find id_of i ss ≡ Some s → slice_get s.space.maps j ≡ Some m → In (all_maps ss) m
 unfolding find
 in_all i [] s j m found there = absurd cc
-in_all i (t ∷ ss) s j m found there = elim (decide (t.id == i)) [
+in_all i (t ∷ ss) s j m found there = elim (cases_Bool (t.id == i)) [
   | inl here ↦
       let same : t ≡ s = let e = sym (find_head id_of i t ss true here) ∙ found in cc in
       in_front t.space.maps (all_maps ss) j m (ap (λ (l : LiveSpace). slice_get l.space.maps j) same ∙ there)

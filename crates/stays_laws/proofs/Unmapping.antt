@@ -1,9 +1,10 @@
 -- munmap leaves alone just what it leaves in the world.
-use Rattle.std.proofs.Common.{◌≡◌, ◌≢◌, ℕ, suc, ◌+◌, ◌-◌, ◌*◌, ◌/◌, ◌%◌, ◌^◌, ◌<◌, Bool, true, false, not, cond, ◌⊎◌, inl, inr, List, [], ◌∷◌, ◌++◌, length, take, drop, Option, Some, None, refl, sym, ap, subst, ◌∙◌, arith}
+use Rattle.std.proofs.Common.{◌≡◌, ◌≢◌, ℕ, suc, ◌+◌, ◌-◌, ◌*◌, ◌/◌, ◌%◌, ◌^◌, ◌<◌, Bool, true, false, not, cond, inl, inr, List, [], ◌∷◌, ◌++◌, length, take, drop, Option, Some, None, refl, sym, ap, subst, ◌∙◌, arith}
 use Rattle.std.specs.Prelude.{◌==◌, ◌||◌, ◌&&◌, nat_lt, nat_le, slice_get, position, option_map, if◌then◌else◌}
 use Rattle.std.specs.List.{position_or_len}
 use Rattle.std.proofs.lemmas.Bool.Decides.{nat_tests}
 use Rattle.std.proofs.lemmas.List.{map-append}
+use Rattle.std.proofs.lemmas.Bool.{cases_Bool}
 use Rattle.mmap_rules.specs.declared.mapping.Range.{Range}
 use Rattle.mmap_rules.specs.declared.mapping.Mapping.{Mapping}
 use Rattle.mmap_rules.specs.Space.{Space, own_in}
@@ -13,13 +14,8 @@ use Rattle.mmap_rules.proofs.Parts.{WholePages, Cuts, both, run_of}
 use Rattle.region_watch.specs.Private.{only}
 use Rattle.flat_loader.specs.Alone.{OwnMemory, memory_of, cons_to, or_else, with_first, is_exact, can_cut, part, parts, without_range, over_ranges, without_pages}
 use Rattle.stays_laws.specs.Sound.{IsSpace}
-use Rattle.stays_laws.proofs.Lists.{eqb_other, eqb_is, eqb_isnt}
+use Rattle.stays_laws.proofs.Lists.{if_yes, if_no, eqb_other, eqb_is, eqb_isnt}
 use Rattle.stays_laws.proofs.Frame.{ranges_of, owned}
-use Rattle.stays_laws.proofs.PlainCalls.{if_yes, if_no}
-
-decide : (b : Bool) → (b ≡ true) ⊎ (b ≡ false)
-decide true = inl refl
-decide false = inr refl
 
 lt_zero : (n : ℕ) → nat_lt 0 (suc n) ≡ true
 lt_zero n = grind (arith, nat_tests)
@@ -74,7 +70,7 @@ module _ (test : Range → Bool) (left : Range → List Range) where
 
   pub first_of_all : (maps : List Mapping) → Firsts maps (position passes maps)
   first_of_all [] = refl
-  first_of_all (m ∷ ms) = elim (decide (test m.range)) [
+  first_of_all (m ∷ ms) = elim (cases_Bool (test m.range)) [
     | inl is ↦
         subst (Firsts (m ∷ ms)) (sym (position_here passes m ms is))
         (record { mapping = m; there = refl; passed = is; is = if_yes (test m.range) (Some (left m.range ++ ranges_of ms)) _ is })

@@ -69,7 +69,7 @@ pub record IsThere (nodes : Inodes) (id change : ℕ) : Type 0 where
   pub there : inode_at nodes id ≡ Some node
   pub count : node.change ≡ change
 
-abbrev There : Inodes → FileSide → Type 0
+abbrev pub There : Inodes → FileSide → Type 0
 There nodes (side.File id change) = IsThere nodes id change
 There nodes side.Closed = Unit {0}
 There nodes side.NotFile = Unit {0}
@@ -88,7 +88,7 @@ there_target : (nodes : Inodes) (reads : Bool) (t : Target) → There nodes (sid
 there_target nodes reads Console = tt
 there_target nodes reads (Node id) = there_node nodes id reads (inode_at nodes id) refl
 
-there_side : (nodes : Inodes) (v : Option View) → There nodes (side_of nodes v)
+pub there_side : (nodes : Inodes) (v : Option View) → There nodes (side_of nodes v)
 there_side nodes (Some v) = there_target nodes v.way.read v.target
 there_side nodes None = tt
 
