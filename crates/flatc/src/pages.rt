@@ -15,6 +15,7 @@ usage: flatc COMMAND WORDS
   run MANIFEST [--log] [--place K]  run the programs of MANIFEST by turns in one memory;
                                     --log tells their system calls too, and K says which
                                     free run is taken: first, best or last, else first
+  demo N                            run N small programs, 1 to 64, that need no file
   --help                            write this page
   --version                         write the version
 

@@ -1,19 +1,17 @@
 -- What a call of `demo` does.
 use Rattle.std.proofs.Common.{◌≡◌, ℕ, List, [], map, Option, Some, None, Result, Ok, Err, refl, sym, ap, subst, ◌∙◌}
 use Rattle.page_runs.specs.declared.place.Kind.TheVariants.{First}
-use Rattle.manifest_text.specs.declared.manifest.Dump.{Dump}
 use Rattle.manifest_text.specs.Values.{Manifest}
 use Rattle.machine_world.specs.World.{World}
-use Rattle.machine_world.specs.Turns.{End, all_ended, out_of_quanta, stray_at, log_full, turns}
+use Rattle.machine_world.specs.Turns.{End, all_ended, out_of_quanta, stray_at, log_full, Walk, turns}
 use Rattle.machine_world.specs.Boot.{BootFault, boot}
 use Rattle.flat_machine.specs.Runs.{repeated}
 use Rattle.run_setup.specs.Brought.{Brought, FaultAt, nothing_brought, all_brought}
 use Rattle.elf_maker.specs.Demo.{demo_file}
 use Rattle.suite_top.specs.declared.status.Status.TheVariants.{Done}
 use Rattle.suite_top.specs.declared.telling.Telling.TheVariants.{Demo}
-use Rattle.suite_top.specs.Ending.{Ending, done_ending, OrMemory}
-use Rattle.suite_top.specs.Outcome.{Request}
-use Rattle.suite_top.specs.Telling.{demo_text, demonstrated_ending}
+use Rattle.suite_top.specs.Ending.{Ending, OrMemory}
+use Rattle.suite_top.specs.Telling.{demonstrated_ending}
 use Rattle.host_io.specs.Host.{Told}
 use Rattle.suite_top.specs.Arguments.{Invocation, demo, command_of}
 use Rattle.suite_top.specs.Result.{command_outcome, result_of}
@@ -22,7 +20,7 @@ use Rattle.suite_top.specs.HostCourse.{PerformsCommand}
 use Rattle.suite_top.specs.Call.{outcome_of}
 use Rattle.suite_top.specs.Run.{start_line, opening, booted_ending, brought_ending, files_ending}
 use Rattle.suite_top.specs.Demo.{each_of, demo_manifest, demo_ending}
-use Rattle.suite_top.specs.Demo.Laws.{DemosConvert, DemosAskNothing, DemosTellALine}
+use Rattle.suite_top.specs.Demo.Laws.{DemosConvert, DemosAskNothing, TellsALine, DemosTellALine}
 use Rattle.suite_top.proofs.HostLaws.{untouched_at}
 use Rattle.suite_top.proofs.HostSteps.{asks_nothing}
 use Rattle.suite_top.proofs.RunEndings.{files_are_told}
@@ -43,26 +41,35 @@ demos_ask_nothing c n (ending, performs, delivers) is =
     let none : (outcome_of c).requests ≡ [] = ap (λ (o : Option Invocation). (command_outcome o c.inputs).requests) is in
     untouched_at (outcome_of c).requests none performs.course performs.is_course c.host.told c.host_after.told performs.told c.host.faults c.host_after.faults performs.faults
 
--- an ending of a demo of n programs that is Done has the line
-abbrev TellsALine : (n : ℕ) → Ending → Type 0
-TellsALine n ending = ending.status ≡ Done → (w : World) × (ending ≡ done_ending (demo_text n w))
+-- an ending with another status isn't Done
+other_end : (n : ℕ) (other : Ending) → (other.status ≡ Done → ⊥) → demo_ending n ≡ other → (demo_ending n).status ≡ Done → TellsALine n
+other_end n other never is done = absurd (never (sym (ap (λ (s : Ending). s.status) is) ∙ done))
 
 module _ (n : ℕ) where
-  stopped : (dumps : List Dump) (w : World) (end : Option End) → TellsALine n (demonstrated_ending n dumps w end)
-  stopped dumps w None is = absurd cc
-  stopped dumps w (Some all_ended) is = (w, refl)
-  stopped dumps w (Some (stray_at pid access)) is = absurd cc
-  stopped dumps w (Some out_of_quanta) is = absurd cc
-  stopped dumps w (Some log_full) is = absurd cc
+  abbrev m : Manifest
+  m = demo_manifest n
 
-  booted : (m : Manifest) (r : Result World BootFault) → TellsALine n (booted_ending (Demo n) m r)
-  booted m (Err first) is = absurd cc
-  booted m (Ok w) is = let walk = turns (repeated m.repeat m.quanta) w in stopped m.dumps walk.world walk.end is
+  module _ (b : Brought) (brings : all_brought m.items (each_of demo_file n) nothing_brought ≡ Ok b) where
+    stopped : (w : World) → boot (opening First m b) (map start_line m.starts) ≡ Ok w → (walk : Walk) → turns (repeated m.repeat m.quanta) w ≡ walk
+        → (end : Option End) → walk.end ≡ end → demo_ending n ≡ demonstrated_ending n m.dumps walk.world end → (demo_ending n).status ≡ Done → TellsALine n
+    stopped w boots walk walks None ends is done = other_end n _ (λ h. cc) is done
+    stopped w boots walk walks (Some all_ended) ends is done =
+        record { brought = b; brings = brings; world = w; boots = boots; walk = walk; walks = walks; ended = ends; ending = is }
+    stopped w boots walk walks (Some (stray_at pid access)) ends is done = other_end n _ (λ h. cc) is done
+    stopped w boots walk walks (Some out_of_quanta) ends is done = other_end n _ (λ h. cc) is done
+    stopped w boots walk walks (Some log_full) ends is done = other_end n _ (λ h. cc) is done
 
-  brought : (m : Manifest) (r : Result Brought FaultAt) → TellsALine n (brought_ending (Demo n) First m r)
-  brought m (Err at) is = absurd cc
-  brought m (Ok b) is = booted m (boot (opening First m b) (map start_line m.starts)) is
+    booted : (r : Result World BootFault) → boot (opening First m b) (map start_line m.starts) ≡ r → demo_ending n ≡ booted_ending (Demo n) m r → (demo_ending n).status ≡ Done → TellsALine n
+    booted (Err first) boots is done = other_end n _ (λ h. cc) is done
+    booted (Ok w) boots is done = let walk = turns (repeated m.repeat m.quanta) w in stopped w boots walk refl walk.end refl is done
+
+  brought : (r : Result Brought FaultAt) → all_brought m.items (each_of demo_file n) nothing_brought ≡ r → demo_ending n ≡ brought_ending (Demo n) First m r → (demo_ending n).status ≡ Done → TellsALine n
+  brought (Err at) brings is done = other_end n _ (λ h. cc) is done
+  brought (Ok b) brings is done = booted b brings (boot (opening First m b) (map start_line m.starts)) refl is done
+
+demo_is : (n : ℕ) → demo_ending n ≡ brought_ending (Demo n) First (demo_manifest n) (all_brought (demo_manifest n).items (each_of demo_file n) nothing_brought)
+unfolding demo_ending files_ending
+demo_is n = refl
 
 pub demos_tell_a_line : DemosTellALine
-unfolding demo_ending files_ending
-demos_tell_a_line n is = brought n (demo_manifest n) (all_brought (demo_manifest n).items (each_of demo_file n) nothing_brought) is
+demos_tell_a_line n done = brought n (all_brought (demo_manifest n).items (each_of demo_file n) nothing_brought) refl (demo_is n) done

@@ -1,10 +1,10 @@
 -- The manifest of a demo.
-use Rattle.std.proofs.Common.{◌≡◌, ℕ, zero, suc, ◌+◌, ◌≤◌, List, [], ◌∷◌, ◌++◌, length, map, Option, Some, None, refl, sym, ap, ◌∙◌, subst, arith, rules, add-one, length-append}
+use Rattle.std.proofs.Common.{◌≡◌, ℕ, zero, suc, ◌+◌, ◌≤◌, List, [], ◌∷◌, ◌++◌, length, map, refl, sym, ap, ◌∙◌, subst, arith, rules, add-one, length-append}
 use Rattle.std.specs.List.{AllByRecursion}
 use Rattle.std.proofs.lemmas.List.{map-append}
 use Rattle.page_runs.specs.declared.place.Kind.{Kind}
 use Rattle.page_runs.specs.declared.place.Kind.TheVariants.{First}
-use Rattle.manifest_text.specs.Values.{Item, Start, Manifest}
+use Rattle.manifest_text.specs.Values.{Manifest}
 use Rattle.manifest_text.specs.Laws.{IsItem, HasArgument, Reasonable}
 use Rattle.elf_maker.specs.Demo.{demo_file}
 use Rattle.suite_top.specs.declared.telling.Telling.TheVariants.{Demo}

@@ -10,7 +10,7 @@
 -- Opened: a list opened at one place.
 -- LoadedItems: the loads of a manifest's lines.
 -- Booted, RunEndings, RunLaws: what a boot of the machine gives, how a run ends, and when it reaches its machine.
--- Told, Demos, DemoFaults, DemoLaws: what a run tells, the manifest of a demo and its programs, and the laws of the command.
+-- Demos, DemoFaults, DemoLaws: the manifest of a demo and its programs, and the laws of the command.
 -- Samples, ListSamples, RunSamples: the definitions on the worked example and on small manifests.
 pub mod HostCourses
 pub mod HostSteps
@@ -38,7 +38,6 @@ pub mod LoadedItems
 pub mod Booted
 pub mod RunEndings
 pub mod RunLaws
-pub mod Told
 pub mod Demos
 pub mod DemoFaults
 pub mod DemoLaws

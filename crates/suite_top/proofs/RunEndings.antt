@@ -1,5 +1,5 @@
 -- How a run ends behind its loads.
-use Rattle.std.proofs.Common.{◌≡◌, ◌≢◌, ℕ, Bool, List, map, Option, Some, None, Result, Ok, Err, sym, subst, inl, inr}
+use Rattle.std.proofs.Common.{◌≡◌, ◌≢◌, ℕ, Bool, List, map, Result, Ok, Err, sym, subst, inl, inr}
 use Rattle.std.specs.Prelude.{◌⊎◌}
 use Rattle.host_io.specs.Host.{Told}
 use Rattle.page_runs.specs.declared.place.Kind.{Kind}
@@ -13,7 +13,7 @@ use Rattle.suite_top.specs.Texts.Refusals.{manifest_tail}
 use Rattle.suite_top.specs.Observed.{Observed}
 use Rattle.suite_top.specs.HostCourse.{PerformsCommand}
 use Rattle.suite_top.specs.declared.telling.Telling.{Telling}
-use Rattle.suite_top.specs.declared.telling.Telling.TheVariants.{Report, Demo}
+use Rattle.suite_top.specs.declared.telling.Telling.TheVariants.{Report}
 use Rattle.run_setup.specs.Brought.{Brought, FaultAt, nothing_brought, all_brought}
 use Rattle.run_setup.specs.Faults.{IsMemory}
 use Rattle.suite_top.specs.ItemLoads.{GaveFiles}

@@ -3,8 +3,10 @@ use Rattle.std.proofs.Common.{◌≡◌, ℕ, true, false, List, [], ◌∷◌, 
 use Rattle.std.specs.Prelude.{codes}
 use Rattle.std.specs.Fmt.{digits}
 use Rattle.suite_top.specs.Sizes.{Sizes, header_sizes}
-use Rattle.suite_top.specs.Texts.{refusal_tail, convert_line, check_line}
-use Rattle.suite_top.specs.Arguments.{convert, check, run, command_of}
+use Rattle.suite_top.specs.Texts.{refusal_tail, convert_line, check_line, demo_line}
+use Rattle.suite_top.specs.Demo.{each_of, demo_manifest}
+use Rattle.manifest_text.specs.declared.manifest.ItemKind.TheVariants.{Elf}
+use Rattle.suite_top.specs.Arguments.{convert, check, run, demo, command_of}
 use Rattle.elf2flt_tool.specs.declared.refusal.Refusal.TheVariants as refusal
 use Rattle.page_runs.specs.declared.place.Kind.TheVariants.{First, Best, Last}
 use Rattle.psabi_relocs.specs.declared.fault.RelocFault.TheVariants.{AbsoluteCode}
@@ -85,3 +87,28 @@ entry_is_told = refl
 place_is_told : refusal_tail (refusal.TargetOutside 65544) ≡ codes "target 0x00010008"
 unfolding digits
 place_is_told = refl
+
+-- the argument of a demo is one of 1 to 64
+demo_is_read : command_of (codes "demo" ∷ codes "64" ∷ []) ≡ Some (demo 64)
+unfolding digits
+demo_is_read = refl
+
+no_demo : (command_of (codes "demo" ∷ codes "65" ∷ []) ∷ command_of (codes "demo" ∷ codes "0" ∷ []) ∷ command_of (codes "demo" ∷ codes "01" ∷ []) ∷ []) ≡ (None ∷ None ∷ None ∷ [])
+unfolding digits
+no_demo = refl
+
+demo_is_told : demo_line 2 552 180 3 ≡ codes "demo 2 events 552 console 180 exits 3\n"
+unfolding digits
+demo_is_told = refl
+
+-- the lines by which two programs run
+two_programs : demo_manifest 2 ≡ record {
+  pages = 128;
+  items = record { line = 1; kind = Elf; path = codes "/p1"; name = []; stack = 4096 } ∷ record { line = 2; kind = Elf; path = codes "/p2"; name = []; stack = 4096 } ∷ [];
+  starts = record { line = 1; args = codes "/p1" ∷ [] } ∷ record { line = 2; args = codes "/p2" ∷ [] } ∷ [];
+  quanta = record { pick = 0; count = 50 } ∷ record { pick = 1; count = 30 } ∷ record { pick = 2; count = 70 } ∷ [];
+  repeat = 100000;
+  dumps = [];
+}
+unfolding digits demo_manifest each_of
+two_programs = refl

@@ -1,5 +1,5 @@
 -- What a run of programs tells: with `run` its report, and with `demo` a line.
-use Rattle.std.specs.Prelude.{ℕ, Bool, false, List, ◌++◌, reverse, length, sum_by, Option, Some, None}
+use Rattle.std.specs.Prelude.{ℕ, Bool, false, List, ◌++◌, reverse, length, sum_by, Option, Some}
 use Rattle.call_log.specs.declared.how.How.TheVariants as how
 use Rattle.call_log.specs.Notes.{Note, end_note}
 use Rattle.manifest_text.specs.declared.manifest.Dump.{Dump}

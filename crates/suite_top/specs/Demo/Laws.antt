@@ -1,13 +1,19 @@
 -- What a call of `demo` does, and that its programs have no fault.
-use Rattle.std.specs.Prelude.{◌≡◌, ◌↔◌, ℕ, ◌≤◌, List, [], ◌++◌, decimal, length, Some, None}
+use Rattle.std.specs.Prelude.{◌≡◌, ◌↔◌, ℕ, ◌≤◌, List, map, decimal, Some, None, Ok}
+use Rattle.page_runs.specs.declared.place.Kind.TheVariants.{First}
 use Rattle.machine_world.specs.World.{World}
+use Rattle.machine_world.specs.Boot.{boot}
+use Rattle.machine_world.specs.Turns.{all_ended, Walk, turns}
+use Rattle.flat_machine.specs.Runs.{repeated}
+use Rattle.run_setup.specs.Brought.{Brought, nothing_brought, all_brought}
 use Rattle.elf2flt_tool.specs.Fault.{fault}
 use Rattle.elf_maker.specs.Demo.{demo_file}
 use Rattle.suite_top.specs.declared.status.Status.TheVariants.{Done}
 use Rattle.suite_top.specs.Ending.{done_ending}
 use Rattle.suite_top.specs.Arguments.{demo, least_programs, most_programs, programs_of, command_of}
 use Rattle.suite_top.specs.Telling.{demo_text}
-use Rattle.suite_top.specs.Demo.{demo_ending}
+use Rattle.suite_top.specs.Run.{start_line, opening}
+use Rattle.suite_top.specs.Demo.{each_of, demo_manifest, demo_ending}
 use Rattle.suite_top.specs.Call.{Call, MeetsOutcome}
 
 -- each program can be converted
@@ -23,6 +29,18 @@ abbrev pub DemosAskNothing : Type 0
 DemosAskNothing = (c : Call) (n : ℕ) → MeetsOutcome c → command_of c.arguments ≡ Some (demo n)
     → (c.host_after.told ≡ c.host.told) × (c.host_after.faults ≡ c.host.faults)
 
--- with Done the console and the line of numbers stand in `out`, read off one world, and `report` gets nothing
+-- the programs all stand in the memory, no process is left behind their turns, and the console and the line, of the world
+-- there, go to `out`, and nothing to `report`
+pub record TellsALine (n : ℕ) : Type 0 where
+  pub brought : Brought
+  pub brings : all_brought (demo_manifest n).items (each_of demo_file n) nothing_brought ≡ Ok brought
+  pub world : World
+  pub boots : boot (opening First (demo_manifest n) brought) (map start_line (demo_manifest n).starts) ≡ Ok world
+  pub walk : Walk
+  pub walks : turns (repeated (demo_manifest n).repeat (demo_manifest n).quanta) world ≡ walk
+  pub ended : walk.end ≡ Some all_ended
+  pub ending : demo_ending n ≡ done_ending (demo_text n walk.world)
+
+-- Done comes only so
 abbrev pub DemosTellALine : Type 0
-DemosTellALine = (n : ℕ) → (demo_ending n).status ≡ Done → (w : World) × (demo_ending n ≡ done_ending (demo_text n w))
+DemosTellALine = (n : ℕ) → (demo_ending n).status ≡ Done → TellsALine n

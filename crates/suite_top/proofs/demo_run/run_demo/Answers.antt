@@ -1,5 +1,5 @@
 -- The made manifest and the made files are those of the demo.
-use Rattle.std.proofs.Common.{map, sym, subst, ◌∙◌}
+use Rattle.std.proofs.Common.{sym, subst, ◌∙◌}
 use Rattle.std.proofs.lemmas.List.{length-map}
 use Rattle.page_runs.specs.Choosers.{kind_of}
 use Rattle.manifest_text.specs.Values.{item_value, manifest_value, vec_texts}
