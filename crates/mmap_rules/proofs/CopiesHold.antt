@@ -29,7 +29,7 @@ use Rattle.mmap_rules.proofs.NamesMore.{used}
 
 -- ---- parts of a list over which bytes were laid
 
-pub same_part : (old new : List ℕ) (at len : ℕ) → length new ≡ length old → ((i : ℕ) → at ≤ i → i < at + len → get_or new i 0 ≡ get_or old i 0)
+same_part : (old new : List ℕ) (at len : ℕ) → length new ≡ length old → ((i : ℕ) → at ≤ i → i < at + len → get_or new i 0 ≡ get_or old i 0)
     → take len (drop at new) ≡ take len (drop at old)
 same_part old new at len same each =
     let new_len : length (take len (drop at new)) ≡ length (take len (drop at old)) =
@@ -49,7 +49,7 @@ laid_beside old bytes at from len fits (inr past) =
     same_part old (laid old at bytes) from len (length-laid old at bytes fits) (λ i low high. laid_past old at bytes fits i (omega (arith, past, low)))
 
 -- and at their place stand the bytes
-laid_there : (old bytes : List ℕ) (at len : ℕ) → at + length bytes ≤ length old → len ≡ length bytes
+pub laid_there : (old bytes : List ℕ) (at len : ℕ) → at + length bytes ≤ length old → len ≡ length bytes
     → take len (drop at (laid old at bytes)) ≡ bytes
 laid_there old bytes at len fits is =
     let whole = length-laid old at bytes fits in
@@ -65,7 +65,7 @@ laid_there old bytes at len fits is =
 -- ---- the bytes of the regions
 
 -- a live region lies before a free run or behind it
-pub beside : (rs : List Region) (first count id : ℕ) (r : Region) → AreRegions rs → AreFree rs first count → 0 < count → slice_get rs id ≡ Some r → 0 < r.uses
+beside : (rs : List Region) (first count id : ℕ) (r : Region) → AreRegions rs → AreFree rs first count → 0 < count → slice_get rs id ≡ Some r → 0 < r.uses
     → (r.first + r.pages ≤ first) ⊎ (first + count ≤ r.first)
 beside rs first count id r are free some there live = elim (cases_lt first (r.first + r.pages)) [
   | inl reaches ↦ elim (cases_lt r.first (first + count)) [
@@ -83,7 +83,7 @@ beside rs first count id r are free some there live = elim (cases_lt first (r.fi
         let held = held_by rs id r p there (grind (arith, nat_tests, live, from, to)) in
         false≢true (sym (free.free p (grind (arith, nat_tests, low, high))) ∙ held)
 
-bytes_beside : (rs : List Region) (mem content : List ℕ) (first count id : ℕ) (r : Region) → AreRegions rs → AreFree rs first count → 0 < count
+pub bytes_beside : (rs : List Region) (mem content : List ℕ) (first count id : ℕ) (r : Region) → AreRegions rs → AreFree rs first count → 0 < count
     → length content ≡ 4096 * count → 4096 * first + length content ≤ length mem → slice_get rs id ≡ Some r → 0 < r.uses
     → bytes_of (laid mem (4096 * first) content) r ≡ bytes_of mem r
 bytes_beside rs mem content first count id r are free some len fits there live =
