@@ -20,16 +20,6 @@ use Rattle.flat_loader.proofs.Written.{byte_of_same, outside_cases}
 
 -- ---- the block's region
 
--- what stands at an id that was just set
-pub region_set : (old new : List Region) (id : ℕ) (v r : Region) → new ≡ slice_set old id v → slice_get new id ≡ Some r → r ≡ v
-region_set old new id v r new_is there = elim (after_set old id id v r (sym (ap (λ rs. slice_get rs id) new_is) ∙ there)) [
-  | inl here ↦ here.1
-  | inr other ↦ absurd (other.0 refl)
-]
-
-pub region_there : (old new : List Region) (id : ℕ) (v : Region) → new ≡ slice_set old id v → IsLive new id → slice_get new id ≡ Some v
-region_there old new id v new_is live = live.there ∙ ap (λ r. Some r) (region_set old new id v live.region new_is live.there)
-
 pub block_fits : (o : Original) (r : Region) (end stack : ℕ) → r.pages ≡ block_pages o → end ≡ o.size → stack ≡ stack_len o → FitsBlock r (64 + end) stack
 unfolding block_pages
 block_fits o r end stack pages_is end_is stack_is =

@@ -120,8 +120,8 @@ pub fn load<F: Fn(&[Run], u32) -> Option<usize>>(
     chooser: &Chooser<F>,
 ) -> Result<Loaded, LoadRefusal>
     requires chooser { IsChooser F.pre F.post chooser.now }
-    requires memory { length mem.old ≡ 4096 * length regions.old }
-    ensures { Loads (kind_of chooser.now) flat.now (texts args.now) (texts env.now) regions.old mem.old regions.new mem.new result }
+    requires memory { length mem.old ≡ 4096 * length regions.old.regions }
+    ensures { Loads (kind_of chooser.now) flat.now (texts args.now) (texts env.now) regions.old.regions mem.old regions.new.regions mem.new result }
 {
     if !frame_fits(flat, args, env) {
         return Err(LoadRefusal::E2big);
@@ -130,13 +130,13 @@ pub fn load<F: Fn(&[Run], u32) -> Option<usize>>(
         return Err(LoadRefusal::Memory);
     };
     let pages = block_pages(flat);
-    let Some(first) = regions.fresh(mem, pages, Source::Own, chooser) else {
+    let Some(id) = regions.fresh(mem, pages, Source::Own, chooser) else {
         return Err(LoadRefusal::NoRun);
     };
-    let base = BASE + PAGE * first;
+    let base = BASE + PAGE * regions.region(id).first;
     let regs = load_at(mem, base, flat, args, env);
     let end = HEADER_LEN + image_len(flat);
-    let space = Space::new(room, regions, first, end, stack_len(flat));
+    let space = Space::new(room, regions, id, end, stack_len(flat));
     Ok(Loaded {
         space,
         regs,

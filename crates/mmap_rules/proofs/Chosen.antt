@@ -1,5 +1,5 @@
 -- What `map` chooses is what is mapped.
-use Rattle.std.proofs.Common.{◌≡◌, ℕ, ◌+◌, ◌-◌, ◌*◌, ◌≤◌, true, false, List, replicate, refl, sym, ap, arith}
+use Rattle.std.proofs.Common.{◌≡◌, ℕ, ◌+◌, ◌-◌, ◌*◌, ◌≤◌, Bool, true, false, List, replicate, refl, sym, ap, arith}
 use Rattle.std.specs.Prelude.{Option, Some, None, slice_get, option_map}
 use Rattle.std.proofs.lemmas.Bool.{false≢true}
 use Rattle.std.proofs.lemmas.Bool.Decides.{nat_tests}
@@ -9,11 +9,12 @@ use Rattle.nommu_regions.specs.declared.region.Region.{Region}
 use Rattle.nommu_regions.specs.declared.region.Source.{Source}
 use Rattle.nommu_regions.specs.declared.region.Source.TheVariants.{Own, Copy}
 use Rattle.nommu_regions.specs.Regions.{copy_of, copy_covers, covers, is_copy}
+use Rattle.nommu_regions.specs.Ids.{Numbered, start_of}
 use Rattle.mmap_rules.specs.declared.want.Want.{Want}
 use Rattle.mmap_rules.specs.declared.want.Want.TheVariants.{Anon, File}
 use Rattle.mmap_rules.specs.declared.maps.Part.{Part}
 use Rattle.mmap_rules.specs.Mappings.{copied_from, filled, file_pages, CopyHas}
-use Rattle.mmap_rules.specs.Chosen.{part_for, new_run, first_bytes}
+use Rattle.mmap_rules.specs.Chosen.{part_at, part_for, new_run, first_bytes}
 use Rattle.mmap_rules.specs.Sides.{Sides, in_fresh_run, in_copy, in_copy_or_new, mapped}
 
 pub mapped_part : (s : Sides) (kind : Kind) (bytes : List ℕ) (want : Want) (p : Part) → part_for s.regions want ≡ Some p →
@@ -27,6 +28,13 @@ mapped_part s kind bytes (File pages first false id change) p is = at (copy_of s
         in_copy_or_new s kind bytes pages first id change o ≡ in_copy s p.first p.pages (slice_get s.regions p.copy)
     at None none = absurd (none-some p none)
     at (Some copy) some = ap (λ (q : Part). in_copy s q.first q.pages (slice_get s.regions q.copy)) (same_Some _ _ some)
+
+-- a copy that was found under an id
+pub part_is : (rs : Numbered) (want : Want) (pages first : ℕ) (write : Bool) (id change copy : ℕ) → option_map (start_of rs) (Some copy) ≡ copy_of rs.regions id change first pages
+    → want ≡ File pages first write id change → write ≡ false
+    → Some (part_at rs (record { copy = copy; first = first; pages = pages })) ≡ part_for rs.regions want
+part_is rs want pages first write id change copy lowest is reads =
+    rw (is, reads) (ap (option_map {U = Part} (λ (found : ℕ). record { copy = found; first = first; pages = pages })) lowest)
 
 pub mapped_new : (s : Sides) (kind : Kind) (bytes : List ℕ) (want : Want) → part_for s.regions want ≡ None →
     mapped s kind bytes want ≡ in_fresh_run s kind (new_run want).pages (new_run want).writes (new_run want).anonymous (new_run want).source

@@ -7,7 +7,8 @@ use Rattle.std.proofs.lemmas.Option.{none-some, slice_get_within, get_or_from_sl
 use Rattle.std.proofs.lemmas.List.Sums.{fails_before_first}
 use Rattle.std.proofs.lemmas.List.Quantifiers.{position-Some}
 use Rattle.nommu_regions.specs.declared.region.Region.{Region}
-use Rattle.nommu_regions.specs.Regions.{with_uses, with_cut}
+use Rattle.nommu_regions.specs.Regions.{CanCut, with_uses, with_cut}
+use Rattle.nommu_regions.specs.Ids.{Numbered, start_of}
 use Rattle.mmap_rules.specs.declared.mapping.Mapping.{Mapping}
 use Rattle.mmap_rules.specs.Held.{Held}
 use Rattle.mmap_rules.specs.Want.{pages_for}
@@ -151,3 +152,13 @@ cut_unmaps h v rs new addr len n k m maps pages view count some begins none firs
     let is = subst (λ (x : Held). unmapped x rs addr len ≡ Some (freed (record x { maps = take k x.maps ++ left_of m addr (4096 * pages_for len) ++ drop (k + 1) x.maps }) (with_cut rs m.first (page_at addr) (pages_for len)))) view
     (unmapped_cut v rs addr len k m some begins (rw count at none) (rw count at first) there) in
     rw (is, is_maps, is_pages, is_new, count, ← view) refl
+
+-- ---- a region that is named by its first page
+
+pub dropped : (old new : Numbered) (id first : ℕ) → start_of old id ≡ first → new ≡ record old { regions = with_uses old.regions (start_of old id) (λ uses. uses - 1) }
+    → new.regions ≡ with_uses old.regions first (λ uses. uses - 1)
+dropped old new id first at is = ap (λ (s : Numbered). s.regions) is ∙ ap (λ (k : ℕ). with_uses old.regions k (λ uses. uses - 1)) at
+
+pub cut_at : (old : Numbered) (new : List Region) (id first from count : ℕ) → start_of old id ≡ first → new ≡ with_cut old.regions (start_of old id) from count
+    → new ≡ with_cut old.regions first from count
+cut_at old new id first from count at is = is ∙ ap (λ (k : ℕ). with_cut old.regions k from count) at

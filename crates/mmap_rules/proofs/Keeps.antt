@@ -25,7 +25,7 @@ same_sides (Some m) s new Memory same = same
 
 -- what holds before and after each change holds after the call
 pub kept : (P : Sides → Type 0) (s new : Sides) (kind : Kind) (bytes : List ℕ) (want : Want) (result : Result ℕ MapFault) → AsksPages want → AreRegions s.regions →
-    P s → ((m : Mapped) → FreshRun s m → P m.sides) → ((m : Mapped) → OneMore s m → P m.sides) → Maps (mapped s kind bytes want) s new result → P new
+    P s → ((m : Mapped) → FreshRun s bytes want m → P m.sides) → ((m : Mapped) → OneMore s want m → P m.sides) → Maps (mapped s kind bytes want) s new result → P new
 kept P s new kind bytes want (Err fault) asks are old fresh shared maps = subst P (sym (same_sides (mapped s kind bytes want) s new fault maps)) old
 kept P s new kind bytes want (Ok addr) asks are old fresh shared maps = at (mapped s kind bytes want) refl maps
   where
@@ -61,7 +61,7 @@ pages_kept s new kind bytes want result asks are fits = kept (λ (t : Sides). (t
     let len : length (slice_set s.regions run.first v) ≡ length s.regions = length-set s.regions run.first v in
     let inside = run.free.inside in
     let bytes_len = run.len in
-    let memory = length-laid s.memory (4096 * run.first) run.bytes (omega (arith, inside, bytes_len, fits.1)) in
+    let memory = length-laid s.memory (4096 * run.first) run.content (omega (arith, inside, bytes_len, fits.1)) in
     rw (run.pages, run.regions, run.memory, len, memory) fits))
     (λ m one. (
     let len : length (slice_set s.regions one.region.first (used one.region)) ≡ length s.regions = length-set s.regions one.region.first (used one.region) in

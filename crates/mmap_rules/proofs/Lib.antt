@@ -23,7 +23,9 @@
 -- Fresh      a run that is taken is free
 -- Names      mappings and their regions after a mapping more
 -- NamesMore  the same after a mapping of a copy more
+-- FilePages  pages of a file, byte by byte
 -- Change     what `map` changes
+-- CopiesHold copies hold their file where `map` maps pages
 -- Keeps      what `map` keeps, as its next call needs it
 -- Samples    the definitions, computed on worked examples
 pub mod Ranges
@@ -51,6 +53,8 @@ pub mod Chosen
 pub mod Fresh
 pub mod Names
 pub mod NamesMore
+pub mod FilePages
 pub mod Change
+pub mod CopiesHold
 pub mod Keeps
 pub mod Samples

@@ -4,11 +4,16 @@ use Rattle.nommu_regions.specs.declared.region.Region.{Region}
 use Rattle.nommu_regions.specs.declared.region.Source.{Source}
 use Rattle.nommu_regions.specs.declared.region.Source.TheVariants.{Own, Copy}
 use Rattle.nommu_regions.specs.Regions.{copy_of}
+use Rattle.nommu_regions.specs.Ids.{Numbered, start_of}
 use Rattle.mmap_rules.specs.declared.want.Want.{Want}
 use Rattle.mmap_rules.specs.declared.want.Want.TheVariants.{Anon, File}
 use Rattle.mmap_rules.specs.declared.maps.NewRun.{NewRun}
 use Rattle.mmap_rules.specs.declared.maps.Part.{Part}
 use Rattle.mmap_rules.specs.Space.{page_size}
+
+-- a part with the first page of its copy in the place of the id
+abbrev pub part_at : Numbered → Part → Part
+part_at s p = record p { copy = start_of s p.copy }
 
 -- pages of a file that aren't written can be shared
 abbrev pub part_for : List Region → Want → Option Part

@@ -5,6 +5,7 @@
 -- Mappings  mappings that come and go
 -- Sides     what mapping and unmapping change
 -- Chosen    what `map` chooses
+-- Copies    copies hold their file
 pub mod Space
 pub mod Owners
 pub mod Held
@@ -12,3 +13,4 @@ pub mod Want
 pub mod Mappings
 pub mod Sides
 pub mod Chosen
+pub mod Copies

@@ -2,7 +2,7 @@
 ghost use Rattle.std.specs.Prelude.{◌≡◌, ◌≤◌, ◌*◌, Some, IfOk, length, slice_get};
 ghost use Rattle.page_runs.specs.Choosers.{IsChooser};
 ghost use Rattle.nommu_regions.specs.declared.region.Source.TheVariants.{Own};
-ghost use Rattle.nommu_regions.specs.Regions.{IsLive};
+ghost use Rattle.nommu_regions.specs.Ids.{Lives, region_of, start_of};
 ghost use Rattle.mmap_rules.specs.Want.{AsksPages};
 ghost use Rattle.mmap_rules.specs.Sides.{AreAtMost};
 
@@ -33,7 +33,7 @@ impl Model for Machine {
 
     ghost view = { λ m. m.calls };
 
-    ghost invariant = { λ m. (m.space.pages ≡ length m.regions) × (length m.mem ≡ 4096 * length m.regions) × NameRegions m.regions m.space.maps × AreAtMost (m.calls + 1) m.regions × (m.calls ≤ 100) };
+    ghost invariant = { λ m. (m.space.pages ≡ length m.regions.regions) × (length m.mem ≡ 4096 * length m.regions.regions) × NameRegions m.regions.regions m.space.maps × AreAtMost (m.calls + 1) m.regions.regions × (m.calls ≤ 100) };
 }
 
 /// A block of three pages.
@@ -43,13 +43,13 @@ fn block<F: Fn(&[Run], u32) -> Option<usize>>(
     chooser: &Chooser<F>,
 ) -> Result<u32, Fail>
     requires chooser { IsChooser F.pre F.post chooser.now }
-    requires memory { length mem.old ≡ 4096 * length regions.old }
-    requires most { AreAtMost 1 regions.old }
-    ensures len { length regions.new ≡ length regions.old }
+    requires memory { length mem.old ≡ 4096 * length regions.old.regions }
+    requires most { AreAtMost 1 regions.old.regions }
+    ensures len { length regions.new.regions ≡ length regions.old.regions }
     ensures memory { length mem.new ≡ length mem.old }
-    ensures most { AreAtMost 1 regions.new }
-    ensures live { IfOk result (λ id. IsLive regions.new id) }
-    ensures made { IfOk result (λ id. slice_get regions.new id ≡ Some (record { first = id; pages = 3; source = Own; uses = 1 })) }
+    ensures most { AreAtMost 1 regions.new.regions }
+    ensures live { IfOk result (λ id. Lives regions.new id) }
+    ensures made { IfOk result (λ id. region_of regions.new id ≡ Some (record { first = start_of regions.new id; pages = 3; source = Own; uses = 1 })) }
 {
     match regions.fresh(mem, 3, Source::Own, chooser) {
         Some(id) => Ok(id),

@@ -1,16 +1,18 @@
 //! Mappings that come (Linux, mmap(2) and "No-MMU memory mapping support").
 
-ghost use Rattle.std.specs.Prelude.{ℕ, List, ◌≡◌, ◌+◌, ◌-◌, ◌*◌, ◌^◌, ◌<◌, ◌≤◌, [], ◌∷◌, ◌++◌, Some, OnOk, IfSome, length, slice_get, take, drop, vec_capacity};
+ghost use Rattle.std.specs.Prelude.{ℕ, List, ◌≡◌, ◌+◌, ◌-◌, ◌*◌, ◌^◌, ◌<◌, ◌≤◌, [], ◌∷◌, ◌++◌, Some, IfOk, OnOk, IfSome, length, option_map, slice_get, take, drop, vec_capacity};
 ghost use Rattle.std.specs.List.{sum_by};
 ghost use Rattle.page_runs.specs.Choosers.{IsChooser, kind_of};
 ghost use Rattle.mem_files.specs.Inodes.{bytes_of};
 ghost use Rattle.nommu_regions.specs.declared.region.Source.TheVariants.{Own};
 ghost use Rattle.nommu_regions.specs.Regions.{AreRegions};
+ghost use Rattle.nommu_regions.specs.Ids.{Lives, region_of, start_of};
 ghost use Rattle.mmap_rules.specs.Owners.{IsTable};
 ghost use Rattle.mmap_rules.specs.Held.{AreMappings, places_of};
 ghost use Rattle.mmap_rules.specs.Want.{AsksPages};
-ghost use Rattle.mmap_rules.specs.Mappings.{run_mapping, part_mapping, copied_from, filled, IsNewRun, CopyHas, CanAdd};
-ghost use Rattle.mmap_rules.specs.Chosen.{part_for, new_run, first_bytes, file_source};
+ghost use Rattle.mmap_rules.specs.Copies.{AllHold, IsKnown, pages_at, pages_of, wanted_bytes};
+ghost use Rattle.mmap_rules.specs.Mappings.{run_mapping, part_mapping, copied_from, filled, page_at, IsNewRun, CopyHas, CanAdd};
+ghost use Rattle.mmap_rules.specs.Chosen.{part_at, part_for, new_run, first_bytes, file_source};
 ghost use Rattle.mmap_rules.specs.Sides.{sides, mapped, in_fresh_run, in_copy, file_in, Maps, NameRegions, AreFew};
 
 use crate::mapping::{Mapping, Range};
@@ -63,8 +65,9 @@ struct Part {
 /// The pages of a copy that can be shared, if there are any.
 fn part_for(regions: &Regions, want: Want) -> Option<Part>
     requires { AsksPages want }
-    ensures part { result ≡ part_for regions.now want }
-    ensures copy { IfSome result (λ part. CopyHas regions.now part.copy part.first part.pages) }
+    ensures part { option_map (part_at regions.now) result ≡ part_for regions.now.regions want }
+    ensures live { IfSome result (λ part. Lives regions.now part.copy) }
+    ensures copy { IfSome result (λ part. CopyHas regions.now.regions (start_of regions.now part.copy) part.first part.pages) }
     ensures some { IfSome result (λ part. 0 < part.pages) }
 {
     let Want::File {
@@ -236,14 +239,15 @@ impl Space {
         first: u32,
         pages: u32,
     ) -> Result<u32, MapFault>
-        requires pages { self.old.pages ≡ length regions.old }
-        requires regions { AreRegions regions.old }
-        requires most { length regions.old ≤ 16384 }
-        requires names { NameRegions regions.old self.old.maps }
-        requires few { AreFew regions.old }
+        requires pages { self.old.pages ≡ length regions.old.regions }
+        requires regions { AreRegions regions.old.regions }
+        requires most { length regions.old.regions ≤ 16384 }
+        requires names { NameRegions regions.old.regions self.old.maps }
+        requires few { AreFew regions.old.regions }
         requires some { 0 < pages }
-        requires copy { CopyHas regions.old copy first pages }
-        ensures { (mem : List ℕ) → Maps (in_copy (sides self.old regions.old mem) first pages (slice_get regions.old copy)) (sides self.old regions.old mem) (sides self.new regions.new mem) result }
+        requires live { Lives regions.old copy }
+        requires copy { CopyHas regions.old.regions (start_of regions.old copy) first pages }
+        ensures { (mem : List ℕ) → Maps (in_copy (sides self.old regions.old.regions mem) first pages (region_of regions.old copy)) (sides self.old regions.old.regions mem) (sides self.new regions.new.regions mem) result }
     {
         make_room(&mut self.maps, 1)?;
         let region = regions.region(copy);
@@ -263,21 +267,26 @@ impl Space {
         chooser: &Chooser<F>,
     ) -> Result<u32, MapFault>
         requires chooser { IsChooser F.pre F.post chooser.now }
-        requires pages { self.old.pages ≡ length regions.old }
-        requires memory { length mem.old ≡ 4096 * length regions.old }
-        requires regions { AreRegions regions.old }
-        requires most { length regions.old ≤ 16384 }
-        requires names { NameRegions regions.old self.old.maps }
-        requires few { AreFew regions.old }
+        requires pages { self.old.pages ≡ length regions.old.regions }
+        requires memory { length mem.old ≡ 4096 * length regions.old.regions }
+        requires regions { AreRegions regions.old.regions }
+        requires most { length regions.old.regions ≤ 16384 }
+        requires names { NameRegions regions.old.regions self.old.maps }
+        requires few { AreFew regions.old.regions }
         requires run { IsNewRun run.now.pages run.now.writes run.now.anonymous run.now.source }
         requires bytes { length bytes.now ≤ 4096 * run.now.pages }
-        ensures { Maps (in_fresh_run (sides self.old regions.old mem.old) (kind_of chooser.now) run.now.pages run.now.writes run.now.anonymous run.now.source (filled (4096 * run.now.pages) bytes.now)) (sides self.old regions.old mem.old) (sides self.new regions.new mem.new) result }
+        ensures { Maps (in_fresh_run (sides self.old regions.old.regions mem.old) (kind_of chooser.now) run.now.pages run.now.writes run.now.anonymous run.now.source (filled (4096 * run.now.pages) bytes.now)) (sides self.old regions.old.regions mem.old) (sides self.new regions.new.regions mem.new) result }
     {
-        let places = if run.anonymous { run.pages } else { 1 };
+        let places = if run.anonymous {
+            run.pages.min(regions.pages())
+        } else {
+            1
+        };
         make_room(&mut self.maps, places)?;
-        let Some(first) = regions.fresh(mem, run.pages, run.source, chooser) else {
+        let Some(id) = regions.fresh(mem, run.pages, run.source, chooser) else {
             return Err(MapFault::Enomem);
         };
+        let first = regions.region(id).first;
         mem.copy_in(BASE + PAGE * first, bytes);
         add_mapping(&mut self.maps, &mut self.owners, run_mapping(first, run));
         Ok(BASE + PAGE * first)
@@ -294,12 +303,14 @@ impl Space {
         chooser: &Chooser<F>,
     ) -> Result<u32, MapFault>
         requires chooser { IsChooser F.pre F.post chooser.now }
-        requires pages { self.old.pages ≡ length regions.old }
-        requires memory { length mem.old ≡ 4096 * length regions.old }
-        requires names { NameRegions regions.old self.old.maps }
-        requires few { AreFew regions.old }
+        requires pages { self.old.pages ≡ length regions.old.regions }
+        requires memory { length mem.old ≡ 4096 * length regions.old.regions }
+        requires names { NameRegions regions.old.regions self.old.maps }
+        requires few { AreFew regions.old.regions }
         requires want { AsksPages want }
-        ensures maps { Maps (mapped (sides self.old regions.old mem.old) (kind_of chooser.now) (bytes_of tree.now (file_in want)) want) (sides self.old regions.old mem.old) (sides self.new regions.new mem.new) result }
+        ensures maps { Maps (mapped (sides self.old regions.old.regions mem.old) (kind_of chooser.now) (bytes_of tree.now (file_in want)) want) (sides self.old regions.old.regions mem.old) (sides self.new regions.new.regions mem.new) result }
+        ensures copies { AllHold regions.old.regions mem.old tree.now → IsKnown tree.now want → AllHold regions.new.regions mem.new tree.now }
+        ensures bytes { AllHold regions.old.regions mem.old tree.now → IsKnown tree.now want → IfOk result (λ addr. pages_at mem.new (page_at addr) (pages_of want) ≡ wanted_bytes tree.now want) }
     {
         let _pages = regions.pages();
         match part_for(regions, want) {

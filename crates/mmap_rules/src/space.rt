@@ -2,7 +2,7 @@
 ghost use Rattle.std.specs.Prelude.{◌≡◌, ◌+◌, ◌*◌, ◌%◌, ◌^◌, ◌<◌, ◌≤◌, true, false, IfOk, length, slice_get, Some};
 ghost use Rattle.nommu_regions.specs.declared.region.Region.{Region};
 ghost use Rattle.nommu_regions.specs.declared.region.Source.TheVariants.{Own};
-ghost use Rattle.nommu_regions.specs.Regions.{IsLive};
+ghost use Rattle.nommu_regions.specs.Ids.{Lives, region_of};
 ghost use Rattle.mmap_rules.specs.Space.{own_in, writable_in, may_use};
 ghost use Rattle.mmap_rules.specs.Owners.{owns, IsShaped};
 ghost use Rattle.mmap_rules.specs.Held.{AreMappings, FitsBlock, block_mapping, held_block, next_brk, CanRelease, released};
@@ -100,12 +100,10 @@ impl Space {
     /// A space with the block alone, which is the region of this id: the image ends `end` bytes behind the
     /// block's first byte, and the stack has `stack` bytes.
     pub fn new(room: SpaceRoom, regions: &Regions, block: u32, end: u32, stack: u32) -> Space
-        requires pages { room ≡ length regions.now }
-        requires live { IsLive regions.now block }
-        requires fits { (r : Region) → slice_get regions.now block ≡ Some r → FitsBlock r end stack }
-        requires end { end ≤ 2 ^ 25 }
-        requires stack { stack ≤ 2 ^ 25 }
-        ensures { (r : Region) → slice_get regions.now block ≡ Some r → result ≡ held_block (length regions.now) r end stack }
+        requires pages { room ≡ length regions.now.regions }
+        requires live { Lives regions.now block }
+        requires fits { (r : Region) → region_of regions.now block ≡ Some r → FitsBlock r end stack }
+        ensures { (r : Region) → region_of regions.now block ≡ Some r → result ≡ held_block (length regions.now.regions) r end stack }
     {
         let pages = regions.pages();
         let region = regions.region(block);
@@ -164,8 +162,8 @@ impl Space {
 
     /// Gives up all mappings: each gives up one use of its region.
     pub fn release(self, regions: &mut Regions)
-        requires { CanRelease regions.old self.maps }
-        ensures { regions.new ≡ released regions.old self.maps }
+        requires { CanRelease regions.old.regions self.maps }
+        ensures { regions.new.regions ≡ released regions.old.regions self.maps }
     {
         let Space { maps, .. } = self;
         release_all(&maps, regions);
@@ -174,10 +172,11 @@ impl Space {
 
 /// Each mapping gives up one use of its region.
 fn release_all(maps: &[Mapping], regions: &mut Regions)
-    requires { CanRelease regions.old maps.now }
-    ensures { regions.new ≡ released regions.old maps.now }
+    requires { CanRelease regions.old.regions maps.now }
+    ensures { regions.new.regions ≡ released regions.old.regions maps.now }
 {
     for mapping in maps {
-        regions.drop_use(mapping.first);
+        let id = regions.at(mapping.first);
+        regions.drop_use(id);
     }
 }

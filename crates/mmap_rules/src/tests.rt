@@ -1,7 +1,7 @@
 //! Own bytes at the ends of a block, and the worked example of the break.
 ghost use Rattle.std.specs.Prelude.{◌≡◌, ◌<◌, Some, IfOk, IfSome};
 ghost use Rattle.page_runs.specs.Choosers.{IsChooser};
-ghost use Rattle.nommu_regions.specs.Regions.{IsLive};
+ghost use Rattle.nommu_regions.specs.Ids.{Lives};
 
 use super::*;
 use nommu_regions::{Regions, Source};

@@ -135,10 +135,10 @@ impl Space {
     /// anonymous mapping that has them. It takes no memory. Einval where no mapping is hit, for length 0, and for an address that
     /// isn't a page's.
     pub fn unmap(&mut self, regions: &mut Regions, addr: u32, len: u32) -> Result<(), Errno>
-        requires pages { self.old.pages ≡ length regions.old }
-        requires names { NameRegions regions.old self.old.maps }
-        ensures unmaps { Unmaps (unmapped self.old regions.old addr len) (freed self.old regions.old) (freed self.new regions.new) result }
-        ensures names { NameRegions regions.new self.new.maps }
+        requires pages { self.old.pages ≡ length regions.old.regions }
+        requires names { NameRegions regions.old.regions self.old.maps }
+        ensures unmaps { Unmaps (unmapped self.old regions.old.regions addr len) (freed self.old regions.old.regions) (freed self.new regions.new.regions) result }
+        ensures names { NameRegions regions.new.regions self.new.maps }
     {
         if len == 0 || addr % PAGE != 0 {
             return Err(Errno::Einval);
@@ -147,14 +147,16 @@ impl Space {
         let pages = pages_for(len);
         if let Some(place) = place_of_range(&self.maps, addr, pages) {
             let gone = take_mapping(&mut self.maps, &mut self.owners, place);
-            regions.drop_use(gone.first);
+            let id = regions.at(gone.first);
+            regions.drop_use(id);
             return Ok(());
         }
         let Some(place) = place_that_loses(&self.maps, addr, pages) else {
             return Err(Errno::Einval);
         };
         let cut = cut_mapping(&mut self.maps, &mut self.owners, place, addr, pages);
-        regions.cut(cut.first, (addr - BASE) / PAGE, pages);
+        let id = regions.at(cut.first);
+        regions.cut(id, (addr - BASE) / PAGE, pages);
         Ok(())
     }
 }

@@ -25,7 +25,8 @@ live_of file change first pages r is =
     let live : nat_lt 0 r.uses ≡ true = left_of (nat_lt 0 r.uses) (copy_covers file change first pages r.source r.pages) is in
     grind (arith, nat_tests, live)
 
-no_region : Region
+-- what stands at a place that isn't there
+abbrev pub no_region : Region
 no_region = record { first = 0; pages = 0; source = Own; uses = 0 }
 
 pub copy_inside : (rs : List Region) (file change first pages id : ℕ) → Some id ≡ copy_of rs file change first pages → id < length rs

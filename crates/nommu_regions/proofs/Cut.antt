@@ -1,15 +1,16 @@
 -- What is kept where pages are cut out of a region.
-use Rattle.std.proofs.Common.{◌≡◌, ℕ, ◌+◌, ◌-◌, ◌≤◌, ◌<◌, Bool, true, false, List, length, get_or, arith, refl, ap, ◌∙◌, sym, length-set}
-use Rattle.std.specs.Prelude.{Some, None, slice_get, slice_set, ◌&&◌, ◌||◌, not}
+use Rattle.std.proofs.Common.{◌≡◌, ◌≢◌, inl, inr, ℕ, ◌+◌, ◌-◌, ◌≤◌, ◌<◌, Bool, true, false, List, length, get_or, arith, refl, ap, ◌∙◌, sym, length-set}
+use Rattle.std.specs.Prelude.{Some, slice_get, slice_set, ◌&&◌, ◌||◌, not}
+use Rattle.std.proofs.lemmas.Bool.{cases_Bool}
 use Rattle.std.proofs.lemmas.Bool.Decides.{nat_tests}
-use Rattle.std.proofs.lemmas.Option.{same_Some, slice_get_within, slice_get_read, slice_get-get_or}
+use Rattle.std.proofs.lemmas.Option.{same_Some, slice_get_within, slice_get-get_or}
 use Rattle.page_runs.specs.Free.{Free, with_free}
 use Rattle.page_runs.specs.Pages.{in_run}
 use Rattle.nommu_regions.specs.declared.region.Region.{Region}
-use Rattle.nommu_regions.specs.Regions.{holds, is_held, AreRegions, AreFree, IsLive, CanCut, free_of, before, behind, is_left, with_behind, back_id, with_cut}
+use Rattle.nommu_regions.specs.Regions.{holds, is_held, AreRegions, AreFree, IsLive, CanCut, free_of, before, behind, is_left, with_behind, with_cut, Kept}
 use Rattle.nommu_regions.proofs.Held.{is_held-set, is_held-part, held_by, not_held, was_gone, regions_fresh, regions_part}
 use Rattle.nommu_regions.proofs.FreeRuns.{free_with}
-use Rattle.nommu_regions.proofs.Kept.{Kept, live_set, live_other}
+use Rattle.nommu_regions.proofs.Kept.{get_set, get_other}
 
 -- pages of the region x, and not all of its pages
 pub record IsCut (rs : List Region) (id : ℕ) (x : Region) (from count : ℕ) : Type 0 where
@@ -20,15 +21,13 @@ pub record IsCut (rs : List Region) (id : ℕ) (x : Region) (from count : ℕ) :
   pub some : 0 < count
   pub less : count < x.pages
 
-pub is_cut : (rs now : List Region) (id from count len : ℕ) (x : Region) → rs ≡ now → CanCut now id from count → len ≡ length rs → x ≡ get_or rs id x →
-    IsCut rs id x from count
-is_cut rs now id from count len x same can is_len value =
-    let there : slice_get rs id ≡ Some can.region = rw same can.there in
-    let read : slice_get rs id ≡ Some x = slice_get_read rs len id x is_len (omega (arith, slice_get_within rs id can.region there)) value in
-    let is : can.region ≡ x = same_Some _ _ (sym there ∙ read) in
-    let uses : can.region.uses ≡ x.uses = ap (λ (q : Region). q.uses) is in
-    let first : can.region.first ≡ x.first = ap (λ (q : Region). q.first) is in
-    let pages : can.region.pages ≡ x.pages = ap (λ (q : Region). q.pages) is in
+pub is_cut : (rs : List Region) (id from count : ℕ) (d : Region) → CanCut rs id from count → IsCut rs id (get_or rs id d) from count
+is_cut rs id from count d can =
+    let read : slice_get rs id ≡ Some (get_or rs id d) = slice_get-get_or rs id d (slice_get_within rs id can.region can.there) in
+    let is : can.region ≡ get_or rs id d = same_Some _ _ (sym can.there ∙ read) in
+    let uses : can.region.uses ≡ (get_or rs id d).uses = ap (λ (q : Region). q.uses) is in
+    let first : can.region.first ≡ (get_or rs id d).first = ap (λ (q : Region). q.first) is in
+    let pages : can.region.pages ≡ (get_or rs id d).pages = ap (λ (q : Region). q.pages) is in
     record {
       there = read;
       one = omega (arith, can.one);
@@ -134,12 +133,6 @@ without_behind rs x from none = rw none refl
 put_behind : (rs : List Region) (x : Region) (from : ℕ) → is_left x from ≡ true → with_behind rs x from ≡ slice_set rs from (behind x from)
 put_behind rs x from some = rw some refl
 
-id_of_none : (x : Region) (from : ℕ) → is_left x from ≡ false → back_id (Some x) from ≡ None
-id_of_none x from none = rw none refl
-
-id_of_some : (x : Region) (from : ℕ) → is_left x from ≡ true → back_id (Some x) from ≡ Some from
-id_of_some x from some = rw some refl
-
 -- the places lie in memory
 pub cut_inside : (rs : List Region) (free : Free) (id : ℕ) (x : Region) (from count : ℕ) → Kept rs free → IsCut rs id x from count →
     x.first + x.pages ≤ length rs
@@ -148,55 +141,59 @@ cut_inside rs free id x from count kept cut = kept.0.inside id x cut.there (omeg
 pub begins_at : (rs : List Region) (free : Free) (id : ℕ) (x : Region) (from count : ℕ) → Kept rs free → IsCut rs id x from count → x.first ≡ id
 begins_at rs free id x from count kept cut = kept.0.begins id x cut.there (omega (arith, cut.one))
 
-pub is_front : (rs now : List Region) (id : ℕ) (x : Region) (from count : ℕ) → rs ≡ now → IsCut rs id x from count → from + count ≡ x.first + x.pages →
-    slice_set rs id (before x from) ≡ with_cut now id from count
+pub is_front : (rs : List Region) (id : ℕ) (x : Region) (from count : ℕ) → IsCut rs id x from count → from + count ≡ x.first + x.pages →
+    slice_set rs id (before x from) ≡ with_cut rs id from count
 unfolding with_cut
-is_front rs now id x from count same cut ends =
+is_front rs id x from count cut ends =
     let there : slice_get rs id ≡ Some x = cut.there in
     let none : is_left x (from + count) ≡ false = grind (arith, nat_tests) in
-    rw (← same, there) (sym (without_behind (slice_set rs id (before x from)) x (from + count) none))
+    rw there (sym (without_behind (slice_set rs id (before x from)) x (from + count) none))
 
-pub is_front_and_back : (rs now : List Region) (id : ℕ) (x : Region) (from count : ℕ) → rs ≡ now → IsCut rs id x from count → from + count < x.first + x.pages →
-    slice_set (slice_set rs id (before x from)) (from + count) (behind x (from + count)) ≡ with_cut now id from count
+pub is_front_and_back : (rs : List Region) (id : ℕ) (x : Region) (from count : ℕ) → IsCut rs id x from count → from + count < x.first + x.pages →
+    slice_set (slice_set rs id (before x from)) (from + count) (behind x (from + count)) ≡ with_cut rs id from count
 unfolding with_cut
-is_front_and_back rs now id x from count same cut more =
+is_front_and_back rs id x from count cut more =
     let there : slice_get rs id ≡ Some x = cut.there in
     let some : is_left x (from + count) ≡ true = grind (arith, nat_tests) in
-    rw (← same, there) (sym (put_behind (slice_set rs id (before x from)) x (from + count) some))
-
-pub no_back : (rs now : List Region) (id : ℕ) (x : Region) (from count : ℕ) → rs ≡ now → IsCut rs id x from count → from + count ≡ x.first + x.pages →
-    None ≡ back_id (slice_get now id) (from + count)
-no_back rs now id x from count same cut ends =
-    let there : slice_get rs id ≡ Some x = cut.there in
-    let none : is_left x (from + count) ≡ false = grind (arith, nat_tests) in
-    rw (← same, there) (sym (id_of_none x (from + count) none))
-
-pub some_back : (rs now : List Region) (id : ℕ) (x : Region) (from count : ℕ) → rs ≡ now → IsCut rs id x from count → from + count < x.first + x.pages →
-    Some (from + count) ≡ back_id (slice_get now id) (from + count)
-some_back rs now id x from count same cut more =
-    let there : slice_get rs id ≡ Some x = cut.there in
-    let some : is_left x (from + count) ≡ true = grind (arith, nat_tests) in
-    rw (← same, there) (sym (id_of_some x (from + count) some))
+    rw there (sym (put_behind (slice_set rs id (before x from)) x (from + count) some))
 
 -- the free runs are those before the cut, with its pages
-pub freed : (rs now new : List Region) (free given : Free) (from count : ℕ) → rs ≡ now → Kept rs free → Kept new given → given ≡ with_free free from count →
-    free_of new ≡ with_free (free_of now) from count
-freed rs now new free given from count same kept after is =
-    sym after.1 ∙ (is ∙ (ap (λ (f : Free). with_free f from count) kept.1 ∙ ap (λ (l : List Region). with_free (free_of l) from count) same))
+pub freed : (rs new : List Region) (free given : Free) (from count : ℕ) → Kept rs free → Kept new given → given ≡ with_free free from count →
+    free_of new ≡ with_free (free_of rs) from count
+freed rs new free given from count kept after is = sym after.1 ∙ (is ∙ ap (λ (f : Free). with_free f from count) kept.1)
 
-pub front_lives : (rs : List Region) (free : Free) (id : ℕ) (x : Region) (from count : ℕ) → Kept rs free → IsCut rs id x from count → id < from →
-    IsLive (slice_set rs id (before x from)) id
-front_lives rs free id x from count kept cut less =
-    let begin : x.first ≡ id = begins_at rs free id x from count kept cut in
-    live_set rs id (before x from) (slice_get_within rs id x cut.there) (grind (arith, nat_tests, cut.one))
+-- ---- what stands at a page behind a cut
 
-pub front_lives_on : (rs : List Region) (free : Free) (id : ℕ) (x : Region) (from count : ℕ) → Kept rs free → IsCut rs id x from count → id < from →
-    IsLive (slice_set (slice_set rs id (before x from)) (from + count) (behind x (from + count))) id
-front_lives_on rs free id x from count kept cut less =
-    live_other (slice_set rs id (before x from)) (from + count) id (behind x (from + count)) (front_lives rs free id x from count kept cut less) (omega arith)
+pub cut_lower : (rs : List Region) (id : ℕ) (x : Region) (from count : ℕ) → IsCut rs id x from count → id ≢ from + count →
+    slice_get (with_cut rs id from count) id ≡ Some (before x from)
+unfolding with_cut
+cut_lower rs id x from count cut other =
+    let there : slice_get rs id ≡ Some x = cut.there in
+    let front : slice_get (slice_set rs id (before x from)) id ≡ Some (before x from) = get_set rs id (before x from) (slice_get_within rs id x there) in
+    rw there (elim (cases_Bool (is_left x (from + count))) [
+      | inl some ↦ rw some (get_other (slice_set rs id (before x from)) (from + count) id (behind x (from + count)) other ∙ front)
+      | inr none ↦ rw none front
+    ])
 
-pub back_lives : (rs : List Region) (free : Free) (id : ℕ) (x : Region) (from count : ℕ) → Kept rs free → IsCut rs id x from count → from + count < x.first + x.pages →
-    IsLive (slice_set (slice_set rs id (before x from)) (from + count) (behind x (from + count))) (from + count)
-back_lives rs free id x from count kept cut more =
-    live_set (slice_set rs id (before x from)) (from + count) (behind x (from + count))
-    (omega (arith, more, cut_inside rs free id x from count kept cut, length-set rs id (before x from))) (omega (arith, cut.one))
+pub cut_upper : (rs : List Region) (id : ℕ) (x : Region) (from count : ℕ) → IsCut rs id x from count → x.first + x.pages ≤ length rs → from + count < x.first + x.pages →
+    slice_get (with_cut rs id from count) (from + count) ≡ Some (behind x (from + count))
+cut_upper rs id x from count cut inside more =
+    rw (← is_front_and_back rs id x from count cut more)
+    (get_set (slice_set rs id (before x from)) (from + count) (behind x (from + count)) (omega (arith, length-set rs id (before x from))))
+
+pub cut_other : (rs : List Region) (id : ℕ) (x : Region) (from count at : ℕ) → AreRegions rs → IsCut rs id x from count → IsLive rs at → at ≢ id →
+    slice_get (with_cut rs id from count) at ≡ slice_get rs at
+unfolding with_cut
+cut_other rs id x from count at regions cut live other =
+    let there : slice_get rs id ≡ Some x = cut.there in
+    let front : slice_get (slice_set rs id (before x from)) at ≡ slice_get rs at = get_other rs id at (before x from) other in
+    rw there (elim (cases_Bool (is_left x (from + count))) [
+      | inl some ↦ rw some (get_other (slice_set rs id (before x from)) (from + count) at (behind x (from + count)) (λ e. other (met e some)) ∙ front)
+      | inr none ↦ rw none front
+    ])
+  where
+    met : at ≡ from + count → is_left x (from + count) ≡ true → at ≡ id
+    met e some =
+        let mine : holds live.region at ≡ true = grind (arith, nat_tests, regions.begins at live.region live.there live.live, regions.some at live.region live.there live.live, live.live) in
+        let cuts : holds x at ≡ true = grind (arith, nat_tests, cut.one, cut.first, cut.some) in
+        regions.apart at id live.region x at live.there cut.there mine cuts

@@ -8,13 +8,9 @@ use Rattle.page_runs.specs.Free.{Free, free_runs, is_free, with_free, without}
 use Rattle.page_runs.specs.Pages.{in_run}
 use Rattle.page_runs.proofs.Maximal.{has_page-free_runs, is_free_runs}
 use Rattle.nommu_regions.specs.declared.region.Region.{Region}
-use Rattle.nommu_regions.specs.Regions.{holds, is_held, AreRegions, AreFree, IsLive, free_of, with_uses}
+use Rattle.nommu_regions.specs.Regions.{holds, is_held, AreFree, IsLive, Kept, with_uses}
 use Rattle.nommu_regions.proofs.Held.{is_held-set, is_held-same, is_held-gone, held_by, was_gone, regions_fresh, regions_part}
 use Rattle.nommu_regions.proofs.FreeRuns.{free_with, free_without, free_same, are_free}
-
--- the facts that each value keeps
-abbrev pub Kept : List Region → Free → Type 0
-Kept rs free = AreRegions rs × (free ≡ free_of rs) × (1 ≤ length rs) × (length rs ≤ 16384)
 
 pub kept_used : (rs : List Region) (free : Free) (id : ℕ) (r v : Region) → Kept rs free → slice_get rs id ≡ Some r → 0 < r.uses →
     v.first ≡ r.first → v.pages ≡ r.pages → 0 < v.uses → Kept (slice_set rs id v) free
@@ -83,19 +79,7 @@ kept_new n v some most gone =
       omega arith,
     )
 
--- ---- from a value that is known by its view
-
-pub live_at : (rs now : List Region) (id len : ℕ) (x : Region) → rs ≡ now → IsLive now id → len ≡ length rs → x ≡ get_or rs id x →
-    (slice_get rs id ≡ Some x) × (0 < x.uses)
-live_at rs now id len x same live is_len value =
-    let there : slice_get rs id ≡ Some live.region = rw same live.there in
-    let read : slice_get rs id ≡ Some x = slice_get_read rs len id x is_len (omega (arith, slice_get_within rs id live.region there)) value in
-    let one : live.region ≡ x = same_Some _ _ (sym there ∙ read) in
-    (read, omega (arith, live.live, ap (λ (q : Region). q.uses) one))
-
-pub with_uses_is : (rs now : List Region) (id : ℕ) (x : Region) (change : ℕ → ℕ) → rs ≡ now → slice_get rs id ≡ Some x →
-    slice_set rs id (record x { uses = change x.uses }) ≡ with_uses now id change
-with_uses_is rs now id x change same there = rw (← same, there) refl
+-- ---- pages that are free, or aren't
 
 pub taken_by : (rs : List Region) (free : Free) (id : ℕ) (x : Region) → Kept rs free → slice_get rs id ≡ Some x → 0 < x.uses →
     (p : ℕ) → in_run x.first x.pages p ≡ true → is_free free p ≡ false
@@ -123,6 +107,3 @@ get_other (x ∷ rs) (suc i) (suc j) v other = get_other rs i j v (omega (arith,
 
 pub live_set : (rs : List Region) (id : ℕ) (v : Region) → id < length rs → 0 < v.uses → IsLive (slice_set rs id v) id
 live_set rs id v less live = record { region = v; there = get_set rs id v less; live = live }
-
-pub live_other : (rs : List Region) (i id : ℕ) (v : Region) → IsLive rs id → id ≢ i → IsLive (slice_set rs i v) id
-live_other rs i id v live other = record { region = live.region; there = get_other rs i id v other ∙ live.there; live = live.live }

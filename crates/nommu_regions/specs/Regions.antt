@@ -1,5 +1,5 @@
 -- The regions of a memory, as a list with one place per page. A region stands at the number of its first
--- page, which is its id. A place whose region has no use is empty.
+-- page. A place whose region has no use is empty.
 use Rattle.std.specs.Prelude.{ℕ, ◌≡◌, ◌+◌, ◌-◌, ◌==◌, ◌<◌, ◌≤◌, Bool, true, false, ◌&&◌, ◌||◌, not, nat_le, nat_lt, if◌then◌else◌, List, [], ◌∷◌, length, position, slice_get, slice_set, Option, Some, None}
 use Rattle.page_runs.specs.Free.{Free, free_runs}
 use Rattle.page_runs.specs.Pages.{in_run}
@@ -16,13 +16,13 @@ abbrev pub is_held : List Region → ℕ → Bool
 is_held [] p = false
 is_held (r ∷ rs) p = holds r p || is_held rs p
 
--- a region with a use stands at an id
-pub record IsLive (rs : List Region) (id : ℕ) : Type 0 where
+-- a region with a use stands at a page
+pub record IsLive (rs : List Region) (first : ℕ) : Type 0 where
   pub region : Region
-  pub there : slice_get rs id ≡ Some region
+  pub there : slice_get rs first ≡ Some region
   pub live : 0 < region.uses
 
--- each live region begins at its id, has a page and lies in memory; no two have a common page
+-- each live region begins at its place, has a page and lies in memory; no two have a common page
 pub record AreRegions (rs : List Region) : Type 0 where
   pub begins : (id : ℕ) (r : Region) → slice_get rs id ≡ Some r → 0 < r.uses → r.first ≡ id
   pub some : (id : ℕ) (r : Region) → slice_get rs id ≡ Some r → 0 < r.uses → 0 < r.pages
@@ -34,6 +34,10 @@ pub record AreRegions (rs : List Region) : Type 0 where
 abbrev pub free_of : List Region → Free
 free_of rs = record { pages = length rs; runs = free_runs (length rs) (λ p. not (is_held rs p)) }
 
+-- for private functions: what is known of the regions and of the free runs beside them
+abbrev pub Kept : List Region → Free → Type 0
+Kept rs free = AreRegions rs × (free ≡ free_of rs) × (1 ≤ length rs) × (length rs ≤ 16384)
+
 -- none of the `count` pages from `first` on is held, and they lie in memory
 pub record AreFree (rs : List Region) (first count : ℕ) : Type 0 where
   pub inside : first + count ≤ length rs
@@ -41,19 +45,19 @@ pub record AreFree (rs : List Region) (first count : ℕ) : Type 0 where
 
 -- the regions with the uses of one changed
 abbrev pub with_uses_of : List Region → ℕ → (ℕ → ℕ) → Option Region → List Region
-with_uses_of rs id change None = rs
-with_uses_of rs id change (Some r) = slice_set rs id (record r { uses = change r.uses })
+with_uses_of rs first change None = rs
+with_uses_of rs first change (Some r) = slice_set rs first (record r { uses = change r.uses })
 
 abbrev pub with_uses : List Region → ℕ → (ℕ → ℕ) → List Region
-with_uses rs id change = with_uses_of rs id change (slice_get rs id)
+with_uses rs first change = with_uses_of rs first change (slice_get rs first)
 
--- the uses of the region at an id
+-- the uses of the region at a page
 abbrev pub uses_in : Option Region → ℕ
 uses_in None = 0
 uses_in (Some r) = r.uses
 
 abbrev pub uses_of : List Region → ℕ → ℕ
-uses_of rs id = uses_in (slice_get rs id)
+uses_of rs first = uses_in (slice_get rs first)
 
 -- ---- copies of files
 
@@ -79,9 +83,9 @@ copy_of rs file change first pages = position (covers file change first pages) r
 
 -- pages of a region of one use, and not all of its pages. A copy of a file is never cut: what is left behind the cut would begin at
 -- another page of the file
-pub record CanCut (rs : List Region) (id from count : ℕ) : Type 0 where
+pub record CanCut (rs : List Region) (first from count : ℕ) : Type 0 where
   pub region : Region
-  pub there : slice_get rs id ≡ Some region
+  pub there : slice_get rs first ≡ Some region
   pub own : region.source ≡ Own
   pub one : region.uses ≡ 1
   pub inside : (region.first ≤ from) × (from + count ≤ region.first + region.pages)
@@ -105,15 +109,10 @@ abbrev pub with_behind : List Region → Region → ℕ → List Region
 with_behind rs r from = if is_left r from then slice_set rs from (behind r from) else rs
 
 abbrev pub cut_out : List Region → ℕ → Option Region → (from count : ℕ) → List Region
-cut_out rs id None from count = rs
-cut_out rs id (Some r) from count = with_behind (slice_set rs id (before r from)) r (from + count)
+cut_out rs first None from count = rs
+cut_out rs first (Some r) from count = with_behind (slice_set rs first (before r from)) r (from + count)
 
--- the regions after pages were cut out of one: what is left before them keeps the id, and what is left behind them is a region of
--- its own, at its first page
-unfoldable pub with_cut : List Region → (id from count : ℕ) → List Region
-with_cut rs id from count = cut_out rs id (slice_get rs id) from count
-
--- the number of the region behind the cut, if a page is left there
-abbrev pub back_id : Option Region → ℕ → Option ℕ
-back_id None from = None
-back_id (Some r) from = if is_left r from then Some from else None
+-- the regions after pages were cut out of the one that begins at a page: what is left before them and what is left behind them are
+-- two regions, each at its first page
+unfoldable pub with_cut : List Region → (first from count : ℕ) → List Region
+with_cut rs first from count = cut_out rs first (slice_get rs first) from count

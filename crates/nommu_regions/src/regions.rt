@@ -1,11 +1,13 @@
 //! The regions of a memory.
 
-ghost use Rattle.std.specs.Prelude.{◌≡◌, ◌+◌, ◌-◌, ◌*◌, ◌^◌, ◌<◌, ◌≤◌, List, ℕ, Some, IfOk, IfSome, MatchOption, length, replicate, slice_get, slice_set, true};
+ghost use Rattle.std.specs.Prelude.{◌≡◌, ◌+◌, ◌-◌, ◌*◌, ◌^◌, ◌<◌, ◌≤◌, List, ℕ, Some, IfOk, IfSome, MatchOption, length, option_map, replicate, slice_set, true};
+ghost use Rattle.std.specs.List.{range_with_len, swap};
 ghost use Rattle.byte_words.specs.Patches.{laid};
 ghost use Rattle.page_runs.specs.Choosers.{IsChooser, kind_of};
 ghost use Rattle.page_runs.specs.Free.{with_free};
 ghost use Rattle.page_runs.specs.Place.{Placed, place, first_of};
-ghost use Rattle.nommu_regions.specs.Regions.{AreRegions, AreFree, IsLive, CanCut, back_id, copy_of, covers, free_of, is_held, with_cut, with_uses, uses_of};
+ghost use Rattle.nommu_regions.specs.Regions.{AreRegions, AreFree, IsLive, Kept, CanCut, copy_of, covers, free_of, with_cut, with_uses, uses_of};
+ghost use Rattle.nommu_regions.specs.Ids.{AreIds, AreInverse, Lives, OthersStay, UpperPart, kept_part, region_of, start_of};
 
 use crate::region::{Region, Source};
 use page_runs::{Chooser, Run, Runs};
@@ -13,23 +15,28 @@ use phys_mem::{BASE, PAGE, PhysMem};
 use std::alloc::{AllocError, Global};
 use std::marker::Model;
 
-/// The regions of a memory and its free runs. The id of a region is the number of its first page.
+/// The regions of a memory and its free runs. A region has an id as long as it lives: a new one has the id of its first page, and
+/// where its first pages are cut off, the id goes to the first page that is left.
 #[derive(Drop)]
 pub struct Regions {
     regions: Vec<Region>,
+    /// The id of each page.
+    ids: Vec<u32>,
+    /// The page that has each id.
+    starts: Vec<u32>,
     free: Runs,
 }
 
 impl Model for Regions {
-    ghost use Rattle.std.specs.Prelude.{List, ◌≡◌, ◌≤◌, length};
-    ghost use Rattle.nommu_regions.specs.declared.region.Region.{Region};
-    ghost use Rattle.nommu_regions.specs.Regions.{AreRegions, free_of};
+    ghost use Rattle.std.specs.Prelude.{◌≡◌, length};
+    ghost use Rattle.nommu_regions.specs.Regions.{Kept};
+    ghost use Rattle.nommu_regions.specs.Ids.{Numbered, AreInverse};
 
-    ghost Value = { List Region };
+    ghost Value = { Numbered };
 
-    ghost view = { λ s. s.regions.items };
+    ghost view = { λ s. record { regions = s.regions.items; starts = s.starts.items } };
 
-    ghost invariant = { λ s. AreRegions s.regions.items × (s.free ≡ free_of s.regions.items) × (1 ≤ length s.regions.items) × (length s.regions.items ≤ 16384) };
+    ghost invariant = { λ s. Kept s.regions.items s.free × AreInverse s.ids.items s.starts.items (length s.regions.items) };
 }
 
 impl Regions {
@@ -37,7 +44,8 @@ impl Regions {
     pub fn new(alloc: Global, pages: u32) -> Result<Regions, AllocError>
         requires some { 1 ≤ pages }
         requires most { pages ≤ 16384 }
-        ensures { IfOk result (λ s. s ≡ replicate pages (record { first = 0; pages = 0; source = Source.Own; uses = 0 })) }
+        ensures regions { IfOk result (λ s. s.regions ≡ replicate pages (record { first = 0; pages = 0; source = Source.Own; uses = 0 })) }
+        ensures ids { IfOk result (λ s. s.starts ≡ range_with_len 0 pages) }
     {
         let none = Region {
             first: 0,
@@ -46,33 +54,51 @@ impl Regions {
             uses: 0,
         };
         let regions = vec![in alloc; none; pages as usize]?;
+        let ids = numbers(alloc, pages)?;
+        let starts = numbers(alloc, pages)?;
         let free = Runs::new(alloc, pages)?;
-        Ok(Regions { regions, free })
+        Ok(Regions {
+            regions,
+            ids,
+            starts,
+            free,
+        })
     }
 
     /// The number of pages.
     pub fn pages(&self) -> u32
-        ensures pages { result ≡ length self.now }
+        ensures pages { result ≡ length self.now.regions }
         ensures some { 1 ≤ result }
         ensures most { result ≤ 16384 }
-        ensures regions { AreRegions self.now }
+        ensures regions { AreRegions self.now.regions }
+        ensures ids { AreIds self.now }
     {
         self.regions.len() as u32
     }
 
     /// The maximal runs of the pages that no live region has, ascending.
     pub fn free(&self) -> &[Run]
-        ensures { result.now ≡ (free_of self.now).runs }
+        ensures { result.now ≡ (free_of self.now.regions).runs }
     {
         self.free.list()
     }
 
-    /// The region at an id.
+    /// The region of an id.
     pub fn region(&self, id: u32) -> Region
-        requires { IsLive self.now id }
-        ensures { slice_get self.now id ≡ Some result }
+        requires { Lives self.now id }
+        ensures { region_of self.now id ≡ Some result }
     {
-        self.regions[id as usize]
+        let first = self.starts[id as usize];
+        self.regions[first as usize]
+    }
+
+    /// The id of the live region that begins at a page.
+    pub fn at(&self, first: u32) -> u32
+        requires { IsLive self.now.regions first }
+        ensures start { start_of self.now result ≡ first }
+        ensures live { Lives self.now result }
+    {
+        self.ids[first as usize]
     }
 
     /// Makes a region of `pages` pages with one use, at the front of the free run that the chooser picks. Its
@@ -86,13 +112,15 @@ impl Regions {
     ) -> Option<u32>
         requires chooser { IsChooser F.pre F.post chooser.now }
         requires pages { 0 < pages }
-        requires memory { length mem.old ≡ 4096 * length self.old }
-        ensures placed { result ≡ first_of (free_of self.old).runs (place (kind_of chooser.now) (free_of self.old).runs pages) }
-        ensures rule { Placed (kind_of chooser.now) (free_of self.old).runs pages (place (kind_of chooser.now) (free_of self.old).runs pages) }
-        ensures free { IfSome result (λ id. AreFree self.old id pages) }
-        ensures live { IfSome result (λ id. IsLive self.new id) }
-        ensures regions { MatchOption result (self.new ≡ self.old) (λ id. self.new ≡ slice_set self.old id (record { first = id; pages = pages; source = source; uses = 1 })) }
-        ensures memory { MatchOption result (mem.new ≡ mem.old) (λ id. mem.new ≡ laid mem.old (4096 * id) (replicate (4096 * pages) 0)) }
+        requires memory { length mem.old ≡ 4096 * length self.old.regions }
+        ensures placed { option_map (start_of self.old) result ≡ first_of (free_of self.old.regions).runs (place (kind_of chooser.now) (free_of self.old.regions).runs pages) }
+        ensures rule { Placed (kind_of chooser.now) (free_of self.old.regions).runs pages (place (kind_of chooser.now) (free_of self.old.regions).runs pages) }
+        ensures free { IfSome result (λ id. AreFree self.old.regions (start_of self.old id) pages) }
+        ensures live { IfSome result (λ id. Lives self.new id) }
+        ensures region { IfSome result (λ id. region_of self.new id ≡ Some (record { first = start_of self.old id; pages = pages; source = source; uses = 1 })) }
+        ensures regions { MatchOption result (self.new ≡ self.old) (λ id. self.new ≡ record self.old { regions = slice_set self.old.regions (start_of self.old id) (record { first = start_of self.old id; pages = pages; source = source; uses = 1 }) }) }
+        ensures others { IfSome result (λ id. OthersStay id self.old self.new) }
+        ensures memory { MatchOption result (mem.new ≡ mem.old) (λ id. mem.new ≡ laid mem.old (4096 * start_of self.old id) (replicate (4096 * pages) 0)) }
     {
         let first = self.free.take(pages, chooser)?;
         self.regions[first as usize] = Region {
@@ -102,36 +130,40 @@ impl Regions {
             uses: 1,
         };
         mem.clear(BASE + PAGE * first, PAGE * pages);
-        Some(first)
+        Some(self.ids[first as usize])
     }
 
     /// The lowest live copy that has `pages` pages of a file from its page `first` on, made at this change count of the file.
     pub fn find(&self, file: u32, change: u64, first: u32, pages: u32) -> Option<u32>
-        ensures lowest { result ≡ copy_of self.now file change first pages }
-        ensures live { IfSome result (λ id. IsLive self.now id) }
-        ensures copy { (id : ℕ) → (r : Region) → result ≡ Some id → slice_get self.now id ≡ Some r → covers file change first pages r ≡ true }
+        ensures lowest { option_map (start_of self.now) result ≡ copy_of self.now.regions file change first pages }
+        ensures live { IfSome result (λ id. Lives self.now id) }
+        ensures copy { (id : ℕ) → (r : Region) → result ≡ Some id → region_of self.now id ≡ Some r → covers file change first pages r ≡ true }
     {
         let place = first_copy(&self.regions, file, change, first, pages)?;
-        Some(place as u32)
+        Some(self.ids[place])
     }
 
     /// One use more.
     pub fn add_use(&mut self, id: u32)
-        requires live { IsLive self.old id }
-        requires few { uses_of self.old id + 1 < 2 ^ 32 }
-        ensures uses { self.new ≡ with_uses self.old id (λ uses. uses + 1) }
-        ensures live { IsLive self.new id }
+        requires live { Lives self.old id }
+        requires few { uses_of self.old.regions (start_of self.old id) + 1 < 2 ^ 32 }
+        ensures uses { self.new ≡ record self.old { regions = with_uses self.old.regions (start_of self.old id) (λ uses. uses + 1) } }
+        ensures live { Lives self.new id }
+        ensures others { OthersStay id self.old self.new }
     {
-        self.regions[id as usize].uses += 1;
+        let first = self.starts[id as usize];
+        self.regions[first as usize].uses += 1;
     }
 
     /// One use less. The last one frees the region's pages.
     pub fn drop_use(&mut self, id: u32)
-        requires { IsLive self.old id }
-        ensures { self.new ≡ with_uses self.old id (λ uses. uses - 1) }
+        requires { Lives self.old id }
+        ensures uses { self.new ≡ record self.old { regions = with_uses self.old.regions (start_of self.old id) (λ uses. uses - 1) } }
+        ensures others { OthersStay id self.old self.new }
     {
-        let region = self.regions[id as usize];
-        self.regions[id as usize] = Region {
+        let first = self.starts[id as usize];
+        let region = self.regions[first as usize];
+        self.regions[first as usize] = Region {
             uses: region.uses - 1,
             ..region
         };
@@ -140,26 +172,74 @@ impl Regions {
         }
     }
 
-    /// Frees `count` pages of a region from page `from` on. What is left before them keeps the id; what is left behind them is a
-    /// region of its own, whose id is the answer; None where no page is left behind them. The bytes stay as they are.
+    /// Frees `count` pages of a region from page `from` on. The id keeps what is left before them, or what is left behind them where
+    /// nothing is left before. Where both parts are left, the answer is the id of the upper one. The bytes stay as they are.
     pub fn cut(&mut self, id: u32, from: u32, count: u32) -> Option<u32>
-        requires { CanCut self.old id from count }
-        ensures regions { self.new ≡ with_cut self.old id from count }
-        ensures back { result ≡ back_id (slice_get self.old id) (from + count) }
-        ensures free { free_of self.new ≡ with_free (free_of self.old) from count }
-        ensures front_lives { id < from → IsLive self.new id }
-        ensures back_lives { IfSome result (λ back. IsLive self.new back) }
+        requires { CanCut self.old.regions (start_of self.old id) from count }
+        ensures regions { self.new.regions ≡ with_cut self.old.regions (start_of self.old id) from count }
+        ensures free { free_of self.new.regions ≡ with_free (free_of self.old.regions) from count }
+        ensures part { (r : Region) → region_of self.old id ≡ Some r → region_of self.new id ≡ Some (kept_part r from count) }
+        ensures upper { (r : Region) → region_of self.old id ≡ Some r → UpperPart self.new r from count result }
+        ensures others { OthersStay id self.old self.new }
+        ensures live { Lives self.new id }
+        ensures upper_lives { IfSome result (λ upper. Lives self.new upper) }
     {
-        let region = self.regions[id as usize];
+        let first = self.starts[id as usize];
+        let region = self.regions[first as usize];
         let end = from + count;
-        self.regions[id as usize] = region.before(from);
-        self.free.give(from, count);
+        cut_pages(&mut self.regions, &mut self.free, first, from, count);
         if end == region.first + region.pages {
             return None;
         }
-        self.regions[end as usize] = region.behind(end);
-        Some(end)
+        let upper = self.ids[end as usize];
+        if first < from {
+            return Some(upper);
+        }
+        swap_starts(&mut self.ids, &mut self.starts, id, upper);
+        None
     }
+}
+
+/// The numbers from 0 on.
+fn numbers(alloc: Global, count: u32) -> Result<Vec<u32>, AllocError>
+    ensures { IfOk result (λ all. all.items ≡ range_with_len 0 count) }
+{
+    let mut all = Vec::with_capacity(alloc, count as usize)?;
+    for number in 0..count {
+        all.push(number)?;
+    }
+    Ok(all)
+}
+
+/// Frees pages of the region that begins at page `first`.
+fn cut_pages(regions: &mut [Region], free: &mut Runs, first: u32, from: u32, count: u32)
+    requires kept { Kept regions.old free.old }
+    requires can { CanCut regions.old first from count }
+    ensures kept { Kept regions.new free.new }
+    ensures len { length regions.new ≡ length regions.old }
+    ensures regions { regions.new ≡ with_cut regions.old first from count }
+    ensures free { free_of regions.new ≡ with_free (free_of regions.old) from count }
+{
+    let region = regions[first as usize];
+    let end = from + count;
+    regions[first as usize] = region.before(from);
+    free.give(from, count);
+    if end < region.first + region.pages {
+        regions[end as usize] = region.behind(end);
+    }
+}
+
+/// Each of two ids goes to the page of the other one.
+fn swap_starts(ids: &mut [u32], starts: &mut [u32], one: u32, other: u32)
+    requires inverse { AreInverse ids.old starts.old (length starts.old) }
+    requires one { one < length starts.old }
+    requires other { other < length starts.old }
+    ensures starts { starts.new ≡ swap starts.old one other }
+    ensures inverse { AreInverse ids.new starts.new (length starts.old) }
+{
+    let (first, second) = (starts[one as usize], starts[other as usize]);
+    starts.swap(one as usize, other as usize);
+    ids.swap(first as usize, second as usize);
 }
 
 /// The place of the first live copy that has these pages.

@@ -1,6 +1,6 @@
 ghost use Rattle.std.specs.Prelude.{◌≡◌, ◌<◌, Some, IfOk, IfSome};
 ghost use Rattle.page_runs.specs.Choosers.{IsChooser};
-ghost use Rattle.nommu_regions.specs.Regions.{IsLive};
+ghost use Rattle.nommu_regions.specs.Ids.{Lives};
 
 use super::*;
 use page_runs::{Chooser, Kind, Run, first_fit};
@@ -17,7 +17,7 @@ fn fresh_of<F: Fn(&[Run], u32) -> Option<usize>>(
 ) -> Result<Option<u32>, Fail>
     requires chooser { IsChooser F.pre F.post chooser.now }
     requires pages { 0 < pages }
-    ensures { IfOk result (λ id. IfSome id (λ id. IsLive regions.new id)) }
+    ensures { IfOk result (λ id. IfSome id (λ id. Lives regions.new id)) }
 {
     if memory.pages() != regions.pages() {
         return Err(Fail::from("another number of pages"));
@@ -34,15 +34,15 @@ fn fresh<F: Fn(&[Run], u32) -> Option<usize>>(
 ) -> Result<Option<u32>, Fail>
     requires chooser { IsChooser F.pre F.post chooser.now }
     requires pages { 0 < pages }
-    ensures { IfOk result (λ id. IfSome id (λ id. IsLive regions.new id)) }
+    ensures { IfOk result (λ id. IfSome id (λ id. Lives regions.new id)) }
 {
     fresh_of(regions, memory, pages, Source::Own, chooser)
 }
 
 /// Cuts pages out of a region where that may be done.
 fn cut(regions: &mut Regions, id: u32, from: u32, count: u32) -> Result<Option<u32>, Fail>
-    requires { IsLive regions.old id }
-    ensures { IfOk result (λ back. (id < from → IsLive regions.new id) × IfSome back (λ back. IsLive regions.new back)) }
+    requires { Lives regions.old id }
+    ensures { IfOk result (λ upper. Lives regions.new id × IfSome upper (λ upper. Lives regions.new upper)) }
 {
     let region = regions.region(id);
     let Source::Own = region.source else {
@@ -69,7 +69,7 @@ fn is_free(regions: &Regions, want: &[(u32, u32)]) -> bool {
 
 /// What is in a live region: its first page and its pages, where it has one use of its own pages.
 fn own_pages(regions: &Regions, id: u32) -> Option<(u32, u32)>
-    requires { IsLive regions.now id }
+    requires { Lives regions.now id }
 {
     let region = regions.region(id);
     match region.source {
@@ -120,16 +120,16 @@ fn uses(rt: HostRuntime) -> Result<(), Fail> {
     Ok(())
 }
 
-/// A region of pages 2 to 9 of 12 is cut in the middle, at its front and at its end.
+/// A region of pages 2 to 9 of 12 is cut in the middle, at its front and at its end: what its id keeps, and what gets a new one.
 #[test]
 fn one_cut(rt: HostRuntime) -> Result<(), Fail> {
     let chooser = Chooser::new(Kind::First, |runs: &[Run], need: u32| {
         first_fit(runs, need)
     });
-    for (from, count, front, back, free) in [
-        (4, 3, Some((2, 2)), Some((7, 3)), &[(4, 3), (10, 2)][..]),
-        (2, 3, None, Some((5, 5)), &[(2, 3), (10, 2)][..]),
-        (7, 3, Some((2, 5)), None, &[(7, 5)][..]),
+    for (from, count, kept, upper, free) in [
+        (4, 3, (2, 2), Some((7, 3)), &[(4, 3), (10, 2)][..]),
+        (2, 3, (5, 5), None, &[(2, 3), (10, 2)][..]),
+        (7, 3, (2, 5), None, &[(7, 5)][..]),
     ] {
         let mut memory = PhysMem::new(rt.alloc(), 12)?;
         let mut regions = Regions::new(rt.alloc(), 12)?;
@@ -137,20 +137,41 @@ fn one_cut(rt: HostRuntime) -> Result<(), Fail> {
         let Some(id) = fresh(&mut regions, &mut memory, 8, &chooser)? else {
             return Err(Fail::from("no run for eight pages"));
         };
-        let end = cut(&mut regions, id, from, count)?;
-        let left = if id < from {
-            own_pages(&regions, id)
-        } else {
-            None
-        };
-        assert_eq!(rt; left, front);
-        let behind = match end {
-            Some(end) => own_pages(&regions, end),
+        let other = cut(&mut regions, id, from, count)?;
+        assert_eq!(rt; own_pages(&regions, id), Some(kept));
+        let above = match other {
+            Some(other) => own_pages(&regions, other),
             None => None,
         };
-        assert_eq!(rt; behind, back);
+        assert_eq!(rt; above, upper);
         assert!(rt; is_free(&regions, free), "after {from} {count}");
     }
+    Ok(())
+}
+
+/// A region of pages 2 to 9 of 12 loses its first pages, and later pages too: 2 stays its id, and the page 2 has another one.
+#[test]
+fn ids_after_a_cut_at_the_front(rt: HostRuntime) -> Result<(), Fail> {
+    let mut memory = PhysMem::new(rt.alloc(), 12)?;
+    let mut regions = Regions::new(rt.alloc(), 12)?;
+    let chooser = Chooser::new(Kind::First, |runs: &[Run], need: u32| {
+        first_fit(runs, need)
+    });
+    fresh(&mut regions, &mut memory, 2, &chooser)?;
+    let Some(2) = fresh(&mut regions, &mut memory, 8, &chooser)? else {
+        return Err(Fail::from("no run for eight pages at page 2"));
+    };
+    assert_eq!(rt; cut(&mut regions, 2, 2, 3)?, None);
+    assert_eq!(rt; own_pages(&regions, 2), Some((5, 5)));
+    assert_eq!(rt; cut(&mut regions, 2, 7, 1)?, Some(8));
+    assert_eq!(rt; own_pages(&regions, 2), Some((5, 2)));
+    regions.drop_use(2);
+    assert!(rt; is_free(&regions, &[(2, 6), (10, 2)]));
+    let Some(other) = fresh(&mut regions, &mut memory, 3, &chooser)? else {
+        return Err(Fail::from("no run for three pages"));
+    };
+    assert_eq!(rt; other, 5);
+    assert_eq!(rt; own_pages(&regions, other), Some((2, 3)));
     Ok(())
 }
 

@@ -18,7 +18,8 @@ use Rattle.region_watch.specs.Private.{only, physical}
 use Rattle.call_log.specs.Notes.{Note}
 use Rattle.syscall_layer.specs.Kept.{Kept}
 use Rattle.syscall_layer.specs.Regular.{Regular}
-use Rattle.syscall_layer.specs.Copies.{bytes_of, HoldsSource, CopiesHold}
+use Rattle.syscall_layer.specs.Copies.{HoldsSource, CopiesHold}
+use Rattle.mmap_rules.specs.Copies.{bytes_of}
 use Rattle.syscall_layer.proofs.Counts.{is_false, any_at, same_item}
 use Rattle.syscall_layer.proofs.Apart.{page_of, page_there, has_held}
 

@@ -20,15 +20,18 @@ use Rattle.mmap_rules.specs.Want.{AsksPages}
 use Rattle.mmap_rules.specs.Held.{Held, page_address}
 use Rattle.mmap_rules.specs.Mappings.{run_mapping, part_mapping, copied_from, file_pages}
 use Rattle.mmap_rules.specs.Sides.{sides, Mapped, in_fresh_run, in_copy_or_new, mapped, file_in}
+use Rattle.mmap_rules.proofs.Change.{Covered, covered}
+use Rattle.mmap_rules.proofs.FilePages.{length-file_pages, file_byte}
 use Rattle.mmap_rules.proofs.Fresh.{fresh_free}
 use Rattle.mem_files.specs.Inodes.{Inode, inode_at, content_in, bytes_in, bytes_of}
 use Rattle.machine_world.specs.MapCalls.{all_maps, lowest, has_pages, shared, or_own, in_copy as in_copy_of, with_mapping, first_bytes}
 use Rattle.syscall_layer.specs.Kept.{Kept}
 use Rattle.syscall_layer.specs.Regular.{Regular}
-use Rattle.syscall_layer.specs.Copies.{CopiesHold, HoldsSource, IsKnown}
+use Rattle.syscall_layer.specs.Copies.{CopiesHold, HoldsSource}
+use Rattle.mmap_rules.specs.Copies.{IsKnown}
 use Rattle.syscall_layer.specs.Stands.{About, OthersSame, private_bytes, private_of, live_from, live_spaces, world_of}
 use Rattle.syscall_layer.proofs.MapChoice.{OfRegion, no_copy, lowest_copy, own_choice, chosen, free_page, own_is}
-use Rattle.syscall_layer.proofs.MapBytes.{added, others_beside, laid_same, length-file_pages, file_byte}
+use Rattle.syscall_layer.proofs.MapBytes.{added, others_beside, laid_same}
 
 -- the world's choice, and what the code leaves
 pub record Agrees (k : Kept) (number : ℕ) (h : Held) (want : Want) (o : Option Mapping) (m : Mapped) : Type 0 where
@@ -60,25 +63,6 @@ same_space mem now h mapping bytes same = λ i. record {
 }
 
 -- ---- a copy that is there
-
--- what a copy's source says of the pages that it covers
-record Covered (s : Source) (id change first pages held : ℕ) : Type 0 where
-  start : ℕ
-  is : s ≡ Copy id change start
-  from : start ≤ first
-  to : first + pages ≤ start + held
-
-covered : (s : Source) (id change first pages held : ℕ) → copy_covers id change first pages s held ≡ true → Covered s id change first pages held
-covered Own id change first pages held never = absurd (false≢true never)
-covered (Copy f c start) id change first pages held has =
-    let file : f ≡ id = grind (arith, nat_tests, has) in
-    let count : c ≡ change = grind (arith, nat_tests, has) in
-    record {
-      start = start;
-      is = λ i. Copy (file i) (count i) start;
-      from = grind (arith, nat_tests, has);
-      to = grind (arith, nat_tests, has);
-    }
 
 shared_is : (first pages : ℕ) (m : Mapping) (r : Region) → OfRegion m r →
     shared first pages m ≡ part_mapping r.first r.pages r.source (first - copied_from r.source) pages

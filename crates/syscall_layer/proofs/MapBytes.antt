@@ -153,34 +153,3 @@ laid_same mem at bytes fits same = same_number_lists (laid mem at bytes) mem (le
         | inr past ↦ laid_past mem at bytes fits i past
       ])
     ]
-
--- ---- pages of a file
-
-pub length-file_pages : (bytes : List ℕ) (first pages : ℕ) → length (file_pages bytes first pages) ≡ 4096 * pages
-unfolding file_pages
-length-file_pages bytes first pages =
-    let front : List ℕ = take (4096 * pages) (drop (4096 * first) bytes) in
-    let short = length-take (4096 * pages) (drop (4096 * first) bytes) in
-    let zeros = length-replicate {A = ℕ} (4096 * pages - length front) 0 in
-    length-append front (replicate (4096 * pages - length front) 0) ∙ omega (arith, short, zeros)
-
-zeros_behind : (rest front : List ℕ) (len i : ℕ) → front ≡ take len rest → i < len →
-    get_or (front ++ replicate (len - length front) 0) i 0 ≡ get_or rest i 0
-zeros_behind rest front len i is less =
-    let short = ap (λ (xs : List ℕ). length xs) is ∙ length-take len rest in
-    elim (cases_lt i (length front)) [
-      | inl inside ↦
-          get_or_append_left front (replicate (len - length front) 0) 0 i inside ∙ ap (λ (xs : List ℕ). get_or xs i 0) is ∙ get_or-take len rest i 0 less
-      | inr past ↦
-          get_or-append_right front (replicate (len - length front) 0) (length front) i 0 refl past
-          ∙ get_or-replicate (len - length front) (i - length front) 0 0 (omega (arith, past, less))
-          ∙ sym (get_or_past rest i 0 (omega (arith, past, less, short)))
-    ]
-
--- byte by byte
-pub file_byte : (bytes : List ℕ) (first pages i : ℕ) → i < 4096 * pages →
-    get_or (file_pages bytes first pages) i 0 ≡ get_or bytes (4096 * first + i) 0
-unfolding file_pages
-file_byte bytes first pages i less =
-    zeros_behind (drop (4096 * first) bytes) (take (4096 * pages) (drop (4096 * first) bytes)) (4096 * pages) i refl less
-    ∙ get_or-drop (4096 * first) bytes i 0

@@ -20,88 +20,17 @@ use Rattle.mmap_rules.specs.Held.{Held}
 use Rattle.mmap_rules.specs.Want.{AsksPages}
 use Rattle.mmap_rules.specs.Mappings.{file_pages}
 use Rattle.mmap_rules.specs.Sides.{sides, Mapped, mapped, file_in}
+use Rattle.mmap_rules.proofs.Change.{Copied, FreshRun, OneMore, change}
+use Rattle.mmap_rules.proofs.CopiesHold.{laid_there, bytes_beside}
 use Rattle.mmap_rules.proofs.NamesMore.{used}
 use Rattle.mem_files.specs.Inodes.{Inode, Inodes, inode_at, content_in, bytes_in, bytes_of as bytes_of_file}
 use Rattle.syscall_layer.specs.Kept.{Kept}
 use Rattle.syscall_layer.specs.Regular.{Regular}
-use Rattle.syscall_layer.specs.Copies.{bytes_of, HoldsSource, CopiesHold, IsKnown, kept_calls}
+use Rattle.syscall_layer.specs.Copies.{HoldsSource, CopiesHold, kept_calls}
+use Rattle.mmap_rules.specs.Copies.{bytes_of, IsKnown}
 use Rattle.syscall_layer.proofs.Counts.{after_set}
-use Rattle.syscall_layer.proofs.MapRegular.{Copied, FreshRun, OneMore, left, run_inside}
-
--- ---- parts of a list over which bytes were laid
-
-same_part : (old new : List ℕ) (at len : ℕ) → length new ≡ length old → ((i : ℕ) → at ≤ i → i < at + len → get_or new i 0 ≡ get_or old i 0)
-    → take len (drop at new) ≡ take len (drop at old)
-same_part old new at len same each =
-    let new_len : length (take len (drop at new)) ≡ length (take len (drop at old)) =
-    (let a = length-take len (drop at new) in let b = length-take len (drop at old) in
-    let c = length-drop at new in let d = length-drop at old in omega (arith, a, b, c, d, same)) in
-    ext_get_or 0 (take len (drop at new)) (take len (drop at old)) new_len (λ i less.
-    let short : i < len = (let a = length-take len (drop at new) in omega (arith, a, less)) in
-    get_or-take len (drop at new) i 0 short ∙ get_or-drop at new i 0 ∙ each (at + i) (omega arith) (omega (arith, short))
-    ∙ sym (get_or-take len (drop at old) i 0 short ∙ get_or-drop at old i 0))
-
--- beside the bytes stands what stood there
-laid_beside : (old bytes : List ℕ) (at from len : ℕ) → at + length bytes ≤ length old → (from + len ≤ at) ⊎ (at + length bytes ≤ from)
-    → take len (drop from (laid old at bytes)) ≡ take len (drop from old)
-laid_beside old bytes at from len fits (inl before) =
-    same_part old (laid old at bytes) from len (length-laid old at bytes fits) (λ i low high. laid_before old at bytes fits i (omega (arith, before, high)))
-laid_beside old bytes at from len fits (inr past) =
-    same_part old (laid old at bytes) from len (length-laid old at bytes fits) (λ i low high. laid_past old at bytes fits i (omega (arith, past, low)))
-
--- and at their place stand the bytes
-laid_there : (old bytes : List ℕ) (at len : ℕ) → at + length bytes ≤ length old → len ≡ length bytes
-    → take len (drop at (laid old at bytes)) ≡ bytes
-laid_there old bytes at len fits is =
-    let whole = length-laid old at bytes fits in
-    let short = length-take len (drop at (laid old at bytes)) in
-    let rest = length-drop at (laid old at bytes) in
-    let count : length (take len (drop at (laid old at bytes))) ≡ length bytes = omega (arith, whole, short, rest, is, fits) in
-    ext_get_or 0 (take len (drop at (laid old at bytes))) bytes count (λ i less.
-    let inside : i < len = omega (arith, less, count, is) in
-    let place : at + i - at ≡ i = omega arith in
-    get_or-take len (drop at (laid old at bytes)) i 0 inside ∙ get_or-drop at (laid old at bytes) i 0
-    ∙ laid_inside old at bytes fits (at + i) (omega arith) (omega (arith, inside, is)) ∙ ap (λ (k : ℕ). get_or bytes k 0) place)
-
--- ---- the bytes of the regions
-
--- a live region lies before a free run or behind it
-beside : (rs : List Region) (first count id : ℕ) (r : Region) → AreRegions rs → AreFree rs first count → 0 < count → slice_get rs id ≡ Some r → 0 < r.uses
-    → (r.first + r.pages ≤ first) ⊎ (first + count ≤ r.first)
-beside rs first count id r are free some there live = elim (cases_lt first (r.first + r.pages)) [
-  | inl reaches ↦ elim (cases_lt r.first (first + count)) [
-    | inl begins ↦ absurd (elim (cases_lt r.first first) [
-      | inl low ↦ met first (omega (arith, low)) reaches (omega arith) (omega (arith, some))
-      | inr high ↦ met r.first (omega arith) (omega (arith, are.some id r there live)) high begins
-    ])
-    | inr behind ↦ inr behind
-  ]
-  | inr before ↦ inl before
-]
-  where
-    met : (p : ℕ) → r.first ≤ p → p < r.first + r.pages → first ≤ p → p < first + count → ⊥
-    met p from to low high =
-        let held = held_by rs id r p there (grind (arith, nat_tests, live, from, to)) in
-        false≢true (sym (free.free p (grind (arith, nat_tests, low, high))) ∙ held)
-
-bytes_beside : (rs : List Region) (mem content : List ℕ) (first count id : ℕ) (r : Region) → AreRegions rs → AreFree rs first count → 0 < count
-    → length content ≡ 4096 * count → 4096 * first + length content ≤ length mem → slice_get rs id ≡ Some r → 0 < r.uses
-    → bytes_of (laid mem (4096 * first) content) r ≡ bytes_of mem r
-bytes_beside rs mem content first count id r are free some len fits there live =
-    laid_beside mem content (4096 * first) (4096 * r.first) (4096 * r.pages) fits (elim (beside rs first count id r are free some there live) [
-      | inl before ↦ inl (omega (arith, before))
-      | inr past ↦ inr (omega (arith, past, len))
-    ])
-
--- a region that has the bytes and the pages of another one holds its file
-holds_as : (mem now : List ℕ) (nodes : Inodes) (r v : Region) (s : Source) → bytes_of now v ≡ bytes_of mem r → v.pages ≡ r.pages
-    → HoldsSource mem nodes r s → HoldsSource now nodes v s
-holds_as mem now nodes r v Own same pages old = tt
-holds_as mem now nodes r v (Copy file change first) same pages old = record {
-  given = old.given;
-  up = old.up;
-  same = λ n there is. same ∙ old.same n there is ∙ ap (file_pages (bytes_in n.content) first) (sym pages);
-}
+use Rattle.syscall_layer.proofs.CopiesKept.{holds_as}
+use Rattle.syscall_layer.proofs.MapRegular.{run_inside}
 
 -- ---- a copy that is made
 
@@ -152,7 +81,7 @@ module _ (k : Kept) (regular : Regular k) (copies : CopiesHold k.regions k.mem k
               (laid_there k.mem run.content (4096 * run.first) (4096 * run.count) fits (sym run.len)))
           | inr other ↦
               holds_as k.mem (laid k.mem (4096 * run.first) run.content) k.tree r r r.source
-              (bytes_beside k.regions k.mem run.content run.first run.count id r regular.regions run.free run.some run.len fits other.1 live) refl
+              (λ _. bytes_beside k.regions k.mem run.content run.first run.count id r regular.regions run.free run.some run.len fits other.1 live) refl
               (copies.hold id r other.1 live)
         ];
         changes = λ id n there. (let old = copies.changes id n there in omega (arith, old, later));
@@ -162,14 +91,14 @@ module _ (k : Kept) (regular : Regular k) (copies : CopiesHold k.regions k.mem k
         ];
       })
 
-  more_copies : OneMore (sides h k.regions k.mem) m → CopiesHold m.sides.regions m.sides.memory k.tree notes
+  more_copies : OneMore (sides h k.regions k.mem) want m → CopiesHold m.sides.regions m.sides.memory k.tree notes
   more_copies one =
       let v : Region = used one.region in
       rw (one.regions, one.memory) (record {
         hold = λ id r there live. elim (after_set k.regions one.region.first id v r there) [
           | inl here ↦
               subst (λ (x : Region). HoldsSource k.mem k.tree x x.source) (sym here.1)
-              (holds_as k.mem k.mem k.tree one.region v one.region.source refl refl (copies.hold one.region.first one.region one.there one.live))
+              (holds_as k.mem k.mem k.tree one.region v one.region.source (λ _. refl) refl (copies.hold one.region.first one.region one.there one.live))
           | inr other ↦ copies.hold id r other.1 live
         ];
         changes = λ id n there. (let old = copies.changes id n there in omega (arith, old, later));
@@ -187,7 +116,7 @@ pub map_copies : (k : Kept) (regular : Regular k) (copies : CopiesHold k.regions
     → mapped (sides h k.regions k.mem) kind (bytes_of_file k.tree (file_in want)) want ≡ Some m
     → (notes : List Note) → kept_calls k.notes + 1 ≤ kept_calls notes → CopiesHold m.sides.regions m.sides.memory k.tree notes
 map_copies k regular copies number h home kind want asks known m is notes later =
-    elim (left (sides h k.regions k.mem) kind (bytes_of_file k.tree (file_in want)) want m asks regular.regions is) [
+    elim (change (sides h k.regions k.mem) kind (bytes_of_file k.tree (file_in want)) want m asks regular.regions is) [
       | inl run ↦ fresh_copies k regular copies h want known m notes later run
       | inr one ↦ more_copies k regular copies h want known m notes later one
     ]

@@ -25,138 +25,15 @@ use Rattle.mmap_rules.specs.Mappings.{run_mapping, part_mapping, copied_from, fi
 use Rattle.mmap_rules.specs.Sides.{Sides, sides, Mapped, in_fresh_run, in_copy, in_copy_or_new, mapped, file_in}
 use Rattle.mmap_rules.proofs.Chosen.{copy_has}
 use Rattle.mmap_rules.proofs.Fresh.{fresh_free}
+use Rattle.mmap_rules.proofs.Change.{FreshRun, OneMore, change}
 use Rattle.mmap_rules.proofs.NamesMore.{used}
 use Rattle.mem_files.specs.Inodes.{bytes_of}
 use Rattle.syscall_layer.specs.Kept.{Kept}
-use Rattle.syscall_layer.specs.Copies.{CopiesHold, IsKnown}
+use Rattle.syscall_layer.specs.Copies.{CopiesHold}
+use Rattle.mmap_rules.specs.Copies.{IsKnown}
 use Rattle.syscall_layer.specs.Regular.{Names, HasSpace, Regular, named_in, uses_in}
 use Rattle.syscall_layer.proofs.Counts.{decide, eqb_is, get_set, get_other, after_set, pushed_cases}
 use Rattle.syscall_layer.proofs.Apart.{is_used}
-
--- ---- what `map` leaves
-
--- a copy that is made has the pages that are wanted
-pub record Copied (given : List ℕ) (asked : Want) (count : ℕ) (of : Source) (content : List ℕ) : Type 0 where
-  pub file : ℕ
-  pub change : ℕ
-  pub from : ℕ
-  pub source : of ≡ Copy file change from
-  pub bytes : content ≡ file_pages given from count
-  pub want : asked ≡ File count from false file change
-
--- a run that was free, with its bytes
-pub record FreshRun (s : Sides) (bytes : List ℕ) (want : Want) (m : Mapped) : Type 0 where
-  pub first : ℕ
-  pub count : ℕ
-  pub writes : Bool
-  pub anonymous : Bool
-  pub source : Source
-  pub content : List ℕ
-  pub some : 0 < count
-  pub free : AreFree s.regions first count
-  pub len : length content ≡ 4096 * count
-  pub written : writes ≡ true → source ≡ Own
-  pub origin : (source ≡ Own) ⊎ Copied bytes want count source content
-  pub pages : m.sides.held.pages ≡ s.held.pages
-  pub memory : m.sides.memory ≡ laid s.memory (4096 * first) content
-  pub maps : m.sides.held.maps ≡ s.held.maps ++ run_mapping first count writes anonymous source ∷ []
-  pub regions : m.sides.regions ≡ slice_set s.regions first (record { first = first; pages = count; source = source; uses = 1 })
-
--- pages of a copy that is there, which has a use more
-pub record OneMore (s : Sides) (m : Mapped) : Type 0 where
-  pub region : Region
-  pub skip : ℕ
-  pub count : ℕ
-  pub there : slice_get s.regions region.first ≡ Some region
-  pub live : 0 < region.uses
-  pub copy : is_copy region.source ≡ true
-  pub fits : skip + count ≤ region.pages
-  pub pages : m.sides.held.pages ≡ s.held.pages
-  pub memory : m.sides.memory ≡ s.memory
-  pub maps : m.sides.held.maps ≡ s.held.maps ++ part_mapping region.first region.pages region.source skip count ∷ []
-  pub regions : m.sides.regions ≡ slice_set s.regions region.first (used region)
-
-length-file_pages : (bytes : List ℕ) (first pages : ℕ) → length (file_pages bytes first pages) ≡ 4096 * pages
-unfolding file_pages
-length-file_pages bytes first pages =
-    let front : List ℕ = take (4096 * pages) (drop (4096 * first) bytes) in
-    let short = length-take (4096 * pages) (drop (4096 * first) bytes) in
-    let zeros = length-replicate {A = ℕ} (4096 * pages - length front) 0 in
-    length-append front (replicate (4096 * pages - length front) 0) ∙ omega (arith, short, zeros)
-
-in_run : (s : Sides) (bytes : List ℕ) (want : Want) (kind : Kind) (count : ℕ) (writes anonymous : Bool) (source : Source) (content : List ℕ) (m : Mapped)
-    → 0 < count → length content ≡ 4096 * count → (writes ≡ true → source ≡ Own) → (source ≡ Own) ⊎ Copied bytes want count source content
-    → in_fresh_run s kind count writes anonymous source content ≡ Some m → FreshRun s bytes want m
-in_run s bytes want kind count writes anonymous source content m some len written origin is =
-    at (first_of (free_of s.regions).runs (place kind (free_of s.regions).runs count)) refl
-  where
-    at : (o : Option ℕ) → first_of (free_of s.regions).runs (place kind (free_of s.regions).runs count) ≡ o → FreshRun s bytes want m
-    at None none = absurd (none-some m (rw none at is))
-    at (Some first) there =
-        let same = same_Some _ _ (rw there at is) in
-        record {
-          first = first;
-          count = count;
-          writes = writes;
-          anonymous = anonymous;
-          source = source;
-          content = content;
-          some = some;
-          free = fresh_free s.regions kind count first some there;
-          len = len;
-          written = written;
-          origin = origin;
-          pages = ap (λ (x : Mapped). x.sides.held.pages) (sym same);
-          memory = ap (λ (x : Mapped). x.sides.memory) (sym same);
-          maps = ap (λ (x : Mapped). x.sides.held.maps) (sym same);
-          regions = ap (λ (x : Mapped). x.sides.regions) (sym same);
-        }
-
-more : (s : Sides) (id first count : ℕ) (m : Mapped) → AreRegions s.regions → CopyHas s.regions id first count
-    → in_copy s first count (slice_get s.regions id) ≡ Some m → OneMore s m
-more s id first count m are copy is =
-    let r : Region = copy.region in
-    let same = same_Some _ _ (rw copy.there at is) in
-    let begins : r.first ≡ id = are.begins id r copy.there copy.live in
-    let there : slice_get s.regions r.first ≡ Some r = ap (λ (k : ℕ). slice_get s.regions k) begins ∙ copy.there in
-    record {
-      region = r;
-      skip = first - copied_from r.source;
-      count = count;
-      there = there;
-      live = copy.live;
-      copy = copy.copy;
-      fits = (let from = copy.from in let to = copy.to in omega (arith, from, to));
-      pages = ap (λ (x : Mapped). x.sides.held.pages) (sym same);
-      memory = ap (λ (x : Mapped). x.sides.memory) (sym same);
-      maps = ap (λ (x : Mapped). x.sides.held.maps) (sym same);
-      regions = ap (λ (x : Mapped). x.sides.regions) (sym same) ∙ rw there refl;
-    }
-
--- one of the two
-pub left : (s : Sides) (kind : Kind) (bytes : List ℕ) (want : Want) (m : Mapped) → AsksPages want → AreRegions s.regions → mapped s kind bytes want ≡ Some m
-    → FreshRun s bytes want m ⊎ OneMore s m
-unfolding mapped
-left s kind bytes (Anon pages) m asks are is =
-    inl (in_run s bytes (Anon pages) kind pages true true Own (replicate (4096 * pages) 0) m asks (length-replicate (4096 * pages) zero)
-    (λ _. refl) (inl refl) is)
-left s kind bytes (File pages first true id count) m asks are is =
-    inl (in_run s bytes (File pages first true id count) kind pages true false Own (file_pages bytes first pages) m asks
-    (length-file_pages bytes first pages) (λ _. refl) (inl refl) is)
-left s kind bytes (File pages first false id count) m asks are is = at (copy_of s.regions id count first pages) refl is
-  where
-    copied : Copied bytes (File pages first false id count) pages (Copy id count first) (file_pages bytes first pages)
-    copied = record { file = id; change = count; from = first; source = refl; bytes = refl; want = refl }
-
-    at : (o : Option ℕ) → o ≡ copy_of s.regions id count first pages → in_copy_or_new s kind bytes pages first id count o ≡ Some m
-        → FreshRun s bytes (File pages first false id count) m ⊎ OneMore s m
-    at None none new =
-        inl (in_run s bytes (File pages first false id count) kind pages false false (Copy id count first) (file_pages bytes first pages) m asks
-        (length-file_pages bytes first pages) (λ never. absurd (false≢true never)) (inr copied) new)
-    at (Some copy) found old =
-        let live = copy_lives s.regions s.regions id count first pages copy refl found in
-        let has = copy_covers_them s.regions s.regions id count first pages copy refl found copy live.region refl live.there in
-        inr (more s copy first pages m are (copy_has s.regions copy id count first pages live.region live.there has) old)
 
 -- ---- a mapping more
 
@@ -380,7 +257,7 @@ pub map_regular : (k : Kept) (regular : Regular k) (copies : CopiesHold k.region
     → mapped (sides h k.regions k.mem) kind (bytes_of k.tree (file_in want)) want ≡ Some m
     → Regular (record k { mem = m.sides.memory; regions = m.sides.regions; spaces = slice_set k.spaces number (Some m.sides.held) })
 map_regular k regular copies number h home kind want asks known m is =
-    elim (left (sides h k.regions k.mem) kind (bytes_of k.tree (file_in want)) want m asks regular.regions is) [
+    elim (change (sides h k.regions k.mem) kind (bytes_of k.tree (file_in want)) want m asks regular.regions is) [
       | inl run ↦
           let v : Region = record { first = run.first; pages = run.count; source = run.source; uses = 1 } in
           let n : Mapping = run_mapping run.first run.count run.writes run.anonymous run.source in

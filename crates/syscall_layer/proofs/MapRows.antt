@@ -22,7 +22,7 @@ use Rattle.machine_world.specs.Free.{free_runs_in}
 use Rattle.machine_world.specs.MapCalls.{side_of_content, side_of_node, side_of_target, side_of, in_copy, in_free_run, or_own, maps, mapped, mmap2_row, unmaps, munmap_row}
 use Rattle.file_calls.specs.declared.call.Call.{Call}
 use Rattle.file_calls.specs.Calls.{MadeBy}
-use Rattle.syscall_layer.specs.Copies.{IsKnown}
+use Rattle.mmap_rules.specs.Copies.{IsKnown}
 use Rattle.syscall_layer.proofs.QuietRows.{Quiet}
 
 module _ (call : Call) (a : Ask) (made : MadeBy call a) where

@@ -1,35 +1,23 @@
 -- A live copy holds its file, as long as that wasn't changed.
-use Rattle.std.specs.Prelude.{◌≡◌, ℕ, ◌+◌, ◌*◌, ◌^◌, ◌<◌, ◌≤◌, List, map, sum, take, drop, length, Some, slice_get}
+use Rattle.std.specs.Prelude.{◌≡◌, ℕ, ◌+◌, ◌^◌, ◌<◌, ◌≤◌, List, map, sum, length, Some, slice_get}
 use Rattle.call_log.specs.Notes.{Note, calls_in}
 use Rattle.nommu_regions.specs.declared.region.Region.{Region}
 use Rattle.nommu_regions.specs.declared.region.Source.{Source}
 use Rattle.nommu_regions.specs.declared.region.Source.TheVariants.{Own, Copy}
-use Rattle.mmap_rules.specs.declared.want.Want.{Want}
-use Rattle.mmap_rules.specs.declared.want.Want.TheVariants.{Anon, File}
-use Rattle.mmap_rules.specs.Space.{page_size}
-use Rattle.mmap_rules.specs.Mappings.{file_pages}
-use Rattle.mem_files.specs.Inodes.{Inode, Inodes, inode_at, bytes_in}
+use Rattle.mem_files.specs.Inodes.{Inode, Inodes, inode_at}
+use Rattle.mmap_rules.specs.Copies.{HasFile}
 use Rattle.machine_world.specs.Ages.{AreChanged}
-
--- the bytes of a region's pages
-abbrev pub bytes_of : List ℕ → Region → List ℕ
-bytes_of mem r = take (page_size * r.pages) (drop (page_size * r.first) mem)
 
 -- a region with the pages of a file from its page `first` on, as the file was at a count of changes: the file's number was given, its
 -- count didn't fall, and under the same count the region has the file's bytes in all its pages, with zeros past the end
 pub record HoldsFile (mem : List ℕ) (nodes : Inodes) (r : Region) (file change first : ℕ) : Type 0 where
   pub given : file < length nodes
   pub up : (n : Inode) → inode_at nodes file ≡ Some n → change ≤ n.change
-  pub same : (n : Inode) → inode_at nodes file ≡ Some n → change ≡ n.change → bytes_of mem r ≡ file_pages (bytes_in n.content) first r.pages
+  pub same : HasFile mem nodes r file change first
 
 abbrev pub HoldsSource : List ℕ → Inodes → Region → Source → Type 0
 HoldsSource mem nodes r Own = Unit {0}
 HoldsSource mem nodes r (Copy file change first) = HoldsFile mem nodes r file change first
-
--- a file that is wanted is there, and was changed so often
-abbrev pub IsKnown : Inodes → Want → Type 0
-IsKnown nodes (Anon pages) = Unit {0}
-IsKnown nodes (File pages first write id change) = (n : Inode) × (inode_at nodes id ≡ Some n) × (n.change ≡ change)
 
 -- the calls that were noted
 abbrev pub kept_calls : List Note → ℕ

@@ -5,7 +5,7 @@ use Rattle.syscall_layer.specs.Kept.{Kept}
 abbrev pub kept_of : Inside → Kept
 kept_of p = record {
   mem = p.mem;
-  regions = p.regions;
+  regions = p.regions.regions;
   spaces = p.spaces.items;
   tree = p.tree;
   files = p.files.open_files;

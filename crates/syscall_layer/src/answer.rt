@@ -18,7 +18,7 @@ ghost use Rattle.file_calls.specs.Outcomes.{GivesRow, CanTake};
 ghost use Rattle.syscall_layer.specs.declared.task.Task.{Task};
 ghost use Rattle.syscall_layer.specs.Stands.{About, world_of};
 ghost use Rattle.syscall_layer.specs.Serves.{Serves};
-ghost use Rattle.syscall_layer.specs.Copies.{IsKnown};
+ghost use Rattle.mmap_rules.specs.Copies.{IsKnown};
 ghost use Rattle.syscall_layer.specs.Puts.{first_stray, access_at, IsRange};
 ghost use Rattle.syscall_layer.specs.Calls.{RunsIn, IsCall, ask_in, reply_of, served_by};
 

@@ -3,7 +3,6 @@
 ghost use Rattle.std.specs.Prelude.{◌≡◌};
 ghost use Rattle.machine_world.specs.Event.{is_exit};
 ghost use Rattle.file_calls.specs.Calls.{is_change, is_output};
-ghost use Rattle.syscall_layer.specs.MapsIn.{is_mapping};
 
 /// exit and exit_group.
 pub fn is_exit(number: u32) -> bool
@@ -31,11 +30,4 @@ pub fn is_output(number: u32) -> bool
     ensures { result ≡ is_output number }
 {
     number == 61 || number == 62 || number == 63 || number == 65
-}
-
-/// munmap and mmap2.
-pub fn is_mapping(number: u32) -> bool
-    ensures { result ≡ is_mapping number }
-{
-    number == 215 || number == 222
 }

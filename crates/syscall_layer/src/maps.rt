@@ -7,6 +7,7 @@ ghost use Rattle.mem_files.specs.Inodes.{bytes_of};
 ghost use Rattle.fd_tables.specs.Files.{view};
 ghost use Rattle.mmap_rules.specs.Held.{Held};
 ghost use Rattle.mmap_rules.specs.Want.{wanted, AsksPages};
+ghost use Rattle.mmap_rules.specs.Copies.{IsKnown};
 ghost use Rattle.mmap_rules.specs.Sides.{NameRegions, AreFew, file_in};
 ghost use Rattle.vfork_exec.specs.declared.entry.Entry.{Entry};
 ghost use Rattle.vfork_exec.specs.Procs.{Lives};
@@ -15,7 +16,6 @@ ghost use Rattle.machine_world.specs.MapCalls.{side_of, mapped, unmaps};
 ghost use Rattle.syscall_layer.specs.declared.task.Task.{Task};
 ghost use Rattle.syscall_layer.specs.Regular.{HasSpace};
 ghost use Rattle.syscall_layer.specs.Stands.{About};
-ghost use Rattle.syscall_layer.specs.Copies.{IsKnown};
 ghost use Rattle.syscall_layer.specs.Calls.{RunsIn, IsCall, ask_in, Changes};
 ghost use Rattle.syscall_layer.specs.MapsIn.{MapsIn, UnmapsIn, IsAddress, status_of};
 
@@ -76,13 +76,13 @@ fn map_in<F: Fn(&[Run], u32) -> Option<usize>>(
 ) -> Result<u32, MapFault>
     requires chooser { IsChooser F.pre F.post chooser.now }
     requires home { HasSpace spaces.old number }
-    requires pages { (h : Held) → slice_get spaces.old number ≡ Some (Some h) → h.pages ≡ length regions.old }
-    requires memory { length mem.old ≡ 4096 * length regions.old }
-    requires names { (h : Held) → slice_get spaces.old number ≡ Some (Some h) → NameRegions regions.old h.maps }
-    requires few { AreFew regions.old }
+    requires pages { (h : Held) → slice_get spaces.old number ≡ Some (Some h) → h.pages ≡ length regions.old.regions }
+    requires memory { length mem.old ≡ 4096 * length regions.old.regions }
+    requires names { (h : Held) → slice_get spaces.old number ≡ Some (Some h) → NameRegions regions.old.regions h.maps }
+    requires few { AreFew regions.old.regions }
     requires want { AsksPages want }
     ensures { (h : Held) → slice_get spaces.old number ≡ Some (Some h) →
-        MapsIn (kind_of chooser.now) (bytes_of tree.now (file_in want)) want number h spaces.old spaces.new regions.old regions.new mem.old mem.new result }
+        MapsIn (kind_of chooser.now) (bytes_of tree.now (file_in want)) want number h spaces.old spaces.new regions.old.regions regions.new.regions mem.old mem.new result }
 {
     match &mut spaces[number as usize] {
         Some(space) => space.map(regions, mem, tree, want, chooser),
@@ -99,10 +99,10 @@ fn unmap_in(
     len: u32,
 ) -> Result<(), Errno>
     requires home { HasSpace spaces.old number }
-    requires pages { (h : Held) → slice_get spaces.old number ≡ Some (Some h) → h.pages ≡ length regions.old }
-    requires names { (h : Held) → slice_get spaces.old number ≡ Some (Some h) → NameRegions regions.old h.maps }
+    requires pages { (h : Held) → slice_get spaces.old number ≡ Some (Some h) → h.pages ≡ length regions.old.regions }
+    requires names { (h : Held) → slice_get spaces.old number ≡ Some (Some h) → NameRegions regions.old.regions h.maps }
     ensures { (h : Held) → slice_get spaces.old number ≡ Some (Some h) →
-        UnmapsIn addr len number h spaces.old spaces.new regions.old regions.new result }
+        UnmapsIn addr len number h spaces.old spaces.new regions.old.regions regions.new.regions result }
 {
     match &mut spaces[number as usize] {
         Some(space) => {

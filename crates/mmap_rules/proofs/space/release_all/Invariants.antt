@@ -5,6 +5,6 @@ use Rattle.mmap_rules.proofs.space.release_all.Given as goal
 -- what is left to release leaves what all leaves
 abbrev pub invariant-loop-mapping : goal.invariant-loop-mapping
 invariant-loop-mapping l = record {
-  can : CanRelease l.regions (drop l.mapping-index l.maps);
-  same : released l.regions (drop l.mapping-index l.maps) ≡ released l.fn.regions l.maps;
+  can : CanRelease l.regions.regions (drop l.mapping-index l.maps);
+  same : released l.regions.regions (drop l.mapping-index l.maps) ≡ released l.fn.regions.regions l.maps;
 }

@@ -7,8 +7,8 @@ use Rattle.mmap_rules.proofs.map_tests.Machine.map.Goals as goal
 
 pub invariant_of-self : goal.invariant_of-self
 invariant_of-self g c =
-    let s : Sides = sides c.self.inside.space c.self.inside.regions c.self.inside.mem in
-    let new : Sides = sides c.map.new.self c.map.new.regions c.map.new.mem in
+    let s : Sides = sides c.self.inside.space c.self.inside.regions.regions c.self.inside.mem in
+    let new : Sides = sides c.map.new.self c.map.new.regions.regions c.map.new.mem in
     let kind = kind_of c.args.chooser.now in
     let bytes = bytes_of c.args.tree.now (file_in c.args.want) in
     let are = c.pages-pages.ensures.regions in

@@ -1,5 +1,8 @@
-use Rattle.std.proofs.Common.{◌≡◌, ◌+◌, ◌-◌, ◌*◌, ◌^◌, length, refl, sym, ap, subst, arith}
-use Rattle.mmap_rules.specs.Held.{Held}
+use Rattle.std.proofs.Common.{◌≡◌, ◌+◌, ◌-◌, ◌*◌, ◌^◌, ◌∙◌, length, sym, ap, subst, arith}
+use Rattle.std.proofs.lemmas.Option.{same_Some}
+use Rattle.nommu_regions.specs.declared.region.Region.{Region}
+use Rattle.nommu_regions.specs.Ids.{Numbered, start_of}
+use Rattle.mmap_rules.specs.Held.{Held, page_address}
 use Rattle.mmap_rules.specs.Sides.{NameRegions}
 use Rattle.mmap_rules.proofs.Mapped.{places_at_least}
 use Rattle.mmap_rules.proofs.FreshRuns.{run_can}
@@ -16,23 +19,30 @@ pub invariant_of-self-in_default : goal.invariant_of-self-in_default
 invariant_of-self-in_default g c = rw c.make_room.ensures.items (c.self.invariant.0, c.self.invariant.1, c.make_room.ensures.kept)
 
 pub overflow_mul-first : goal.overflow_mul-first
-overflow_mul-first g c = omega (arith, c.in-Some.ensures.free.inside, c.requires.most)
+overflow_mul-first g c =
+    let first : c.region-first.result.first ≡ start_of c.args.regions.now c.in-Some.id = ap (λ (r : Region). r.first) (same_Some _ _ (sym c.region-first.ensures ∙ c.in-Some.ensures.region)) in
+    omega (arith, first, c.in-Some.ensures.free.inside, c.requires.most)
 
 pub overflow_add-first : goal.overflow_add-first
-overflow_add-first g c = omega (arith, c.in-Some.ensures.free.inside, c.requires.most)
+overflow_add-first g c =
+    let first : c.region-first.result.first ≡ start_of c.args.regions.now c.in-Some.id = ap (λ (r : Region). r.first) (same_Some _ _ (sym c.region-first.ensures ∙ c.in-Some.ensures.region)) in
+    omega (arith, first, c.in-Some.ensures.free.inside, c.requires.most)
 
 pub run_mapping-requires : goal.run_mapping-requires
-run_mapping-requires g c = omega (arith, c.in-Some.ensures.free.inside, c.requires.most)
+run_mapping-requires g c =
+    let first : c.region-first.result.first ≡ start_of c.args.regions.now c.in-Some.id = ap (λ (r : Region). r.first) (same_Some _ _ (sym c.region-first.ensures ∙ c.in-Some.ensures.region)) in
+    omega (arith, first, c.in-Some.ensures.free.inside, c.requires.most)
 
 pub add_mapping-requires-clause-mappings : goal.add_mapping-requires-clause-mappings
 add_mapping-requires-clause-mappings g c = rw c.make_room.ensures.items c.self.invariant.1
 
 pub add_mapping-requires-clause-can : goal.add_mapping-requires-clause-can
 add_mapping-requires-clause-can g c =
-    let names : NameRegions c.args.regions.now c.self.inside.maps.items = subst (λ (h : Held). NameRegions c.args.regions.now h.maps) (sym c.self.view_is) c.requires.names in
+    let first : c.region-first.result.first ≡ start_of c.args.regions.now c.in-Some.id = ap (λ (r : Region). r.first) (same_Some _ _ (sym c.region-first.ensures ∙ c.in-Some.ensures.region)) in
+    let names : NameRegions c.args.regions.now.regions c.self.inside.maps.items = subst (λ (h : Held). NameRegions c.args.regions.now.regions h.maps) (sym c.self.view_is) c.requires.names in
     let pages : length c.self.inside.owners ≡ c.args.self.now.pages = ap (λ (h : Held). h.pages) c.self.view_is in
-    rw c.run_mapping.ensures
-    (run_can c.in-Some.first c.args.run.now.pages c.args.run.now.writes c.args.run.now.anonymous c.args.run.now.source c.args.regions.now c.self.inside.owners
+    rw (c.run_mapping.ensures, first)
+    (run_can (start_of c.args.regions.now c.in-Some.id) c.args.run.now.pages c.args.run.now.writes c.args.run.now.anonymous c.args.run.now.source c.args.regions.now.regions c.self.inside.owners
     c.self.inside.maps.items c.self.invariant.0 c.self.invariant.1 c.requires.regions names c.requires.few (omega (arith, pages, c.requires.pages)) c.requires.run
     c.in-Some.ensures.free)
 
@@ -41,11 +51,12 @@ invariant_of-self-2 g c = (c.add_mapping.ensures.table, rw c.add_mapping.ensures
 
 pub returns : goal.returns
 returns g c =
+    let first : c.region-first.result.first ≡ start_of c.args.regions.now c.in-Some.id = ap (λ (r : Region). r.first) (same_Some _ _ (sym c.region-first.ensures ∙ c.in-Some.ensures.region)) in
     let placed = sym c.in-Some.ensures.placed in
     let maps = c.add_mapping.ensures.maps in
     let held = held_more c.args.self.now c.self.inside.maps.items c.add_mapping.new.maps.items c.self.inside.brk c.self.inside.brk_low c.self.inside.brk_high
-    (length c.self.inside.owners) (length c.add_mapping.new.owners) _ c.self.view_is (rw (c.make_room.ensures.items, c.run_mapping.ensures) at maps) c.add_mapping.ensures.pages in
+    (length c.self.inside.owners) (length c.add_mapping.new.owners) _ c.self.view_is (rw (c.make_room.ensures.items, c.run_mapping.ensures, first) at maps) c.add_mapping.ensures.pages in
     let inside = c.in-Some.ensures.free.inside in
-    let memory = run_filled c.args.mem.now c.fresh.new.mem c.copy_in.new.self c.in-Some.first c.args.run.now.pages (2 ^ 31 + 4096 * c.in-Some.first - 2 ^ 31) c.args.bytes.now
-    (omega (arith, inside, c.requires.memory)) c.requires.bytes (omega arith) c.in-Some.ensures.memory c.copy_in.ensures in
-    rw placed (refl, sides_same _ _ _ _ _ _ held c.in-Some.ensures.regions memory)
+    let memory = run_filled c.args.mem.now c.fresh.new.mem c.copy_in.new.self (start_of c.args.regions.now c.in-Some.id) c.args.run.now.pages (2 ^ 31 + 4096 * c.region-first.result.first - 2 ^ 31) c.args.bytes.now
+    (omega (arith, inside, c.requires.memory)) c.requires.bytes (omega (arith, first)) c.in-Some.ensures.memory c.copy_in.ensures in
+    rw placed (ap page_address first, sides_same _ _ _ _ _ _ held (ap (λ (x : Numbered). x.regions) c.in-Some.ensures.regions) memory)

@@ -1,6 +1,7 @@
 use Rattle.std.proofs.Common.{◌≡◌, ◌-◌, length, sym, ap, ◌∙◌, subst, arith}
 use Rattle.std.proofs.lemmas.Option.{same_Some}
 use Rattle.nommu_regions.specs.declared.region.Region.{Region}
+use Rattle.nommu_regions.specs.Ids.{start_of}
 use Rattle.mmap_rules.specs.Held.{Held}
 use Rattle.mmap_rules.specs.Mappings.{part_mapping, copied_from}
 use Rattle.mmap_rules.specs.Sides.{NameRegions}
@@ -19,12 +20,12 @@ add_mapping-requires-clause-mappings c = rw c.make_room.ensures.items c.self.inv
 
 pub add_mapping-requires-clause-can : goal.add_mapping-requires-clause-can
 add_mapping-requires-clause-can c =
-    let names : NameRegions c.args.regions.now c.self.inside.maps.items = subst (λ (h : Held). NameRegions c.args.regions.now h.maps) (sym c.self.view_is) c.requires.names in
+    let names : NameRegions c.args.regions.now.regions c.self.inside.maps.items = subst (λ (h : Held). NameRegions c.args.regions.now.regions h.maps) (sym c.self.view_is) c.requires.names in
     let pages : length c.self.inside.owners ≡ c.args.self.now.pages = ap (λ (h : Held). h.pages) c.self.view_is in
     let same : c.requires.copy.region ≡ c.region-region.result = same_Some _ _ (sym c.requires.copy.there ∙ c.region-region.ensures) in
     let mapping : part_mapping c.requires.copy.region.first c.requires.copy.region.pages c.requires.copy.region.source (c.args.first - copied_from c.requires.copy.region.source) c.args.pages ≡ c.part_mapping-mapping.result =
     ap (λ (r : Region). part_mapping r.first r.pages r.source (c.args.first - copied_from r.source) c.args.pages) same ∙ sym c.part_mapping-mapping.ensures in
-    rw (← mapping) (part_can c.args.copy c.args.first c.args.pages c.args.regions.now c.self.inside.owners c.self.inside.maps.items c.requires.copy c.self.invariant.0 c.self.invariant.1
+    rw (← mapping) (part_can (start_of c.args.regions.now c.args.copy) c.args.first c.args.pages c.args.regions.now.regions c.self.inside.owners c.self.inside.maps.items c.requires.copy c.self.invariant.0 c.self.invariant.1
     c.requires.regions names c.requires.few (omega (arith, pages, c.requires.pages)) c.requires.some)
 
 pub invariant_of-self-2 : goal.invariant_of-self-2

@@ -2,6 +2,7 @@ use Rattle.std.proofs.Common.{◌≡◌, ◌<◌, ◌≤◌, [], ◌∷◌, leng
 use Rattle.std.specs.Prelude.{vec_capacity}
 use Rattle.std.specs.List.{sum_by}
 use Rattle.nommu_regions.specs.declared.region.Region.{Region}
+use Rattle.nommu_regions.specs.Ids.{start_of}
 use Rattle.mmap_rules.specs.declared.mapping.Mapping.{Mapping}
 use Rattle.mmap_rules.specs.Owners.{IsTable}
 use Rattle.mmap_rules.specs.Held.{block_mapping, IsMapping, places_of}
@@ -11,14 +12,15 @@ use Rattle.mmap_rules.proofs.space.Space.new.Goals as goal
 
 pub invariant_of-result : goal.invariant_of-result
 invariant_of-result c =
-    let rs = c.args.regions.now in
+    let rs = c.args.regions.now.regions in
+    let first = start_of c.args.regions.now c.args.block in
     let r = c.region-region.result in
     let there = c.region-region.ensures in
     let same : c.requires.live.region ≡ r = cc in
     let live : 0 < r.uses = subst (λ (x : Region). 0 < x.uses) same c.requires.live.live in
     let are = c.pages-pages.ensures.regions in
-    let some = are.some c.args.block r there live in
-    let inside = are.inside c.args.block r there live in
+    let some = are.some first r there live in
+    let inside = are.inside first r there live in
     let m = c.block_mapping-mapping.result in
     let is : m ≡ block_mapping r.first r.pages = c.block_mapping-mapping.ensures in
     let pages : length c.add.new.self ≡ length rs = c.add.ensures.len ∙ c.room.view_is ∙ c.requires.pages in

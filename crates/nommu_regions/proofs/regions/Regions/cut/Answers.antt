@@ -1,89 +1,184 @@
-use Rattle.std.proofs.Common.{◌+◌, ◌<◌, arith}
-use Rattle.std.proofs.lemmas.Bool.Decides.{nat_tests}
-use Rattle.nommu_regions.proofs.Kept.{taken_by}
-use Rattle.nommu_regions.proofs.Cut.{is_cut, kept_front, kept_back, cut_inside, is_front, is_front_and_back, no_back, some_back, freed, front_lives, front_lives_on, back_lives}
+use Rattle.std.proofs.Common.{◌≡◌, ◌<◌, ◌≤◌, ◌+◌, ◌∙◌, ℕ, List, length, get_or, arith, ap, sym}
+use Rattle.std.specs.List.{swap}
+use Rattle.std.specs.Vec.{with_items}
+use Rattle.std.proofs.lemmas.List.{with_items_is, get_or_read_under}
+use Rattle.std.proofs.lemmas.List.Edits.{length-swap}
+use Rattle.nommu_regions.specs.declared.region.Region.{Region}
+use Rattle.nommu_regions.specs.Regions.{with_cut}
+use Rattle.nommu_regions.proofs.Ids.{id_within}
+use Rattle.nommu_regions.proofs.Numbered.{At, read_at, region_at, lives_at, lives_cut, cut_at, live_kept, live_upper, none_upper, none_lower, part_lower, part_upper, some_upper, others_cut, others_swapped}
 use Rattle.nommu_regions.proofs.regions.Regions.cut.Goals as goal
-
-pub give-requires-clause-taken : goal.give-requires-clause-taken
-give-requires-clause-taken c =
-    let cut = is_cut c.self.inside.regions.items c.args.self.now c.args.id c.args.from c.args.count _ c.index-region.result.now c.self.view_is c.requires c.self.inside.regions.ok.0 c.index-region.ensures in
-    λ p inside. taken_by c.self.inside.regions.items c.self.inside.free c.args.id c.index-region.result.now c.self.invariant cut.there (omega (arith, cut.one)) p
-    (grind (arith, nat_tests, inside, cut.first, cut.last))
 
 pub overflow_add-region : goal.overflow_add-region
 overflow_add-region c =
-    let cut = is_cut c.self.inside.regions.items c.args.self.now c.args.id c.args.from c.args.count _ c.index-region.result.now c.self.view_is c.requires c.self.inside.regions.ok.0 c.index-region.ensures in
-    omega (arith, cut_inside c.self.inside.regions.items c.self.inside.free c.args.id c.index-region.result.now c.args.from c.args.count c.self.invariant cut, c.self.invariant.3)
+    let at : At c.self.inside.regions.items c.self.inside.starts.items c.args.self.now c.args.id c.index-first.result.now c.index-region.result.now = read_at c.self.inside.regions.items c.self.inside.ids.items c.self.inside.starts.items c.args.self.now c.args.id c.index-first.result.now _ _ c.index-region.result.now c.self.view_is c.self.invariant.1 (lives_cut c.self.inside.regions.items c.self.inside.starts.items c.args.self.now c.args.id c.args.from c.args.count c.requires) c.self.inside.starts.ok.0 c.index-first.ensures c.self.inside.regions.ok.0 c.index-region.ensures in
+    let cut = cut_at c.self.inside.regions.items c.self.inside.starts.items c.args.self.now c.args.id c.index-first.result.now c.index-region.result.now c.args.from c.args.count at c.requires in
+    let begins : c.index-region.result.now.first ≡ c.index-first.result.now = c.self.invariant.0.0.begins c.index-first.result.now c.index-region.result.now at.there at.live in
+    let inside : c.index-region.result.now.first + c.index-region.result.now.pages ≤ length c.self.inside.regions.items = c.self.invariant.0.0.inside c.index-first.result.now c.index-region.result.now at.there at.live in
+    omega (arith, inside, c.self.invariant.0.3)
 
-pub invariant_of-self : goal.invariant_of-self
-invariant_of-self c =
-    let cut = is_cut c.self.inside.regions.items c.args.self.now c.args.id c.args.from c.args.count _ c.index-region.result.now c.self.view_is c.requires c.self.inside.regions.ok.0 c.index-region.ensures in
-    rw c.before-2.ensures (kept_front c.self.inside.regions.items c.self.inside.free c.give.new.self c.args.id c.index-region.result.now c.args.from c.args.count c.self.invariant cut c.give.ensures c.if-end-region.true)
+pub index-upper-requires : goal.index-upper-requires
+index-upper-requires c =
+    let at : At c.self.inside.regions.items c.self.inside.starts.items c.args.self.now c.args.id c.index-first.result.now c.index-region.result.now = read_at c.self.inside.regions.items c.self.inside.ids.items c.self.inside.starts.items c.args.self.now c.args.id c.index-first.result.now _ _ c.index-region.result.now c.self.view_is c.self.invariant.1 (lives_cut c.self.inside.regions.items c.self.inside.starts.items c.args.self.now c.args.id c.args.from c.args.count c.requires) c.self.inside.starts.ok.0 c.index-first.ensures c.self.inside.regions.ok.0 c.index-region.ensures in
+    let cut = cut_at c.self.inside.regions.items c.self.inside.starts.items c.args.self.now c.args.id c.index-first.result.now c.index-region.result.now c.args.from c.args.count at c.requires in
+    let begins : c.index-region.result.now.first ≡ c.index-first.result.now = c.self.invariant.0.0.begins c.index-first.result.now c.index-region.result.now at.there at.live in
+    let inside : c.index-region.result.now.first + c.index-region.result.now.pages ≤ length c.self.inside.regions.items = c.self.invariant.0.0.inside c.index-first.result.now c.index-region.result.now at.there at.live in
+    omega (arith, inside, cut.last, c.self.invariant.1.ids_len, c.self.inside.ids.ok.0, c.if-end-region.false)
 
-pub returns-then-end-region-clause-regions : goal.returns-then-end-region-clause-regions
-returns-then-end-region-clause-regions c =
-    let cut = is_cut c.self.inside.regions.items c.args.self.now c.args.id c.args.from c.args.count _ c.index-region.result.now c.self.view_is c.requires c.self.inside.regions.ok.0 c.index-region.ensures in
-    rw c.before-2.ensures (is_front c.self.inside.regions.items c.args.self.now c.args.id c.index-region.result.now c.args.from c.args.count c.self.view_is cut c.if-end-region.true)
+pub returns-then-end-region-clause-part : goal.returns-then-end-region-clause-part
+returns-then-end-region-clause-part c r named =
+    let at : At c.self.inside.regions.items c.self.inside.starts.items c.args.self.now c.args.id c.index-first.result.now c.index-region.result.now = read_at c.self.inside.regions.items c.self.inside.ids.items c.self.inside.starts.items c.args.self.now c.args.id c.index-first.result.now _ _ c.index-region.result.now c.self.view_is c.self.invariant.1 (lives_cut c.self.inside.regions.items c.self.inside.starts.items c.args.self.now c.args.id c.args.from c.args.count c.requires) c.self.inside.starts.ok.0 c.index-first.ensures c.self.inside.regions.ok.0 c.index-region.ensures in
+    let cut = cut_at c.self.inside.regions.items c.self.inside.starts.items c.args.self.now c.args.id c.index-first.result.now c.index-region.result.now c.args.from c.args.count at c.requires in
+    let begins : c.index-region.result.now.first ≡ c.index-first.result.now = c.self.invariant.0.0.begins c.index-first.result.now c.index-region.result.now at.there at.live in
+    let inside : c.index-region.result.now.first + c.index-region.result.now.pages ≤ length c.self.inside.regions.items = c.self.invariant.0.0.inside c.index-first.result.now c.index-region.result.now at.there at.live in
+    let whole : (with_items c.self.inside.regions c.cut_pages.new.regions).items ≡ c.cut_pages.new.regions = with_items_is c.self.inside.regions c.cut_pages.new.regions (c.cut_pages.ensures.len ∙ (ap length c.deref_mut.ensures.value ∙ sym c.self.inside.regions.ok.0)) in
+    let is : (with_items c.self.inside.regions c.cut_pages.new.regions).items ≡ with_cut c.self.inside.regions.items c.index-first.result.now c.args.from c.args.count = whole ∙ (c.cut_pages.ensures.regions ∙ ap (λ (l : List Region). with_cut l c.index-first.result.now c.args.from c.args.count) c.deref_mut.ensures.value) in
+    let len : length (with_items c.self.inside.regions c.cut_pages.new.regions).items ≡ length c.self.inside.regions.items = ap length whole ∙ (c.cut_pages.ensures.len ∙ ap length c.deref_mut.ensures.value) in
+    part_lower c.self.inside.regions.items _ c.self.inside.starts.items c.args.self.now c.args.id c.index-first.result.now c.index-region.result.now c.args.from c.args.count at cut is len begins (omega (arith, c.if-end-region.true, cut.less, cut.first, begins)) r named
 
-pub returns-then-end-region-clause-back : goal.returns-then-end-region-clause-back
-returns-then-end-region-clause-back c =
-    let cut = is_cut c.self.inside.regions.items c.args.self.now c.args.id c.args.from c.args.count _ c.index-region.result.now c.self.view_is c.requires c.self.inside.regions.ok.0 c.index-region.ensures in
-    no_back c.self.inside.regions.items c.args.self.now c.args.id c.index-region.result.now c.args.from c.args.count c.self.view_is cut c.if-end-region.true
+pub returns-then-end-region-clause-upper : goal.returns-then-end-region-clause-upper
+returns-then-end-region-clause-upper c r named =
+    let at : At c.self.inside.regions.items c.self.inside.starts.items c.args.self.now c.args.id c.index-first.result.now c.index-region.result.now = read_at c.self.inside.regions.items c.self.inside.ids.items c.self.inside.starts.items c.args.self.now c.args.id c.index-first.result.now _ _ c.index-region.result.now c.self.view_is c.self.invariant.1 (lives_cut c.self.inside.regions.items c.self.inside.starts.items c.args.self.now c.args.id c.args.from c.args.count c.requires) c.self.inside.starts.ok.0 c.index-first.ensures c.self.inside.regions.ok.0 c.index-region.ensures in
+    none_upper c.self.inside.regions.items c.self.inside.starts.items c.args.self.now c.args.id c.index-first.result.now c.index-region.result.now c.args.from c.args.count at c.if-end-region.true r named
 
-pub returns-then-end-region-clause-front_lives : goal.returns-then-end-region-clause-front_lives
-returns-then-end-region-clause-front_lives c less =
-    let cut = is_cut c.self.inside.regions.items c.args.self.now c.args.id c.args.from c.args.count _ c.index-region.result.now c.self.view_is c.requires c.self.inside.regions.ok.0 c.index-region.ensures in
-    rw c.before-2.ensures (front_lives c.self.inside.regions.items c.self.inside.free c.args.id c.index-region.result.now c.args.from c.args.count c.self.invariant cut less)
+pub returns-then-end-region-clause-others : goal.returns-then-end-region-clause-others
+returns-then-end-region-clause-others c =
+    let at : At c.self.inside.regions.items c.self.inside.starts.items c.args.self.now c.args.id c.index-first.result.now c.index-region.result.now = read_at c.self.inside.regions.items c.self.inside.ids.items c.self.inside.starts.items c.args.self.now c.args.id c.index-first.result.now _ _ c.index-region.result.now c.self.view_is c.self.invariant.1 (lives_cut c.self.inside.regions.items c.self.inside.starts.items c.args.self.now c.args.id c.args.from c.args.count c.requires) c.self.inside.starts.ok.0 c.index-first.ensures c.self.inside.regions.ok.0 c.index-region.ensures in
+    let cut = cut_at c.self.inside.regions.items c.self.inside.starts.items c.args.self.now c.args.id c.index-first.result.now c.index-region.result.now c.args.from c.args.count at c.requires in
+    let begins : c.index-region.result.now.first ≡ c.index-first.result.now = c.self.invariant.0.0.begins c.index-first.result.now c.index-region.result.now at.there at.live in
+    let inside : c.index-region.result.now.first + c.index-region.result.now.pages ≤ length c.self.inside.regions.items = c.self.invariant.0.0.inside c.index-first.result.now c.index-region.result.now at.there at.live in
+    let whole : (with_items c.self.inside.regions c.cut_pages.new.regions).items ≡ c.cut_pages.new.regions = with_items_is c.self.inside.regions c.cut_pages.new.regions (c.cut_pages.ensures.len ∙ (ap length c.deref_mut.ensures.value ∙ sym c.self.inside.regions.ok.0)) in
+    let is : (with_items c.self.inside.regions c.cut_pages.new.regions).items ≡ with_cut c.self.inside.regions.items c.index-first.result.now c.args.from c.args.count = whole ∙ (c.cut_pages.ensures.regions ∙ ap (λ (l : List Region). with_cut l c.index-first.result.now c.args.from c.args.count) c.deref_mut.ensures.value) in
+    let len : length (with_items c.self.inside.regions c.cut_pages.new.regions).items ≡ length c.self.inside.regions.items = ap length whole ∙ (c.cut_pages.ensures.len ∙ ap length c.deref_mut.ensures.value) in
+    others_cut c.self.inside.regions.items _ c.self.inside.ids.items c.self.inside.starts.items c.args.self.now c.args.id c.index-first.result.now c.index-region.result.now c.args.from c.args.count at cut c.self.invariant.1 c.self.invariant.0.0 is len
 
-pub behind-requires-clause-first : goal.behind-requires-clause-first
-behind-requires-clause-first c =
-    let cut = is_cut c.self.inside.regions.items c.args.self.now c.args.id c.args.from c.args.count _ c.index-region.result.now c.self.view_is c.requires c.self.inside.regions.ok.0 c.index-region.ensures in
-    omega (arith, cut.first)
+pub returns-then-end-region-clause-live : goal.returns-then-end-region-clause-live
+returns-then-end-region-clause-live c =
+    let at : At c.self.inside.regions.items c.self.inside.starts.items c.args.self.now c.args.id c.index-first.result.now c.index-region.result.now = read_at c.self.inside.regions.items c.self.inside.ids.items c.self.inside.starts.items c.args.self.now c.args.id c.index-first.result.now _ _ c.index-region.result.now c.self.view_is c.self.invariant.1 (lives_cut c.self.inside.regions.items c.self.inside.starts.items c.args.self.now c.args.id c.args.from c.args.count c.requires) c.self.inside.starts.ok.0 c.index-first.ensures c.self.inside.regions.ok.0 c.index-region.ensures in
+    let cut = cut_at c.self.inside.regions.items c.self.inside.starts.items c.args.self.now c.args.id c.index-first.result.now c.index-region.result.now c.args.from c.args.count at c.requires in
+    live_kept _ c.args.id c.index-region.result.now c.args.from c.args.count cut.one (returns-then-end-region-clause-part c c.index-region.result.now (region_at c.self.inside.regions.items c.self.inside.starts.items c.args.self.now c.args.id c.index-first.result.now c.index-region.result.now at))
 
-pub behind-requires-clause-end : goal.behind-requires-clause-end
-behind-requires-clause-end c =
-    let cut = is_cut c.self.inside.regions.items c.args.self.now c.args.id c.args.from c.args.count _ c.index-region.result.now c.self.view_is c.requires c.self.inside.regions.ok.0 c.index-region.ensures in
-    cut.last
+pub returns-then-first-from-clause-regions : goal.returns-then-first-from-clause-regions
+returns-then-first-from-clause-regions c =
+    let at : At c.self.inside.regions.items c.self.inside.starts.items c.args.self.now c.args.id c.index-first.result.now c.index-region.result.now = read_at c.self.inside.regions.items c.self.inside.ids.items c.self.inside.starts.items c.args.self.now c.args.id c.index-first.result.now _ _ c.index-region.result.now c.self.view_is c.self.invariant.1 (lives_cut c.self.inside.regions.items c.self.inside.starts.items c.args.self.now c.args.id c.args.from c.args.count c.requires) c.self.inside.starts.ok.0 c.index-first.ensures c.self.inside.regions.ok.0 c.index-region.ensures in
+    let cut = cut_at c.self.inside.regions.items c.self.inside.starts.items c.args.self.now c.args.id c.index-first.result.now c.index-region.result.now c.args.from c.args.count at c.requires in
+    let begins : c.index-region.result.now.first ≡ c.index-first.result.now = c.self.invariant.0.0.begins c.index-first.result.now c.index-region.result.now at.there at.live in
+    let inside : c.index-region.result.now.first + c.index-region.result.now.pages ≤ length c.self.inside.regions.items = c.self.invariant.0.0.inside c.index-first.result.now c.index-region.result.now at.there at.live in
+    let whole : (with_items c.self.inside.regions c.cut_pages.new.regions).items ≡ c.cut_pages.new.regions = with_items_is c.self.inside.regions c.cut_pages.new.regions (c.cut_pages.ensures.len ∙ (ap length c.deref_mut.ensures.value ∙ sym c.self.inside.regions.ok.0)) in
+    let is : (with_items c.self.inside.regions c.cut_pages.new.regions).items ≡ with_cut c.self.inside.regions.items c.index-first.result.now c.args.from c.args.count = whole ∙ (c.cut_pages.ensures.regions ∙ ap (λ (l : List Region). with_cut l c.index-first.result.now c.args.from c.args.count) c.deref_mut.ensures.value) in
+    let len : length (with_items c.self.inside.regions c.cut_pages.new.regions).items ≡ length c.self.inside.regions.items = ap length whole ∙ (c.cut_pages.ensures.len ∙ ap length c.deref_mut.ensures.value) in
+    rw (at.start, ← c.self.view_is) is
 
-pub index_mut-requires-2 : goal.index_mut-requires-2
-index_mut-requires-2 c =
-    let cut = is_cut c.self.inside.regions.items c.args.self.now c.args.id c.args.from c.args.count _ c.index-region.result.now c.self.view_is c.requires c.self.inside.regions.ok.0 c.index-region.ensures in
+pub returns-then-first-from-clause-part : goal.returns-then-first-from-clause-part
+returns-then-first-from-clause-part c r named =
+    let at : At c.self.inside.regions.items c.self.inside.starts.items c.args.self.now c.args.id c.index-first.result.now c.index-region.result.now = read_at c.self.inside.regions.items c.self.inside.ids.items c.self.inside.starts.items c.args.self.now c.args.id c.index-first.result.now _ _ c.index-region.result.now c.self.view_is c.self.invariant.1 (lives_cut c.self.inside.regions.items c.self.inside.starts.items c.args.self.now c.args.id c.args.from c.args.count c.requires) c.self.inside.starts.ok.0 c.index-first.ensures c.self.inside.regions.ok.0 c.index-region.ensures in
+    let cut = cut_at c.self.inside.regions.items c.self.inside.starts.items c.args.self.now c.args.id c.index-first.result.now c.index-region.result.now c.args.from c.args.count at c.requires in
+    let begins : c.index-region.result.now.first ≡ c.index-first.result.now = c.self.invariant.0.0.begins c.index-first.result.now c.index-region.result.now at.there at.live in
+    let inside : c.index-region.result.now.first + c.index-region.result.now.pages ≤ length c.self.inside.regions.items = c.self.invariant.0.0.inside c.index-first.result.now c.index-region.result.now at.there at.live in
+    let whole : (with_items c.self.inside.regions c.cut_pages.new.regions).items ≡ c.cut_pages.new.regions = with_items_is c.self.inside.regions c.cut_pages.new.regions (c.cut_pages.ensures.len ∙ (ap length c.deref_mut.ensures.value ∙ sym c.self.inside.regions.ok.0)) in
+    let is : (with_items c.self.inside.regions c.cut_pages.new.regions).items ≡ with_cut c.self.inside.regions.items c.index-first.result.now c.args.from c.args.count = whole ∙ (c.cut_pages.ensures.regions ∙ ap (λ (l : List Region). with_cut l c.index-first.result.now c.args.from c.args.count) c.deref_mut.ensures.value) in
+    let len : length (with_items c.self.inside.regions c.cut_pages.new.regions).items ≡ length c.self.inside.regions.items = ap length whole ∙ (c.cut_pages.ensures.len ∙ ap length c.deref_mut.ensures.value) in
+    part_lower c.self.inside.regions.items _ c.self.inside.starts.items c.args.self.now c.args.id c.index-first.result.now c.index-region.result.now c.args.from c.args.count at cut is len begins c.if-first-from.true r named
+
+pub returns-then-first-from-clause-upper : goal.returns-then-first-from-clause-upper
+returns-then-first-from-clause-upper c r named =
+    let at : At c.self.inside.regions.items c.self.inside.starts.items c.args.self.now c.args.id c.index-first.result.now c.index-region.result.now = read_at c.self.inside.regions.items c.self.inside.ids.items c.self.inside.starts.items c.args.self.now c.args.id c.index-first.result.now _ _ c.index-region.result.now c.self.view_is c.self.invariant.1 (lives_cut c.self.inside.regions.items c.self.inside.starts.items c.args.self.now c.args.id c.args.from c.args.count c.requires) c.self.inside.starts.ok.0 c.index-first.ensures c.self.inside.regions.ok.0 c.index-region.ensures in
+    let cut = cut_at c.self.inside.regions.items c.self.inside.starts.items c.args.self.now c.args.id c.index-first.result.now c.index-region.result.now c.args.from c.args.count at c.requires in
+    let begins : c.index-region.result.now.first ≡ c.index-first.result.now = c.self.invariant.0.0.begins c.index-first.result.now c.index-region.result.now at.there at.live in
+    let inside : c.index-region.result.now.first + c.index-region.result.now.pages ≤ length c.self.inside.regions.items = c.self.invariant.0.0.inside c.index-first.result.now c.index-region.result.now at.there at.live in
+    let whole : (with_items c.self.inside.regions c.cut_pages.new.regions).items ≡ c.cut_pages.new.regions = with_items_is c.self.inside.regions c.cut_pages.new.regions (c.cut_pages.ensures.len ∙ (ap length c.deref_mut.ensures.value ∙ sym c.self.inside.regions.ok.0)) in
+    let is : (with_items c.self.inside.regions c.cut_pages.new.regions).items ≡ with_cut c.self.inside.regions.items c.index-first.result.now c.args.from c.args.count = whole ∙ (c.cut_pages.ensures.regions ∙ ap (λ (l : List Region). with_cut l c.index-first.result.now c.args.from c.args.count) c.deref_mut.ensures.value) in
+    let len : length (with_items c.self.inside.regions c.cut_pages.new.regions).items ≡ length c.self.inside.regions.items = ap length whole ∙ (c.cut_pages.ensures.len ∙ ap length c.deref_mut.ensures.value) in
     let more : c.args.from + c.args.count < c.index-region.result.now.first + c.index-region.result.now.pages = omega (arith, cut.last, c.if-end-region.false) in
-    omega (arith, cut_inside c.self.inside.regions.items c.self.inside.free c.args.id c.index-region.result.now c.args.from c.args.count c.self.invariant cut, c.self.inside.regions.ok.0)
+    let read : c.index-upper.result.now ≡ get_or c.self.inside.ids.items (c.args.from + c.args.count) (length c.self.inside.regions.items) = get_or_read_under c.self.inside.ids.items (c.args.from + c.args.count) _ c.index-upper.result.now (length c.self.inside.regions.items) c.index-upper.ensures (omega (arith, more, inside, c.self.invariant.1.ids_len, c.self.inside.ids.ok.0)) c.self.inside.ids.ok.0 in
+    some_upper c.self.inside.regions.items _ c.self.inside.ids.items c.self.inside.starts.items c.args.self.now c.args.id c.index-first.result.now c.index-region.result.now c.args.from c.args.count c.index-upper.result.now at cut c.self.invariant.1 is len begins c.if-first-from.true inside more read r named
 
-pub invariant_of-self-2 : goal.invariant_of-self-2
-invariant_of-self-2 c =
-    let cut = is_cut c.self.inside.regions.items c.args.self.now c.args.id c.args.from c.args.count _ c.index-region.result.now c.self.view_is c.requires c.self.inside.regions.ok.0 c.index-region.ensures in
+pub returns-then-first-from-clause-others : goal.returns-then-first-from-clause-others
+returns-then-first-from-clause-others c =
+    let at : At c.self.inside.regions.items c.self.inside.starts.items c.args.self.now c.args.id c.index-first.result.now c.index-region.result.now = read_at c.self.inside.regions.items c.self.inside.ids.items c.self.inside.starts.items c.args.self.now c.args.id c.index-first.result.now _ _ c.index-region.result.now c.self.view_is c.self.invariant.1 (lives_cut c.self.inside.regions.items c.self.inside.starts.items c.args.self.now c.args.id c.args.from c.args.count c.requires) c.self.inside.starts.ok.0 c.index-first.ensures c.self.inside.regions.ok.0 c.index-region.ensures in
+    let cut = cut_at c.self.inside.regions.items c.self.inside.starts.items c.args.self.now c.args.id c.index-first.result.now c.index-region.result.now c.args.from c.args.count at c.requires in
+    let begins : c.index-region.result.now.first ≡ c.index-first.result.now = c.self.invariant.0.0.begins c.index-first.result.now c.index-region.result.now at.there at.live in
+    let inside : c.index-region.result.now.first + c.index-region.result.now.pages ≤ length c.self.inside.regions.items = c.self.invariant.0.0.inside c.index-first.result.now c.index-region.result.now at.there at.live in
+    let whole : (with_items c.self.inside.regions c.cut_pages.new.regions).items ≡ c.cut_pages.new.regions = with_items_is c.self.inside.regions c.cut_pages.new.regions (c.cut_pages.ensures.len ∙ (ap length c.deref_mut.ensures.value ∙ sym c.self.inside.regions.ok.0)) in
+    let is : (with_items c.self.inside.regions c.cut_pages.new.regions).items ≡ with_cut c.self.inside.regions.items c.index-first.result.now c.args.from c.args.count = whole ∙ (c.cut_pages.ensures.regions ∙ ap (λ (l : List Region). with_cut l c.index-first.result.now c.args.from c.args.count) c.deref_mut.ensures.value) in
+    let len : length (with_items c.self.inside.regions c.cut_pages.new.regions).items ≡ length c.self.inside.regions.items = ap length whole ∙ (c.cut_pages.ensures.len ∙ ap length c.deref_mut.ensures.value) in
+    others_cut c.self.inside.regions.items _ c.self.inside.ids.items c.self.inside.starts.items c.args.self.now c.args.id c.index-first.result.now c.index-region.result.now c.args.from c.args.count at cut c.self.invariant.1 c.self.invariant.0.0 is len
+
+pub returns-then-first-from-clause-live : goal.returns-then-first-from-clause-live
+returns-then-first-from-clause-live c =
+    let at : At c.self.inside.regions.items c.self.inside.starts.items c.args.self.now c.args.id c.index-first.result.now c.index-region.result.now = read_at c.self.inside.regions.items c.self.inside.ids.items c.self.inside.starts.items c.args.self.now c.args.id c.index-first.result.now _ _ c.index-region.result.now c.self.view_is c.self.invariant.1 (lives_cut c.self.inside.regions.items c.self.inside.starts.items c.args.self.now c.args.id c.args.from c.args.count c.requires) c.self.inside.starts.ok.0 c.index-first.ensures c.self.inside.regions.ok.0 c.index-region.ensures in
+    let cut = cut_at c.self.inside.regions.items c.self.inside.starts.items c.args.self.now c.args.id c.index-first.result.now c.index-region.result.now c.args.from c.args.count at c.requires in
+    live_kept _ c.args.id c.index-region.result.now c.args.from c.args.count cut.one (returns-then-first-from-clause-part c c.index-region.result.now (region_at c.self.inside.regions.items c.self.inside.starts.items c.args.self.now c.args.id c.index-first.result.now c.index-region.result.now at))
+
+pub returns-then-first-from-clause-upper_lives : goal.returns-then-first-from-clause-upper_lives
+returns-then-first-from-clause-upper_lives c =
+    let at : At c.self.inside.regions.items c.self.inside.starts.items c.args.self.now c.args.id c.index-first.result.now c.index-region.result.now = read_at c.self.inside.regions.items c.self.inside.ids.items c.self.inside.starts.items c.args.self.now c.args.id c.index-first.result.now _ _ c.index-region.result.now c.self.view_is c.self.invariant.1 (lives_cut c.self.inside.regions.items c.self.inside.starts.items c.args.self.now c.args.id c.args.from c.args.count c.requires) c.self.inside.starts.ok.0 c.index-first.ensures c.self.inside.regions.ok.0 c.index-region.ensures in
+    let cut = cut_at c.self.inside.regions.items c.self.inside.starts.items c.args.self.now c.args.id c.index-first.result.now c.index-region.result.now c.args.from c.args.count at c.requires in
+    live_upper _ c.index-region.result.now c.args.from c.args.count c.index-upper.result.now cut.one (returns-then-first-from-clause-upper c c.index-region.result.now (region_at c.self.inside.regions.items c.self.inside.starts.items c.args.self.now c.args.id c.index-first.result.now c.index-region.result.now at))
+
+pub swap_starts-requires-clause-other : goal.swap_starts-requires-clause-other
+swap_starts-requires-clause-other c =
+    let at : At c.self.inside.regions.items c.self.inside.starts.items c.args.self.now c.args.id c.index-first.result.now c.index-region.result.now = read_at c.self.inside.regions.items c.self.inside.ids.items c.self.inside.starts.items c.args.self.now c.args.id c.index-first.result.now _ _ c.index-region.result.now c.self.view_is c.self.invariant.1 (lives_cut c.self.inside.regions.items c.self.inside.starts.items c.args.self.now c.args.id c.args.from c.args.count c.requires) c.self.inside.starts.ok.0 c.index-first.ensures c.self.inside.regions.ok.0 c.index-region.ensures in
+    let cut = cut_at c.self.inside.regions.items c.self.inside.starts.items c.args.self.now c.args.id c.index-first.result.now c.index-region.result.now c.args.from c.args.count at c.requires in
+    let begins : c.index-region.result.now.first ≡ c.index-first.result.now = c.self.invariant.0.0.begins c.index-first.result.now c.index-region.result.now at.there at.live in
+    let inside : c.index-region.result.now.first + c.index-region.result.now.pages ≤ length c.self.inside.regions.items = c.self.invariant.0.0.inside c.index-first.result.now c.index-region.result.now at.there at.live in
     let more : c.args.from + c.args.count < c.index-region.result.now.first + c.index-region.result.now.pages = omega (arith, cut.last, c.if-end-region.false) in
-    rw (c.before-2.ensures, c.behind.ensures) (kept_back c.self.inside.regions.items c.self.inside.free c.give.new.self c.args.id c.index-region.result.now c.args.from c.args.count c.self.invariant cut c.give.ensures more)
+    let read : c.index-upper.result.now ≡ get_or c.self.inside.ids.items (c.args.from + c.args.count) (length c.self.inside.regions.items) = get_or_read_under c.self.inside.ids.items (c.args.from + c.args.count) _ c.index-upper.result.now (length c.self.inside.regions.items) c.index-upper.ensures (omega (arith, more, inside, c.self.invariant.1.ids_len, c.self.inside.ids.ok.0)) c.self.inside.ids.ok.0 in
+    omega (arith, read, c.self.invariant.1.id (c.args.from + c.args.count) (omega (arith, more, inside)), c.self.invariant.1.starts_len, ap length c.deref_mut-3.ensures.value)
 
 pub returns-clause-regions : goal.returns-clause-regions
 returns-clause-regions c =
-    let cut = is_cut c.self.inside.regions.items c.args.self.now c.args.id c.args.from c.args.count _ c.index-region.result.now c.self.view_is c.requires c.self.inside.regions.ok.0 c.index-region.ensures in
+    let at : At c.self.inside.regions.items c.self.inside.starts.items c.args.self.now c.args.id c.index-first.result.now c.index-region.result.now = read_at c.self.inside.regions.items c.self.inside.ids.items c.self.inside.starts.items c.args.self.now c.args.id c.index-first.result.now _ _ c.index-region.result.now c.self.view_is c.self.invariant.1 (lives_cut c.self.inside.regions.items c.self.inside.starts.items c.args.self.now c.args.id c.args.from c.args.count c.requires) c.self.inside.starts.ok.0 c.index-first.ensures c.self.inside.regions.ok.0 c.index-region.ensures in
+    let cut = cut_at c.self.inside.regions.items c.self.inside.starts.items c.args.self.now c.args.id c.index-first.result.now c.index-region.result.now c.args.from c.args.count at c.requires in
+    let begins : c.index-region.result.now.first ≡ c.index-first.result.now = c.self.invariant.0.0.begins c.index-first.result.now c.index-region.result.now at.there at.live in
+    let inside : c.index-region.result.now.first + c.index-region.result.now.pages ≤ length c.self.inside.regions.items = c.self.invariant.0.0.inside c.index-first.result.now c.index-region.result.now at.there at.live in
+    let whole : (with_items c.self.inside.regions c.cut_pages.new.regions).items ≡ c.cut_pages.new.regions = with_items_is c.self.inside.regions c.cut_pages.new.regions (c.cut_pages.ensures.len ∙ (ap length c.deref_mut.ensures.value ∙ sym c.self.inside.regions.ok.0)) in
+    let is : (with_items c.self.inside.regions c.cut_pages.new.regions).items ≡ with_cut c.self.inside.regions.items c.index-first.result.now c.args.from c.args.count = whole ∙ (c.cut_pages.ensures.regions ∙ ap (λ (l : List Region). with_cut l c.index-first.result.now c.args.from c.args.count) c.deref_mut.ensures.value) in
+    let len : length (with_items c.self.inside.regions c.cut_pages.new.regions).items ≡ length c.self.inside.regions.items = ap length whole ∙ (c.cut_pages.ensures.len ∙ ap length c.deref_mut.ensures.value) in
+    rw (at.start, ← c.self.view_is) is
+
+pub returns-clause-part : goal.returns-clause-part
+returns-clause-part c r named =
+    let at : At c.self.inside.regions.items c.self.inside.starts.items c.args.self.now c.args.id c.index-first.result.now c.index-region.result.now = read_at c.self.inside.regions.items c.self.inside.ids.items c.self.inside.starts.items c.args.self.now c.args.id c.index-first.result.now _ _ c.index-region.result.now c.self.view_is c.self.invariant.1 (lives_cut c.self.inside.regions.items c.self.inside.starts.items c.args.self.now c.args.id c.args.from c.args.count c.requires) c.self.inside.starts.ok.0 c.index-first.ensures c.self.inside.regions.ok.0 c.index-region.ensures in
+    let cut = cut_at c.self.inside.regions.items c.self.inside.starts.items c.args.self.now c.args.id c.index-first.result.now c.index-region.result.now c.args.from c.args.count at c.requires in
+    let begins : c.index-region.result.now.first ≡ c.index-first.result.now = c.self.invariant.0.0.begins c.index-first.result.now c.index-region.result.now at.there at.live in
+    let inside : c.index-region.result.now.first + c.index-region.result.now.pages ≤ length c.self.inside.regions.items = c.self.invariant.0.0.inside c.index-first.result.now c.index-region.result.now at.there at.live in
+    let whole : (with_items c.self.inside.regions c.cut_pages.new.regions).items ≡ c.cut_pages.new.regions = with_items_is c.self.inside.regions c.cut_pages.new.regions (c.cut_pages.ensures.len ∙ (ap length c.deref_mut.ensures.value ∙ sym c.self.inside.regions.ok.0)) in
+    let is : (with_items c.self.inside.regions c.cut_pages.new.regions).items ≡ with_cut c.self.inside.regions.items c.index-first.result.now c.args.from c.args.count = whole ∙ (c.cut_pages.ensures.regions ∙ ap (λ (l : List Region). with_cut l c.index-first.result.now c.args.from c.args.count) c.deref_mut.ensures.value) in
+    let len : length (with_items c.self.inside.regions c.cut_pages.new.regions).items ≡ length c.self.inside.regions.items = ap length whole ∙ (c.cut_pages.ensures.len ∙ ap length c.deref_mut.ensures.value) in
     let more : c.args.from + c.args.count < c.index-region.result.now.first + c.index-region.result.now.pages = omega (arith, cut.last, c.if-end-region.false) in
-    rw (c.before-2.ensures, c.behind.ensures) (is_front_and_back c.self.inside.regions.items c.args.self.now c.args.id c.index-region.result.now c.args.from c.args.count c.self.view_is cut more)
+    let read : c.index-upper.result.now ≡ get_or c.self.inside.ids.items (c.args.from + c.args.count) (length c.self.inside.regions.items) = get_or_read_under c.self.inside.ids.items (c.args.from + c.args.count) _ c.index-upper.result.now (length c.self.inside.regions.items) c.index-upper.ensures (omega (arith, more, inside, c.self.invariant.1.ids_len, c.self.inside.ids.ok.0)) c.self.inside.ids.ok.0 in
+    let less : c.args.id < length c.self.inside.regions.items = omega (arith, id_within c.self.inside.regions.items c.self.inside.ids.items c.self.inside.starts.items c.args.id c.self.invariant.1 (lives_at c.self.inside.regions.items c.self.inside.starts.items c.args.self.now c.args.id c.self.view_is (lives_cut c.self.inside.regions.items c.self.inside.starts.items c.args.self.now c.args.id c.args.from c.args.count c.requires)), c.self.invariant.1.starts_len) in
+    let swaps_raw : c.swap_starts.new.starts ≡ swap c.self.inside.starts.items c.args.id c.index-upper.result.now = c.swap_starts.ensures.starts ∙ ap (λ (l : List ℕ). swap l c.args.id c.index-upper.result.now) c.deref_mut-3.ensures.value in
+    let swaps : (with_items c.self.inside.starts c.swap_starts.new.starts).items ≡ swap c.self.inside.starts.items c.args.id c.index-upper.result.now = with_items_is c.self.inside.starts c.swap_starts.new.starts (ap length swaps_raw ∙ (length-swap c.self.inside.starts.items c.args.id c.index-upper.result.now ∙ sym c.self.inside.starts.ok.0)) ∙ swaps_raw in
+    part_upper c.self.inside.regions.items _ c.self.inside.ids.items c.self.inside.starts.items _ c.args.self.now c.args.id c.index-first.result.now c.index-region.result.now c.args.from c.args.count c.index-upper.result.now at cut c.self.invariant.1 is len (omega (arith, c.if-first-from.false, begins)) inside more less read swaps r named
 
-pub returns-clause-back : goal.returns-clause-back
-returns-clause-back c =
-    let cut = is_cut c.self.inside.regions.items c.args.self.now c.args.id c.args.from c.args.count _ c.index-region.result.now c.self.view_is c.requires c.self.inside.regions.ok.0 c.index-region.ensures in
+pub returns-clause-upper : goal.returns-clause-upper
+returns-clause-upper c r named =
+    let at : At c.self.inside.regions.items c.self.inside.starts.items c.args.self.now c.args.id c.index-first.result.now c.index-region.result.now = read_at c.self.inside.regions.items c.self.inside.ids.items c.self.inside.starts.items c.args.self.now c.args.id c.index-first.result.now _ _ c.index-region.result.now c.self.view_is c.self.invariant.1 (lives_cut c.self.inside.regions.items c.self.inside.starts.items c.args.self.now c.args.id c.args.from c.args.count c.requires) c.self.inside.starts.ok.0 c.index-first.ensures c.self.inside.regions.ok.0 c.index-region.ensures in
+    let cut = cut_at c.self.inside.regions.items c.self.inside.starts.items c.args.self.now c.args.id c.index-first.result.now c.index-region.result.now c.args.from c.args.count at c.requires in
+    let begins : c.index-region.result.now.first ≡ c.index-first.result.now = c.self.invariant.0.0.begins c.index-first.result.now c.index-region.result.now at.there at.live in
+    let inside : c.index-region.result.now.first + c.index-region.result.now.pages ≤ length c.self.inside.regions.items = c.self.invariant.0.0.inside c.index-first.result.now c.index-region.result.now at.there at.live in
+    none_lower c.self.inside.regions.items c.self.inside.starts.items c.args.self.now c.args.id c.index-first.result.now c.index-region.result.now c.args.from c.args.count at (omega (arith, c.if-first-from.false, begins)) r named
+
+pub returns-clause-others : goal.returns-clause-others
+returns-clause-others c =
+    let at : At c.self.inside.regions.items c.self.inside.starts.items c.args.self.now c.args.id c.index-first.result.now c.index-region.result.now = read_at c.self.inside.regions.items c.self.inside.ids.items c.self.inside.starts.items c.args.self.now c.args.id c.index-first.result.now _ _ c.index-region.result.now c.self.view_is c.self.invariant.1 (lives_cut c.self.inside.regions.items c.self.inside.starts.items c.args.self.now c.args.id c.args.from c.args.count c.requires) c.self.inside.starts.ok.0 c.index-first.ensures c.self.inside.regions.ok.0 c.index-region.ensures in
+    let cut = cut_at c.self.inside.regions.items c.self.inside.starts.items c.args.self.now c.args.id c.index-first.result.now c.index-region.result.now c.args.from c.args.count at c.requires in
+    let begins : c.index-region.result.now.first ≡ c.index-first.result.now = c.self.invariant.0.0.begins c.index-first.result.now c.index-region.result.now at.there at.live in
+    let inside : c.index-region.result.now.first + c.index-region.result.now.pages ≤ length c.self.inside.regions.items = c.self.invariant.0.0.inside c.index-first.result.now c.index-region.result.now at.there at.live in
+    let whole : (with_items c.self.inside.regions c.cut_pages.new.regions).items ≡ c.cut_pages.new.regions = with_items_is c.self.inside.regions c.cut_pages.new.regions (c.cut_pages.ensures.len ∙ (ap length c.deref_mut.ensures.value ∙ sym c.self.inside.regions.ok.0)) in
+    let is : (with_items c.self.inside.regions c.cut_pages.new.regions).items ≡ with_cut c.self.inside.regions.items c.index-first.result.now c.args.from c.args.count = whole ∙ (c.cut_pages.ensures.regions ∙ ap (λ (l : List Region). with_cut l c.index-first.result.now c.args.from c.args.count) c.deref_mut.ensures.value) in
+    let len : length (with_items c.self.inside.regions c.cut_pages.new.regions).items ≡ length c.self.inside.regions.items = ap length whole ∙ (c.cut_pages.ensures.len ∙ ap length c.deref_mut.ensures.value) in
     let more : c.args.from + c.args.count < c.index-region.result.now.first + c.index-region.result.now.pages = omega (arith, cut.last, c.if-end-region.false) in
-    some_back c.self.inside.regions.items c.args.self.now c.args.id c.index-region.result.now c.args.from c.args.count c.self.view_is cut more
+    let read : c.index-upper.result.now ≡ get_or c.self.inside.ids.items (c.args.from + c.args.count) (length c.self.inside.regions.items) = get_or_read_under c.self.inside.ids.items (c.args.from + c.args.count) _ c.index-upper.result.now (length c.self.inside.regions.items) c.index-upper.ensures (omega (arith, more, inside, c.self.invariant.1.ids_len, c.self.inside.ids.ok.0)) c.self.inside.ids.ok.0 in
+    let less : c.args.id < length c.self.inside.regions.items = omega (arith, id_within c.self.inside.regions.items c.self.inside.ids.items c.self.inside.starts.items c.args.id c.self.invariant.1 (lives_at c.self.inside.regions.items c.self.inside.starts.items c.args.self.now c.args.id c.self.view_is (lives_cut c.self.inside.regions.items c.self.inside.starts.items c.args.self.now c.args.id c.args.from c.args.count c.requires)), c.self.invariant.1.starts_len) in
+    let swaps_raw : c.swap_starts.new.starts ≡ swap c.self.inside.starts.items c.args.id c.index-upper.result.now = c.swap_starts.ensures.starts ∙ ap (λ (l : List ℕ). swap l c.args.id c.index-upper.result.now) c.deref_mut-3.ensures.value in
+    let swaps : (with_items c.self.inside.starts c.swap_starts.new.starts).items ≡ swap c.self.inside.starts.items c.args.id c.index-upper.result.now = with_items_is c.self.inside.starts c.swap_starts.new.starts (ap length swaps_raw ∙ (length-swap c.self.inside.starts.items c.args.id c.index-upper.result.now ∙ sym c.self.inside.starts.ok.0)) ∙ swaps_raw in
+    others_swapped c.self.inside.regions.items _ c.self.inside.ids.items c.self.inside.starts.items _ c.args.self.now c.args.id c.index-first.result.now c.index-region.result.now c.args.from c.args.count c.index-upper.result.now at cut c.self.invariant.1 c.self.invariant.0.0 is len begins inside more less read swaps
 
-pub returns-clause-front_lives : goal.returns-clause-front_lives
-returns-clause-front_lives c less =
-    let cut = is_cut c.self.inside.regions.items c.args.self.now c.args.id c.args.from c.args.count _ c.index-region.result.now c.self.view_is c.requires c.self.inside.regions.ok.0 c.index-region.ensures in
-    rw (c.before-2.ensures, c.behind.ensures) (front_lives_on c.self.inside.regions.items c.self.inside.free c.args.id c.index-region.result.now c.args.from c.args.count c.self.invariant cut less)
-
-pub returns-clause-back_lives : goal.returns-clause-back_lives
-returns-clause-back_lives c =
-    let cut = is_cut c.self.inside.regions.items c.args.self.now c.args.id c.args.from c.args.count _ c.index-region.result.now c.self.view_is c.requires c.self.inside.regions.ok.0 c.index-region.ensures in
-    let more : c.args.from + c.args.count < c.index-region.result.now.first + c.index-region.result.now.pages = omega (arith, cut.last, c.if-end-region.false) in
-    rw (c.before-2.ensures, c.behind.ensures) (back_lives c.self.inside.regions.items c.self.inside.free c.args.id c.index-region.result.now c.args.from c.args.count c.self.invariant cut more)
-
-pub returns-then-end-region-clause-free : goal.returns-then-end-region-clause-free
-returns-then-end-region-clause-free c =
-    freed c.self.inside.regions.items c.args.self.now _ c.self.inside.free c.give.new.self c.args.from c.args.count c.self.view_is c.self.invariant (invariant_of-self c) c.give.ensures
-
-pub returns-clause-free : goal.returns-clause-free
-returns-clause-free c =
-    freed c.self.inside.regions.items c.args.self.now _ c.self.inside.free c.give.new.self c.args.from c.args.count c.self.view_is c.self.invariant (invariant_of-self-2 c) c.give.ensures
+pub returns-clause-live : goal.returns-clause-live
+returns-clause-live c =
+    let at : At c.self.inside.regions.items c.self.inside.starts.items c.args.self.now c.args.id c.index-first.result.now c.index-region.result.now = read_at c.self.inside.regions.items c.self.inside.ids.items c.self.inside.starts.items c.args.self.now c.args.id c.index-first.result.now _ _ c.index-region.result.now c.self.view_is c.self.invariant.1 (lives_cut c.self.inside.regions.items c.self.inside.starts.items c.args.self.now c.args.id c.args.from c.args.count c.requires) c.self.inside.starts.ok.0 c.index-first.ensures c.self.inside.regions.ok.0 c.index-region.ensures in
+    let cut = cut_at c.self.inside.regions.items c.self.inside.starts.items c.args.self.now c.args.id c.index-first.result.now c.index-region.result.now c.args.from c.args.count at c.requires in
+    live_kept _ c.args.id c.index-region.result.now c.args.from c.args.count cut.one (returns-clause-part c c.index-region.result.now (region_at c.self.inside.regions.items c.self.inside.starts.items c.args.self.now c.args.id c.index-first.result.now c.index-region.result.now at))

@@ -1,43 +1,83 @@
-use Rattle.std.proofs.Common.{◌≡◌, List, length, refl, arith, ap}
-use Rattle.nommu_regions.specs.declared.region.Region.{Region}
-use Rattle.nommu_regions.proofs.Kept.{kept_fresh, are_free_now, live_set}
+use Rattle.std.proofs.Common.{◌≡◌, ◌*◌, ◌∙◌, ℕ, length, replicate, refl, arith, ap}
+use Rattle.nommu_regions.specs.Ids.{Numbered, start_of}
+use Rattle.nommu_regions.proofs.Kept.{kept_fresh, are_free_now}
+use Rattle.byte_words.specs.Patches.{laid}
+use Rattle.nommu_regions.proofs.Numbered.{start_at, lives_new, region_new, inverse_set, others_set, away_from_free}
 use Rattle.nommu_regions.proofs.regions.Regions.fresh.Goals as goal
 
 pub index_mut-requires : goal.index_mut-requires
 index_mut-requires g c =
-    let free = are_free_now c.self.inside.regions.items c.self.inside.regions.items c.self.inside.free c.in_ok-first.first c.args.pages refl c.self.invariant c.requires.pages c.in_ok-first.ensures.free in
+    let free = are_free_now c.self.inside.regions.items c.self.inside.regions.items c.self.inside.free c.in_ok-first.first c.args.pages refl c.self.invariant.0 c.requires.pages c.in_ok-first.ensures.free in
     omega (arith, free.inside, c.self.inside.regions.ok.0, c.requires.pages)
 
 pub overflow_mul-first : goal.overflow_mul-first
 overflow_mul-first g c =
-    let free = are_free_now c.self.inside.regions.items c.self.inside.regions.items c.self.inside.free c.in_ok-first.first c.args.pages refl c.self.invariant c.requires.pages c.in_ok-first.ensures.free in
-    omega (arith, free.inside, c.self.invariant.3)
+    let free = are_free_now c.self.inside.regions.items c.self.inside.regions.items c.self.inside.free c.in_ok-first.first c.args.pages refl c.self.invariant.0 c.requires.pages c.in_ok-first.ensures.free in
+    omega (arith, free.inside, c.self.invariant.0.3)
 
 pub overflow_add-first : goal.overflow_add-first
 overflow_add-first g c =
-    let free = are_free_now c.self.inside.regions.items c.self.inside.regions.items c.self.inside.free c.in_ok-first.first c.args.pages refl c.self.invariant c.requires.pages c.in_ok-first.ensures.free in
-    omega (arith, free.inside, c.self.invariant.3)
+    let free = are_free_now c.self.inside.regions.items c.self.inside.regions.items c.self.inside.free c.in_ok-first.first c.args.pages refl c.self.invariant.0 c.requires.pages c.in_ok-first.ensures.free in
+    omega (arith, free.inside, c.self.invariant.0.3)
 
 pub overflow_mul-pages : goal.overflow_mul-pages
 overflow_mul-pages g c =
-    let free = are_free_now c.self.inside.regions.items c.self.inside.regions.items c.self.inside.free c.in_ok-first.first c.args.pages refl c.self.invariant c.requires.pages c.in_ok-first.ensures.free in
-    omega (arith, free.inside, c.self.invariant.3)
+    let free = are_free_now c.self.inside.regions.items c.self.inside.regions.items c.self.inside.free c.in_ok-first.first c.args.pages refl c.self.invariant.0 c.requires.pages c.in_ok-first.ensures.free in
+    omega (arith, free.inside, c.self.invariant.0.3)
 
 pub clear-requires : goal.clear-requires
 clear-requires g c =
-    let free = are_free_now c.self.inside.regions.items c.self.inside.regions.items c.self.inside.free c.in_ok-first.first c.args.pages refl c.self.invariant c.requires.pages c.in_ok-first.ensures.free in
-    let len : length c.self.inside.regions.items ≡ length c.args.self.now = ap (λ (rs : List Region). length rs) c.self.view_is in
+    let free = are_free_now c.self.inside.regions.items c.self.inside.regions.items c.self.inside.free c.in_ok-first.first c.args.pages refl c.self.invariant.0 c.requires.pages c.in_ok-first.ensures.free in
+    let len : length c.self.inside.regions.items ≡ length c.args.self.now.regions = ap (λ (s : Numbered). length s.regions) c.self.view_is in
     (omega arith, omega (arith, free.inside, c.requires.memory, len))
+
+pub index-requires : goal.index-requires
+index-requires g c =
+    let free = are_free_now c.self.inside.regions.items c.self.inside.regions.items c.self.inside.free c.in_ok-first.first c.args.pages refl c.self.invariant.0 c.requires.pages c.in_ok-first.ensures.free in
+    omega (arith, free.inside, c.self.invariant.1.ids_len, c.self.inside.ids.ok.0, c.requires.pages)
 
 pub invariant_of-self-2 : goal.invariant_of-self-2
 invariant_of-self-2 g c =
-    let free = are_free_now c.self.inside.regions.items c.self.inside.regions.items c.self.inside.free c.in_ok-first.first c.args.pages refl c.self.invariant c.requires.pages c.in_ok-first.ensures.free in
-    kept_fresh c.self.inside.regions.items c.self.inside.free c.take.new.self _ c.self.invariant free c.requires.pages refl c.in_ok-first.ensures.pages
+    let free = are_free_now c.self.inside.regions.items c.self.inside.regions.items c.self.inside.free c.in_ok-first.first c.args.pages refl c.self.invariant.0 c.requires.pages c.in_ok-first.ensures.free in
+    (kept_fresh c.self.inside.regions.items c.self.inside.free c.take.new.self _ c.self.invariant.0 free c.requires.pages refl c.in_ok-first.ensures.pages, inverse_set c.self.inside.regions.items c.self.inside.ids.items c.self.inside.starts.items c.in_ok-first.first _ c.self.invariant.1)
+
+pub returns-clause-placed : goal.returns-clause-placed
+returns-clause-placed g c =
+    let free = are_free_now c.self.inside.regions.items c.self.inside.regions.items c.self.inside.free c.in_ok-first.first c.args.pages refl c.self.invariant.0 c.requires.pages c.in_ok-first.ensures.free in
+    let here : start_of c.args.self.now c.index.result.now ≡ c.in_ok-first.first = start_at c.self.inside.regions.items c.self.inside.ids.items c.self.inside.starts.items c.args.self.now c.in_ok-first.first c.index.result.now _ c.self.view_is c.self.invariant.1 (omega (arith, free.inside, c.requires.pages)) c.self.inside.ids.ok.0 c.index.ensures in
+    let placed = rw c.self.invariant.0.1 at c.in_ok-first.ensures.placed in
+    rw (here, ← c.self.view_is) placed
+
+pub returns-clause-region : goal.returns-clause-region
+returns-clause-region g c =
+    let free = are_free_now c.self.inside.regions.items c.self.inside.regions.items c.self.inside.free c.in_ok-first.first c.args.pages refl c.self.invariant.0 c.requires.pages c.in_ok-first.ensures.free in
+    let here : start_of c.args.self.now c.index.result.now ≡ c.in_ok-first.first = start_at c.self.inside.regions.items c.self.inside.ids.items c.self.inside.starts.items c.args.self.now c.in_ok-first.first c.index.result.now _ c.self.view_is c.self.invariant.1 (omega (arith, free.inside, c.requires.pages)) c.self.inside.ids.ok.0 c.index.ensures in
+    rw here (region_new c.self.inside.regions.items c.self.inside.starts.items c.args.self.now c.in_ok-first.first c.index.result.now _ c.self.view_is here (omega (arith, free.inside, c.requires.pages)))
 
 pub returns-clause-free : goal.returns-clause-free
-returns-clause-free g c = are_free_now c.self.inside.regions.items c.args.self.now c.self.inside.free c.in_ok-first.first c.args.pages c.self.view_is c.self.invariant c.requires.pages c.in_ok-first.ensures.free
+returns-clause-free g c =
+    let free = are_free_now c.self.inside.regions.items c.self.inside.regions.items c.self.inside.free c.in_ok-first.first c.args.pages refl c.self.invariant.0 c.requires.pages c.in_ok-first.ensures.free in
+    let here : start_of c.args.self.now c.index.result.now ≡ c.in_ok-first.first = start_at c.self.inside.regions.items c.self.inside.ids.items c.self.inside.starts.items c.args.self.now c.in_ok-first.first c.index.result.now _ c.self.view_is c.self.invariant.1 (omega (arith, free.inside, c.requires.pages)) c.self.inside.ids.ok.0 c.index.ensures in
+    rw (here, ← c.self.view_is) free
 
 pub returns-clause-live : goal.returns-clause-live
 returns-clause-live g c =
-    let free = are_free_now c.self.inside.regions.items c.self.inside.regions.items c.self.inside.free c.in_ok-first.first c.args.pages refl c.self.invariant c.requires.pages c.in_ok-first.ensures.free in
-    live_set c.self.inside.regions.items c.in_ok-first.first _ (omega (arith, free.inside, c.requires.pages)) (omega arith)
+    let free = are_free_now c.self.inside.regions.items c.self.inside.regions.items c.self.inside.free c.in_ok-first.first c.args.pages refl c.self.invariant.0 c.requires.pages c.in_ok-first.ensures.free in
+    lives_new c.self.inside.regions.items c.self.inside.ids.items c.self.inside.starts.items c.in_ok-first.first c.index.result.now _ _ c.self.invariant.1 (omega (arith, free.inside, c.requires.pages)) c.self.inside.ids.ok.0 c.index.ensures (omega arith)
+
+pub returns-clause-regions : goal.returns-clause-regions
+returns-clause-regions g c =
+    let free = are_free_now c.self.inside.regions.items c.self.inside.regions.items c.self.inside.free c.in_ok-first.first c.args.pages refl c.self.invariant.0 c.requires.pages c.in_ok-first.ensures.free in
+    let here : start_of c.args.self.now c.index.result.now ≡ c.in_ok-first.first = start_at c.self.inside.regions.items c.self.inside.ids.items c.self.inside.starts.items c.args.self.now c.in_ok-first.first c.index.result.now _ c.self.view_is c.self.invariant.1 (omega (arith, free.inside, c.requires.pages)) c.self.inside.ids.ok.0 c.index.ensures in
+    rw (here, ← c.self.view_is) refl
+
+pub returns-clause-memory : goal.returns-clause-memory
+returns-clause-memory g c =
+    let free = are_free_now c.self.inside.regions.items c.self.inside.regions.items c.self.inside.free c.in_ok-first.first c.args.pages refl c.self.invariant.0 c.requires.pages c.in_ok-first.ensures.free in
+    let here : start_of c.args.self.now c.index.result.now ≡ c.in_ok-first.first = start_at c.self.inside.regions.items c.self.inside.ids.items c.self.inside.starts.items c.args.self.now c.in_ok-first.first c.index.result.now _ c.self.view_is c.self.invariant.1 (omega (arith, free.inside, c.requires.pages)) c.self.inside.ids.ok.0 c.index.ensures in
+    rw here (c.clear.ensures ∙ ap (λ (k : ℕ). laid c.args.mem.now k (replicate (4096 * c.args.pages) 0)) (omega arith))
+
+pub returns-clause-others : goal.returns-clause-others
+returns-clause-others g c =
+    let free = are_free_now c.self.inside.regions.items c.self.inside.regions.items c.self.inside.free c.in_ok-first.first c.args.pages refl c.self.invariant.0 c.requires.pages c.in_ok-first.ensures.free in
+    others_set c.self.inside.regions.items c.self.inside.ids.items c.self.inside.starts.items c.args.self.now c.index.result.now c.in_ok-first.first _ c.self.view_is c.self.invariant.1 (λ other differs lives. away_from_free c.self.inside.regions.items c.in_ok-first.first c.args.pages _ c.self.invariant.0.0 free c.requires.pages lives)

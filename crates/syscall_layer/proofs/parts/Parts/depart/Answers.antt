@@ -22,8 +22,8 @@ invariant_of-self c =
     let home = sym (ap (λ (ss : List (Option Held)). slice_get ss c.get.result.now.space) c.deref_mut.ensures.value) ∙ c.take_space-held.ensures.space in
     let spaces = c.take_space-held.ensures.gone ∙ ap (λ (ss : List (Option Held)). slice_set ss c.get.result.now.space None) c.deref_mut.ensures.value in (
       regular_departed (kept_of c.self.inside) c.args.pid c.get.result.now c.take_space-held.result c.self.invariant.0 lives c.get.ensures home
-          c.release.new.regions (with_items c.self.inside.spaces c.take_space-held.new.spaces).items c.drop_table.new.tree c.drop_table.new.self.open_files c.end.new.self c.release.ensures
+          c.release.new.regions.regions (with_items c.self.inside.spaces c.take_space-held.new.spaces).items c.drop_table.new.tree c.drop_table.new.self.open_files c.end.new.self c.release.ensures
           (items_set c.self.inside.spaces c.take_space-held.new.spaces c.get.result.now.space None spaces) c.drop_table.ensures.storage c.end.ensures,
-      copies_departed (kept_of c.self.inside) c.self.invariant.1 c.take_space-held.result.maps c.release.new.regions c.drop_table.new.tree c.drop_table.new.self.open_files
+      copies_departed (kept_of c.self.inside) c.self.invariant.1 c.take_space-held.result.maps c.release.new.regions.regions c.drop_table.new.tree c.drop_table.new.self.open_files
           c.get.result.now.table c.release.ensures c.drop_table.ensures.storage,
     )

@@ -16,7 +16,7 @@ use Rattle.syscall_layer.specs.declared.task.Task.{Task}
 use Rattle.syscall_layer.specs.Kept.{Kept}
 use Rattle.syscall_layer.specs.Inside.{kept_of}
 use Rattle.syscall_layer.specs.Regular.{IsRegular}
-use Rattle.syscall_layer.specs.Copies.{IsKnown}
+use Rattle.mmap_rules.specs.Copies.{IsKnown}
 use Rattle.syscall_layer.specs.Calls.{RunsIn, IsCall, ask_in, noted_call, Changed}
 use Rattle.syscall_layer.specs.MapsIn.{MapsIn}
 use Rattle.syscall_layer.proofs.Runs.{value_found, has_space}
@@ -45,7 +45,7 @@ map_in-mapped-requires-clause-few g c =
 stays : (g : Over) (c : goal.After-drop-call-in_err-value g) → kept_of c.self.inside
     ≡ record (kept_of c.self.inside) {
       mem = c.map_in-mapped.new.mem;
-      regions = c.map_in-mapped.new.regions;
+      regions = c.map_in-mapped.new.regions.regions;
       spaces = (with_items c.self.inside.spaces c.map_in-mapped.new.spaces).items;
       notes = c.reserve.new.self.notes;
     }
@@ -57,7 +57,7 @@ stays g c =
     let live = has_space k c.args.call.pid c.get.result.now c.self.invariant.0 lives c.get.ensures in
     let is = c.map_in-mapped.ensures live.held (ap (λ (ss : List (Option Held)). slice_get ss number) c.deref_mut.ensures.value ∙ live.there) in
     let spaces = (with_items c.self.inside.spaces c.map_in-mapped.new.spaces).items in
-    let at : MapsIn (kind_of c.args.chooser.now) (bytes_of k.tree (file_in c.args.want)) c.args.want number live.held k.spaces spaces k.regions c.map_in-mapped.new.regions k.mem
+    let at : MapsIn (kind_of c.args.chooser.now) (bytes_of k.tree (file_in c.args.want)) c.args.want number live.held k.spaces spaces k.regions c.map_in-mapped.new.regions.regions k.mem
     c.map_in-mapped.new.mem c.map_in-mapped.result = record {
       held = is.held;
       spaces = items_set c.self.inside.spaces c.map_in-mapped.new.spaces number (Some is.held)
@@ -65,7 +65,7 @@ stays g c =
       maps = is.maps;
     } in
     let same = same_mapped k c.self.invariant.0 c.self.invariant.1 number live.held live.there (kind_of c.args.chooser.now) c.args.want c.requires.pages known spaces
-    c.map_in-mapped.new.regions c.map_in-mapped.new.mem c.map_in-mapped.result c.in_err-value.field-0.0 at c.in_err-value.ensures in
+    c.map_in-mapped.new.regions.regions c.map_in-mapped.new.mem c.map_in-mapped.result c.in_err-value.field-0.0 at c.in_err-value.ensures in
     λ i. record (same i) { notes = sym c.reserve.ensures.same i }
 
 pub invariant_of-self-in_err-value : goal.invariant_of-self-in_err-value
@@ -81,7 +81,7 @@ returns-in_err-value g c = λ a kind e h runs is.
 abbrev new_parts : (g : Over) → goal.After-finish g → Kept
 new_parts g c = record (kept_of c.self.inside) {
   mem = c.map_in-mapped.new.mem;
-  regions = c.map_in-mapped.new.regions;
+  regions = c.map_in-mapped.new.regions.regions;
   spaces = (with_items c.self.inside.spaces c.map_in-mapped.new.spaces).items;
   procs = c.finish.new.procs;
   notes = c.finish.new.log.notes;
@@ -89,8 +89,8 @@ new_parts g c = record (kept_of c.self.inside) {
 
 -- what is left of the space
 left : (g : Over) (c : goal.After-finish g) (kind : Kind) → kind ≡ kind_of c.args.chooser.now → (h : Held) → slice_get c.self.inside.spaces.items c.get.result.now.space ≡ Some (Some h) →
-    MapsIn kind (bytes_of c.self.inside.tree (file_in c.args.want)) c.args.want c.get.result.now.space h c.self.inside.spaces.items (new_parts g c).spaces c.self.inside.regions
-    c.map_in-mapped.new.regions c.self.inside.mem c.map_in-mapped.new.mem c.map_in-mapped.result
+    MapsIn kind (bytes_of c.self.inside.tree (file_in c.args.want)) c.args.want c.get.result.now.space h c.self.inside.spaces.items (new_parts g c).spaces c.self.inside.regions.regions
+    c.map_in-mapped.new.regions.regions c.self.inside.mem c.map_in-mapped.new.mem c.map_in-mapped.result
 left g c kind same h there =
     let number = c.get.result.now.space in
     let is = c.map_in-mapped.ensures h (ap (λ (ss : List (Option Held)). slice_get ss number) c.deref_mut.ensures.value ∙ there) in
@@ -112,8 +112,8 @@ invariant_of-self-2 g c =
     let live = has_space k c.args.call.pid c.get.result.now c.self.invariant.0 lives c.get.ensures in
     let is = left g c (kind_of c.args.chooser.now) refl live.held live.there in
     let keeps = keeps_mapped k c.self.invariant.0 c.self.invariant.1 c.get.result.now.space live.held live.there (kind_of c.args.chooser.now) c.args.want c.requires.pages known
-    (new_parts g c).spaces c.map_in-mapped.new.regions c.map_in-mapped.new.mem c.map_in-mapped.result is in
-    let now = with_maps k c.map_in-mapped.new.mem c.map_in-mapped.new.regions (new_parts g c).spaces in
+    (new_parts g c).spaces c.map_in-mapped.new.regions.regions c.map_in-mapped.new.mem c.map_in-mapped.result is in
+    let now = with_maps k c.map_in-mapped.new.mem c.map_in-mapped.new.regions.regions (new_parts g c).spaces in
     let counted = counts c.args.call c.in_ok-value.value [] k.notes c.finish.new.log.notes (noted g c) in (
       regular_finished now c.args.call.pid keeps.0 lives c.in_ok-value.value now.mem k.tree k.files c.finish.new.procs c.finish.new.log.notes k.console refl c.finish.ensures.procs,
       keeps.1 c.finish.new.log.notes (omega (arith, counted)),
@@ -129,9 +129,9 @@ returns g c = λ a kind e h.
     (λ runs is_call.
     let same : c.get.result.now ≡ e.value = value_found k.procs call.pid e runs.lives c.get.result.now c.get.ensures in
     let is = left g c a.kind kind h (ap (λ (t : Task). slice_get k.spaces t.space) same ∙ runs.home) in
-    let at : MapsIn a.kind (bytes_of k.tree (file_in want)) want e.value.space h k.spaces (new_parts g c).spaces k.regions c.map_in-mapped.new.regions k.mem c.map_in-mapped.new.mem
+    let at : MapsIn a.kind (bytes_of k.tree (file_in want)) want e.value.space h k.spaces (new_parts g c).spaces k.regions c.map_in-mapped.new.regions.regions k.mem c.map_in-mapped.new.mem
     c.map_in-mapped.result =
-    subst (λ (t : Task). MapsIn a.kind (bytes_of k.tree (file_in want)) want t.space h k.spaces (new_parts g c).spaces k.regions c.map_in-mapped.new.regions k.mem c.map_in-mapped.new.mem
+    subst (λ (t : Task). MapsIn a.kind (bytes_of k.tree (file_in want)) want t.space h k.spaces (new_parts g c).spaces k.regions c.map_in-mapped.new.regions.regions k.mem c.map_in-mapped.new.mem
     c.map_in-mapped.result) same is in
-    changed_mapped a k e h call runs is_call c.in_ok-value.value (new_parts g c).spaces c.map_in-mapped.new.regions c.finish.new.procs c.finish.new.log.notes
+    changed_mapped a k e h call runs is_call c.in_ok-value.value (new_parts g c).spaces c.map_in-mapped.new.regions.regions c.finish.new.procs c.finish.new.log.notes
     c.finish.ensures.procs (noted g c) c.self.invariant.0 c.self.invariant.1 want c.requires.pages known c.map_in-mapped.new.mem c.map_in-mapped.result at c.in_ok-value.ensures)

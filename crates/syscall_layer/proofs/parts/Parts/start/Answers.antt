@@ -20,7 +20,7 @@ returns-in_err-space g c =
 abbrev new_parts : (g : Over) → goal.After-unwrap g → Kept
 new_parts g c = record {
   mem = c.load.new.mem;
-  regions = c.load.new.regions;
+  regions = c.load.new.regions.regions;
   spaces = c.push_reserved.new.self.items;
   tree = c.self.inside.tree;
   files = c.new_table.new.self.open_files;

@@ -28,7 +28,7 @@ unmap_in-unmapped-requires-clause-names c = λ h there.
 
 abbrev new_parts : goal.After-finish → Kept
 new_parts c = record (kept_of c.self.inside) {
-  regions = c.unmap_in-unmapped.new.regions;
+  regions = c.unmap_in-unmapped.new.regions.regions;
   spaces = (with_items c.self.inside.spaces c.unmap_in-unmapped.new.spaces).items;
   procs = c.finish.new.procs;
   notes = c.finish.new.log.notes;
@@ -36,8 +36,8 @@ new_parts c = record (kept_of c.self.inside) {
 
 -- what is left of the space
 left : (c : goal.After-finish) (h : Held) → slice_get c.self.inside.spaces.items c.get.result.now.space ≡ Some (Some h) →
-    UnmapsIn (slice_index c.args.call.args 0) (slice_index c.args.call.args 1) c.get.result.now.space h c.self.inside.spaces.items (new_parts c).spaces c.self.inside.regions
-    c.unmap_in-unmapped.new.regions c.unmap_in-unmapped.result
+    UnmapsIn (slice_index c.args.call.args 0) (slice_index c.args.call.args 1) c.get.result.now.space h c.self.inside.spaces.items (new_parts c).spaces c.self.inside.regions.regions
+    c.unmap_in-unmapped.new.regions.regions c.unmap_in-unmapped.result
 left c h there =
     let number = c.get.result.now.space in
     let is = c.unmap_in-unmapped.ensures h (ap (λ (ss : List (Option Held)). slice_get ss number) c.deref_mut.ensures.value ∙ there) in
@@ -59,8 +59,8 @@ invariant_of-self-2 c =
     let live = has_space k c.args.call.pid c.get.result.now c.self.invariant.0 lives c.get.ensures in
     let is = left c live.held live.there in
     let keeps = keeps_unmapped k c.self.invariant.0 c.self.invariant.1 c.get.result.now.space live.held live.there (slice_index c.args.call.args 0) (slice_index c.args.call.args 1)
-    (new_parts c).spaces c.unmap_in-unmapped.new.regions c.unmap_in-unmapped.result is in
-    let now = with_maps k k.mem c.unmap_in-unmapped.new.regions (new_parts c).spaces in
+    (new_parts c).spaces c.unmap_in-unmapped.new.regions.regions c.unmap_in-unmapped.result is in
+    let now = with_maps k k.mem c.unmap_in-unmapped.new.regions.regions (new_parts c).spaces in
     let counted = counts c.args.call c.status-value.result [] k.notes c.finish.new.log.notes (noted c) in (
       regular_finished now c.args.call.pid keeps.0 lives c.status-value.result k.mem k.tree k.files c.finish.new.procs c.finish.new.log.notes k.console refl c.finish.ensures.procs,
       keeps.1 c.finish.new.log.notes (omega (arith, counted)),
@@ -76,7 +76,7 @@ returns c = λ a e h.
     (λ runs is_call.
     let same : c.get.result.now ≡ e.value = value_found k.procs call.pid e runs.lives c.get.result.now c.get.ensures in
     let is = left c h (ap (λ (t : Task). slice_get k.spaces t.space) same ∙ runs.home) in
-    let at : UnmapsIn addr len e.value.space h k.spaces (new_parts c).spaces k.regions c.unmap_in-unmapped.new.regions c.unmap_in-unmapped.result =
-    subst (λ (t : Task). UnmapsIn addr len t.space h k.spaces (new_parts c).spaces k.regions c.unmap_in-unmapped.new.regions c.unmap_in-unmapped.result) same is in
-    changed_unmapped a k e h call runs is_call c.status-value.result (new_parts c).spaces c.unmap_in-unmapped.new.regions c.finish.new.procs c.finish.new.log.notes
+    let at : UnmapsIn addr len e.value.space h k.spaces (new_parts c).spaces k.regions c.unmap_in-unmapped.new.regions.regions c.unmap_in-unmapped.result =
+    subst (λ (t : Task). UnmapsIn addr len t.space h k.spaces (new_parts c).spaces k.regions c.unmap_in-unmapped.new.regions.regions c.unmap_in-unmapped.result) same is in
+    changed_unmapped a k e h call runs is_call c.status-value.result (new_parts c).spaces c.unmap_in-unmapped.new.regions.regions c.finish.new.procs c.finish.new.log.notes
     c.finish.ensures.procs (noted c) addr len c.unmap_in-unmapped.result at c.status-value.ensures)

@@ -1,0 +1,56 @@
+-- The ids of regions. An id lasts as long as its region does, also where the region loses its first pages.
+use Rattle.std.specs.Prelude.{ℕ, ◌≡◌, ◌≢◌, ◌+◌, ◌<◌, Bool, true, false, ◌&&◌, nat_lt, if◌then◌else◌, List, length, get_or, slice_get, Option, Some, MatchOption}
+use Rattle.nommu_regions.specs.declared.region.Region.{Region}
+use Rattle.nommu_regions.specs.Regions.{IsLive, before, behind, is_left}
+
+-- the regions, each at its first page, and for each id the page at which its region begins
+pub record Numbered : Type 0 where
+  pub regions : List Region
+  pub starts : List ℕ
+
+-- the page at which the region of an id begins. A number that is no id leads behind memory
+abbrev pub start_of : Numbered → ℕ → ℕ
+start_of s id = get_or s.starts id (length s.regions)
+
+abbrev pub region_of : Numbered → ℕ → Option Region
+region_of s id = slice_get s.regions (start_of s id)
+
+-- the id has a region with a use
+abbrev pub Lives : Numbered → ℕ → Type 0
+Lives s id = IsLive s.regions (start_of s id)
+
+-- there are as many ids as pages, and at each page one of them begins
+pub record AreIds (s : Numbered) : Type 0 where
+  pub len : length s.starts ≡ length s.regions
+  pub inside : (id : ℕ) → id < length s.starts → start_of s id < length s.regions
+  pub one : (i j : ℕ) → i < length s.starts → j < length s.starts → start_of s i ≡ start_of s j → i ≡ j
+
+-- the live region of every other id stays as it is, and keeps its id
+abbrev pub OthersStay : ℕ → (old new : Numbered) → Type 0
+OthersStay id old new = (other : ℕ) → other ≢ id → Lives old other → region_of new other ≡ region_of old other
+
+-- ---- pages that are cut out of a region
+
+-- pages are left before the cut and behind it
+abbrev pub has_both : Region → (from count : ℕ) → Bool
+has_both r from count = nat_lt r.first from && is_left r (from + count)
+
+-- what keeps the id: the lower part, or the upper one where no lower part is left
+abbrev pub kept_part : Region → (from count : ℕ) → Region
+kept_part r from count = if nat_lt r.first from then before r from else behind r (from + count)
+
+-- an id for the upper part, just where both parts are left
+abbrev pub UpperPart : Numbered → Region → (from count : ℕ) → Option ℕ → Type 0
+UpperPart s r from count upper =
+    MatchOption upper (has_both r from count ≡ false) (λ id. (has_both r from count ≡ true) × (region_of s id ≡ Some (behind r (from + count))))
+
+-- ---- for the private table: which id begins at a page
+
+-- each list says where the other one has a number
+pub record AreInverse (ids starts : List ℕ) (count : ℕ) : Type 0 where
+  pub ids_len : length ids ≡ count
+  pub starts_len : length starts ≡ count
+  pub id : (page : ℕ) → page < count → get_or ids page count < count
+  pub start : (id : ℕ) → id < count → get_or starts id count < count
+  pub back : (page : ℕ) → page < count → get_or starts (get_or ids page count) count ≡ page
+  pub forth : (id : ℕ) → id < count → get_or ids (get_or starts id count) count ≡ id
