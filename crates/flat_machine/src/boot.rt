@@ -3,9 +3,8 @@
 ghost use Rattle.std.specs.Prelude.{◌≡◌, ◌^◌, ◌<◌, ◌≤◌, ℕ, Some, slice_get, length};
 ghost use Rattle.mem_files.specs.Paths.{lookup};
 ghost use Rattle.vfork_exec.specs.Procs.{most_entries};
-ghost use Rattle.machine_world.specs.Ages.{AreChanged};
+ghost use Rattle.machine_world.specs.Ages.{AreChanged, most_at_boot};
 ghost use Rattle.syscall_layer.specs.Stands.{world_of};
-ghost use Rattle.syscall_layer.specs.Copies.{most_at_boot};
 ghost use Rattle.page_runs.specs.Choosers.{IsChooser, kind_of};
 ghost use Rattle.machine_world.specs.Boot.{boot, started};
 ghost use Rattle.manifest_text.specs.declared.manifest.Start.{Start as StartItem};

@@ -1,8 +1,17 @@
 -- A file's bytes change only with its count of changes (Linux, stat(2), st_ctim; in this project's profile).
-use Rattle.std.specs.Prelude.{◌≡◌, ℕ, ◌+◌, ◌-◌, ◌^◌, ◌<◌, ◌≤◌, length, Some}
+use Rattle.std.specs.Prelude.{◌≡◌, ℕ, ◌+◌, ◌-◌, ◌^◌, ◌<◌, ◌≤◌, List, map, sum, length, Some}
+use Rattle.call_log.specs.Notes.{Note, calls_in}
 use Rattle.mem_files.specs.Inodes.{Inode, Inodes, inode_at, bytes_in}
 use Rattle.machine_world.specs.World.{World}
 use Rattle.machine_world.specs.Event.{Trace, went, event}
+
+-- the calls that were noted: each change has its own
+abbrev pub kept_calls : List Note → ℕ
+kept_calls notes = sum (map calls_in notes)
+
+-- counts of changes are this low when a run begins
+abbrev pub most_at_boot : ℕ
+most_at_boot = 2 ^ 63
 
 -- no node was changed more often than that
 abbrev pub AreChanged : ℕ → Inodes → Type 0

@@ -10,10 +10,10 @@ use Rattle.flat_loader.specs.Alone.{Runner}
 use Rattle.vfork_exec.specs.Keyed.{find, change, without}
 use Rattle.vfork_exec.proofs.Keyed.{falls_change, falls_without, find_changed, find_gone, find_beside_change, find_beside_without}
 use Rattle.machine_world.specs.World.{Process, LiveSpace, Rest, World, pid_of, id_of}
-use Rattle.machine_world.specs.Ages.{Follows, AreChanged}
+use Rattle.machine_world.specs.Ages.{Follows, AreChanged, kept_calls, most_at_boot}
 use Rattle.machine_world.proofs.States.{find_has, with_regs, with_own}
 use Rattle.stays_laws.specs.Stays.{runners, runner_of}
-use Rattle.stays_laws.specs.Sound.{IsSpace, AreApart, HoldCopies, kept_calls, most_at_boot, IsSound}
+use Rattle.stays_laws.specs.Sound.{IsSpace, AreApart, HoldCopies, IsSound}
 use Rattle.stays_laws.proofs.Apart.{apart_under}
 use Rattle.stays_laws.proofs.AllMaps.{Around, around}
 use Rattle.stays_laws.proofs.Runners.{runners_change, runners_beside_change, runners_beside_without}

@@ -22,9 +22,9 @@ use Rattle.machine_world.specs.World.{Process, LiveSpace, Rest, World, pid_of, i
 use Rattle.machine_world.specs.Free.{free}
 use Rattle.machine_world.specs.MapCalls.{all_maps}
 use Rattle.machine_world.specs.Boot.{StartLine, BootFault, Found, found, path_of, begun, address_of, taken, placed, fitting, located, started, all_started, then_started, empty_world, boot}
-use Rattle.machine_world.specs.Ages.{AreChanged}
+use Rattle.machine_world.specs.Ages.{AreChanged, kept_calls, most_at_boot}
 use Rattle.stays_laws.specs.Stays.{runners, runner_of}
-use Rattle.stays_laws.specs.Sound.{IsSpace, Apart, AreApart, HoldsSource, HoldCopies, kept_calls, most_at_boot, IsSound}
+use Rattle.stays_laws.specs.Sound.{IsSpace, Apart, AreApart, HoldsSource, HoldCopies, IsSound}
 use Rattle.stays_laws.specs.Laws.{CanBoot, BootsAreSound}
 use Rattle.stays_laws.proofs.Apart.{apart_back}
 use Rattle.stays_laws.proofs.Runners.{runners_head}

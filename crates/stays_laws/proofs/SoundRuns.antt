@@ -23,11 +23,11 @@ use Rattle.machine_world.specs.MapCalls.{all_maps, unmaps, munmap_row}
 use Rattle.machine_world.specs.Rows.{row}
 use Rattle.machine_world.specs.Event.{Outcome, went, strays, full, idle, number_of, args_of, replied, entry_of, exit_code, noted, put_got, stepped, trapped, ended, served, put, waited, answered, exited, is_exit, asked, ask_of, answer, effect, in_space, by_process, at_process, event}
 use Rattle.machine_world.specs.Turns.{Walk, End, traced, stays_at, turned, turn, seen_of, going_on, quantum_turn, turns}
-use Rattle.machine_world.specs.Ages.{AreChanged, Follows, most_changes}
+use Rattle.machine_world.specs.Ages.{AreChanged, Follows, most_changes, kept_calls, most_at_boot}
 use Rattle.machine_world.proofs.Kept.{Answers, Kept}
 use Rattle.machine_world.proofs.ByRows.{by_rows}
 use Rattle.machine_world.proofs.Aging.{rows_age, table_ages}
-use Rattle.stays_laws.specs.Sound.{kept_calls, most_at_boot, IsSound}
+use Rattle.stays_laws.specs.Sound.{IsSound}
 use Rattle.stays_laws.specs.Laws.{EventsKeepSound, TurnsKeepSound, RunsKeepSound}
 use Rattle.stays_laws.proofs.Bytes.{put_keeps}
 use Rattle.stays_laws.proofs.Files.{follows_itself}

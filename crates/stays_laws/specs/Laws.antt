@@ -4,11 +4,11 @@ use Rattle.quantum_sched.specs.declared.Quantum.{Quantum}
 use Rattle.machine_world.specs.World.{Rest, World}
 use Rattle.machine_world.specs.Event.{Trace, went, event}
 use Rattle.machine_world.specs.Turns.{turn, turns}
-use Rattle.machine_world.specs.Ages.{AreChanged}
+use Rattle.machine_world.specs.Ages.{AreChanged, most_at_boot}
 use Rattle.machine_world.specs.Boot.{StartLine, empty_world, boot}
 use Rattle.flat_loader.specs.Alone.{most_pages}
 use Rattle.stays_laws.specs.Stays.{Stay, AreRight, collect, collect_all, stays, first_stays}
-use Rattle.stays_laws.specs.Sound.{IsSound, most_at_boot}
+use Rattle.stays_laws.specs.Sound.{IsSound}
 
 -- ---- what holds of every world
 

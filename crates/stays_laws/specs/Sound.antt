@@ -1,8 +1,8 @@
 -- What holds of every world of a run, beside what is in it: each process has a space of its own, the mappings of all live spaces
 -- share pages of copies alone, and a copy has its file's bytes as long as the file isn't changed.
-use Rattle.std.specs.Prelude.{◌≡◌, ℕ, ◌+◌, ◌-◌, ◌*◌, ◌^◌, ◌≤◌, ◌<◌, ◌≢◌, ◌%◌, true, false, List, [], ◌∷◌, map, sum, length, Some, IsSome, slice_get}
+use Rattle.std.specs.Prelude.{◌≡◌, ℕ, ◌+◌, ◌-◌, ◌*◌, ◌≤◌, ◌<◌, ◌≢◌, ◌%◌, true, false, List, [], ◌∷◌, length, Some, IsSome, slice_get}
 use Rattle.std.specs.List.{slice_index_or}
-use Rattle.call_log.specs.Notes.{Note, calls_in, most_calls}
+use Rattle.call_log.specs.Notes.{most_calls}
 use Rattle.nommu_regions.specs.declared.region.Source.{Source}
 use Rattle.nommu_regions.specs.declared.region.Source.TheVariants.{Own, Copy}
 use Rattle.nommu_regions.specs.Regions.{is_copy}
@@ -15,7 +15,7 @@ use Rattle.vfork_exec.specs.Keyed.{Falls, find}
 use Rattle.flat_loader.specs.Alone.{most_pages}
 use Rattle.machine_world.specs.World.{Process, LiveSpace, World, pid_of, id_of}
 use Rattle.machine_world.specs.MapCalls.{all_maps}
-use Rattle.machine_world.specs.Ages.{AreChanged}
+use Rattle.machine_world.specs.Ages.{AreChanged, kept_calls, most_at_boot}
 use Rattle.stays_laws.specs.Stays.{runners, runner_of}
 
 -- ---- a space
@@ -73,14 +73,6 @@ abbrev pub HoldCopies : Inodes → Space → Type 0
 HoldCopies nodes s = (j : ℕ) (m : Mapping) → slice_get s.maps j ≡ Some m → HoldsSource s nodes m m.source
 
 -- ---- a world
-
--- the calls that were noted
-abbrev pub kept_calls : List Note → ℕ
-kept_calls notes = sum (map calls_in notes)
-
--- counts of changes are this low when a run begins
-abbrev pub most_at_boot : ℕ
-most_at_boot = 2 ^ 63
 
 pub record IsSound (w : World) : Type 0 where
   pub some : 1 ≤ w.rest.pages

@@ -12,8 +12,7 @@ use Rattle.call_log.specs.Notes.{Note}
 use Rattle.mem_files.specs.Inodes.{Inodes}
 use Rattle.fd_tables.specs.Files.{OpenFiles}
 use Rattle.syscall_layer.specs.Kept.{Kept, nothing_yet}
-use Rattle.machine_world.specs.Ages.{AreChanged}
-use Rattle.syscall_layer.specs.Copies.{most_at_boot}
+use Rattle.machine_world.specs.Ages.{AreChanged, most_at_boot}
 use Rattle.syscall_layer.specs.Regular.{Regular, IsRegular}
 use Rattle.syscall_layer.proofs.CopiesStay.{copies_begin}
 

@@ -21,10 +21,10 @@ use Rattle.call_log.specs.declared.how.Seen.{Seen}
 use Rattle.call_log.specs.Notes.{CallEntry, LoadEntry, Note, call_note, load_note, end_note, stray_note, calls_in, bytes_in, has_room}
 use Rattle.flat_loader.specs.Loads.{block_region}
 use Rattle.flat_loader.specs.Begin.{Loading, in_block, block_end}
-use Rattle.machine_world.specs.Ages.{AreChanged, Follows}
+use Rattle.machine_world.specs.Ages.{AreChanged, Follows, kept_calls, most_at_boot}
 use Rattle.syscall_layer.specs.Kept.{Kept}
 use Rattle.syscall_layer.specs.Regular.{Regular, named_in}
-use Rattle.syscall_layer.specs.Copies.{HoldsFile, HoldsSource, CopiesHold, kept_calls, most_at_boot}
+use Rattle.syscall_layer.specs.Copies.{HoldsFile, HoldsSource, CopiesHold}
 use Rattle.syscall_layer.proofs.Counts.{after_set}
 use Rattle.syscall_layer.proofs.Gone.{length_released, released_at}
 use Rattle.syscall_layer.proofs.CopiesKept.{bytes_same, holds_as, physical_at}

@@ -26,7 +26,8 @@ use Rattle.mmap_rules.proofs.NamesMore.{used}
 use Rattle.mem_files.specs.Inodes.{Inode, Inodes, inode_at, content_in, bytes_in, bytes_of as bytes_of_file}
 use Rattle.syscall_layer.specs.Kept.{Kept}
 use Rattle.syscall_layer.specs.Regular.{Regular}
-use Rattle.syscall_layer.specs.Copies.{HoldsSource, CopiesHold, kept_calls}
+use Rattle.syscall_layer.specs.Copies.{HoldsSource, CopiesHold}
+use Rattle.machine_world.specs.Ages.{kept_calls}
 use Rattle.mmap_rules.specs.Copies.{bytes_of, IsKnown}
 use Rattle.syscall_layer.proofs.Counts.{after_set}
 use Rattle.syscall_layer.proofs.CopiesKept.{holds_as}

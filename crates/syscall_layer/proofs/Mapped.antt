@@ -24,7 +24,8 @@ use Rattle.file_calls.specs.declared.call.Call.{Call}
 use Rattle.syscall_layer.specs.declared.task.Task.{Task}
 use Rattle.syscall_layer.specs.Kept.{Kept}
 use Rattle.syscall_layer.specs.Regular.{Regular}
-use Rattle.syscall_layer.specs.Copies.{CopiesHold, kept_calls}
+use Rattle.syscall_layer.specs.Copies.{CopiesHold}
+use Rattle.machine_world.specs.Ages.{kept_calls}
 use Rattle.mmap_rules.specs.Copies.{IsKnown}
 use Rattle.syscall_layer.specs.Stands.{About, private_of, OthersSame, world_of}
 use Rattle.syscall_layer.specs.Calls.{RunsIn, IsCall, ask_in, noted_call, Changed}

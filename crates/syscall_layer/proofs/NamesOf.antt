@@ -5,7 +5,8 @@ use Rattle.mmap_rules.specs.Held.{Held}
 use Rattle.mmap_rules.specs.Sides.{NameRegions, AreFew}
 use Rattle.syscall_layer.specs.Kept.{Kept}
 use Rattle.syscall_layer.specs.Regular.{Regular}
-use Rattle.syscall_layer.specs.Copies.{CopiesHold, kept_calls}
+use Rattle.syscall_layer.specs.Copies.{CopiesHold}
+use Rattle.machine_world.specs.Ages.{kept_calls}
 use Rattle.syscall_layer.proofs.Counts.{counted}
 use Rattle.syscall_layer.proofs.Apart.{is_used}
 

@@ -14,7 +14,8 @@ use Rattle.machine_world.proofs.Aging.{rows_age, table_ages}
 use Rattle.file_calls.specs.declared.call.Call.{Call}
 use Rattle.file_calls.specs.Calls.{with_all}
 use Rattle.syscall_layer.specs.Kept.{Kept}
-use Rattle.syscall_layer.specs.Copies.{CopiesHold, kept_calls, most_at_boot}
+use Rattle.syscall_layer.specs.Copies.{CopiesHold}
+use Rattle.machine_world.specs.Ages.{kept_calls, most_at_boot}
 use Rattle.syscall_layer.specs.Calls.{noted_call}
 use Rattle.syscall_layer.proofs.CopiesStay.{copies_noted, copies_aged, copies_released, room_counts, call_counts}
 

@@ -25,7 +25,8 @@ use Rattle.mmap_rules.proofs.NamesAll.{what_went}
 use Rattle.mem_files.specs.Inodes.{Inodes}
 use Rattle.syscall_layer.specs.Kept.{Kept}
 use Rattle.syscall_layer.specs.Regular.{Names, Regular, HasSpace, named_in, uses_in}
-use Rattle.syscall_layer.specs.Copies.{HoldsSource, CopiesHold, kept_calls}
+use Rattle.syscall_layer.specs.Copies.{HoldsSource, CopiesHold}
+use Rattle.machine_world.specs.Ages.{kept_calls}
 use Rattle.syscall_layer.proofs.Counts.{get_set, get_other, after_set, named, counted, counted_both}
 use Rattle.syscall_layer.proofs.Gone.{released_at, regions_released}
 use Rattle.syscall_layer.proofs.Unmapped.{same_pages}

@@ -1,12 +1,12 @@
 -- A live copy holds its file, as long as that wasn't changed.
-use Rattle.std.specs.Prelude.{◌≡◌, ℕ, ◌+◌, ◌^◌, ◌<◌, ◌≤◌, List, map, sum, length, Some, slice_get}
-use Rattle.call_log.specs.Notes.{Note, calls_in}
+use Rattle.std.specs.Prelude.{◌≡◌, ℕ, ◌+◌, ◌<◌, ◌≤◌, List, length, Some, slice_get}
+use Rattle.call_log.specs.Notes.{Note}
 use Rattle.nommu_regions.specs.declared.region.Region.{Region}
 use Rattle.nommu_regions.specs.declared.region.Source.{Source}
 use Rattle.nommu_regions.specs.declared.region.Source.TheVariants.{Own, Copy}
 use Rattle.mem_files.specs.Inodes.{Inode, Inodes, inode_at}
 use Rattle.mmap_rules.specs.Copies.{HasFile}
-use Rattle.machine_world.specs.Ages.{AreChanged}
+use Rattle.machine_world.specs.Ages.{AreChanged, kept_calls, most_at_boot}
 
 -- a region with the pages of a file from its page `first` on, as the file was at a count of changes: the file's number was given, its
 -- count didn't fall, and under the same count the region has the file's bytes in all its pages, with zeros past the end
@@ -18,14 +18,6 @@ pub record HoldsFile (mem : List ℕ) (nodes : Inodes) (r : Region) (file change
 abbrev pub HoldsSource : List ℕ → Inodes → Region → Source → Type 0
 HoldsSource mem nodes r Own = Unit {0}
 HoldsSource mem nodes r (Copy file change first) = HoldsFile mem nodes r file change first
-
--- the calls that were noted
-abbrev pub kept_calls : List Note → ℕ
-kept_calls notes = sum (map calls_in notes)
-
--- counts of changes are this low when a run begins
-abbrev pub most_at_boot : ℕ
-most_at_boot = 2 ^ 63
 
 -- each change and each use but a start's has its kept call
 pub record CopiesHold (regions : List Region) (mem : List ℕ) (nodes : Inodes) (notes : List Note) : Type 0 where

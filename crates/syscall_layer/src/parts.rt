@@ -1,9 +1,8 @@
 //! What is kept of all programs.
 
 ghost use Rattle.std.specs.Prelude.{◌≡◌, ◌≤◌, IfOk};
-ghost use Rattle.machine_world.specs.Ages.{AreChanged};
+ghost use Rattle.machine_world.specs.Ages.{AreChanged, most_at_boot};
 ghost use Rattle.syscall_layer.specs.Kept.{nothing_yet};
-ghost use Rattle.syscall_layer.specs.Copies.{most_at_boot};
 
 use crate::task::Task;
 use call_log::Log;

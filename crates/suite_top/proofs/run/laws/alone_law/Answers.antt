@@ -1,12 +1,11 @@
 -- By the laws of stays, since what the lines bring in has pages as the manifest says, and no file that was changed.
 use Rattle.std.proofs.Common.{ℕ, ◌≤◌, map, arith}
-use Rattle.machine_world.specs.Ages.{AreChanged}
+use Rattle.machine_world.specs.Ages.{AreChanged, most_at_boot}
 use Rattle.machine_world.specs.Boot.{empty_world}
 use Rattle.manifest_text.proofs.Bounds.{manifests_are_reasonable}
 use Rattle.run_setup.specs.Brought.{nothing_brought}
 use Rattle.run_setup.proofs.Unchanged.{opening_unchanged, lines_unchanged}
 use Rattle.stays_laws.specs.Stays.{first_stays}
-use Rattle.stays_laws.specs.Sound.{most_at_boot}
 use Rattle.stays_laws.specs.Laws.{CanBoot}
 use Rattle.stays_laws.proofs.SoundRuns.{boots_are_sound}
 use Rattle.stays_laws.proofs.StaysRuns.{boots_begin_stays, runs_keep_stays}
