@@ -268,6 +268,24 @@ leaves :
 unfolding solo_step meaning effect decoded loaded register with_register own_of writable_of number_at byte_at opcode funct3 funct7 rd rs1 rs2 imm_i sent is_errno is_call
 leaves = refl
 
+-- the one below goes on, as it stood
+pops :
+    seen [] (solo_step (record (calls (six 3 0) 93) { stack = record { pid = 7; regs = regs (six 3 0) 93 } ∷ record { pid = 5; regs = regs (six 7 0) 220 } ∷ [] }) (item (six 3 0) 93 0 ∷ []))
+    ≡ Some (record { stack = record { pid = 5; regs = regs (six 7 0) 220 } ∷ []; ranges = all; bytes = []; items = [] })
+unfolding solo_step meaning effect decoded loaded register with_register own_of writable_of number_at byte_at opcode funct3 funct7 rd rs1 rs2 imm_i sent is_errno is_call
+pops = refl
+
+-- the last page that memory can have may be mapped
+maps-last : seen (0x83ff_ffff ∷ 0x8400_0000 ∷ []) (maps 0x83ff_f000 4096 3 0x22 [])
+    ≡ Some (record {
+      stack = record { pid = 7; regs = record (regs (0x83ff_f000 ∷ 4096 ∷ 3 ∷ 0x22 ∷ 3 ∷ 0 ∷ []) 222) { pc = 0x8000_0044 } } ∷ [];
+      ranges = all ++ pages 0x83ff_f000 0x1000 ∷ [];
+      bytes = Some 0 ∷ None ∷ [];
+      items = [];
+    })
+unfolding solo_step meaning effect decoded loaded register with_register own_of writable_of number_at byte_at opcode funct3 funct7 rd rs1 rs2 imm_i sent is_errno is_call may_map may_lie with_range
+maps-last = refl
+
 -- a trap too, and behind it there is no event
 ends : seen [] (solo_run 1 (solo (0 ∷ 0 ∷ 0 ∷ 0 ∷ []) (six 0 0) 9) []) ≡ Some (record { stack = []; ranges = all; bytes = []; items = [] })
 unfolding solo_run solo_step meaning effect decoded loaded register with_register own_of writable_of number_at byte_at opcode funct3 funct7 rd rs1 rs2 imm_i
