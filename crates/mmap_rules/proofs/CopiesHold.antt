@@ -1,9 +1,8 @@
 -- Copies hold their file where `map` maps pages, and the pages that are mapped have the bytes that are wanted.
 use Rattle.std.proofs.Common.{◌≡◌, ℕ, ◌+◌, ◌-◌, ◌*◌, ◌<◌, ◌≤◌, ◌⊎◌, inl, inr, false, List, length, take, drop, get_or, arith, refl, sym, ap, ◌∙◌, subst}
-use Rattle.std.specs.Prelude.{Option, Some, None, slice_get, replicate, Result, Ok, Err, IfOk}
+use Rattle.std.specs.Prelude.{Option, Some, None, slice_get, Result, Ok, Err, IfOk}
 use Rattle.std.proofs.lemmas.Bool.{cases_lt, false≢true}
 use Rattle.std.proofs.lemmas.Bool.Decides.{nat_tests}
-use Rattle.std.proofs.lemmas.Option.{same_Some, none-some}
 use Rattle.std.proofs.lemmas.List.{length-take, length-drop, get_or-take, get_or-drop, ext_get_or}
 use Rattle.byte_words.specs.Patches.{laid}
 use Rattle.byte_words.proofs.Laid.{length-laid, laid_before, laid_inside, laid_past}
@@ -23,7 +22,7 @@ use Rattle.mmap_rules.specs.Held.{page_address}
 use Rattle.mmap_rules.specs.Mappings.{file_pages, page_at}
 use Rattle.mmap_rules.specs.Copies.{pages_at, bytes_of, HasSource, AllHold, IsKnown, pages_of, wanted_bytes}
 use Rattle.mmap_rules.specs.Sides.{Sides, Mapped, Maps, mapped, file_in}
-use Rattle.mmap_rules.proofs.Change.{FreshRun, OneMore, Copied, Shares, asked_bytes, change}
+use Rattle.mmap_rules.proofs.Change.{FreshRun, OneMore, Copied, asked_bytes, change}
 use Rattle.mmap_rules.proofs.FilePages.{length-file_pages, file_byte}
 use Rattle.mmap_rules.proofs.NamesMore.{used}
 

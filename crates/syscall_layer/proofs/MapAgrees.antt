@@ -1,7 +1,6 @@
 -- What the code maps is what the world maps: the same pages, with the same bytes, and all other spaces keep theirs.
 use Rattle.std.proofs.Common.{◌≡◌, ℕ, zero, ◌+◌, ◌-◌, ◌*◌, ◌<◌, ◌≤◌, Bool, true, false, List, [], ◌∷◌, ◌++◌, length, drop, get_or, arith, refl, sym, ap, subst, ◌∙◌}
 use Rattle.std.specs.Prelude.{Option, Some, None, slice_get, slice_set, option_map}
-use Rattle.std.proofs.lemmas.Bool.{false≢true}
 use Rattle.std.proofs.lemmas.Bool.Decides.{nat_tests}
 use Rattle.std.proofs.lemmas.Option.{same_Some, none-some}
 use Rattle.std.proofs.lemmas.List.{length-replicate, length-set, get_or-take, get_or-drop}
@@ -11,7 +10,7 @@ use Rattle.byte_words.proofs.Laid.{length-laid}
 use Rattle.nommu_regions.specs.declared.region.Region.{Region}
 use Rattle.nommu_regions.specs.declared.region.Source.{Source}
 use Rattle.nommu_regions.specs.declared.region.Source.TheVariants.{Own, Copy}
-use Rattle.nommu_regions.specs.Regions.{AreFree, copy_covers, covers, copy_of, with_uses_of, with_uses}
+use Rattle.nommu_regions.specs.Regions.{AreFree, covers, copy_of, with_uses_of, with_uses}
 use Rattle.nommu_regions.proofs.Copies.{copy_lives, copy_covers_them}
 use Rattle.mmap_rules.specs.declared.mapping.Mapping.{Mapping}
 use Rattle.mmap_rules.specs.declared.want.Want.{Want}
