@@ -1,9 +1,9 @@
 -- What the code maps is what the world maps: the same pages, with the same bytes, and all other spaces keep theirs.
-use Rattle.std.proofs.Common.{◌≡◌, ℕ, zero, ◌+◌, ◌-◌, ◌*◌, ◌<◌, ◌≤◌, Bool, true, false, List, [], ◌∷◌, ◌++◌, length, drop, get_or, arith, refl, sym, ap, subst, ◌∙◌}
+use Rattle.std.proofs.Common.{◌≡◌, ℕ, zero, ◌+◌, ◌-◌, ◌*◌, ◌<◌, ◌≤◌, Bool, true, false, List, [], ◌∷◌, ◌++◌, length, get_or, arith, refl, sym, ap, subst, ◌∙◌}
 use Rattle.std.specs.Prelude.{Option, Some, None, slice_get, slice_set, option_map}
 use Rattle.std.proofs.lemmas.Bool.Decides.{nat_tests}
 use Rattle.std.proofs.lemmas.Option.{same_Some, none-some}
-use Rattle.std.proofs.lemmas.List.{length-replicate, length-set, get_or-take, get_or-drop}
+use Rattle.std.proofs.lemmas.List.{length-replicate, length-set}
 use Rattle.byte_words.specs.ByteMap.{with_bytes}
 use Rattle.byte_words.specs.Patches.{laid}
 use Rattle.byte_words.proofs.Laid.{length-laid}
@@ -17,13 +17,13 @@ use Rattle.mmap_rules.specs.declared.want.Want.{Want}
 use Rattle.mmap_rules.specs.declared.want.Want.TheVariants.{Anon, File}
 use Rattle.mmap_rules.specs.Want.{AsksPages}
 use Rattle.mmap_rules.specs.Held.{Held, page_address}
-use Rattle.mmap_rules.specs.Mappings.{run_mapping, part_mapping, copied_from, file_pages}
+use Rattle.mmap_rules.specs.Mappings.{run_mapping, part_mapping, copied_from}
 use Rattle.mmap_rules.specs.Sides.{sides, Mapped, in_fresh_run, in_copy_or_new, mapped, file_in}
-use Rattle.mmap_rules.proofs.Change.{Covered, covered}
+use Rattle.mmap_rules.proofs.Change.{covered}
 use Rattle.mmap_rules.proofs.CopiesHold.{copy_byte}
 use Rattle.mmap_rules.proofs.FilePages.{length-file_pages}
 use Rattle.mmap_rules.proofs.Fresh.{fresh_free}
-use Rattle.mem_files.specs.Inodes.{Inodes, Inode, inode_at, content_in, bytes_in, bytes_of}
+use Rattle.mem_files.specs.Inodes.{Inodes, bytes_of}
 use Rattle.machine_world.specs.MapCalls.{all_maps, lowest, has_pages, shared, or_own, in_copy as in_copy_of, with_mapping, first_bytes}
 use Rattle.syscall_layer.specs.Kept.{Kept}
 use Rattle.syscall_layer.specs.Regular.{Regular}
