@@ -1,6 +1,5 @@
 -- A program in a run of pages: its region, its space, and the bytes round it.
-use Rattle.std.proofs.Common.{◌≡◌, ℕ, ◌+◌, ◌-◌, ◌*◌, ◌/◌, ◌^◌, ◌≤◌, false, List, [], ◌∷◌, length, get_or, replicate, refl, sym, ap, ◌∙◌, inl, inr, arith}
-use Rattle.std.specs.Prelude.{Some, slice_get, slice_set}
+use Rattle.std.proofs.Common.{◌≡◌, ℕ, ◌+◌, ◌-◌, ◌*◌, ◌/◌, ◌^◌, ◌≤◌, false, List, [], ◌∷◌, length, get_or, replicate, sym, ap, ◌∙◌, inl, inr, arith}
 use Rattle.std.proofs.lemmas.List.{length-replicate}
 use Rattle.byte_words.specs.ByteMap.{byte_of}
 use Rattle.byte_words.specs.Patches.{laid}
@@ -8,8 +7,6 @@ use Rattle.byte_words.proofs.Laid.{length-laid, laid_before, laid_past}
 use Rattle.phys_mem.specs.Memory.{place}
 use Rattle.nommu_regions.specs.declared.region.Region.{Region}
 use Rattle.nommu_regions.specs.declared.region.Source.TheVariants.{Own}
-use Rattle.nommu_regions.specs.Regions.{IsLive}
-use Rattle.nommu_regions.proofs.Held.{after_set}
 use Rattle.mmap_rules.specs.declared.mapping.Mapping.{Mapping}
 use Rattle.mmap_rules.specs.Held.{Held, FitsBlock, held_block, page_address}
 use Rattle.bflt_format.specs.Values.{Values}

@@ -1,9 +1,8 @@
 -- Copies hold their file where `map` maps pages, and the pages that are mapped have the bytes that are wanted.
 use Rattle.std.proofs.Common.{◌≡◌, ℕ, ◌+◌, ◌-◌, ◌*◌, ◌<◌, ◌≤◌, ◌⊎◌, inl, inr, false, List, length, take, drop, get_or, arith, refl, sym, ap, ◌∙◌, subst}
-use Rattle.std.specs.Prelude.{Option, Some, None, slice_get, replicate, Result, Ok, Err, IfOk}
+use Rattle.std.specs.Prelude.{Option, Some, None, slice_get, Result, Ok, Err, IfOk}
 use Rattle.std.proofs.lemmas.Bool.{cases_lt, false≢true}
 use Rattle.std.proofs.lemmas.Bool.Decides.{nat_tests}
-use Rattle.std.proofs.lemmas.Option.{same_Some, none-some}
 use Rattle.std.proofs.lemmas.List.{length-take, length-drop, get_or-take, get_or-drop, ext_get_or}
 use Rattle.byte_words.specs.Patches.{laid}
 use Rattle.byte_words.proofs.Laid.{length-laid, laid_before, laid_inside, laid_past}
@@ -23,7 +22,7 @@ use Rattle.mmap_rules.specs.Held.{page_address}
 use Rattle.mmap_rules.specs.Mappings.{file_pages, page_at}
 use Rattle.mmap_rules.specs.Copies.{pages_at, bytes_of, HasSource, AllHold, IsKnown, pages_of, wanted_bytes}
 use Rattle.mmap_rules.specs.Sides.{Sides, Mapped, Maps, mapped, file_in}
-use Rattle.mmap_rules.proofs.Change.{FreshRun, OneMore, Copied, Shares, asked_bytes, change}
+use Rattle.mmap_rules.proofs.Change.{FreshRun, OneMore, Copied, Covered, asked_bytes, change}
 use Rattle.mmap_rules.proofs.FilePages.{length-file_pages, file_byte}
 use Rattle.mmap_rules.proofs.NamesMore.{used}
 
@@ -116,6 +115,28 @@ fresh_has : (nodes : Inodes) (now content : List ℕ) (v : Region) (want : Want)
 fresh_has nodes now content v want (inl own) is = subst (HasSource now nodes v) (sym own) tt
 fresh_has nodes now content v want (inr copied) is = copy_has_file nodes now content v want copied is
 
+-- a byte of pages that a copy covers is the file's
+pub copy_byte : (mem : List ℕ) (nodes : Inodes) (r : Region) (id change first pages : ℕ) (c : Covered r.source id change first pages r.pages) → HasSource mem nodes r r.source
+    → (n : Inode) → inode_at nodes id ≡ Some n → n.change ≡ change → (i : ℕ) → i < 4096 * pages
+    → get_or (file_pages (bytes_of_file nodes id) first pages) i 0 ≡ get_or mem (4096 * (r.first + (first - c.start)) + i) 0
+copy_byte mem nodes r id change first pages c holds n node count i less =
+    let same = subst (HasSource mem nodes r) c.is holds n node (sym count) in
+    let from = c.from in
+    let to = c.to in
+    let at : ℕ = 4096 * (first - c.start) + i in
+    let within : 4096 * (first - c.start) + i < 4096 * r.pages = omega (arith, from, to, less) in
+    let bytes : bytes_of_file nodes id ≡ bytes_in n.content = ap (λ (o : Option Inode). bytes_in (content_in o)) node in
+    let here : 4096 * first + i ≡ 4096 * c.start + (4096 * (first - c.start) + i) = omega (arith, from) in
+    let behind : 4096 * r.first + (4096 * (first - c.start) + i) ≡ 4096 * (r.first + (first - c.start)) + i = omega arith in
+    ap (λ (bs : List ℕ). get_or (file_pages bs first pages) i 0) bytes
+    ∙ file_byte (bytes_in n.content) first pages i less
+    ∙ ap (λ (p : ℕ). get_or (bytes_in n.content) p 0) here
+    ∙ sym (file_byte (bytes_in n.content) c.start r.pages at within)
+    ∙ ap (λ (bs : List ℕ). get_or bs at 0) (sym same)
+    ∙ get_or-take (4096 * r.pages) (drop (4096 * r.first) mem) at 0 within
+    ∙ get_or-drop (4096 * r.first) mem at 0
+    ∙ ap (λ (p : ℕ). get_or mem p 0) behind
+
 module _ (s : Sides) (nodes : Inodes) (want : Want) (m : Mapped) (are : AreRegions s.regions) (whole : length s.memory ≡ 4096 * length s.regions)
     (holds : AllHold s.regions s.memory nodes) where
   run_fits : (run : FreshRun s (bytes_of_file nodes (file_in want)) want m) → 4096 * run.first + length run.content ≤ length s.memory
@@ -160,49 +181,35 @@ module _ (s : Sides) (nodes : Inodes) (want : Want) (m : Mapped) (are : AreRegio
       rw (run.memory, run.addr, place, ← run.wanted.1) (run_bytes run ∙ run.wanted.0 ∙ asked_is want)
 
   -- byte by byte
-  shared_byte : (one : OneMore s want m) (n : Inode) → inode_at nodes one.shares.file ≡ Some n → one.shares.change ≡ n.change → (i : ℕ) → i < 4096 * one.count →
-      get_or s.memory (4096 * (one.region.first + one.skip) + i) 0 ≡ get_or (file_pages (bytes_in n.content) one.shares.from one.count) i 0
+  shared_byte : (one : OneMore s want m) (n : Inode) → inode_at nodes one.shares.file ≡ Some n → n.change ≡ one.shares.change → (i : ℕ) → i < 4096 * one.count →
+      get_or (file_pages (bytes_of_file nodes one.shares.file) one.shares.from one.count) i 0 ≡ get_or s.memory (4096 * (one.region.first + one.skip) + i) 0
   shared_byte one n node count i less =
-      let r : Region = one.region in
-      let c = one.shares.covered in
-      let same = subst (HasSource s.memory nodes r) c.is (holds r.first r one.there one.live) n node count in
-      let from = c.from in
-      let to = c.to in
-      let skipped = one.shares.skipped in
-      let within : 4096 * one.skip + i < 4096 * r.pages = omega (arith, from, to, less, skipped) in
-      let behind : 4096 * (r.first + one.skip) + i ≡ 4096 * r.first + (4096 * one.skip + i) = omega arith in
-      let here : 4096 * c.start + (4096 * one.skip + i) ≡ 4096 * one.shares.from + i = omega (arith, from, skipped) in
-      ap (λ (p : ℕ). get_or s.memory p 0) behind
-      ∙ sym (get_or-drop (4096 * r.first) s.memory (4096 * one.skip + i) 0)
-      ∙ sym (get_or-take (4096 * r.pages) (drop (4096 * r.first) s.memory) (4096 * one.skip + i) 0 within)
-      ∙ ap (λ (bs : List ℕ). get_or bs (4096 * one.skip + i) 0) same
-      ∙ file_byte (bytes_in n.content) c.start r.pages (4096 * one.skip + i) within
-      ∙ ap (λ (p : ℕ). get_or (bytes_in n.content) p 0) here
-      ∙ sym (file_byte (bytes_in n.content) one.shares.from one.count i less)
+      copy_byte s.memory nodes one.region one.shares.file one.shares.change one.shares.from one.count one.shares.covered
+      (holds one.region.first one.region one.there one.live) n node count i less
+      ∙ ap (λ (k : ℕ). get_or s.memory (4096 * (one.region.first + k) + i) 0) (sym one.shares.skipped)
 
-  shared_bytes : (one : OneMore s want m) (n : Inode) → inode_at nodes one.shares.file ≡ Some n → one.shares.change ≡ n.change →
-      pages_at s.memory (one.region.first + one.skip) one.count ≡ file_pages (bytes_in n.content) one.shares.from one.count
+  shared_bytes : (one : OneMore s want m) (n : Inode) → inode_at nodes one.shares.file ≡ Some n → n.change ≡ one.shares.change →
+      pages_at s.memory (one.region.first + one.skip) one.count ≡ file_pages (bytes_of_file nodes one.shares.file) one.shares.from one.count
   shared_bytes one n node count =
       let at : ℕ = 4096 * (one.region.first + one.skip) in
       let inside = are.inside one.region.first one.region one.there one.live in
       let fits = one.fits in
       let short = length-take (4096 * one.count) (drop at s.memory) in
       let rest = length-drop at s.memory in
-      let pages = length-file_pages (bytes_in n.content) one.shares.from one.count in
+      let pages = length-file_pages (bytes_of_file nodes one.shares.file) one.shares.from one.count in
       let len : length (pages_at s.memory (one.region.first + one.skip) one.count) ≡ 4096 * one.count = omega (arith, short, rest, inside, fits, whole) in
-      ext_get_or 0 (pages_at s.memory (one.region.first + one.skip) one.count) (file_pages (bytes_in n.content) one.shares.from one.count) (len ∙ sym pages) (λ i less.
+      ext_get_or 0 (pages_at s.memory (one.region.first + one.skip) one.count) (file_pages (bytes_of_file nodes one.shares.file) one.shares.from one.count) (len ∙ sym pages) (λ i less.
       let low : i < 4096 * one.count = omega (arith, less, len) in
-      get_or-take (4096 * one.count) (drop at s.memory) i 0 low ∙ get_or-drop at s.memory i 0 ∙ shared_byte one n node count i low)
+      get_or-take (4096 * one.count) (drop at s.memory) i 0 low ∙ get_or-drop at s.memory i 0 ∙ sym (shared_byte one n node count i low))
 
   more_bytes : IsKnown nodes want → OneMore s want m → pages_at m.sides.memory (page_at m.addr) (pages_of want) ≡ wanted_bytes nodes want
   more_bytes known one =
       let sh = one.shares in
       let there : IsKnown nodes (File one.count sh.from false sh.file sh.change) = subst (IsKnown nodes) sh.want known in
       let place : page_at (page_address (one.region.first + one.skip)) ≡ one.region.first + one.skip = omega arith in
-      let bytes : bytes_in there.0.content ≡ bytes_of_file nodes sh.file = ap (λ (o : Option Inode). bytes_in (content_in o)) (sym there.1) in
       rw (one.memory, one.addr, place)
       (subst (λ (w : Want). pages_at s.memory (one.region.first + one.skip) (pages_of w) ≡ wanted_bytes nodes w) (sym sh.want)
-      (shared_bytes one there.0 there.1 (sym there.2) ∙ ap (λ (bs : List ℕ). file_pages bs sh.from one.count) bytes))
+      (shared_bytes one there.0 there.1 there.2))
 
 -- ---- what `map` leaves
 

@@ -7,7 +7,7 @@ use Rattle.std.proofs.lemmas.Option.{none-some, slice_get_within, get_or_from_sl
 use Rattle.std.proofs.lemmas.List.Sums.{fails_before_first}
 use Rattle.std.proofs.lemmas.List.Quantifiers.{position-Some}
 use Rattle.nommu_regions.specs.declared.region.Region.{Region}
-use Rattle.nommu_regions.specs.Regions.{CanCut, with_uses, with_cut}
+use Rattle.nommu_regions.specs.Regions.{with_uses, with_cut}
 use Rattle.nommu_regions.specs.Ids.{Numbered, start_of}
 use Rattle.mmap_rules.specs.declared.mapping.Mapping.{Mapping}
 use Rattle.mmap_rules.specs.Held.{Held}

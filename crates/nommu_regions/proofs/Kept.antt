@@ -3,12 +3,12 @@ use Rattle.std.proofs.Common.{◌≡◌, ◌≢◌, ℕ, zero, suc, ◌≤◌, �
 use Rattle.std.proofs.lemmas.List.{length-replicate}
 use Rattle.std.specs.Prelude.{Some, slice_get, slice_set, not}
 use Rattle.std.proofs.lemmas.Bool.Decides.{nat_tests}
-use Rattle.std.proofs.lemmas.Option.{same_Some, none-some, slice_get_within, slice_get_read, slice_get-get_or}
+use Rattle.std.proofs.lemmas.Option.{same_Some, none-some, slice_get-get_or}
 use Rattle.page_runs.specs.Free.{Free, free_runs, is_free, with_free, without}
 use Rattle.page_runs.specs.Pages.{in_run}
 use Rattle.page_runs.proofs.Maximal.{has_page-free_runs, is_free_runs}
 use Rattle.nommu_regions.specs.declared.region.Region.{Region}
-use Rattle.nommu_regions.specs.Regions.{holds, is_held, AreFree, IsLive, Kept, with_uses}
+use Rattle.nommu_regions.specs.Regions.{holds, is_held, AreFree, IsLive, Kept}
 use Rattle.nommu_regions.proofs.Held.{is_held-set, is_held-same, is_held-gone, held_by, was_gone, regions_fresh, regions_part}
 use Rattle.nommu_regions.proofs.FreeRuns.{free_with, free_without, free_same, are_free}
 

@@ -1,34 +1,34 @@
 -- What the code maps is what the world maps: the same pages, with the same bytes, and all other spaces keep theirs.
-use Rattle.std.proofs.Common.{◌≡◌, ℕ, zero, ◌+◌, ◌-◌, ◌*◌, ◌<◌, ◌≤◌, Bool, true, false, List, [], ◌∷◌, ◌++◌, length, drop, get_or, arith, refl, sym, ap, subst, ◌∙◌}
+use Rattle.std.proofs.Common.{◌≡◌, ℕ, zero, ◌+◌, ◌-◌, ◌*◌, ◌<◌, ◌≤◌, Bool, true, false, List, [], ◌∷◌, ◌++◌, length, get_or, arith, refl, sym, ap, subst, ◌∙◌}
 use Rattle.std.specs.Prelude.{Option, Some, None, slice_get, slice_set, option_map}
-use Rattle.std.proofs.lemmas.Bool.{false≢true}
 use Rattle.std.proofs.lemmas.Bool.Decides.{nat_tests}
 use Rattle.std.proofs.lemmas.Option.{same_Some, none-some}
-use Rattle.std.proofs.lemmas.List.{length-replicate, length-set, get_or-take, get_or-drop}
+use Rattle.std.proofs.lemmas.List.{length-replicate, length-set}
 use Rattle.byte_words.specs.ByteMap.{with_bytes}
 use Rattle.byte_words.specs.Patches.{laid}
 use Rattle.byte_words.proofs.Laid.{length-laid}
 use Rattle.nommu_regions.specs.declared.region.Region.{Region}
 use Rattle.nommu_regions.specs.declared.region.Source.{Source}
 use Rattle.nommu_regions.specs.declared.region.Source.TheVariants.{Own, Copy}
-use Rattle.nommu_regions.specs.Regions.{AreFree, copy_covers, covers, copy_of, with_uses_of, with_uses}
+use Rattle.nommu_regions.specs.Regions.{AreFree, covers, copy_of, with_uses_of, with_uses}
 use Rattle.nommu_regions.proofs.Copies.{copy_lives, copy_covers_them}
 use Rattle.mmap_rules.specs.declared.mapping.Mapping.{Mapping}
 use Rattle.mmap_rules.specs.declared.want.Want.{Want}
 use Rattle.mmap_rules.specs.declared.want.Want.TheVariants.{Anon, File}
 use Rattle.mmap_rules.specs.Want.{AsksPages}
 use Rattle.mmap_rules.specs.Held.{Held, page_address}
-use Rattle.mmap_rules.specs.Mappings.{run_mapping, part_mapping, copied_from, file_pages}
+use Rattle.mmap_rules.specs.Mappings.{run_mapping, part_mapping, copied_from}
 use Rattle.mmap_rules.specs.Sides.{sides, Mapped, in_fresh_run, in_copy_or_new, mapped, file_in}
-use Rattle.mmap_rules.proofs.Change.{Covered, covered}
-use Rattle.mmap_rules.proofs.FilePages.{length-file_pages, file_byte}
+use Rattle.mmap_rules.proofs.Change.{covered}
+use Rattle.mmap_rules.proofs.CopiesHold.{copy_byte}
+use Rattle.mmap_rules.proofs.FilePages.{length-file_pages}
 use Rattle.mmap_rules.proofs.Fresh.{fresh_free}
-use Rattle.mem_files.specs.Inodes.{Inode, inode_at, content_in, bytes_in, bytes_of}
+use Rattle.mem_files.specs.Inodes.{Inodes, bytes_of}
 use Rattle.machine_world.specs.MapCalls.{all_maps, lowest, has_pages, shared, or_own, in_copy as in_copy_of, with_mapping, first_bytes}
 use Rattle.syscall_layer.specs.Kept.{Kept}
 use Rattle.syscall_layer.specs.Regular.{Regular}
 use Rattle.syscall_layer.specs.Copies.{CopiesHold, HoldsSource}
-use Rattle.mmap_rules.specs.Copies.{IsKnown}
+use Rattle.mmap_rules.specs.Copies.{HasSource, IsKnown}
 use Rattle.syscall_layer.specs.Stands.{About, OthersSame, private_bytes, private_of, live_from, live_spaces, world_of}
 use Rattle.syscall_layer.proofs.MapChoice.{OfRegion, no_copy, lowest_copy, own_choice, chosen, free_page, own_is}
 use Rattle.syscall_layer.proofs.MapBytes.{added, others_beside, laid_same}
@@ -68,29 +68,10 @@ shared_is : (first pages : ℕ) (m : Mapping) (r : Region) → OfRegion m r →
     shared first pages m ≡ part_mapping r.first r.pages r.source (first - copied_from r.source) pages
 shared_is first pages m r of = λ i. part_mapping (of.first i) (of.pages i) (of.source i) (first - copied_from (of.source i)) pages
 
-module _ (k : Kept) (copies : CopiesHold k.regions k.mem k.tree k.notes) (id change first pages : ℕ) (r : Region) where
-  -- its pages have the file's bytes of now
-  copy_bytes : (copy : ℕ) → slice_get k.regions copy ≡ Some r → 0 < r.uses → (c : Covered r.source id change first pages r.pages) →
-      (n : Inode) → inode_at k.tree id ≡ Some n → n.change ≡ change → (i : ℕ) → i < 4096 * pages →
-      get_or (file_pages (bytes_of k.tree id) first pages) i 0 ≡ get_or k.mem (4096 * (r.first + (first - c.start)) + i) 0
-  copy_bytes copy there live c n node count i less =
-      let holds = subst (HoldsSource k.mem k.tree r) c.is (copies.hold copy r there live) in
-      let same = holds.same n node (sym count) in
-      let from = c.from in
-      let to = c.to in
-      let at : ℕ = 4096 * (first - c.start) + i in
-      let within : 4096 * (first - c.start) + i < 4096 * r.pages = omega (arith, from, to, less) in
-      let bytes : bytes_of k.tree id ≡ bytes_in n.content = ap (λ (o : Option Inode). bytes_in (content_in o)) node in
-      let here : 4096 * first + i ≡ 4096 * c.start + (4096 * (first - c.start) + i) = omega (arith, from) in
-      let behind : 4096 * r.first + (4096 * (first - c.start) + i) ≡ 4096 * (r.first + (first - c.start)) + i = omega arith in
-      ap (λ (bs : List ℕ). get_or (file_pages bs first pages) i 0) bytes
-      ∙ file_byte (bytes_in n.content) first pages i less
-      ∙ ap (λ (p : ℕ). get_or (bytes_in n.content) p 0) here
-      ∙ sym (file_byte (bytes_in n.content) c.start r.pages (4096 * (first - c.start) + i) within)
-      ∙ ap (λ (bs : List ℕ). get_or bs (4096 * (first - c.start) + i) 0) (sym same)
-      ∙ get_or-take (4096 * r.pages) (drop (4096 * r.first) k.mem) (4096 * (first - c.start) + i) 0 within
-      ∙ get_or-drop (4096 * r.first) k.mem (4096 * (first - c.start) + i) 0
-      ∙ ap (λ (p : ℕ). get_or k.mem p 0) behind
+-- a copy that holds its file has its bytes
+has_source : (mem : List ℕ) (nodes : Inodes) (r : Region) (s : Source) → HoldsSource mem nodes r s → HasSource mem nodes r s
+has_source mem nodes r Own holds = tt
+has_source mem nodes r (Copy file change first) holds = holds.same
 
 -- ---- the code's run and the world's
 
@@ -173,7 +154,7 @@ module _ (a : About) (k : Kept) (regular : Regular k) (copies : CopiesHold k.reg
         omega (arith, len, start, c.from, c.to, inside, regular.memory) in
         let same : laid k.mem (4096 * (r.first + (first - copied_from r.source))) (first_bytes k.tree (File pages first false id change)) ≡ k.mem =
         laid_same k.mem (4096 * page) bytes fits (λ i less.
-        copy_bytes k copies id change first pages r copy there live c known.0 known.1 known.2 i (omega (arith, less, len))
+        copy_byte k.mem k.tree r id change first pages c (has_source k.mem k.tree r r.source (copies.hold copy r there live)) known.0 known.1 known.2 i (omega (arith, less, len))
         ∙ ap (λ (s : ℕ). get_or k.mem (4096 * (r.first + (first - s)) + i) 0) (sym start)) in
         record {
           mapping = part_mapping r.first r.pages r.source (first - copied_from r.source) pages;

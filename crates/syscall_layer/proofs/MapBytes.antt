@@ -1,10 +1,9 @@
 -- The bytes of a space with one mapping more, and of the others, where bytes were laid over memory.
-use Rattle.std.proofs.Common.{◌≡◌, ℕ, ◌+◌, ◌-◌, ◌*◌, ◌<◌, ◌≤◌, ◌⊎◌, inl, inr, Bool, true, false, List, [], ◌∷◌, ◌++◌, length, take, drop, get_or, arith, refl, sym, ap, subst, ◌∙◌}
-use Rattle.std.specs.Prelude.{Option, Some, None, slice_get, replicate, if◌then◌else◌, ◌||◌, ◌==◌}
+use Rattle.std.proofs.Common.{◌≡◌, ℕ, ◌+◌, ◌-◌, ◌*◌, ◌<◌, ◌≤◌, ◌⊎◌, inl, inr, Bool, true, false, List, [], ◌∷◌, ◌++◌, length, get_or, arith, refl, sym, ap, subst, ◌∙◌}
+use Rattle.std.specs.Prelude.{Option, Some, None, slice_get, if◌then◌else◌, ◌||◌, ◌==◌}
 use Rattle.std.proofs.lemmas.Bool.{cases_lt, false≢true}
 use Rattle.std.proofs.lemmas.Bool.Decides.{nat_tests}
 use Rattle.std.proofs.lemmas.Grind.{same_number_lists}
-use Rattle.std.proofs.lemmas.List.{length-take, length-append, length-replicate, get_or-take, get_or-drop, get_or_append_left, get_or-append_right, get_or-replicate, get_or_past}
 use Rattle.std.proofs.lemmas.List.Folds.{list_any-append}
 use Rattle.byte_words.specs.ByteMap.{Bytes, with_bytes}
 use Rattle.byte_words.specs.Patches.{laid}
@@ -16,7 +15,6 @@ use Rattle.nommu_regions.proofs.Held.{held_by}
 use Rattle.mmap_rules.specs.declared.mapping.Mapping.{Mapping}
 use Rattle.mmap_rules.specs.Space.{memory_base, in_range, own_in}
 use Rattle.mmap_rules.specs.Held.{Held, page_address}
-use Rattle.mmap_rules.specs.Mappings.{file_pages}
 use Rattle.region_watch.specs.Private.{only, physical}
 use Rattle.syscall_layer.specs.Kept.{Kept}
 use Rattle.syscall_layer.specs.Regular.{Regular}

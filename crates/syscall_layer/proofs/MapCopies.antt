@@ -1,19 +1,12 @@
 -- Copies still hold their file where `map` maps pages.
-use Rattle.std.proofs.Common.{◌≡◌, ℕ, ◌+◌, ◌-◌, ◌*◌, ◌<◌, ◌≤◌, ◌⊎◌, inl, inr, false, List, length, take, drop, get_or, arith, refl, sym, ap, ◌∙◌, subst}
+use Rattle.std.proofs.Common.{◌≡◌, ℕ, ◌+◌, ◌*◌, ◌<◌, ◌≤◌, ◌⊎◌, inl, inr, false, List, length, arith, refl, sym, ap, ◌∙◌, subst}
 use Rattle.std.specs.Prelude.{Option, Some, None, slice_get}
-use Rattle.std.proofs.lemmas.Bool.{cases_lt, false≢true}
-use Rattle.std.proofs.lemmas.Bool.Decides.{nat_tests}
 use Rattle.std.proofs.lemmas.Option.{same_Some, none-some, slice_get_within}
-use Rattle.std.proofs.lemmas.List.{length-take, length-drop, get_or-take, get_or-drop, ext_get_or}
 use Rattle.byte_words.specs.Patches.{laid}
-use Rattle.byte_words.proofs.Laid.{length-laid, laid_before, laid_inside, laid_past}
 use Rattle.page_runs.specs.declared.place.Kind.{Kind}
 use Rattle.call_log.specs.Notes.{Note}
 use Rattle.nommu_regions.specs.declared.region.Region.{Region}
-use Rattle.nommu_regions.specs.declared.region.Source.{Source}
-use Rattle.nommu_regions.specs.declared.region.Source.TheVariants.{Own, Copy}
-use Rattle.nommu_regions.specs.Regions.{AreRegions, AreFree}
-use Rattle.nommu_regions.proofs.Held.{held_by}
+use Rattle.nommu_regions.specs.declared.region.Source.TheVariants.{Own}
 use Rattle.mmap_rules.specs.declared.want.Want.{Want}
 use Rattle.mmap_rules.specs.declared.want.Want.TheVariants.{File}
 use Rattle.mmap_rules.specs.Held.{Held}

@@ -1,31 +1,24 @@
 -- The parts stay regular where `map` maps a fresh run, or pages of a copy.
-use Rattle.std.proofs.Common.{◌≡◌, ℕ, zero, suc, ◌+◌, ◌-◌, ◌*◌, ◌<◌, ◌≤◌, ◌⊎◌, inl, inr, Bool, true, false, cond, List, [], ◌∷◌, ◌++◌, length, take, drop, get_or, arith, refl, sym, ap, ◌∙◌, subst, length-set}
-use Rattle.std.specs.Prelude.{Option, Some, None, slice_get, slice_set, replicate, ◌==◌}
+use Rattle.std.proofs.Common.{◌≡◌, ℕ, zero, suc, ◌+◌, ◌*◌, ◌<◌, ◌≤◌, inl, inr, Bool, true, cond, List, [], ◌∷◌, ◌++◌, length, get_or, arith, refl, sym, ap, ◌∙◌, subst, length-set}
+use Rattle.std.specs.Prelude.{Option, Some, None, slice_get, slice_set, ◌==◌}
 use Rattle.std.proofs.lemmas.Bool.{cases_lt, false≢true, eq-eqb, ne_eqb}
 use Rattle.std.proofs.lemmas.Bool.Decides.{nat_tests}
 use Rattle.std.proofs.lemmas.Option.{same_Some, none-some, slice_get_within, slice_get-get_or}
-use Rattle.std.proofs.lemmas.List.{length-append, length-take, length-replicate}
 use Rattle.std.proofs.lemmas.List.Sums.{sum_by_push}
-use Rattle.byte_words.specs.Patches.{laid}
 use Rattle.byte_words.proofs.Laid.{length-laid}
 use Rattle.page_runs.specs.declared.place.Kind.{Kind}
-use Rattle.page_runs.specs.Place.{place, first_of}
 use Rattle.nommu_regions.specs.declared.region.Region.{Region}
 use Rattle.nommu_regions.specs.declared.region.Source.{Source}
-use Rattle.nommu_regions.specs.declared.region.Source.TheVariants.{Own, Copy}
-use Rattle.nommu_regions.specs.Regions.{holds, AreRegions, AreFree, free_of, is_copy, copy_of}
+use Rattle.nommu_regions.specs.declared.region.Source.TheVariants.{Own}
+use Rattle.nommu_regions.specs.Regions.{holds, AreRegions, AreFree, is_copy}
 use Rattle.nommu_regions.proofs.Held.{regions_fresh, regions_part, was_gone}
-use Rattle.nommu_regions.proofs.Copies.{copy_lives, copy_covers_them}
 use Rattle.mmap_rules.specs.declared.mapping.Mapping.{Mapping}
 use Rattle.mmap_rules.specs.declared.want.Want.{Want}
-use Rattle.mmap_rules.specs.declared.want.Want.TheVariants.{Anon, File}
 use Rattle.mmap_rules.specs.Held.{Held, page_address}
 use Rattle.mmap_rules.specs.Want.{AsksPages}
-use Rattle.mmap_rules.specs.Mappings.{run_mapping, part_mapping, copied_from, file_pages, CopyHas}
-use Rattle.mmap_rules.specs.Sides.{Sides, sides, Mapped, in_fresh_run, in_copy, in_copy_or_new, mapped, file_in}
-use Rattle.mmap_rules.proofs.Chosen.{copy_has}
-use Rattle.mmap_rules.proofs.Fresh.{fresh_free}
-use Rattle.mmap_rules.proofs.Change.{FreshRun, OneMore, change}
+use Rattle.mmap_rules.specs.Mappings.{run_mapping, part_mapping}
+use Rattle.mmap_rules.specs.Sides.{sides, Mapped, mapped, file_in}
+use Rattle.mmap_rules.proofs.Change.{change}
 use Rattle.mmap_rules.proofs.NamesMore.{used}
 use Rattle.mem_files.specs.Inodes.{bytes_of}
 use Rattle.syscall_layer.specs.Kept.{Kept}

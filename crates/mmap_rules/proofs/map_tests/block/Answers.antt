@@ -17,5 +17,5 @@ returns-in-Some-clause-made g c =
     let old : Numbered = c.args.regions.now in
     let v : Region = record { first = start_of c.args.regions.now c.in-Some.id; pages = 3; source = Own; uses = 1 } in
     let same : start_of c.fresh.new.self id ≡ start_of old id =
-        ap (λ (s : Numbered). start_of s id) c.in-Some.ensures.regions ∙ ap (λ (n : ℕ). get_or old.starts id n) (length-set old.regions (start_of old id) v) in
+    ap (λ (s : Numbered). start_of s id) c.in-Some.ensures.regions ∙ ap (λ (n : ℕ). get_or old.starts id n) (length-set old.regions (start_of old id) v) in
     c.in-Some.ensures.region ∙ ap (λ (n : ℕ). Some (record { first = n; pages = 3; source = Own; uses = 1 })) (sym same)
