@@ -1,5 +1,5 @@
 -- The records: the places of the recorded words, ascending; and the words that stand there.
-use Rattle.std.proofs.Common.{◌≡◌, ℕ, ◌+◌, ◌<◌, ◌≤◌, inl, inr, Bool, true, false, ◌&&◌, ◌||◌, nat_eq, nat_lt, min, List, [], ◌∷◌, ◌++◌, length, map, flat_map, filter, count_by, slice_index, All, None, refl, sym, ap, ◌∙◌, arith}
+use Rattle.std.proofs.Common.{◌≡◌, ℕ, ◌+◌, ◌≤◌, inl, inr, Bool, true, false, ◌&&◌, ◌||◌, nat_eq, nat_lt, List, [], ◌∷◌, ◌++◌, length, map, flat_map, filter, count_by, slice_index, All, refl, sym, ap, ◌∙◌, arith}
 use Rattle.std.specs.List.{list_any, range_with_len, AllByRecursion as Each}
 use Rattle.std.proofs.lemmas.Bool.{cases_Bool, eqb-true}
 use Rattle.std.proofs.lemmas.List.Elements.{All-from_recursion, filter-append}
@@ -10,11 +10,11 @@ use Rattle.byte_words.proofs.Painting.{bytes_below_same, byte_below, painted_sam
 use Rattle.bflt_format.proofs.Rising.{has, Rises, all_has, rises_filtered, has_filtered}
 use Rattle.bflt_format.proofs.Links as links
 use Rattle.flat_layout.specs.declared.layout.Layout.{Layout}
-use Rattle.flat_layout.specs.Layout.{layout, off, size_of, stored_end}
+use Rattle.flat_layout.specs.Layout.{layout, off, size_of}
 use Rattle.psabi_relocs.specs.declared.spans.Span.{Span}
 use Rattle.elf2flt_tool.specs.declared.word.Word.{Word}
 use Rattle.elf2flt_tool.specs.declared.found.Found.{Found}
-use Rattle.elf2flt_tool.specs.Relocs.{fields_of, spans_of}
+use Rattle.elf2flt_tool.specs.Relocs.{spans_of}
 use Rattle.elf2flt_tool.specs.Image.{bare, word_of}
 use Rattle.elf2flt_tool.specs.Word.{words, places, begins_at, records, word_at, lowest, points_outside, target_outside, recorded_places}
 use Rattle.elf2flt_tool.specs.Cover.{begins}
@@ -36,7 +36,7 @@ has-map : {X : Type 0} (f : X → ℕ) (xs : List X) (q : ℕ) → has (map f xs
 has-map f [] q = refl
 has-map f (x ∷ xs) q = ap (λ b. nat_eq (f x) q || b) (has-map f xs q)
 
-begins_has : (e : List ℕ) (q : ℕ) → begins_at (words e) q ≡ has (places_of e) q
+pub begins_has : (e : List ℕ) (q : ℕ) → begins_at (words e) q ≡ has (places_of e) q
 begins_has e q = sym (has-map (λ w. w.place) (words e) q) ∙ ap (λ ps. has ps q) (places_are e)
 
 -- a place of a word is below the end of text and data

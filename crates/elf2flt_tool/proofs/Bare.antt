@@ -21,10 +21,10 @@ use Rattle.elf2flt_tool.proofs.Laid.{IsLaid}
 use Rattle.byte_words.specs.Numbers.{number_at}
 
 -- the byte at n is one of section i's
-record IsOf (e : List ℕ) (i n : ℕ) : Type 0 where
-  bytes : has_bytes (section e i) ≡ true
-  from : off (layout e) (section e i).addr ≤ n
-  to : n < off (layout e) (section e i).addr + (section e i).size
+pub record IsOf (e : List ℕ) (i n : ℕ) : Type 0 where
+  pub bytes : has_bytes (section e i) ≡ true
+  pub from : off (layout e) (section e i).addr ≤ n
+  pub to : n < off (layout e) (section e i).addr + (section e i).size
 
 patch_bytes : (e : List ℕ) (i : ℕ) → has_bytes (section e i) ≡ true → (section_patch e i).bytes ≡ content e (section e i)
 unfolding section_patch
@@ -51,7 +51,7 @@ content_length e i clear below bytes =
     omega (arith, fits, length-take (section e i).size (drop (section e i).offset e), length-drop (section e i).offset e)
 
 -- where a section's patch has a byte, and the other way round
-is_of : (e : List ℕ) (i n : ℕ) → spans (section_patch e i) n ≡ true → IsOf e i n
+pub is_of : (e : List ℕ) (i n : ℕ) → spans (section_patch e i) n ≡ true → IsOf e i n
 is_of e i n is =
     let there = within (section_patch e i) n is in
     let low = there.from in
@@ -91,6 +91,21 @@ only_section e i j n laid i_below j_below here there =
       | inl same ↦ sym same
       | inr far ↦ elim far [ inl before ↦ absurd (omega arith) | inr after ↦ absurd (omega arith) ]
     ]
+
+-- the byte of the only section there
+pub bare_of : (e : List ℕ) (i n : ℕ) → elf_fault e ≡ None → IsLaid e → i < count_of e → IsOf e i n → bare e n ≡ slice_index (content e (section e i)) (n - off (layout e) (section e i).addr)
+unfolding bare
+bare_of e i n clear laid below here =
+    word_at (section_patch e) (range_with_len 0 (count_of e)) (λ n. 0) n i
+    (has-range 0 (count_of e) i (omega arith) (omega arith)) (spans_of e i _ clear below here)
+    (λ j member on. only_section e i j _ laid below (omega (arith, range_has 0 (count_of e) j member)) here (is_of e j _ on))
+    ∙ ap (λ bytes. slice_index bytes (n - (section_patch e i).at)) (patch_bytes e i here.bytes)
+    ∙ ap (λ at. slice_index (content e (section e i)) (n - at)) (patch_at e i)
+
+-- zero where no section is
+pub bare_none : (e : List ℕ) (n : ℕ) → ((i : ℕ) → i < count_of e → spans (section_patch e i) n ≡ false) → bare e n ≡ 0
+unfolding bare
+bare_none e n none = word_none (section_patch e) (range_with_len 0 (count_of e)) (λ n. 0) n (λ j member. none j (omega (arith, range_has 0 (count_of e) j member)))
 
 take_fits : (n : ℕ) (ys : List ℕ) → ((k : ℕ) → slice_index ys k < 256) → (k : ℕ) → slice_index (take n ys) k < 256
 take_fits n ys bytes k = elim (cases_lt k n) [

@@ -1,7 +1,7 @@
 -- That the recorded words which are kept, at most two at a place, tell which places meet another relocation.
-use Rattle.std.proofs.Common.{◌≡◌, ℕ, zero, suc, zero-add, ◌+◌, ◌-◌, ◌<◌, ◌≤◌, ◌⊎◌, inl, inr, Bool, true, false, not, ◌&&◌, ◌||◌, nat_lt, nat_le, nat_eq, min, cond, List, [], ◌∷◌, ◌++◌, map, flat_map, filter, count_by, slice_index, Option, Some, None, refl, sym, ap, subst, ◌∙◌, arith, append-nil, if◌then◌else◌}
+use Rattle.std.proofs.Common.{◌≡◌, ℕ, zero, suc, zero-add, ◌+◌, ◌<◌, ◌≤◌, ◌⊎◌, inl, inr, Bool, true, false, not, ◌&&◌, nat_lt, nat_le, nat_eq, min, cond, List, [], ◌∷◌, ◌++◌, filter, count_by, slice_index, Option, Some, None, refl, sym, ap, subst, ◌∙◌, arith, append-nil}
 use Rattle.std.specs.List.{list_any, range_with_len, sum_by, AllByRecursion as Each}
-use Rattle.std.proofs.lemmas.Bool.{cases_Bool, cases_eq, or_cases, or_parts, or_left, or_right, and_parts, and_from, eqb-true, eq-eqb, ne_eqb, ltb-true, ltb-false, lt-ltb, le-leb, leb-true, false≢true}
+use Rattle.std.proofs.lemmas.Bool.{cases_Bool, cases_eq, or_cases, or_left, or_right, and_parts, eqb-true, ne_eqb, ltb-true, ltb-false, le-leb, leb-true, false≢true}
 use Rattle.std.proofs.lemmas.List.Folds.{list_any-append}
 use Rattle.std.proofs.lemmas.List.Sums.{sum_by-append, sum_by-cons}
 use Rattle.flat_layout.specs.declared.layout.Layout.{Layout}
@@ -11,7 +11,7 @@ use Rattle.elf2flt_tool.specs.declared.cover.Cover.{Cover}
 use Rattle.elf2flt_tool.specs.declared.overlap.Recorded.{Recorded}
 use Rattle.elf2flt_tool.specs.Cover.{covers, begins, own_cover, is_shared, begins_near, is_met, recorded_of, stands_at, is_needed, IsOneOf, IsKept}
 use Rattle.elf2flt_tool.proofs.Members.{each-append, each-weaker, each_fails}
-use Rattle.elf2flt_tool.proofs.Meeting.{IsEntry, IsOwn, word_own, slot_own, count-append}
+use Rattle.elf2flt_tool.proofs.Meeting.{IsEntry, word_own, slot_own, count-append}
 
 -- ---- one word more
 

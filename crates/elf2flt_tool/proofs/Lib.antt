@@ -1,4 +1,5 @@
 -- Members, Laid, Bare, Putting, Raised, Sound, Held, Stills, Recorded, Apart, Listed, Ascending, Spelled, ImageLaw: the laws over definitions.
+-- Twins: two files that say the same.
 -- Samples: the worked examples, computed.
 -- Lowest, Meeting, Kept: the least word that meets another relocation, by what the test for overlaps keeps.
 -- Shapes, Walked, Entries: what the walk over the relocations finds.
@@ -18,6 +19,7 @@ pub mod Listed
 pub mod Ascending
 pub mod Spelled
 pub mod ImageLaw
+pub mod Twins
 pub mod Samples
 pub mod Lowest
 pub mod Meeting

@@ -1,9 +1,8 @@
 -- The bytes and the words of one relocation: at most a field and a slot, which lie in the stored bytes of the image.
-use Rattle.std.proofs.Common.{◌≡◌, ℕ, ◌+◌, ◌-◌, ◌%◌, ◌^◌, ◌<◌, ◌≤◌, inl, inr, Bool, true, false, not, ◌&&◌, List, [], ◌∷◌, ◌++◌, map, flat_map, Option, Some, None, All, refl, sym, ap, ◌∙◌, arith, if◌then◌else◌}
+use Rattle.std.proofs.Common.{◌≡◌, ℕ, ◌+◌, ◌-◌, ◌<◌, ◌≤◌, inl, inr, true, false, not, ◌&&◌, List, [], ◌∷◌, flat_map, Option, Some, None, refl, arith, if◌then◌else◌}
 use Rattle.std.specs.List.{range_with_len, AllByRecursion as Each}
-use Rattle.std.specs.Option.{option_map, is_none}
+use Rattle.std.specs.Option.{is_none}
 use Rattle.std.proofs.lemmas.Bool.{cases_Bool, and_parts, and_from, or_parts, not-false, lt-ltb}
-use Rattle.std.proofs.lemmas.List.Elements.{All-from_recursion}
 use Rattle.elf32_reader.specs.Header.{count_of}
 use Rattle.elf32_reader.specs.Sections.{section, is_allocated}
 use Rattle.elf32_reader.specs.Relas.{is_kept, rela_count}
@@ -12,8 +11,6 @@ use Rattle.byte_words.proofs.Searches.{and_rest}
 use Rattle.flat_layout.specs.declared.layout.Layout.{Layout}
 use Rattle.flat_layout.specs.Numbering.{has_bytes}
 use Rattle.flat_layout.specs.Layout.{layout, off, stored_end}
-use Rattle.psabi_relocs.specs.declared.effect.Effect.{Effect}
-use Rattle.psabi_relocs.specs.declared.effect.Effect.TheVariants.{Still, Word}
 use Rattle.psabi_relocs.specs.declared.reloc.Reloc.{Reloc}
 use Rattle.psabi_relocs.specs.declared.row.Row.{Row}
 use Rattle.psabi_relocs.specs.declared.row.Row.TheVariants.{Mark, Pointer, GotHi20}
@@ -23,12 +20,9 @@ use Rattle.psabi_relocs.specs.Row.{field_len, is_mark, is_got_hi20}
 use Rattle.psabi_relocs.specs.Reloc.{reloc, target_section}
 use Rattle.psabi_relocs.specs.Bytes.{holds}
 use Rattle.psabi_relocs.specs.Slot.{slot_of, holds_slot, slot_section, is_slot_outside}
-use Rattle.psabi_relocs.specs.Field.{Field, Ends, own_ends, slot_ends, ends_of, absolute, own_fields, slot_fields, fields_from, fields}
-use Rattle.psabi_relocs.specs.Effect.{slot_effect, moving_effect, effect, is_pointer, own_span, slot_spans, spans}
+use Rattle.psabi_relocs.specs.Effect.{is_pointer, own_span, slot_spans, spans}
 use Rattle.psabi_relocs.specs.Fault.{is_place_outside, reloc_fault}
 use Rattle.elf2flt_tool.specs.Relocs.{spans_in, spans_of}
-use Rattle.elf2flt_tool.specs.Image.{pointers}
-use Rattle.elf2flt_tool.specs.Word.{numbered}
 use Rattle.elf2flt_tool.specs.Cover.{IsInside, recorded_of}
 use Rattle.elf2flt_tool.specs.Fault.{relocs_fault}
 use Rattle.elf2flt_tool.proofs.Members.{each-append, each-flat_map, each-map, each-range}
@@ -36,7 +30,6 @@ use Rattle.elf2flt_tool.proofs.Laid.{IsLaid}
 use Rattle.elf2flt_tool.proofs.Sound.{found, sound_entry}
 use Rattle.elf2flt_tool.proofs.Held.{held_bytes}
 use Rattle.elf2flt_tool.proofs.Recorded.{all_sound}
-use Rattle.elf2flt_tool.proofs.Apart.{own_pointer, got_ends}
 use Rattle.elf2flt_tool.proofs.Meeting.{IsEntry}
 
 -- ---- the form of an entry's spans

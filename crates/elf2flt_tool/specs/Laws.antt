@@ -7,6 +7,7 @@ use Rattle.bflt_format.specs.Image.{flat_image}
 use Rattle.elf2flt_tool.specs.Fault.{fault}
 use Rattle.elf2flt_tool.specs.Image.{image}
 use Rattle.elf2flt_tool.specs.Converted.{flat}
+use Rattle.elf2flt_tool.specs.Same.{SaysSame}
 
 -- the flat file of an accepted ELF file has, loaded at any base b, the image of the ELF file at b
 abbrev pub ImageLaw : Type 0
@@ -15,3 +16,7 @@ ImageLaw = (e : List ℕ) (stack b : ℕ) → IsBytes e → fault e ≡ None →
 -- what is written has no fault
 abbrev pub FlatLaw : Type 0
 FlatLaw = (e : List ℕ) (stack : ℕ) → IsBytes e → fault e ≡ None → stack ≤ 1048576 → flat_fault (flat e stack) ≡ None
+
+-- two accepted files that say the same become the same flat file
+abbrev pub NothingElseLaw : Type 0
+NothingElseLaw = (e f : List ℕ) (stack : ℕ) → IsBytes e → IsBytes f → fault e ≡ None → fault f ≡ None → SaysSame e f → flat e stack ≡ flat f stack

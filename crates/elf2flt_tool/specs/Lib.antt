@@ -3,6 +3,7 @@
 -- Word: the recorded words, where they point and what they meet.
 -- Fault: the first reason why a file isn't converted.
 -- Converted: the flat file that a file is converted to.
+-- Same: when two files say the same to the converter.
 -- Laws: what is written has no fault, and loads to the bytes of the ELF file, relocated.
 -- Cover, Walk: for private functions only: what the test for overlaps keeps, and how far a walk over the relocations has come.
 pub mod Relocs
@@ -12,4 +13,5 @@ pub mod Cover
 pub mod Walk
 pub mod Fault
 pub mod Converted
+pub mod Same
 pub mod Laws

@@ -5,6 +5,9 @@
 -- StoredSlots    the section of a slot, by the first addresses of the sections
 -- Partners       an entry that a search has found
 -- Fields         the bytes of a field that isn't outside
+-- Congruence   numbers that are the same modulo another
+-- Differences  a group's number when the image moves
+-- Samples      two groups, computed
 pub mod StoredWord
 pub mod IndexSearches
 pub mod IndexEntries
@@ -12,3 +15,6 @@ pub mod GroupCounts
 pub mod StoredSlots
 pub mod Partners
 pub mod Fields
+pub mod Congruence
+pub mod Differences
+pub mod Samples

@@ -13,6 +13,8 @@
 -- Sums: the sums of all widths at one place, for the index alone.
 -- Index: what is known of the indexes.
 -- Judged: what the judgement of an entry stands on.
+-- Difference: what a group's entries compute on their number.
+-- Laws: when that number is the same at every base.
 pub mod Search
 pub mod Class
 pub mod Row
@@ -28,3 +30,5 @@ pub mod Effect
 pub mod Sums
 pub mod Index
 pub mod Judged
+pub mod Difference
+pub mod Laws

@@ -1,5 +1,4 @@
-use Rattle.std.proofs.Common.{ℕ, ◌<◌, ◌≤◌, ◌+◌, nat_lt, List, All, length, map, filter, slice_index, ◌≡◌, ◌∙◌, Some, None, sym, ap, subst, inl, inr, arith}
-use Rattle.std.specs.List.{range_with_len}
+use Rattle.std.proofs.Common.{ℕ, ◌≤◌, ◌+◌, List, All, length, map, filter, ◌≡◌, ◌∙◌, Some, None, sym, ap, subst, inl, inr, arith}
 use Rattle.std.proofs.lemmas.Result.{err_from_is_err_and}
 use Rattle.byte_words.specs.Patches.{bytes_below}
 use Rattle.byte_words.proofs.Painting.{length-bytes_below}
@@ -9,11 +8,8 @@ use Rattle.flat_layout.proofs.Facts.{size_le}
 use Rattle.elf2flt_tool.specs.declared.refusal.Refusal.TheVariants as refusals
 use Rattle.elf2flt_tool.specs.Image.{bare}
 use Rattle.elf2flt_tool.specs.Fault.{address_of}
-use Rattle.elf2flt_tool.specs.Relocs.{spans_of}
-use Rattle.elf2flt_tool.specs.Word.{places, lowest, records, word_at, points_outside, target_outside, word_overlap}
+use Rattle.elf2flt_tool.specs.Word.{places, lowest, records, word_at, points_outside, target_outside}
 use Rattle.elf2flt_tool.specs.Cover.{is_met}
-use Rattle.elf2flt_tool.specs.Walk.{IsFoundIn}
-use Rattle.elf2flt_tool.proofs.Laid.{is_laid}
 use Rattle.elf2flt_tool.proofs.Recorded.{IsLinked, IsClear}
 use Rattle.elf2flt_tool.proofs.Faults.{fault-clear, fault-relocs, fault-target, fault-overlap}
 use Rattle.elf2flt_tool.proofs.Walked.{all_found}

@@ -1,4 +1,4 @@
-use Rattle.std.proofs.Common.{◌≡◌, length, ◌∙◌, ap}
+use Rattle.std.proofs.Common.{length, ◌∙◌, ap}
 use Rattle.byte_words.proofs.Painting.{length-bytes_below}
 use Rattle.elf2flt_tool.proofs.Painted.{written_back}
 use Rattle.elf2flt_tool.proofs.image.with_numbers.Goals as goal

@@ -1,4 +1,4 @@
-use Rattle.std.proofs.Common.{◌≡◌, ◌∙◌, ℕ, Bool, [], ◌∷◌, ◌++◌, filter, nat_lt, slice_index, sym, ap}
+use Rattle.std.proofs.Common.{◌∙◌, ℕ, Bool, [], ◌∷◌, ◌++◌, filter, nat_lt, slice_index, sym, ap}
 use Rattle.std.specs.List.{range_with_len}
 use Rattle.std.proofs.lemmas.Bool.{lt-ltb, le-ltb}
 use Rattle.std.proofs.lemmas.List.{append-nil}
