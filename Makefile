@@ -47,7 +47,7 @@ real: build/flatc sdk
 	examples/real
 	examples/c/real
 	examples/refused/real
-	examples/libm/real
+	examples/makedoc/real
 
 install: build/flatc
 	install -D -m 755 build/flatc $(DESTDIR)$(PREFIX)/bin/flatc
