@@ -10,7 +10,7 @@
 
 static void say(const char *call, long reply)
 {
-    printf("%s: %ld %s\n", call, reply, reply == -1 ? strerror(errno) : "");
+    printf("%s: %ld%s%s\n", call, reply, reply == -1 ? " " : "", reply == -1 ? strerror(errno) : "");
 }
 
 int main(void)

@@ -18,8 +18,9 @@ static DIR *stream(int fd)
 
 DIR *fdopendir(int fd)
 {
-    /* With room for no record a folder that has one left answers EINVAL, and a file ENOTDIR. */
-    if (kernel3(61, fd, 0, 0) == -20) {
+    /* One byte has room for no record: a folder that has one left answers EINVAL, and a file ENOTDIR. */
+    char byte;
+    if (kernel3(61, fd, (long)&byte, 1) == -20) {
         errno = ENOTDIR;
         return 0;
     }
