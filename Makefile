@@ -3,7 +3,8 @@
 # make check      the gate: every proof, must-fail edit, test and program, and the repository's papers
 # make papers     the papers alone: names, links, paths and exit statuses agree
 # make kit        compares the toolchain with the one that the proofs were checked with
-# make real       builds the example programs with the GNU tools for RISC-V, if they are installed, and checks and converts them
+# make sdk        builds newlib and the kit for C programs in build/sdk, if the Debian packages that it names are installed
+# make real       builds the example programs with the GNU tools for RISC-V, if they are installed, and checks, converts and runs them
 # make install    copies the program to $(PREFIX)/bin, and its man page to $(PREFIX)/share/man/man1
 
 PREFIX ?= /usr/local
@@ -16,7 +17,7 @@ build/flatc: $(SOURCES)
 	mkdir -p build
 	cp crates/flatc/out/flatc build/flatc
 
-.PHONY: demo check papers kit real install
+.PHONY: demo check papers kit sdk real install
 
 demo: build/flatc
 	cp crates/flatc/data/a.elf build/a.elf
@@ -39,8 +40,14 @@ kit:
 	   exit 1 ;; \
 	esac
 
-real: build/flatc
+sdk:
+	@$(MAKE) --no-print-directory -f sdk/Makefile
+
+real: build/flatc sdk
 	examples/real
+	examples/c/real
+	examples/refused/real
+	examples/makedoc/real
 
 install: build/flatc
 	install -D -m 755 build/flatc $(DESTDIR)$(PREFIX)/bin/flatc

@@ -1,0 +1,3 @@
+elf /absent absent.elf 8192
+start /absent
+quanta 0:1000000

@@ -1,0 +1,3 @@
+elf /folder folder.elf 8192
+start /folder
+quanta 0:1000000

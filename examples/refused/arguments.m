@@ -1,0 +1,4 @@
+# The arguments need more than 16 bytes of stack.
+elf /plain plain.elf 16
+start /plain one two three four
+quanta 0:1

@@ -1,0 +1,2 @@
+# A byte outside 0x20 to 0x7e.
+file /café text.txt

@@ -1,0 +1,5 @@
+# No line makes the folder.
+file /etc/motd text.txt
+elf /plain plain.elf
+start /plain
+quanta 0:1

@@ -1,0 +1,4 @@
+# No program has the path.
+elf /plain plain.elf
+start /plan
+quanta 0:1

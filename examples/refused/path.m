@@ -1,0 +1,2 @@
+# A path without its slash.
+dir etc

@@ -1,0 +1,4 @@
+# A program that is refused.
+elf /program program.elf
+start /program
+quanta 0:1

@@ -1,0 +1,3 @@
+# No quanta.
+elf /plain plain.elf
+start /plain

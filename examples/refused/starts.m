@@ -1,0 +1,3 @@
+# No start line.
+elf /plain plain.elf
+quanta 0:1

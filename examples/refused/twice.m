@@ -1,0 +1,3 @@
+# A line that stands once.
+memory 16
+memory 32

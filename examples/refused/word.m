@@ -1,0 +1,2 @@
+# A word that begins no line.
+program /plain plain.elf

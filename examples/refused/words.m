@@ -1,0 +1,2 @@
+# A word too many.
+memory 16 17

@@ -1,0 +1,31 @@
+/* A call of the kernel by its number, and its answer for C: errno from a negative reply. */
+#ifndef FLAT_KERNEL_H
+#define FLAT_KERNEL_H
+
+static inline long kernel6(long n, long a, long b, long c, long d, long e, long f)
+{
+    register long a0 __asm__("a0") = a;
+    register long a1 __asm__("a1") = b;
+    register long a2 __asm__("a2") = c;
+    register long a3 __asm__("a3") = d;
+    register long a4 __asm__("a4") = e;
+    register long a5 __asm__("a5") = f;
+    register long a7 __asm__("a7") = n;
+    __asm__ volatile("ecall" : "+r"(a0) : "r"(a1), "r"(a2), "r"(a3), "r"(a4), "r"(a5), "r"(a7) : "memory");
+    return a0;
+}
+
+static inline long kernel3(long n, long a, long b, long c)
+{
+    return kernel6(n, a, b, c, 0, 0, 0);
+}
+
+/* The reply, or -1 with errno where it lies between -4095 and -1 (answer.c). */
+long __flat_answer(long reply);
+
+/* Newlib's flags of open, and its folder AT_FDCWD, as Linux has them (openat.c). */
+long __flat_flags(int flags);
+long __flat_folder(int fd);
+
+enum { LINUX_AT_FDCWD = -100, LINUX_O_CLOEXEC = 0x80000 };
+#endif
