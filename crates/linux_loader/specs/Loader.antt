@@ -1,7 +1,8 @@
 -- What Linux 6.1 does with a flat file on 32-bit RISC-V without an MMU: fs/binfmt_flat.c, load_flat_file and calc_reloc, with
 -- BINFMT_FLAT_NO_DATA_START_OFFSET, and without BINFMT_ZFLAT and BINFMT_FLAT_OLD. Of the kernel these are facts, which nothing
 -- here proves. Told of files with the flag RAM and without GOTPIC. Left out: whether there is memory, RLIMIT_DATA, the
--- arguments on the stack but for their length, and what the bytes outside of the run are, which read as 0 here.
+-- arguments on the stack but for their length, what the bytes outside of the run are, which read as 0 here, and that the
+-- address 0xff00ff01 (RELOC_FAILED) counts as a refusal where a record or its word comes to it.
 use Rattle.std.specs.Prelude.{ℕ, zero, suc, ◌+◌, ◌*◌, ◌/◌, ◌%◌, ◌^◌, Bool, not, ◌&&◌, ◌||◌, ◌==◌, nat_lt, nat_le, max, List, [], ◌∷◌, take, drop, Option, Some, None, if◌then◌else◌}
 use Rattle.byte_words.specs.Patches.{Patch, patched, painted, little_word}
 use Rattle.bflt_format.specs.Header.{magic, revision, entry, data_start, data_end, bss_end, stack_size, reloc_start, reloc_count, flags}
