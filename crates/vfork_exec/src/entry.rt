@@ -4,11 +4,14 @@ ghost use Rattle.std.specs.Prelude.{◌≡◌};
 ghost use Rattle.std.specs.Borrow.{Lends, sem};
 ghost use Rattle.vfork_exec.specs.Procs.{with_value};
 
-/// A process: its number, that of its parent (0 is none), and what is kept of it.
+use crate::family::State;
+
+/// A process that lives: its number, that of its parent (0 is none), how it stands with it, and what is kept of it.
 #[derive(Drop)]
 pub struct Entry<P> {
     pub pid: u32,
     pub parent: u32,
+    pub state: State,
     pub value: P,
 }
 

@@ -1,39 +1,47 @@
 //! The list of processes.
 
-ghost use Rattle.std.specs.Prelude.{◌≡◌, ℕ, ◌<◌, ◌≤◌, ◌^◌, length, map, reverse, slice_get, is_some, Some, IfOk};
+ghost use Rattle.std.specs.Prelude.{◌≡◌, ℕ, ◌<◌, ◌≤◌, ◌^◌, length, map, reverse, slice_get, is_some, nat_le, Some, IfOk};
 ghost use Rattle.std.specs.Borrow.{sem};
-ghost use Rattle.vfork_exec.specs.Procs.{most_entries, none_yet, Starts, with_end, Lives, process, value_at, parent_at, pid_of, pids};
+ghost use Rattle.vfork_exec.specs.declared.entry.Entry.{Entry as Process};
+ghost use Rattle.vfork_exec.specs.Procs.{most_entries, none_yet, count, Starts, Forks, with_exec, with_end, looked, with_wait, Lives, process, value_at, parent_at, pid_of, ready, ready_pids, borrows};
 ghost use Rattle.vfork_exec.specs.Keyed.{place_of, Falls};
 
 use crate::entry::Entry;
+use crate::family::{Ended, State, Waited, Who};
+use call_log::{Errno, How};
 use std::alloc::{AllocError, Global};
 use std::marker::Model;
 
-/// The most processes at a time.
+/// The most processes at a time, those that have ended among them.
 const MOST_ENTRIES: usize = 64;
 
-/// The processes that live, with what is kept of each. A pid is given once: 1, 2, 3 and so on.
+/// The processes that live, with what is kept of each, and those that have ended while their parent lives. A pid is given once: 1,
+/// 2, 3 and so on.
 #[derive(Drop)]
 pub struct Procs<P> {
     // newest first
     entries: Vec<Entry<P>>,
+    // in the order in which they ended
+    ended: Vec<Ended>,
     // how many pids were given
     given: u32,
 }
 
 impl<P> Model for Procs<P> {
     ghost use Rattle.std.specs.Prelude.{◌+◌, ◌≤◌, vec_capacity, length};
-    ghost use Rattle.vfork_exec.specs.Procs.{Listed, pid_of, most_entries};
+    ghost use Rattle.vfork_exec.specs.Procs.{Listed, WaitsWell, pid_of, most_entries};
     ghost use Rattle.vfork_exec.specs.Keyed.{Falls};
 
     ghost Value = { Listed P };
 
-    ghost view = { λ s. record { entries = s.entries.items; next_pid = s.given + 1 } };
+    ghost view = { λ s. record { entries = s.entries.items; ended = s.ended.items; next_pid = s.given + 1 } };
 
     ghost invariant = { λ s.
         Falls pid_of (s.given + 1) s.entries.items
-        × (length s.entries.items ≤ most_entries)
-        × (most_entries ≤ vec_capacity s.entries) };
+        × (length s.entries.items + length s.ended.items ≤ most_entries)
+        × (most_entries ≤ vec_capacity s.entries)
+        × (most_entries ≤ vec_capacity s.ended)
+        × WaitsWell (record { entries = s.entries.items; ended = s.ended.items; next_pid = s.given + 1 }) };
 }
 
 impl<P> Procs<P> {
@@ -45,8 +53,16 @@ impl<P> Procs<P> {
     {
         Ok(Procs {
             entries: Vec::with_capacity(alloc, MOST_ENTRIES)?,
+            ended: Vec::with_capacity(alloc, MOST_ENTRIES)?,
             given: 0,
         })
+    }
+
+    /// Whether there are 64 processes, those that have ended among them.
+    pub fn full(&self) -> bool
+        ensures { result ≡ nat_le most_entries (count self.now) }
+    {
+        self.entries.len() + self.ended.len() == MOST_ENTRIES
     }
 
     /// Adds a process that none started, and gives its pid; None where there are 64.
@@ -56,31 +72,95 @@ impl<P> Procs<P> {
         requires { self.old.next_pid < 2 ^ 32 }
         ensures { Starts self.old value self.new result }
     {
-        if self.entries.len() == MOST_ENTRIES {
+        if self.full() {
             return None;
         }
-        let pid = self.given + 1;
-        let entry = Entry {
-            pid,
-            parent: 0,
-            value,
-        };
-        if self.entries.insert(0, entry).is_err() {
-            return None;
-        }
-        self.given = pid;
-        Some(pid)
+        Some(self.add(0, value))
     }
 
-    /// Takes a process off the list. Its parent is none, so that it goes at once.
-    pub fn end(&mut self, pid: u32)
+    /// Adds a child of a process, and gives its pid. The parent stands still until the child's exec or end. EAGAIN
+    /// where there are 64.
+    pub fn vfork(&mut self, pid: u32, child: P) -> Result<u32, Errno>
+    where
+        P: Drop,
+        requires lives { Lives self.old pid }
+        requires pids { self.old.next_pid < 2 ^ 32 }
+        ensures { Forks self.old pid child self.new result }
+    {
+        if self.full() {
+            return Err(Errno::Eagain);
+        }
+        let at = self.place(pid);
+        self.entries[at].state = State::Lent(self.given + 1);
+        Ok(self.add(pid, child))
+    }
+
+    /// A process has a space of its own from now on: the parent that stood still for it goes on.
+    pub fn exec_done(&mut self, pid: u32)
+        requires { Lives self.old pid }
+        ensures { self.new ≡ with_exec self.old pid }
+    {
+        for entry in &mut self.entries {
+            entry.resume(pid);
+        }
+    }
+
+    /// A process ends. The parent that stood still or waits for it goes on, its children have no parent, and those that have ended
+    /// go with it. It stays among those that have ended until its parent waits for it; without a parent it goes at once.
+    pub fn end(&mut self, pid: u32, how: How)
     where
         P: Drop,
         requires { Lives self.old pid }
-        ensures { self.new ≡ with_end self.old pid }
+        ensures { (e : Process P) → process self.old pid ≡ Some e → self.new ≡ with_end self.old e how }
     {
-        let at = self.place(pid);
-        self.entries.remove(at);
+        let parent = self.entries.remove(self.place(pid)).parent;
+        for entry in &mut self.entries {
+            entry.leave(pid, parent);
+        }
+        self.ended.retain(|ended| ended.parent != pid);
+        if parent != 0 && self.ended.push(Ended { pid, parent, how }).is_err() {
+            unreachable!();
+        }
+    }
+
+    /// What `wait` would answer. ECHILD where there is no such child.
+    pub fn wait_look(&self, pid: u32, who: Who, may_wait: bool) -> Result<Waited, Errno>
+        ensures { result ≡ looked self.now pid who may_wait }
+    {
+        if let Some(at) = self.first_ended(pid, who) {
+            let Ended { pid, how, .. } = self.ended[at];
+            return Ok(Waited::Child { pid, how });
+        }
+        if !self.has_child(pid, who) {
+            return Err(Errno::Echild);
+        }
+        Ok(if may_wait { Waited::Waits } else { Waited::NoneYet })
+    }
+
+    /// A process asks for one of its children that has ended. The one that ended first goes from the list. If none has ended it
+    /// waits until one has, if it may: it can't run until then, and then asks anew. ECHILD where there is no such child.
+    pub fn wait(&mut self, pid: u32, who: Who, may_wait: bool) -> Result<Waited, Errno>
+        requires { Lives self.old pid }
+        ensures answer { result ≡ looked self.old pid who may_wait }
+        ensures after { self.new ≡ with_wait self.old pid who result }
+    {
+        let told = self.wait_look(pid, who, may_wait)?;
+        match told {
+            Waited::Child { .. } => self.forget_first(pid, who),
+            Waited::NoneYet => {}
+            Waited::Waits => {
+                let at = self.place(pid);
+                self.entries[at].state = State::Waiting(who);
+            }
+        }
+        Ok(told)
+    }
+
+    /// Whether a process runs in the space of another one, which stands still for it.
+    pub fn borrows(&self, pid: u32) -> bool
+        ensures { result ≡ borrows self.now pid }
+    {
+        self.entries.iter().any(|entry| entry.state == State::Lent(pid))
     }
 
     /// What is kept of a process.
@@ -113,7 +193,7 @@ impl<P> Procs<P> {
     /// How many processes live.
     pub fn live(&self) -> u32
         ensures count { result ≡ length self.now.entries }
-        ensures most { result ≤ most_entries }
+        ensures most { length self.now.entries + length self.now.ended ≤ most_entries }
         ensures falls { Falls pid_of self.now.next_pid self.now.entries }
     {
         self.entries.len() as u32
@@ -126,20 +206,20 @@ impl<P> Procs<P> {
         first_place(&self.entries, pid) < self.entries.len()
     }
 
-    /// How many processes may run: all that live.
+    /// How many processes may run. While one lives, one may.
     pub fn runnable(&self) -> u32
-        ensures { result ≡ length self.now.entries }
+        ensures count { result ≡ length (ready self.now) }
+        ensures one { 1 ≤ length self.now.entries → 1 ≤ result }
     {
-        self.live()
+        self.entries.iter().filter(|entry| entry.is_ready()).count() as u32
     }
 
     /// The pid of the process that may run with this number, from 0, ascending by pid.
     pub fn runnable_at(&self, k: u32) -> u32
-        requires { k < length self.now.entries }
-        ensures { slice_get (reverse (pids self.now)) k ≡ Some result }
+        requires { k < length (ready self.now) }
+        ensures { slice_get (reverse (ready_pids self.now)) k ≡ Some result }
     {
-        let last = self.entries.len() - 1;
-        self.entries[last - k as usize].pid
+        unimplemented
     }
 
     fn place(&self, pid: u32) -> usize
