@@ -1,19 +1,15 @@
 -- The opening world: the start lines' programs, loaded in order.
-use Rattle.std.specs.Prelude.{ℕ, ◌+◌, ◌*◌, List, [], ◌∷◌, Option, Some, None, Result, Ok, Err, Bool, if◌then◌else◌, slice_get}
+pub use Rattle.machine_world.specs.Found.{Found, found_program, found_mark, found_node, found, address_of, taken}
+use Rattle.std.specs.Prelude.{ℕ, ◌+◌, List, [], ◌∷◌, Option, Some, None, Result, Ok, Err, Bool, if◌then◌else◌}
 use Rattle.std.specs.List.{slice_index_or}
-use Rattle.page_runs.specs.declared.run.Run.{Run}
-use Rattle.page_runs.specs.Place.{place, first_of}
-use Rattle.call_log.specs.declared.errno.Errno.{Errno}
 use Rattle.call_log.specs.Notes.{load_note}
-use Rattle.mem_files.specs.Inodes.{program_of}
-use Rattle.mem_files.specs.Paths.{lookup}
 use Rattle.fd_tables.specs.Files.{free_number}
 use Rattle.fd_tables.specs.Changes.{with_table}
-use Rattle.mmap_rules.specs.Space.{memory_base, page_size}
-use Rattle.flat_loader.specs.Original.{Original, block_pages}
+use Rattle.flat_loader.specs.Original.{block_pages}
 use Rattle.flat_loader.specs.Frame.{frame_fits}
 use Rattle.flat_loader.specs.Begin.{Loading, begin_space, begin_regs}
-use Rattle.machine_world.specs.World.{Program, Rest, World}
+use Rattle.vfork_exec.specs.declared.family.State.TheVariants.{Ready}
+use Rattle.machine_world.specs.World.{Rest, World}
 use Rattle.machine_world.specs.Free.{free}
 use Rattle.machine_world.specs.Asks.{with_files}
 use Rattle.machine_world.specs.Event.{noted}
@@ -29,48 +25,18 @@ pub data BootFault : Type 0 where
   args_too_big : ℕ → BootFault
   no_run : ℕ → BootFault
 
-pub record Found : Type 0 where
-  pub index : ℕ
-  pub original : Original
-
-abbrev pub found_program : ℕ → Option Program → Option Found
-found_program index (Some p) = Some (record { index = index; original = p.original })
-found_program index None = None
-
--- the program that a file is marked as
-abbrev pub found_mark : List Program → Option ℕ → Option Found
-found_mark programs (Some index) = found_program index (slice_get programs index)
-found_mark programs None = None
-
-abbrev pub found_node : Rest → Result (Option ℕ) Errno → Option Found
-found_node rest (Ok (Some node)) = found_mark rest.programs (program_of rest.tree node)
-found_node rest (Ok None) = None
-found_node rest (Err errno) = None
-
--- the program to which a path leads
-abbrev pub found : Rest → List ℕ → Option Found
-found rest path = found_node rest (lookup rest.tree path)
-
 abbrev pub path_of : StartLine → List ℕ
 path_of s = slice_index_or s.args 0 []
 
 -- a process of its own in a new space, with a new table
 abbrev pub begun : World → ℕ → Loading → World
 begun w index l = noted (load_note (record { pid = w.next_pid; program = index; base = l.block; pages = block_pages l.original })) (record w {
-  procs = record { pid = w.next_pid; parent = 0; regs = begin_regs l; space = w.loads; table = free_number w.rest.files.tables } ∷ w.procs;
+  procs = record { pid = w.next_pid; parent = 0; regs = begin_regs l; space = w.loads; table = free_number w.rest.files.tables; state = Ready } ∷ w.procs;
   spaces = record { id = w.loads; space = begin_space l } ∷ w.spaces;
   loads = w.loads + 1;
   next_pid = w.next_pid + 1;
   rest = with_files w.rest (with_table w.rest.files);
 })
-
--- the address of a page
-abbrev pub address_of : ℕ → ℕ
-address_of page = memory_base + page_size * page
-
--- the first page of the run of which so many pages are taken
-abbrev pub taken : World → ℕ → List Run → Option ℕ
-taken w need runs = first_of runs (place w.rest.kind runs need)
 
 abbrev pub placed : World → StartLine → Found → Option ℕ → Result World BootFault
 placed w s f None = Err (no_run s.line)
@@ -97,7 +63,7 @@ all_started w [] = Ok w
 all_started w (s ∷ ss) = then_started (started w s) (λ now. all_started now ss)
 
 abbrev pub empty_world : Rest → World
-empty_world rest = record { procs = []; spaces = []; loads = 0; next_pid = 1; rest = rest; notes = []; events = 0 }
+empty_world rest = record { procs = []; ended = []; spaces = []; loads = 0; next_pid = 1; rest = rest; notes = []; events = 0 }
 
 unfoldable pub boot : Rest → List StartLine → Result World BootFault
 boot rest starts = all_started (empty_world rest) starts

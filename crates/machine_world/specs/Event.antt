@@ -1,7 +1,7 @@
 -- One event: one instruction or one system call of one process. An event changes the world and leaves a trace, or the
 -- process's next access strays, or the log has no room, or there is no such process.
 pub use Rattle.flat_loader.specs.Alone.{number_of, args_of, replied, put_got}
-use Rattle.std.specs.Prelude.{ℕ, ◌+◌, ◌*◌, ◌%◌, ◌==◌, Bool, true, false, not, ◌&&◌, ◌||◌, if◌then◌else◌, List, [], ◌∷◌, slice_index, unwrap_or, Option, Some, None, Result, Ok, Err}
+use Rattle.std.specs.Prelude.{ℕ, ◌+◌, ◌*◌, ◌%◌, ◌==◌, Bool, true, false, not, ◌&&◌, ◌||◌, if◌then◌else◌, List, [], ◌∷◌, map, slice_index, unwrap_or, Option, Some, None, Result, Ok, Err}
 use Rattle.byte_words.specs.ByteMap.{Bytes}
 use Rattle.rv32im_step.specs.declared.regs.Regs.{Regs}
 use Rattle.rv32im_step.specs.declared.access.Access.{Access}
@@ -10,24 +10,48 @@ use Rattle.rv32im_step.specs.Registers.{register}
 use Rattle.rv32im_step.specs.Meaning.{Meaning, next, call, trap, refused, meaning}
 use Rattle.call_log.specs.declared.how.How.{How}
 use Rattle.call_log.specs.declared.how.How.TheVariants.{Exit, Signal}
-use Rattle.call_log.specs.Notes.{Written, CallEntry, Note, call_note, end_note, weight_of, has_room}
+use Rattle.call_log.specs.declared.errno.Errno.{Errno}
+use Rattle.call_log.specs.declared.errno.Errno.TheVariants.{E2big, Eagain, Enomem, Einval, Enametoolong}
+use Rattle.call_log.specs.Notes.{Written, CallEntry, Note, call_note, load_note, end_note, weight_of, has_room}
+use Rattle.call_log.specs.Strings.{ProgramStrings, program_strings}
 use Rattle.call_log.specs.Flags.{has_flag}
-use Rattle.call_log.specs.Sent.{Span, bytes_from, sent}
-use Rattle.vfork_exec.specs.Keyed.{find, change, without}
+use Rattle.call_log.specs.Sent.{Span, bytes_from, has_zero, sent}
+use Rattle.vfork_exec.specs.declared.family.Who.{Who}
+use Rattle.vfork_exec.specs.declared.family.State.{State}
+use Rattle.vfork_exec.specs.declared.family.State.TheVariants.{Ready, Waiting, Lent}
+use Rattle.vfork_exec.specs.declared.family.Waited.{Waited}
+use Rattle.vfork_exec.specs.declared.family.Waited.TheVariants.{Child, NoneYet, Waits}
+use Rattle.vfork_exec.specs.Keyed.{find, change}
+use Rattle.vfork_exec.specs.Families.{ended_behind, first_ended, without_first, told}
 use Rattle.mmap_rules.specs.Space.{Space, page_size, writable_in}
 use Rattle.mmap_rules.specs.Want.{pages_for, map_anonymous}
-use Rattle.flat_loader.specs.Alone.{Item, is_errno}
+use Rattle.flat_loader.specs.Original.{block_pages}
+use Rattle.flat_loader.specs.Frame.{frame_fits}
+use Rattle.flat_loader.specs.Begin.{Loading, begin_space, begin_regs}
+use Rattle.flat_loader.specs.Alone.{Item, is_errno, child_regs}
 use Rattle.machine_world.specs.World.{Process, LiveSpace, World, pid_of, id_of}
-use Rattle.fd_tables.specs.Changes.{without_table}
-use Rattle.machine_world.specs.Asks.{Ask, Reply, Row, replies, waits, storage_of, with_storage}
+use Rattle.fd_tables.specs.Files.{free_number}
+use Rattle.fd_tables.specs.Changes.{with_copy, exec_closed, without_table}
+use Rattle.machine_world.specs.Families.{is_full, spaces_left, let_go, all_left_by, has_child}
+use Rattle.machine_world.specs.Free.{free}
+use Rattle.machine_world.specs.Found.{Found, address_of, taken}
+use Rattle.machine_world.specs.Asks.{Ask, Reply, Row, replies, waits, arg, gives, refuses, with_files, storage_of, with_storage}
+use Rattle.machine_world.specs.PathCalls.{path_of}
+use Rattle.machine_world.specs.FamilyCalls.{who_of, may_wait, waitid_fault, child_info, no_info, info_at, vfork_flags, runs}
 use Rattle.machine_world.specs.Rows.{row}
 
+-- a program that begins in a new space, and the pid of its process
+pub record Begins : Type 0 where
+  pub loading : Loading
+  pub pid : ℕ
+
 -- what an event leaves for those who follow one space: the space, how many events it is there, the calls made in it with what
--- their mappings brought, and whether the turn is over
+-- their mappings brought, the program that begins in the next space, and whether the turn is over
 pub record Trace : Type 0 where
   pub space : ℕ
   pub events : ℕ
   pub items : List Item
+  pub begins : Option Begins
   pub over : Bool
 
 pub data Outcome : Type 0 where
@@ -45,6 +69,9 @@ with_space w p regs space = record w {
   spaces = change id_of p.space (λ s. record s { space = space }) w.spaces;
 }
 
+abbrev pub with_state : World → ℕ → State → World
+with_state w pid state = record w { procs = change pid_of pid (λ q. record q { state = state }) w.procs }
+
 -- an event more
 abbrev pub counted : World → World
 counted w = record w { events = w.events + 1 }
@@ -52,26 +79,28 @@ counted w = record w { events = w.events + 1 }
 abbrev pub noted : Note → World → World
 noted note w = record w { notes = note ∷ w.notes }
 
--- the process goes, its space with all its mappings, and its table with all that it has open
-abbrev pub departed : World → Process → World
-departed w p = record w {
-  procs = without pid_of p.pid w.procs;
-  spaces = without id_of p.space w.spaces;
+-- the process goes, its space with all its mappings if no other process lent it, and its table with all that it has open. Its
+-- lender and a parent that waits for it go on, its children have no parent, and its own end is told to its parent alone
+abbrev pub departed : World → Process → How → World
+departed w p how = record w {
+  procs = all_left_by p w.procs;
+  ended = ended_behind (record { pid = p.pid; parent = p.parent; how = how }) w.ended;
+  spaces = spaces_left p w.procs w.spaces;
   rest = with_storage w.rest (without_table (storage_of w.rest) p.table);
 }
 
 unfoldable pub ended : World → Process → How → World
-ended w p how = noted (end_note p.pid how) (departed w p)
+ended w p how = noted (end_note p.pid how) (departed w p how)
 
 -- ---- an instruction
 
 unfoldable pub stepped : World → Process → Space → Regs → Bytes → Outcome
 stepped w p s regs bytes =
-    went (counted (with_space w p regs (record s { bytes = bytes }))) (record { space = p.space; events = 1; items = []; over = false })
+    went (counted (with_space w p regs (record s { bytes = bytes }))) (record { space = p.space; events = 1; items = []; begins = None; over = false })
 
 unfoldable pub trapped : World → Process → ℕ → Outcome
 trapped w p signal =
-    went (counted (ended w p (Signal signal))) (record { space = p.space; events = 1; items = []; over = true })
+    went (counted (ended w p (Signal signal))) (record { space = p.space; events = 1; items = []; begins = None; over = true })
 
 -- ---- a system call
 
@@ -111,26 +140,30 @@ brought e m = if maps_file e then unwrap_or (bytes_from m e.reply (page_size * p
 abbrev pub item_of : CallEntry → Bytes → Item
 item_of e m = record { entry = e; brought = brought e m }
 
+-- a call that maps nothing
+abbrev pub plain_item : CallEntry → Item
+plain_item e = record { entry = e; brought = [] }
+
 -- the effect of a call whose output can be written
 unfoldable pub served : World → Ask → Reply → Bytes → Outcome
 served w a r bytes =
     if has_room w.notes (weight_of a.sent r.got) then
     went
     (noted (call_note (entry_of a r.value r.got)) (counted (with_space (record w { rest = r.rest }) a.process (replied a.process.regs r.value) (record r.space { bytes = bytes }))))
-    (record { space = a.process.space; events = 1; items = item_of (entry_of a r.value r.got) bytes ∷ []; over = r.over })
+    (record { space = a.process.space; events = 1; items = item_of (entry_of a r.value r.got) bytes ∷ []; begins = None; over = r.over })
     else full
 
 abbrev pub put : World → Ask → Reply → Result Bytes Span → Outcome
 put w a r (Ok bytes) = served w a r bytes
 put w a r (Err span) = strays (call_access a.process span)
 
--- a wait is an event without a note, and the call is made anew
-unfoldable pub waited : World → Ask → Outcome
-waited w a = went (counted w) (record { space = a.process.space; events = 0; items = []; over = true })
+-- a wait is an event without a note, and the call is made anew when one of these children has ended
+unfoldable pub waited : World → Ask → Who → Outcome
+waited w a who = went (counted (with_state w a.process.pid (Waiting who))) (record { space = a.process.space; events = 0; items = []; begins = None; over = true })
 
 abbrev pub answered : World → Ask → Row → Outcome
 answered w a (replies r) = put w a r (put_got r.space.bytes (writable_in r.space.maps) r.got)
-answered w a waits = waited w a
+answered w a (waits who) = waited w a who
 
 -- exit and exit_group: the lowest eight bits of the code
 abbrev pub exit_code : Ask → ℕ
@@ -141,15 +174,126 @@ exited w a =
     if has_room w.notes (weight_of a.sent []) then
     went
     (ended (noted (call_note (entry_of a 0 [])) (counted w)) a.process (Exit (exit_code a)))
-    (record { space = a.process.space; events = 1; items = record { entry = entry_of a 0 []; brought = [] } ∷ []; over = true })
+    (record { space = a.process.space; events = 1; items = plain_item (entry_of a 0 []) ∷ []; begins = None; over = true })
     else full
 
 abbrev pub is_exit : ℕ → Bool
 is_exit number = number == 93 || number == 94
 
--- by classes of calls
+-- ---- waitid
+
+-- the child that is told of goes from the list
+abbrev pub reaped : World → Ask → Who → Result Waited Errno → Outcome
+reaped w a who (Ok (Child pid how)) =
+    answered (record w { ended = without_first a.process.pid who w.ended }) a (gives a 0 (info_at (arg a 2) (child_info pid how)) a.rest)
+reaped w a who (Ok NoneYet) = answered w a (gives a 0 (info_at (arg a 2) no_info) a.rest)
+reaped w a who (Ok Waits) = waited w a who
+reaped w a who (Err errno) = answered w a (refuses a errno)
+
+abbrev pub told_in : World → Ask → Result Waited Errno
+told_in w a = told (first_ended a.process.pid (who_of a) w.ended) (has_child a.process.pid (who_of a) w.procs) (may_wait (arg a 3))
+
+abbrev pub waitid_behind : World → Ask → Option Errno → Outcome
+waitid_behind w a (Some errno) = answered w a (refuses a errno)
+waitid_behind w a None = reaped w a (who_of a) (told_in w a)
+
+unfoldable pub waitid : World → Ask → Outcome
+waitid w a = waitid_behind w a (waitid_fault a)
+
+-- ---- clone, as vfork
+
+-- the child runs in its parent's space, with copies of the parent's registers and descriptors; the parent stands still for it
+abbrev pub child_of : World → Ask → Process
+child_of w a = record {
+  pid = w.next_pid;
+  parent = a.process.pid;
+  regs = child_regs a.process.regs (arg a 1);
+  space = a.process.space;
+  table = free_number w.rest.files.tables;
+  state = Ready;
+}
+
+abbrev pub with_child : World → Ask → World
+with_child w a = record w {
+  procs = child_of w a ∷ change pid_of a.process.pid (λ q. record q { regs = replied a.process.regs w.next_pid; state = Lent w.next_pid }) w.procs;
+  next_pid = w.next_pid + 1;
+  rest = with_files w.rest (with_copy w.rest.files a.process.table);
+}
+
+unfoldable pub forked : World → Ask → Outcome
+forked w a =
+    if has_room w.notes (weight_of a.sent []) then
+    went
+    (noted (call_note (entry_of a w.next_pid [])) (counted (with_child w a)))
+    (record { space = a.process.space; events = 1; items = plain_item (entry_of a w.next_pid []) ∷ []; begins = None; over = true })
+    else full
+
+unfoldable pub cloned : World → Ask → Outcome
+cloned w a =
+    if not (arg a 0 == vfork_flags) then answered w a (refuses a Einval)
+    else if is_full w then answered w a (refuses a Eagain)
+    else forked w a
+
+-- ---- execve
+
+-- the process has the program's registers and a new space; the lender of the old one goes on, and without a lender the old one goes.
+-- Descriptors that are marked so close
+abbrev pub with_exec : World → Process → Loading → World
+with_exec w p l = record w {
+  procs = change pid_of p.pid (λ q. record q { regs = begin_regs l; space = w.loads }) (map (let_go p.pid) w.procs);
+  spaces = record { id = w.loads; space = begin_space l } ∷ spaces_left p w.procs w.spaces;
+  loads = w.loads + 1;
+  rest = with_storage w.rest (exec_closed (storage_of w.rest) p.table);
+}
+
+abbrev pub load_of : Process → ℕ → Loading → Note
+load_of p index l = load_note (record { pid = p.pid; program = index; base = l.block; pages = block_pages l.original })
+
+unfoldable pub executed : World → Ask → ℕ → Loading → Outcome
+executed w a index l =
+    if has_room w.notes (weight_of a.sent []) then
+    went
+    (noted (load_of a.process index l) (noted (call_note (entry_of a 0 [])) (counted (with_exec w a.process l))))
+    (record {
+      space = a.process.space;
+      events = 1;
+      items = plain_item (entry_of a 0 []) ∷ [];
+      begins = Some (record { loading = l; pid = a.process.pid });
+      over = false;
+    })
+    else full
+
+-- ENOMEM while the old space is held
+abbrev pub exec_at : World → Ask → Found → ProgramStrings → Option ℕ → Outcome
+exec_at w a f s None = answered w a (refuses a Enomem)
+exec_at w a f s (Some page) = executed w a f.index (record { original = f.original; block = address_of page; args = s.args; env = s.env })
+
+abbrev pub exec_fitting : World → Ask → Found → ProgramStrings → (fits : Bool) → Outcome
+exec_fitting w a f s fits = if fits then exec_at w a f s (taken w (block_pages f.original) (free w)) else answered w a (refuses a E2big)
+
+abbrev pub exec_program : World → Ask → ProgramStrings → Result Found Errno → Outcome
+exec_program w a s (Ok f) = exec_fitting w a f s (frame_fits f.original s.args s.env)
+exec_program w a s (Err errno) = answered w a (refuses a errno)
+
+abbrev pub exec_strings : World → Ask → Option ProgramStrings → Outcome
+exec_strings w a (Some s) = exec_program w a s (runs w.rest (path_of a))
+exec_strings w a None = answered w a (refuses a E2big)
+
+-- a path without a zero is too long, before anything else is read
+unfoldable pub exec : World → Ask → Outcome
+exec w a =
+    if has_zero a.sent then exec_strings w a (program_strings a.sent (arg a 1) (arg a 2))
+    else answered w a (refuses a Enametoolong)
+
+-- ---- by classes of calls
+
 abbrev pub classed : World → Ask → Outcome
-classed w a = if is_exit a.number then exited w a else answered w a (row a)
+classed w a =
+    if is_exit a.number then exited w a
+    else if a.number == 95 then waitid w a
+    else if a.number == 220 then cloned w a
+    else if a.number == 221 then exec w a
+    else answered w a (row a)
 
 abbrev pub asked : World → Process → Space → Result (List ℕ) Span → Outcome
 asked w p s (Ok bytes) = classed w (ask_of w p s bytes)

@@ -9,7 +9,7 @@ use Rattle.call_log.specs.Notes.{call_note, weight_of, has_room}
 use Rattle.machine_world.specs.World.{World, Process, LiveSpace, pid_of, id_of}
 use Rattle.machine_world.specs.Asks.{Ask, refuses}
 use Rattle.machine_world.specs.Rows.{row}
-use Rattle.machine_world.specs.Event.{Outcome, went, full, counted, noted, ask_of, entry_of, replied, answered}
+use Rattle.machine_world.specs.Event.{Outcome, went, full, counted, noted, ask_of, entry_of, plain_item, replied, answered}
 use Rattle.machine_world.specs.Courses.{Leads, Halts, moved}
 
 -- up to n instructions of a process over the bytes of its space are as many events: a turn goes on behind them, and where one
@@ -27,7 +27,7 @@ refused_outcome w p a e =
     if has_room w.notes (weight_of a.sent []) then
     went
     (noted (call_note (entry_of a (refusal e) [])) (counted (record w { procs = change pid_of p.pid (λ q. record q { regs = replied p.regs (refusal e) }) w.procs })))
-    (record { space = p.space; events = 1; items = record { entry = entry_of a (refusal e) []; brought = [] } ∷ []; over = false })
+    (record { space = p.space; events = 1; items = plain_item (entry_of a (refusal e) []) ∷ []; begins = None; over = false })
     else full
 
 -- whatever it read, in its own space

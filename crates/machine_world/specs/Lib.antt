@@ -1,10 +1,13 @@
 -- World    all processes with their private spaces, and what is kept of a run
+-- Families how processes stand to each other: who may run, who leaves a space, one runner a space
 -- Free     the free pages of a world
+-- Found    the program to which a path leads, and the pages that its block gets
 -- Asks     a system call as it is made, and what it is answered
 -- Descriptors  the calls that look at descriptors and no path
 -- Transfers    the calls that move bytes
 -- PathCalls    the calls that take a path
 -- MapCalls     the calls that map and unmap pages
+-- FamilyCalls  what waitid, clone and execve are asked
 -- Rows     the answer to each system call
 -- Event    one instruction or one system call of one process
 -- Turns    a list of quanta
@@ -17,12 +20,15 @@
 -- Ages     a file's bytes change only with its count of changes
 -- Order    the nodes are a tree of names, and counts are exact, after every event
 pub mod World
+pub mod Families
 pub mod Free
+pub mod Found
 pub mod Asks
 pub mod Descriptors
 pub mod Transfers
 pub mod PathCalls
 pub mod MapCalls
+pub mod FamilyCalls
 pub mod Rows
 pub mod Event
 pub mod Turns

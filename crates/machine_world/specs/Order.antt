@@ -1,34 +1,38 @@
 -- Every event keeps the tree of names, and exact counts of what is open (POSIX.1-2017, 4.13 Pathname Resolution, close).
-use Rattle.std.specs.Prelude.{◌≡◌, ℕ, ◌≤◌, ◌^◌, List, length, Ok}
+use Rattle.std.specs.Prelude.{◌≡◌, ℕ, ◌+◌, ◌≤◌, ◌^◌, List, length, Ok}
 use Rattle.quantum_sched.specs.declared.Quantum.{Quantum}
 use Rattle.mem_files.specs.Trees.{IsTree, AreNamedAndClosed}
 use Rattle.fd_tables.specs.Files.{nothing_open}
 use Rattle.fd_tables.specs.Counts.{Counted}
+use Rattle.call_log.specs.Notes.{most_calls}
 use Rattle.machine_world.specs.World.{Rest, World}
+use Rattle.machine_world.specs.Ages.{kept_calls}
 use Rattle.machine_world.specs.Asks.{storage_of}
 use Rattle.machine_world.specs.Event.{Trace, went, event}
 use Rattle.machine_world.specs.Turns.{turn, turns}
 use Rattle.machine_world.specs.Boot.{StartLine, boot}
 
--- the most tables. There are no more open files than descriptors in them, so that numbers for open files don't run out
+-- the most tables at boot. Each other one has its kept call, and there are no more open files than descriptors in all tables, so that
+-- numbers for open files don't run out
 abbrev pub most_tables : ℕ
 most_tables = 2 ^ 16
 
 -- the nodes are a tree of names, and all counts are exact: an open file counts the descriptors that share it, and a node the
 -- open files that hold it
-pub record IsInOrder (rest : Rest) : Type 0 where
-  pub tree : IsTree rest.tree
-  pub counts : Counted (storage_of rest)
-  pub tables : length rest.files.tables ≤ most_tables
+pub record IsInOrder (w : World) : Type 0 where
+  pub tree : IsTree w.rest.tree
+  pub counts : Counted (storage_of w.rest)
+  pub tables : length w.rest.files.tables ≤ most_tables + kept_calls w.notes
+  pub calls : kept_calls w.notes ≤ most_calls
 
 abbrev pub EventsKeepOrder : Type 0
-EventsKeepOrder = (w : World) (pid : ℕ) (now : World) (t : Trace) → IsInOrder w.rest → event w pid ≡ went now t → IsInOrder now.rest
+EventsKeepOrder = (w : World) (pid : ℕ) (now : World) (t : Trace) → IsInOrder w → event w pid ≡ went now t → IsInOrder now
 
 abbrev pub TurnsKeepOrder : Type 0
-TurnsKeepOrder = (count pid : ℕ) (w : World) → IsInOrder w.rest → IsInOrder (turn count pid w).world.rest
+TurnsKeepOrder = (count pid : ℕ) (w : World) → IsInOrder w → IsInOrder (turn count pid w).world
 
 abbrev pub RunsKeepOrder : Type 0
-RunsKeepOrder = (quanta : List Quantum) (w : World) → IsInOrder w.rest → IsInOrder (turns quanta w).world.rest
+RunsKeepOrder = (quanta : List Quantum) (w : World) → IsInOrder w → IsInOrder (turns quanta w).world
 
 -- ---- the opening world
 
@@ -39,4 +43,4 @@ pub record IsFresh (rest : Rest) : Type 0 where
   pub files : rest.files ≡ nothing_open rest.files.stdin
 
 abbrev pub BootsBeginInOrder : Type 0
-BootsBeginInOrder = (rest : Rest) (starts : List StartLine) (w : World) → IsFresh rest → length starts ≤ most_tables → boot rest starts ≡ Ok w → IsInOrder w.rest
+BootsBeginInOrder = (rest : Rest) (starts : List StartLine) (w : World) → IsFresh rest → length starts ≤ most_tables → boot rest starts ≡ Ok w → IsInOrder w

@@ -19,13 +19,17 @@ abbrev pub AreLoaded : ℕ → List Note → Type 0
 AreLoaded n [] = Unit {0}
 AreLoaded n (note ∷ notes) = IsProgramBelow n note × AreLoaded n notes
 
+-- a world with n programs, of which all are that its load notes name
+pub record LoadsPrograms (n : ℕ) (w : World) : Type 0 where
+  pub count : length w.rest.programs ≡ n
+  pub loaded : AreLoaded n w.notes
+
+abbrev pub TurnsLoadPrograms : Type 0
+TurnsLoadPrograms = (n count pid : ℕ) (w : World) → LoadsPrograms n w → LoadsPrograms n (turn count pid w).world
+
+abbrev pub RunsLoadPrograms : Type 0
+RunsLoadPrograms = (n : ℕ) (quanta : List Quantum) (w : World) → LoadsPrograms n w → LoadsPrograms n (turns quanta w).world
+
 -- a boot loads programs that are there
 abbrev pub BootsLoadPrograms : Type 0
-BootsLoadPrograms = (rest : Rest) (starts : List StartLine) (w : World) → boot rest starts ≡ Ok w → AreLoaded (length rest.programs) w.notes
-
--- no event loads a program
-abbrev pub TurnsLoadNothing : Type 0
-TurnsLoadNothing = (n count pid : ℕ) (w : World) → AreLoaded n w.notes → AreLoaded n (turn count pid w).world.notes
-
-abbrev pub RunsLoadNothing : Type 0
-RunsLoadNothing = (n : ℕ) (quanta : List Quantum) (w : World) → AreLoaded n w.notes → AreLoaded n (turns quanta w).world.notes
+BootsLoadPrograms = (rest : Rest) (starts : List StartLine) (w : World) → boot rest starts ≡ Ok w → LoadsPrograms (length rest.programs) w

@@ -1,5 +1,5 @@
 -- A run: turns by a list of quanta.
-use Rattle.std.specs.Prelude.{ℕ, zero, suc, ◌==◌, if◌then◌else◌, List, [], ◌∷◌, ◌++◌, map, length, Option, Some, None}
+use Rattle.std.specs.Prelude.{ℕ, zero, suc, ◌==◌, if◌then◌else◌, List, [], ◌∷◌, ◌++◌, length, Option, Some, None}
 use Rattle.rv32im_step.specs.declared.access.Access.{Access}
 use Rattle.rv32im_step.specs.declared.access.AccessKind.{AccessKind}
 use Rattle.rv32im_step.specs.declared.access.AccessKind.TheVariants as access
@@ -9,7 +9,8 @@ use Rattle.call_log.specs.declared.how.SeenKind.TheVariants as seen
 use Rattle.call_log.specs.Notes.{stray_note}
 use Rattle.quantum_sched.specs.declared.Quantum.{Quantum}
 use Rattle.quantum_sched.specs.Picked.{picked}
-use Rattle.machine_world.specs.World.{World, pid_of}
+use Rattle.machine_world.specs.World.{World}
+use Rattle.machine_world.specs.Families.{ready_pids}
 use Rattle.machine_world.specs.Event.{Trace, Outcome, went, strays, full, idle, noted, event}
 
 -- why a run stops: no process lives, the quanta are used up, the next access strays, the next call finds no room in the log
@@ -67,7 +68,7 @@ abbrev pub quantum_turn : (World → Walk) → World → ℕ → Option ℕ → 
 quantum_turn more w count None = stays_at w (Some all_ended)
 quantum_turn more w count (Some pid) = going_on more (turn count pid w)
 
--- before each quantum and behind the last one the run stops where no process lives
+-- before each quantum and behind the last one the run stops where no process lives. While one lives, one may run
 unfoldable pub turns : List Quantum → World → Walk
 turns [] w = stays_at w (Some (if length w.procs == 0 then all_ended else out_of_quanta))
-turns (q ∷ qs) w = quantum_turn (turns qs) w q.count (picked q.pick (map pid_of w.procs))
+turns (q ∷ qs) w = quantum_turn (turns qs) w q.count (picked q.pick (ready_pids w.procs))

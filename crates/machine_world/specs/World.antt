@@ -7,19 +7,22 @@ use Rattle.mmap_rules.specs.Space.{Space}
 use Rattle.flat_loader.specs.Original.{Original}
 use Rattle.mem_files.specs.Inodes.{Inodes}
 use Rattle.fd_tables.specs.Files.{OpenFiles}
+use Rattle.vfork_exec.specs.declared.family.State.{State}
+use Rattle.vfork_exec.specs.declared.family.Ended.{Ended}
 
 -- a program that can be started, by its path
 pub record Program : Type 0 where
   pub path : List ℕ
   pub original : Original
 
--- a process runs in one space, and has one table of descriptors
+-- a process that lives: it runs in one space, and has one table of descriptors
 pub record Process : Type 0 where
   pub pid : ℕ
   pub parent : ℕ
   pub regs : Regs
   pub space : ℕ
   pub table : ℕ
+  pub state : State
 
 -- the space of the load note with this number, from 0
 pub record LiveSpace : Type 0 where
@@ -36,10 +39,11 @@ pub record Rest : Type 0 where
   pub files : OpenFiles
   pub console : List ℕ
 
--- processes, spaces and notes stand newest first; `loads` is the number of load notes, and `next_pid` one more than the
--- last pid that was given
+-- processes that live, spaces and notes stand newest first, those that have ended in the order in which they ended; `loads` is the
+-- number of load notes, and `next_pid` one more than the last pid that was given
 pub record World : Type 0 where
   pub procs : List Process
+  pub ended : List Ended
   pub spaces : List LiveSpace
   pub loads : ℕ
   pub next_pid : ℕ

@@ -5,7 +5,7 @@ ghost use Rattle.machine_world.specs.Laws.{InstructionsAreEvents, RefusalsChange
 ghost use Rattle.machine_world.specs.Order.{EventsKeepOrder, TurnsKeepOrder, RunsKeepOrder, BootsBeginInOrder};
 ghost use Rattle.machine_world.specs.Others.{EventsLeaveOthers};
 ghost use Rattle.machine_world.specs.Placements.{MapsAreExact, StartsAreExact};
-ghost use Rattle.machine_world.specs.Programs.{BootsLoadPrograms, TurnsLoadNothing, RunsLoadNothing};
+ghost use Rattle.machine_world.specs.Programs.{BootsLoadPrograms, TurnsLoadPrograms, RunsLoadPrograms};
 
 /// Instructions of one process, one after the other, are events.
 pub fn instructions_law()
@@ -15,8 +15,8 @@ pub fn instructions_law()
 /// Each load note names a program that is there.
 pub fn programs_law()
     ensures boot { BootsLoadPrograms }
-    ensures turns { TurnsLoadNothing }
-    ensures runs { RunsLoadNothing }
+    ensures turns { TurnsLoadPrograms }
+    ensures runs { RunsLoadPrograms }
 {}
 
 /// A system call that is refused changes nothing but the reply, the next instruction, the notes and the count of events.
@@ -24,8 +24,8 @@ pub fn refused_calls_law()
     ensures { RefusalsChangeNothingElse }
 {}
 
-/// An event of a process leaves every other process, space and table of descriptors as it was. Open files, which tables
-/// share, may change.
+/// An event of a process leaves the registers, the space and the table of every other process, every other space and every other
+/// table of descriptors as they were. Open files, which tables share, may change.
 pub fn others_law()
     ensures { EventsLeaveOthers }
 {}

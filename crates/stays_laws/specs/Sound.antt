@@ -1,5 +1,5 @@
--- What holds of every world of a run, beside what is in it: each process has a space of its own, the mappings of all live spaces
--- share pages of copies alone, and a copy has its file's bytes as long as the file isn't changed.
+-- What holds of every world of a run, beside what is in it: one process runs in a space, the mappings of all live spaces share pages
+-- of copies alone, and a copy has its file's bytes as long as the file isn't changed.
 use Rattle.std.specs.Prelude.{◌≡◌, ℕ, ◌+◌, ◌-◌, ◌*◌, ◌≤◌, ◌<◌, ◌≢◌, ◌%◌, true, false, List, [], ◌∷◌, length, Some, IsSome, slice_get}
 use Rattle.std.specs.List.{slice_index_or}
 use Rattle.call_log.specs.Notes.{most_calls}
@@ -12,11 +12,12 @@ use Rattle.mmap_rules.specs.Held.{AreMappings, page_address}
 use Rattle.mmap_rules.specs.Mappings.{copied_from}
 use Rattle.mem_files.specs.Inodes.{Inode, Inodes, inode_at, bytes_in}
 use Rattle.vfork_exec.specs.Keyed.{Falls, find}
+use Rattle.vfork_exec.specs.Procs.{most_entries}
 use Rattle.flat_loader.specs.Alone.{most_pages}
 use Rattle.machine_world.specs.World.{Process, LiveSpace, World, pid_of, id_of}
+use Rattle.machine_world.specs.Families.{AreChains}
 use Rattle.machine_world.specs.MapCalls.{all_maps}
 use Rattle.machine_world.specs.Ages.{AreChanged, kept_calls, most_at_boot}
-use Rattle.stays_laws.specs.Stays.{runners, runner_of}
 
 -- ---- a space
 
@@ -74,15 +75,20 @@ HoldCopies nodes s = (j : ℕ) (m : Mapping) → slice_get s.maps j ≡ Some m �
 
 -- ---- a world
 
+-- the most pids that are given before the first call, and one more; each other one has its kept call
+abbrev pub most_given : ℕ
+most_given = 1 + most_entries
+
 pub record IsSound (w : World) : Type 0 where
   pub some : 1 ≤ w.rest.pages
   pub most : w.rest.pages ≤ most_pages
   -- pids and numbers of spaces are given once
   pub pids : Falls pid_of w.next_pid w.procs
   pub numbers : Falls id_of w.loads w.spaces
-  -- each process runs in a live space, and no other process is in that
+  pub given : w.next_pid ≤ most_given + kept_calls w.notes
+  -- each process runs in a live space, which its owner may have lent: one runner a space
   pub homes : (pid : ℕ) (p : Process) → find pid_of pid w.procs ≡ Some p → IsSome (find id_of p.space w.spaces)
-  pub owners : (pid : ℕ) (p : Process) → find pid_of pid w.procs ≡ Some p → runners p.space w.procs ≡ runner_of p ∷ []
+  pub chains : AreChains w.procs
   -- mappings
   pub spaces : (i : ℕ) (s : LiveSpace) → find id_of i w.spaces ≡ Some s → IsSpace w.rest.pages s.space.maps
   pub apart : AreApart (all_maps w.spaces)

@@ -7,7 +7,7 @@ use Rattle.flat_loader.specs.Begin.{Loading}
 use Rattle.flat_loader.specs.Alone.{Runner, Solo, Item, memory_of, alone}
 use Rattle.flat_loader.specs.Original.{block_pages}
 use Rattle.machine_world.specs.World.{Process, LiveSpace, World, id_of}
-use Rattle.machine_world.specs.Event.{Trace}
+use Rattle.machine_world.specs.Event.{Begins, Trace}
 use Rattle.machine_world.specs.Turns.{turns}
 use Rattle.machine_world.specs.Free.{free}
 use Rattle.machine_world.specs.Boot.{StartLine, Found, found, path_of, taken, address_of, started, BootFault}
@@ -32,9 +32,14 @@ change_at (suc i) f (x ∷ xs) = x ∷ change_at i f xs
 abbrev pub longer : Trace → Stay → Stay
 longer t y = record y { items = y.items ++ t.items; events = y.events + t.events }
 
+-- a stay that begins, with no call and no event
+abbrev pub begun_stay : Option Begins → List Stay
+begun_stay None = []
+begun_stay (Some b) = record { loading = b.loading; pid = b.pid; items = []; events = 0 } ∷ []
+
 -- spaces are numbered by their load notes, so that stay number i is that of space number i
 abbrev pub collect : List Stay → Trace → List Stay
-collect ys t = change_at t.space (longer t) ys
+collect ys t = change_at t.space (longer t) ys ++ begun_stay t.begins
 
 unfoldable pub collect_all : List Stay → List Trace → List Stay
 collect_all ys [] = ys

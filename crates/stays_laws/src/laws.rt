@@ -2,7 +2,7 @@
 
 ghost use Rattle.stays_laws.specs.Laws.{EventsKeepSound, TurnsKeepSound, RunsKeepSound, BootsAreSound, EventsKeepStays, TurnsKeepStays, RunsKeepStays, BootsBeginStays};
 
-/// What holds of every world of a run: each process has a space of its own, mappings share pages of copies alone, and a copy has
+/// What holds of every world of a run: one process runs in a space, mappings share pages of copies alone, and a copy has
 /// its file's bytes as long as the file isn't changed. It holds at boot, and every event keeps it.
 pub fn sound_law()
     ensures boots { BootsAreSound }
