@@ -3,12 +3,16 @@ use Rattle.std.specs.Prelude.{◌≡◌, ℕ, true, false, List, [], ◌∷◌, 
 use Rattle.std.specs.declared.alloc.AllocError.{AllocError}
 use Rattle.call_log.specs.Notes.{Written, Note, call_note, end_note}
 use Rattle.call_log.specs.Sent.{sent}
+use Rattle.call_log.specs.declared.how.How.{How}
 use Rattle.call_log.specs.declared.how.How.TheVariants.{Exit}
+use Rattle.fd_tables.specs.Files.{free_number}
+use Rattle.fd_tables.specs.Changes.{with_copy}
+use Rattle.flat_loader.specs.Alone.{child_regs}
 use Rattle.mmap_rules.specs.Held.{Held}
 use Rattle.mmap_rules.specs.Space.{Space, writable_in}
 use Rattle.rv32im_step.specs.declared.regs.Regs.{Regs}
 use Rattle.vfork_exec.specs.declared.entry.Entry.{Entry}
-use Rattle.vfork_exec.specs.Procs.{process, with_value_at}
+use Rattle.vfork_exec.specs.Procs.{process, with_value_at, with_child}
 use Rattle.machine_world.specs.Asks
 use Rattle.machine_world.specs.Asks.{Ask, Reply, Row, with_files}
 use Rattle.machine_world.specs.Rows.{next_brk}
@@ -148,12 +152,34 @@ abbrev pub Gives : About → Kept → Entry Task → Held → Call → Outcome �
 Gives a old e h call o new (Ok done) = Gave a old e h call o new
 Gives a old e h call o new (Err error) = new ≡ old
 
+-- the lowest eight bits of the code
+abbrev pub exit_of : Call → How
+exit_of call = Exit (slice_index call.args 0 % 256)
+
 -- a call ends its process: it is noted, and then the end
 abbrev pub after_exit : Kept → Entry Task → Held → Call → Kept
-after_exit k e h call = record (gone k call.pid e h) {
-  notes = end_note call.pid (Exit (slice_index call.args 0 % 256)) ∷ noted_call call 0 [] ∷ k.notes;
-}
+after_exit k e h call = record (gone k e h (exit_of call)) { notes = end_note call.pid (exit_of call) ∷ noted_call call 0 [] ∷ k.notes }
 
 abbrev pub Exits : Kept → Entry Task → Held → Call → Kept → Result ⊤ AllocError → Type 0
 Exits old e h call new (Ok done) = new ≡ after_exit old e h call
 Exits old e h call new (Err error) = new ≡ old
+
+-- a child is there, in its parent's space, with copies of the parent's registers and descriptors
+abbrev pub child_task : Kept → Entry Task → Call → Task
+child_task k e call = record {
+  regs = child_regs e.value.regs (slice_index call.args 1);
+  space = e.value.space;
+  table = free_number k.files.tables;
+}
+
+-- the parent has the child's pid, and stands still
+abbrev pub after_fork : Kept → Entry Task → Call → Kept
+after_fork k e call = record k {
+  procs = with_value_at (with_child k.procs call.pid (child_task k e call)) call.pid (record e.value { regs = replied e.value.regs k.procs.next_pid });
+  files = with_copy k.files e.value.table;
+  notes = noted_call call k.procs.next_pid [] ∷ k.notes;
+}
+
+abbrev pub Forks : Kept → Entry Task → Call → Kept → Result ⊤ AllocError → Type 0
+Forks old e call new (Ok done) = new ≡ after_fork old e call
+Forks old e call new (Err error) = new ≡ old

@@ -6,7 +6,8 @@
 -- Starts   what the start of a program leaves
 -- Inside   the fields of `Parts` as what is kept
 -- Reading  what the reading of a call's bytes answers
--- Gone     the parts without a process and its space
+-- Gone     the parts without a process, and without a space
+-- Flats    the programs that can be run are flat files
 -- Calls    a system call by its parts, and what is kept after it
 -- MapsIn   what mmap2 and munmap leave of the spaces
 -- Puts     what a call writes into its caller's memory, range by range
@@ -20,6 +21,7 @@ pub mod Starts
 pub mod Inside
 pub mod Reading
 pub mod Gone
+pub mod Flats
 pub mod Calls
 pub mod Refusals
 pub mod MapsIn

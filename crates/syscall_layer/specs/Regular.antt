@@ -1,5 +1,5 @@
 -- What holds of the parts at every moment.
-use Rattle.std.specs.Prelude.{◌≡◌, ℕ, ◌+◌, ◌*◌, ◌==◌, ◌≤◌, true, List, [], ◌∷◌, length, count_by, Option, Some, None, slice_get}
+use Rattle.std.specs.Prelude.{◌≡◌, ℕ, ◌+◌, ◌*◌, ◌^◌, ◌==◌, ◌≤◌, true, List, [], ◌∷◌, length, map, count_by, Option, Some, None, slice_get}
 use Rattle.nommu_regions.specs.declared.region.Region.{Region}
 use Rattle.nommu_regions.specs.declared.region.Source.TheVariants.{Own}
 use Rattle.nommu_regions.specs.Regions.{AreRegions}
@@ -11,6 +11,9 @@ use Rattle.vfork_exec.specs.Keyed.{Falls}
 use Rattle.vfork_exec.specs.Procs.{process, pid_of, most_entries}
 use Rattle.syscall_layer.specs.declared.task.Task.{Task}
 use Rattle.syscall_layer.specs.Kept.{Kept}
+use Rattle.machine_world.specs.Families.{AreChains}
+use Rattle.machine_world.specs.Ages.{kept_calls}
+use Rattle.syscall_layer.specs.Stands.{process_of}
 use Rattle.syscall_layer.specs.Copies.{CopiesHold}
 
 -- how many of the mappings name the region at an id
@@ -38,6 +41,10 @@ pub record HasSpace (spaces : List (Option Held)) (number : ℕ) : Type 0 where
   pub held : Held
   pub there : slice_get spaces number ≡ Some (Some held)
 
+-- the most pids and spaces that are given without a call
+abbrev pub most_first : ℕ
+most_first = 2 ^ 16
+
 pub record Regular (k : Kept) : Type 0 where
   pub memory : length k.mem ≡ page_size * length k.regions
   pub some : 1 ≤ length k.regions
@@ -52,9 +59,12 @@ pub record Regular (k : Kept) : Type 0 where
   pub pages : (i : ℕ) (h : Held) → slice_get k.spaces i ≡ Some (Some h) → h.pages ≡ length k.regions
   -- one runner a space
   pub runs : (pid : ℕ) (e : Entry Task) → process k.procs pid ≡ Some e → HasSpace k.spaces e.value.space
-  pub alone : (p q : ℕ) (e f : Entry Task) → process k.procs p ≡ Some e → process k.procs q ≡ Some f → e.value.space ≡ f.value.space → p ≡ q
+  pub chains : AreChains (map process_of k.procs.entries)
   pub falls : Falls pid_of k.procs.next_pid k.procs.entries
-  pub few : length k.procs.entries ≤ most_entries
+  pub few : length k.procs.entries + length k.procs.ended ≤ most_entries
+  -- pids and spaces are few: each but those of the first has its kept call
+  pub pids : k.procs.next_pid ≤ most_first + kept_calls k.notes
+  pub loads : length k.spaces ≤ most_first + kept_calls k.notes
 
 -- and copies hold their file
 abbrev pub IsRegular : Kept → Type 0

@@ -11,11 +11,12 @@ use Rattle.syscall_layer.specs.declared.answer.Served.TheVariants as served
 use Rattle.syscall_layer.specs.Kept.{Kept}
 use Rattle.syscall_layer.specs.Stands.{About, later, world_of}
 
--- a call that went: whether the turn goes on, and whether the process lives
+-- a call that went: whether the turn goes on, whether it is an event of its space or a wait, and whether the process lives
 abbrev pub Went : Trace → Kept → ℕ → Served → Type 0
-Went t new pid served.Replied = (t.over ≡ false) × Lives new.procs pid
-Went t new pid served.TurnEnds = (t.over ≡ true) × Lives new.procs pid
-Went t new pid served.Ended = (t.over ≡ true) × (process new.procs pid ≡ None)
+Went t new pid served.Replied = (t.over ≡ false) × (t.events ≡ 1) × Lives new.procs pid
+Went t new pid served.TurnEnds = (t.over ≡ true) × (t.events ≡ 1) × Lives new.procs pid
+Went t new pid served.Waits = (t.over ≡ true) × (t.events ≡ 0) × Lives new.procs pid
+Went t new pid served.Ended = (t.over ≡ true) × (t.events ≡ 1) × (process new.procs pid ≡ None)
 Went t new pid (served.Stray access) = ⊥
 Went t new pid served.LogFull = ⊥
 
@@ -23,6 +24,7 @@ abbrev pub Strays : Access → Kept → Kept → Served → Type 0
 Strays access old new (served.Stray seen) = (seen ≡ access) × (new ≡ old)
 Strays access old new served.Replied = ⊥
 Strays access old new served.TurnEnds = ⊥
+Strays access old new served.Waits = ⊥
 Strays access old new served.Ended = ⊥
 Strays access old new served.LogFull = ⊥
 
@@ -30,6 +32,7 @@ abbrev pub IsFull : Kept → Kept → Served → Type 0
 IsFull old new served.LogFull = new ≡ old
 IsFull old new served.Replied = ⊥
 IsFull old new served.TurnEnds = ⊥
+IsFull old new served.Waits = ⊥
 IsFull old new served.Ended = ⊥
 IsFull old new (served.Stray access) = ⊥
 

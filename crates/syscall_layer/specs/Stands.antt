@@ -45,11 +45,12 @@ unfoldable pub live_spaces : List ℕ → List (Option Held) → List LiveSpace
 live_spaces mem spaces = live_from mem 0 spaces
 
 abbrev pub process_of : Entry Task → Process
-process_of e = record { pid = e.pid; parent = e.parent; regs = e.value.regs; space = e.value.space; table = e.value.table }
+process_of e = record { pid = e.pid; parent = e.parent; regs = e.value.regs; space = e.value.space; table = e.value.table; state = e.state }
 
 unfoldable pub world_of : About → Kept → World
 world_of a k = record {
   procs = map process_of k.procs.entries;
+  ended = k.procs.ended;
   spaces = live_spaces k.mem k.spaces;
   loads = length k.spaces;
   next_pid = k.procs.next_pid;
