@@ -6,7 +6,7 @@ ghost use Rattle.call_log.specs.Values.{written_value};
 ghost use Rattle.page_runs.specs.Choosers.{IsChooser, kind_of};
 ghost use Rattle.mmap_rules.specs.Held.{Held};
 ghost use Rattle.vfork_exec.specs.declared.entry.Entry.{Entry};
-ghost use Rattle.vfork_exec.specs.Procs.{Lives};
+ghost use Rattle.vfork_exec.specs.Procs.{CanRun, Lives};
 ghost use Rattle.mmap_rules.specs.Space.{writable_in};
 ghost use Rattle.mmap_rules.specs.Want.{AsksPages};
 ghost use Rattle.machine_world.specs.Asks.{replies};
@@ -20,15 +20,18 @@ ghost use Rattle.syscall_layer.specs.Stands.{About, world_of};
 ghost use Rattle.syscall_layer.specs.Serves.{Serves};
 ghost use Rattle.mmap_rules.specs.Copies.{IsKnown};
 ghost use Rattle.syscall_layer.specs.Puts.{first_stray, access_at, IsRange};
-ghost use Rattle.syscall_layer.specs.Calls.{RunsIn, IsCall, ask_in, reply_of, served_by};
+ghost use Rattle.syscall_layer.specs.Calls.{RunsIn, IsCall, ask_in, reply_of, given, served_by};
+ghost use Rattle.syscall_layer.specs.Flats.{AreFlats};
 
 use crate::call::{call_of, home};
 use crate::classes::{is_change, is_exit, is_output};
 use crate::effect::{Effect, effect_of};
+use crate::family::{answer_clone, answer_exec, answer_waitid};
 use crate::maps::want_of;
 use crate::output::{got_len, stray_put};
 use crate::parts::Parts;
 use crate::reading::Unread;
+use bflt_format::Flat;
 use call_log::{Got, Log};
 use file_calls::{Call, Outcome, output};
 use mmap_rules::Want;
@@ -43,6 +46,8 @@ pub enum Served {
     Replied,
     /// It has its reply, and the turn is over.
     TurnEnds,
+    /// It has no reply: the process waits, and makes it anew.
+    Waits,
     /// The process ended.
     Ended,
     /// It would read or write what isn't the program's own, and nothing was done.
@@ -62,7 +67,7 @@ fn served_by(effect: Effect) -> Served
 }
 
 /// Whether the log has room for a call that gets no bytes.
-fn has_room(log: &Log, call: &Call) -> bool
+pub(crate) fn has_room(log: &Log, call: &Call) -> bool
     ensures { result ≡ has_room log.now.notes (length call.now.sent.items) }
 {
     log.room(call.sent.len() as u64)
@@ -77,7 +82,7 @@ fn has_room_with(log: &Log, call: &Call, got: &[Got]) -> bool
 
 /// Carries out an exit, where the log has room for it.
 fn answer_exit(parts: &mut Parts, call: Call) -> Result<Served, AllocError>
-    requires { Lives parts.old.procs call.pid }
+    requires { CanRun parts.old.procs call.pid }
     ensures { (a : About) → (e : Entry Task) → (h : Held) → RunsIn parts.old call.pid e h → IsCall parts.old.mem e h call →
         Serves a (exited (world_of a parts.old) (ask_in a parts.old e h call)) parts.old parts.new call.pid result }
 {
@@ -89,7 +94,7 @@ fn answer_exit(parts: &mut Parts, call: Call) -> Result<Served, AllocError>
 }
 
 /// Carries out a call with this effect, where the log has room for it.
-fn answer_effect(parts: &mut Parts, call: Call, effect: Effect) -> Result<Served, AllocError>
+pub(crate) fn answer_effect(parts: &mut Parts, call: Call, effect: Effect) -> Result<Served, AllocError>
     requires { Lives parts.old.procs call.pid }
     ensures { (a : About) → (e : Entry Task) → (h : Held) → RunsIn parts.old call.pid e h → IsCall parts.old.mem e h call →
         Serves a (answered (world_of a parts.old) (ask_in a parts.old e h call) (replies (reply_of (ask_in a parts.old e h call) effect))) parts.old parts.new call.pid result }
@@ -139,6 +144,24 @@ fn outcome_of(parts: &Parts, call: &Call) -> Result<Outcome, AllocError>
     output(alloc, &parts.tree, &parts.files, call)
 }
 
+/// A call that gives these bytes, where they may be written and the log has room for them.
+pub(crate) fn answer_given(parts: &mut Parts, call: Call, outcome: Outcome) -> Result<Served, AllocError>
+    requires lives { Lives parts.old.procs call.pid }
+    requires fits { CanTake parts.old.files outcome.then }
+    requires ranges { All IsRange (written_of outcome) }
+    ensures { (a : About) → (e : Entry Task) → (h : Held) → RunsIn parts.old call.pid e h → IsCall parts.old.mem e h call →
+        Serves a (answered (world_of a parts.old) (ask_in a parts.old e h call) (replies (given (ask_in a parts.old e h call) outcome))) parts.old parts.new call.pid result }
+{
+    if let Some(access) = stray_of(parts, call.pid, &outcome.got) {
+        return Ok(Served::Stray(access));
+    }
+    if !has_room_with(&parts.log, &call, &outcome.got) {
+        return Ok(Served::LogFull);
+    }
+    parts.give(call, outcome)?;
+    Ok(Served::Replied)
+}
+
 /// Carries out a call that gives bytes, where they may be written and the log has room for them.
 fn answer_output(parts: &mut Parts, call: Call) -> Result<Served, AllocError>
     requires lives { Lives parts.old.procs call.pid }
@@ -148,14 +171,7 @@ fn answer_output(parts: &mut Parts, call: Call) -> Result<Served, AllocError>
         Serves a (answered (world_of a parts.old) (ask_in a parts.old e h call) (row (ask_in a parts.old e h call))) parts.old parts.new call.pid result }
 {
     let outcome = outcome_of(parts, &call)?;
-    if let Some(access) = stray_of(parts, call.pid, &outcome.got) {
-        return Ok(Served::Stray(access));
-    }
-    if !has_room_with(&parts.log, &call, &outcome.got) {
-        return Ok(Served::LogFull);
-    }
-    parts.give(call, outcome)?;
-    Ok(Served::Replied)
+    answer_given(parts, call, outcome)
 }
 
 /// Maps what an mmap2 asks for, where the log has room for the call.
@@ -215,12 +231,13 @@ fn answer_unmap(parts: &mut Parts, call: Call) -> Result<Served, AllocError>
 fn answer<F: Fn(&[Run], u32) -> Option<usize>>(
     parts: &mut Parts,
     call: Call,
+    programs: &[Flat],
     chooser: &Chooser<F>,
 ) -> Result<Served, AllocError>
     requires chooser { IsChooser F.pre F.post chooser.now }
-    requires lives { Lives parts.old.procs call.pid }
+    requires ready { CanRun parts.old.procs call.pid }
     requires room { slice_index call.args 2 < 2 ^ 32 }
-    ensures { (a : About) → a.kind ≡ kind_of chooser.now → (e : Entry Task) → (h : Held) → RunsIn parts.old call.pid e h → IsCall parts.old.mem e h call →
+    ensures { (a : About) → a.kind ≡ kind_of chooser.now → AreFlats a.programs programs.now → (e : Entry Task) → (h : Held) → RunsIn parts.old call.pid e h → IsCall parts.old.mem e h call →
         Serves a (classed (world_of a parts.old) (ask_in a parts.old e h call)) parts.old parts.new call.pid result }
 {
     if is_exit(call.number) {
@@ -232,28 +249,33 @@ fn answer<F: Fn(&[Run], u32) -> Option<usize>>(
     if is_output(call.number) {
         return answer_output(parts, call);
     }
-    if call.number == 215 {
-        return answer_unmap(parts, call);
+    match call.number {
+        95 => answer_waitid(parts, call),
+        215 => answer_unmap(parts, call),
+        220 => answer_clone(parts, call),
+        221 => answer_exec(parts, call, programs, chooser),
+        222 => answer_map(parts, call, chooser),
+        _ => {
+            let effect = effect_of(&call, &parts.files);
+            answer_effect(parts, call, effect)
+        }
     }
-    if call.number == 222 {
-        return answer_map(parts, call, chooser);
-    }
-    let effect = effect_of(&call, &parts.files);
-    answer_effect(parts, call, effect)
 }
 
-/// Carries out the system call that a process stands at. A run of pages that it needs is the chooser's.
+/// Carries out the system call that a process stands at, which may run. A run of pages that it needs is the chooser's, and the
+/// programs that it may run are these.
 pub fn serve<F: Fn(&[Run], u32) -> Option<usize>>(
     parts: &mut Parts,
     pid: u32,
+    programs: &[Flat],
     chooser: &Chooser<F>,
 ) -> Result<Served, AllocError>
     requires chooser { IsChooser F.pre F.post chooser.now }
-    requires lives { Lives parts.old.procs pid }
-    ensures { (a : About) → a.kind ≡ kind_of chooser.now → Serves a (called (world_of a parts.old) pid) parts.old parts.new pid result }
+    requires ready { CanRun parts.old.procs pid }
+    ensures { (a : About) → a.kind ≡ kind_of chooser.now → AreFlats a.programs programs.now → Serves a (called (world_of a parts.old) pid) parts.old parts.new pid result }
 {
     match call_of(parts, pid) {
-        Ok(call) => answer(parts, call, chooser),
+        Ok(call) => answer(parts, call, programs, chooser),
         Err(Unread::Stray { addr, len }) => Ok(Served::Stray(Access {
             pc: parts.procs.get(pid).regs.pc,
             addr,

@@ -1,16 +1,16 @@
 //! The end of a process.
 
-ghost use Rattle.std.specs.Prelude.{◌≡◌, true, length, None, Some, slice_get, slice_set};
+ghost use Rattle.std.specs.Prelude.{◌≡◌, ◌≢◌, ℕ, true, length, None, Some, slice_get, slice_set};
 ghost use Rattle.call_log.specs.Notes.{has_room};
 ghost use Rattle.mmap_rules.specs.Held.{Held};
 ghost use Rattle.vfork_exec.specs.declared.entry.Entry.{Entry as Listed};
-ghost use Rattle.vfork_exec.specs.Procs.{Lives};
+ghost use Rattle.vfork_exec.specs.Procs.{CanRun, process};
 ghost use Rattle.machine_world.specs.Event.{died};
 ghost use Rattle.syscall_layer.specs.declared.task.Task.{Task};
 ghost use Rattle.syscall_layer.specs.Regular.{HasSpace};
 ghost use Rattle.syscall_layer.specs.Stands.{About, world_of};
 ghost use Rattle.syscall_layer.specs.Serves.{Dies};
-ghost use Rattle.syscall_layer.specs.Gone.{gone};
+ghost use Rattle.syscall_layer.specs.Gone.{gone, without_space};
 ghost use Rattle.syscall_layer.specs.Calls.{RunsIn, Exits};
 
 use crate::keep::keep;
@@ -34,22 +34,34 @@ fn take_space(spaces: &mut [Option<Space>], number: u32) -> Space
 }
 
 impl Parts {
-    /// A process goes, its space with all its mappings, and its table with all that it has open.
-    fn depart(&mut self, pid: u32)
-        requires { Lives self.old.procs pid }
-        ensures { (e : Listed Task) → (h : Held) → RunsIn self.old pid e h → self.new ≡ gone self.old pid e h }
+    /// A space goes, in which no process runs, with all its mappings.
+    pub(crate) fn give_up(&mut self, number: u32)
+        requires there { HasSpace self.old.spaces number }
+        requires nobody { (pid : ℕ) → (e : Listed Task) → process self.old.procs pid ≡ Some e → e.value.space ≢ number }
+        ensures { (h : Held) → slice_get self.old.spaces number ≡ Some (Some h) → self.new ≡ without_space self.old number h }
+    {
+        let space = take_space(&mut self.spaces, number);
+        space.release(&mut self.regions);
+    }
+
+    /// A process goes, with its table and all that it has open. Its space goes with it, unless another process lent it.
+    fn depart(&mut self, pid: u32, how: How)
+        requires { CanRun self.old.procs pid }
+        ensures { (e : Listed Task) → (h : Held) → RunsIn self.old pid e h → self.new ≡ gone self.old e h how }
     {
         let Task { space, table, .. } = *self.procs.get(pid);
-        let held = take_space(&mut self.spaces, space);
-        held.release(&mut self.regions);
+        let lent = self.procs.borrows(pid);
         self.files.drop_table(&mut self.tree, table);
-        self.procs.end(pid);
+        self.procs.end(pid, how);
+        if !lent {
+            self.give_up(space);
+        }
     }
 
     /// Ends the process that makes this call, exit or exit_group, by the lowest eight bits of its code. The call is noted
     /// and then the end; there is room for the call's note.
     pub(crate) fn exit(&mut self, call: Call) -> Result<(), AllocError>
-        requires lives { Lives self.old.procs call.pid }
+        requires ready { CanRun self.old.procs call.pid }
         requires room { has_room self.old.notes (length call.sent.items) ≡ true }
         ensures { (e : Listed Task) → (h : Held) → RunsIn self.old call.pid e h → Exits self.old e h call self.new result }
     {
@@ -75,22 +87,19 @@ impl Parts {
             }),
         );
         keep(&mut self.log, Note::End { pid, how });
-        self.depart(pid);
+        self.depart(pid, how);
         Ok(())
     }
 
-    /// Ends a process by a signal: its space goes, and a note is kept.
+    /// Ends a process by a signal: its own space goes, and a note is kept.
     pub fn end_by_signal(&mut self, pid: u32, signal: u8) -> Result<(), AllocError>
-        requires { Lives self.old.procs pid }
+        requires { CanRun self.old.procs pid }
         ensures { (a : About) → Dies a (died (world_of a self.old) pid signal) self.old self.new pid result }
     {
         self.log.reserve(1)?;
-        let end = Note::End {
-            pid,
-            how: How::Signal(signal),
-        };
-        keep(&mut self.log, end);
-        self.depart(pid);
+        let how = How::Signal(signal);
+        keep(&mut self.log, Note::End { pid, how });
+        self.depart(pid, how);
         Ok(())
     }
 }

@@ -10,6 +10,9 @@ mod call;
 mod classes;
 mod effect;
 mod ending;
+mod exec;
+mod family;
+mod fork;
 mod keep;
 mod maps;
 mod output;
@@ -18,6 +21,7 @@ mod reading;
 mod reply;
 mod start;
 mod stray;
+mod strings;
 mod task;
 
 pub use answer::{Served, serve};

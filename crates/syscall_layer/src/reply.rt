@@ -32,7 +32,7 @@ use vfork_exec::Procs;
 
 /// The reply goes to a0, and the instruction after the call follows.
 #[tactic(auto, unfolding(rv32im_step::specs::Registers::with_register))]
-fn set_reply(regs: &mut Regs, value: u32)
+pub(crate) fn set_reply(regs: &mut Regs, value: u32)
     ensures { regs.new ≡ replied regs.old value }
 {
     regs.x[10] = value;

@@ -4,7 +4,8 @@ ghost use Rattle.std.specs.Prelude.{◌≡◌, ◌<◌, ◌^◌, length};
 ghost use Rattle.page_runs.specs.Choosers.{IsChooser, kind_of};
 ghost use Rattle.flat_loader.specs.Frame.{texts};
 ghost use Rattle.flat_loader.specs.Original.{flat_original};
-ghost use Rattle.vfork_exec.specs.Procs.{most_entries};
+ghost use Rattle.vfork_exec.specs.Procs.{count, most_entries};
+ghost use Rattle.syscall_layer.specs.Regular.{most_first};
 ghost use Rattle.syscall_layer.specs.Refusals.{refusal_of};
 ghost use Rattle.syscall_layer.specs.Starts.{Starts};
 
@@ -48,9 +49,9 @@ impl Parts {
         chooser: &Chooser<F>,
     ) -> Result<(), StartRefusal>
         requires chooser { IsChooser F.pre F.post chooser.now }
-        requires few { length self.old.procs.entries < most_entries }
-        requires pids { self.old.procs.next_pid < 2 ^ 32 }
-        requires spaces { length self.old.spaces < 2 ^ 32 }
+        requires few { count self.old.procs < most_entries }
+        requires pids { self.old.procs.next_pid < most_first }
+        requires spaces { length self.old.spaces < most_first }
         ensures { Starts (kind_of chooser.now) index (flat_original flat.now) (texts args.now) self.old self.new result }
     {
         if self.spaces.reserve(1).is_err()

@@ -48,6 +48,13 @@ module _ {P : Type 0} where
   abbrev pub parent_at : Listed P → ℕ → Option ℕ
   parent_at s pid = option_map (λ e. e.parent) (process s pid)
 
+  abbrev pub state_at : Listed P → ℕ → Option State
+  state_at s pid = option_map (λ e. e.state) (process s pid)
+
+  -- it lives, and neither waits nor stands still
+  abbrev pub CanRun : Listed P → ℕ → Type 0
+  CanRun s pid = state_at s pid ≡ Some Ready
+
   -- with something else kept of it
   abbrev pub with_value_at : Listed P → ℕ → P → Listed P
   with_value_at s pid value = record s { entries = change pid_of pid (λ e. with_value e value) s.entries }
