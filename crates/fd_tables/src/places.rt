@@ -45,6 +45,19 @@ pub(crate) fn ready_place<T>(places: &mut Vec<Option<T>>) -> Result<(), AllocErr
     places.reserve(1)
 }
 
+/// The lowest number that is free.
+#[tactic(auto, unfolding(crate::specs::Files::free_number))]
+pub(crate) fn next_number<T>(places: &Vec<Option<T>>) -> Result<u32, AllocError>
+    ensures number { IfOk result (λ n. n ≡ free_number places.now.items) }
+    ensures full { OnErr result (spare_places places.now ≡ 0) }
+{
+    let free = first_free(places);
+    let Ok(number) = u32::try_from(free.unwrap_or(places.len())) else {
+        return Err(AllocError);
+    };
+    Ok(number)
+}
+
 /// Puts an item at the lowest number that is free, and gives that number. After a fault nothing has changed.
 #[tactic(auto, using(crate::proofs::Numbers::next_inside, crate::proofs::Numbers::next_behind))]
 pub(crate) fn put_next<T: Drop>(places: &mut Vec<Option<T>>, item: T) -> Result<u32, AllocError>

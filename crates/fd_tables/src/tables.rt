@@ -1,13 +1,13 @@
 //! Tables come and go.
 
-ghost use Rattle.std.specs.Prelude.{◌≡◌, ◌||◌, [], ◌∷◌, ◌≤◌, IfOk, IsOk, OnErr, IsSome};
+ghost use Rattle.std.specs.Prelude.{◌≡◌, ◌||◌, [], ◌∷◌, ◌≤◌, IfOk, IsOk, OnErr};
 ghost use Rattle.fd_tables.specs.Kept.{KeepsSpare, UsesOneTable};
-ghost use Rattle.fd_tables.specs.Files.{free_number, table_at};
+ghost use Rattle.fd_tables.specs.Files.{free_number};
 ghost use Rattle.fd_tables.specs.Changes.{storage, with_table, with_copy, exec_closed, without_table, shared, all_shared, all_closed, all_descriptors};
 
 use crate::files::Files;
 use crate::open_file::Handle;
-use crate::places::{at_number, put_next, set_place};
+use crate::places::{at_number, next_number, put_next, set_place};
 use crate::shares::share;
 use crate::table::{MOST_DESCRIPTORS, Table, first_table};
 use mem_files::Tree;
@@ -27,10 +27,10 @@ impl Files {
         put_next(&mut self.tables, first_table())
     }
 
-    /// A copy of a table that is there. Its descriptors share the positions of those that they are copied from.
+    /// A copy of a table. Its descriptors share the positions of those that they are copied from. A table that isn't there has none,
+    /// and nothing changes.
     #[tactic(auto, unfolding(crate::specs::Changes::with_copy))]
     pub fn copy_table(&mut self, table: u32) -> Result<u32, AllocError>
-        requires { IsSome (table_at self.old.open_files table) }
         ensures table { IfOk result (λ t. t ≡ free_number self.old.open_files.tables) }
         ensures added { IfOk result (λ _. self.new.open_files ≡ with_copy self.old.open_files table) }
         ensures same { OnErr result (self.new.open_files ≡ self.old.open_files) }
@@ -38,7 +38,9 @@ impl Files {
         ensures uses { UsesOneTable self.old self.new }
         ensures refused { OnErr result (KeepsSpare self.old self.new) }
     {
-        let copy = at_number(&self.tables, table).unwrap();
+        let Some(copy) = at_number(&self.tables, table) else {
+            return next_number(&self.tables);
+        };
         let number = put_next(&mut self.tables, copy)?;
         self.share_all(&copy);
         Ok(number)
