@@ -6,6 +6,7 @@
 -- Programs  the paths of programs, and the notes that have one
 -- Lines     the line of each note
 -- Sent      the bytes that a call reads from its caller's memory
+-- Strings   the path and the strings that an execve read
 -- Flags     a flag among others
 pub mod Errno
 pub mod Notes
@@ -15,4 +16,5 @@ pub mod Inside
 pub mod Programs
 pub mod Lines
 pub mod Sent
+pub mod Strings
 pub mod Flags

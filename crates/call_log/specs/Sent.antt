@@ -1,7 +1,7 @@
 -- The bytes that a system call reads from its caller's memory, in the order read: a function of its number, its
--- arguments and that memory (Linux, read_write.c and include/uapi/linux/uio.h).
+-- arguments and that memory (Linux, fs/read_write.c, fs/exec.c and include/uapi/linux/uio.h, in this project's profile).
 use Rattle.std.specs.Prelude.{ℕ, zero, suc, ◌+◌, ◌-◌, ◌*◌, ◌%◌, ◌^◌, ◌==◌, Bool, ◌||◌, nat_le, nat_lt, min, if◌then◌else◌, List, [], ◌∷◌, ◌++◌, map, slice_index, Option, Some, None, Result, Ok, Err}
-use Rattle.std.specs.List.{range_with_len}
+use Rattle.std.specs.List.{range_with_len, list_any}
 use Rattle.byte_words.specs.Numbers.{low_first, number_at}
 use Rattle.byte_words.specs.ByteMap.{Bytes}
 
@@ -97,9 +97,46 @@ path_from (suc left) m at = followed (read_span m (record { addr = at % 2 ^ 32; 
 abbrev pub path_sent : Bytes → ℕ → Result (List ℕ) Span
 path_sent m at = path_from most_path m at
 
+-- a zero is among the bytes
+abbrev pub has_zero : List ℕ → Bool
+has_zero bytes = list_any (λ b. b == 0) bytes
+
 -- mkdirat, unlinkat and openat
 abbrev pub has_path : ℕ → Bool
 has_path number = number == 34 || number == 35 || number == 56
+
+-- the most bytes of the arguments and the environment of a program: four for each pointer, and those of the strings with their zeros
+abbrev pub most_strings : ℕ
+most_strings = 1048576
+
+-- a string, byte by byte up to its zero, and then what is read with what is left of those bytes; behind the byte that passes them
+-- nothing more is read
+abbrev pub string_from : ℕ → Bytes → (at left : ℕ) → (ℕ → Result (List ℕ) Span) → Result (List ℕ) Span
+string_from zero m at left more = Ok []
+string_from (suc most) m at left more = followed (read_span m (record { addr = at % 2 ^ 32; len = 1 })) (λ byte.
+    if left == 0 then Ok []
+    else if slice_index byte 0 == 0 then more (left - 1)
+    else string_from most m (at + 1) (left - 1) more)
+
+-- a list of pointers to strings, each string behind its pointer, up to the pointer that is zero
+abbrev pub strings_from : ℕ → Bytes → (at left : ℕ) → (ℕ → Result (List ℕ) Span) → Result (List ℕ) Span
+strings_from zero m at left more = Ok []
+strings_from (suc most) m at left more = followed (read_span m (record { addr = at % 2 ^ 32; len = 4 })) (λ word.
+    if number_at low_first 4 word 0 == 0 then more left
+    else if nat_lt left 4 then Ok []
+    else string_from (suc most_strings) m (number_at low_first 4 word 0) (left - 4) (λ left. strings_from most m (at + 4) left more))
+
+-- no list stands at 0
+abbrev pub list_sent : Bytes → (at left : ℕ) → (ℕ → Result (List ℕ) Span) → Result (List ℕ) Span
+list_sent m at left more = if at == 0 then more left else strings_from (suc most_strings) m at left more
+
+-- the arguments, then the environment
+abbrev pub strings_sent : Bytes → (args env : ℕ) → Result (List ℕ) Span
+strings_sent m args env = list_sent m args most_strings (λ left. list_sent m env left (λ left. Ok []))
+
+-- execve: the path, and behind one that isn't too long the strings
+abbrev pub exec_sent : Bytes → (path args env : ℕ) → Result (List ℕ) Span
+exec_sent m path args env = followed (path_sent m path) (λ bytes. if has_zero bytes then strings_sent m args env else Ok [])
 
 -- of a call with this number and these arguments; the other calls read nothing
 unfoldable pub sent : ℕ → List ℕ → Bytes → Result (List ℕ) Span
@@ -108,4 +145,5 @@ sent number args m =
     else if number == 66 then writev_sent m (slice_index args 1) (slice_index args 2)
     else if number == 65 then readv_sent m (slice_index args 1) (slice_index args 2)
     else if has_path number then path_sent m (slice_index args 1)
+    else if number == 221 then exec_sent m (slice_index args 0) (slice_index args 1) (slice_index args 2)
     else Ok []
