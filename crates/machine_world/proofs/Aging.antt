@@ -1,12 +1,7 @@
 -- Nodes age by each row and each event.
-use Rattle.std.proofs.Common.{◌≡◌, ℕ, ◌+◌, ◌<◌, Bool, true, false, cond, List, [], ◌∷◌, length, Option, Some, None, Result, Ok, Err, refl, subst}
-use Rattle.std.specs.Prelude.{◌==◌, ◌&&◌, nat_le, if◌then◌else◌}
-use Rattle.byte_words.specs.ByteMap.{Bytes}
-use Rattle.rv32im_step.specs.Meaning.{Meaning, next, call, trap, refused, meaning}
-use Rattle.mmap_rules.specs.Space.{Space, writable_in}
-use Rattle.vfork_exec.specs.Keyed.{find}
-use Rattle.call_log.specs.Notes.{has_room, weight_of}
-use Rattle.call_log.specs.Sent.{Span, sent}
+use Rattle.std.proofs.Common.{◌≡◌, ℕ, ◌+◌, ◌<◌, Bool, true, false, cond, List, [], ◌∷◌, length, Option, Some, None, Ok, refl, subst}
+use Rattle.std.specs.Prelude.{◌==◌, ◌&&◌, nat_le}
+use Rattle.mmap_rules.specs.Space.{Space}
 use Rattle.mem_files.specs.Inodes.{Inodes}
 use Rattle.mem_files.specs.Changes.{held, let_go, truncated, with_folder, with_file}
 use Rattle.fd_tables.specs.declared.open_file.OpenFile.{OpenFile}
@@ -14,17 +9,18 @@ use Rattle.fd_tables.specs.declared.open_file.Handle.{Handle}
 use Rattle.fd_tables.specs.declared.open_file.Handle.TheVariants.{Input, Output, Open}
 use Rattle.fd_tables.specs.declared.open_file.Descriptor.{Descriptor}
 use Rattle.fd_tables.specs.Files.{at_number, descriptor}
-use Rattle.fd_tables.specs.Changes.{Storage, with_descriptor, dropped, dropped_file, closed, closed_descriptor, opened, replaced, all_closed, all_descriptors, without_table}
-use Rattle.machine_world.specs.World.{Process, LiveSpace, Rest, World, pid_of, id_of}
-use Rattle.machine_world.specs.Asks.{Ask, arg, Reply, Row, replies, waits, storage_of}
+use Rattle.fd_tables.specs.Changes.{Storage, with_descriptor, dropped, dropped_file, closed, closed_descriptor, opened, replaced, all_closed, all_descriptors, exec_closed, without_table}
+use Rattle.machine_world.specs.World.{Process, Rest, World}
+use Rattle.machine_world.specs.Asks.{Ask, arg, Reply, replies, storage_of}
 use Rattle.machine_world.specs.Descriptors.{table_of, close_on_exec}
 use Rattle.machine_world.specs.PathCalls.{path_of, remove_folder, writes, truncates, emptied}
 use Rattle.machine_world.specs.Transfers.{write_position}
 use Rattle.machine_world.specs.Rows.{row}
-use Rattle.machine_world.specs.Event.{Outcome, went, strays, full, idle, number_of, args_of, ask_of, put_got, stepped, trapped, ended, served, put, waited, answered, exited, is_exit, asked, answer, effect, in_space, by_process, at_process, event}
+use Rattle.machine_world.specs.Event.{ask_of, ended, event}
 use Rattle.machine_world.specs.Ages.{AreChanged, Follows, most_changes, EventsAgeFiles}
 use Rattle.machine_world.proofs.Kept.{Answers, Kept, opened_as}
 use Rattle.machine_world.proofs.ByRows.{by_rows}
+use Rattle.machine_world.proofs.ByEvents.{Went, Answered, Happened, by_event}
 use Rattle.machine_world.proofs.NodesAge.{Since, since_itself, since_on, since_more, held_ages, let_go_ages, truncated_ages, written_ages, folder_ages, file_ages, unlinked_ages}
 
 -- ---- a new folder or file is unchanged
@@ -64,17 +60,27 @@ module _ (P : Inodes → Type 0) (lets : (ns : Inodes) (id : ℕ) → P ns → P
   unfolding replaced
   by_replaced s t old new cloexec h = by_closed s t new h
 
-  by_one : (s : Storage) (t fd : ℕ) (o : Option Descriptor) → descriptor s.files t fd ≡ o → P s.nodes → P (all_closed (λ d. true) s t (fd ∷ [])).nodes
-  by_one s t fd None e h = rw e h
-  by_one s t fd (Some d) e h = rw e (by_closed s t fd h)
+  by_tested : (test : Descriptor → Bool) (s : Storage) (t fd : ℕ) (d : Descriptor) (b : Bool) → descriptor s.files t fd ≡ Some d → test d ≡ b
+      → P s.nodes → P (all_closed test s t (fd ∷ [])).nodes
+  by_tested test s t fd d true e f h = rw (e, f) (by_closed s t fd h)
+  by_tested test s t fd d false e f h = rw (e, f) h
 
-  by_all : (t : ℕ) (fds : List ℕ) (s : Storage) → P s.nodes → P (all_closed (λ d. true) s t fds).nodes
-  by_all t [] s h = h
-  by_all t (fd ∷ fds) s h = by_all t fds _ (by_one s t fd _ refl h)
+  by_one : (test : Descriptor → Bool) (s : Storage) (t fd : ℕ) (o : Option Descriptor) → descriptor s.files t fd ≡ o
+      → P s.nodes → P (all_closed test s t (fd ∷ [])).nodes
+  by_one test s t fd None e h = rw e h
+  by_one test s t fd (Some d) e h = by_tested test s t fd d _ e refl h
+
+  by_all : (test : Descriptor → Bool) (t : ℕ) (fds : List ℕ) (s : Storage) → P s.nodes → P (all_closed test s t fds).nodes
+  by_all test t [] s h = h
+  by_all test t (fd ∷ fds) s h = by_all test t fds _ (by_one test s t fd _ refl h)
 
   by_table : (s : Storage) (t : ℕ) → P s.nodes → P (without_table s t).nodes
   unfolding without_table
-  by_table s t h = by_all t all_descriptors s h
+  by_table s t h = by_all (λ d. true) t all_descriptors s h
+
+  by_exec : (s : Storage) (t : ℕ) → P s.nodes → P (exec_closed s t).nodes
+  unfolding exec_closed
+  by_exec s t h = by_all (λ d. d.cloexec) t all_descriptors s h
 
 -- ---- the nodes since older ones
 
@@ -88,6 +94,9 @@ module _ (old : Inodes) (most : ℕ) where
 pub table_ages : (s : Storage) (t most : ℕ) → AreChanged most s.nodes
     → Follows s.nodes (without_table s t).nodes × AreChanged most (without_table s t).nodes
 table_ages s t most low = by_table (Since s.nodes most) (since_let_go s.nodes most) s t (since_itself s.nodes most low)
+
+exec_ages : (s : Storage) (t most : ℕ) → AreChanged most s.nodes → Since s.nodes most (exec_closed s t).nodes
+exec_ages s t most low = by_exec (Since s.nodes most) (since_let_go s.nodes most) s t (since_itself s.nodes most low)
 
 -- ---- all rows
 
@@ -141,16 +150,6 @@ module _ (w : World) (most : ℕ) (low : AreChanged most w.rest.tree) (few : mos
   abbrev LaterIn : Rest → Type 0
   LaterIn rest = Since w.rest.tree (most + 1) rest.tree
 
-  abbrev Leaves : Outcome → Type 0
-  Leaves (went now t) = LaterIn now.rest
-  Leaves (strays access) = Unit {0}
-  Leaves full = Unit {0}
-  Leaves idle = Unit {0}
-
-  leaves_if : (b : Bool) (x y : Outcome) → Leaves x → Leaves y → Leaves (if b then x else y)
-  leaves_if true x y hx hy = hx
-  leaves_if false x y hx hy = hy
-
   same_tree : LaterIn w.rest
   same_tree = since_more w.rest.tree w.rest.tree most (since_itself w.rest.tree most low)
 
@@ -158,48 +157,31 @@ module _ (w : World) (most : ℕ) (low : AreChanged most w.rest.tree) (few : mos
   table_gone : (t : ℕ) → Since w.rest.tree (most + 1) (without_table (storage_of w.rest) t).nodes
   table_gone t = since_more w.rest.tree (without_table (storage_of w.rest) t).nodes most (table_ages (storage_of w.rest) t most low)
 
-  leaves_served : (a : Ask) (r : Reply) (bytes : Bytes) → LaterIn r.rest → Leaves (served w a r bytes)
-  unfolding served
-  leaves_served a r bytes later = leaves_if (has_room w.notes (weight_of a.sent r.got)) (went _ _) full later tt
+  -- descriptors close at an execve
+  table_closes : (t : ℕ) → Since w.rest.tree (most + 1) (exec_closed (storage_of w.rest) t).nodes
+  table_closes t = since_more w.rest.tree (exec_closed (storage_of w.rest) t).nodes most (exec_ages (storage_of w.rest) t most low)
 
-  leaves_put : (a : Ask) (r : Reply) (found : Result Bytes Span) → LaterIn r.rest → Leaves (put w a r found)
-  leaves_put a r (Ok bytes) later = leaves_served a r bytes later
-  leaves_put a r (Err span) later = tt
+  call_ages : (a : Ask) → Answered (λ now t. LaterIn now.rest) LaterIn w a
+  unfolding ended
+  call_ages a = record {
+    reply = λ ended r m later room. later;
+    wait = λ who. same_tree;
+    exit = λ room. table_gone a.process.table;
+    fork = λ few room. same_tree;
+    load = λ f s page is fits room. table_closes a.process.table;
+  }
 
-  leaves_answered : (a : Ask) (r : Row) → Answers LaterIn r → Leaves (answered w a r)
-  unfolding waited
-  leaves_answered a (replies r) later = leaves_put a r (put_got r.space.bytes (writable_in r.space.maps) r.got) later
-  leaves_answered a waits later = same_tree
+  act_ages : (p : Process) (s : Space) → Happened (λ now t. LaterIn now.rest) LaterIn w p s
+  unfolding ended
+  act_ages p s = record {
+    step = λ regs bytes. same_tree;
+    trap = λ signal. table_gone p.table;
+    calls = λ bytes. call_ages (ask_of w p s bytes);
+  }
 
-  leaves_exited : (a : Ask) → Leaves (exited w a)
-  unfolding exited ended
-  leaves_exited a = leaves_if (has_room w.notes (weight_of a.sent [])) (went _ _) full (table_gone a.process.table) tt
-
-  leaves_asked : (p : Process) (s : Space) (found : Result (List ℕ) Span) → Leaves (asked w p s found)
-  leaves_asked p s (Ok bytes) =
-      let a : Ask = ask_of w p s bytes in
-      leaves_if (is_exit (number_of p.regs)) (exited w a) (answered w a (row a))
-      (leaves_exited a) (leaves_answered a (row a) (all_rows a most low few))
-  leaves_asked p s (Err span) = tt
-
-  leaves_effect : (p : Process) (s : Space) (m : Meaning) → Leaves (effect w p s m)
-  unfolding stepped trapped ended answer
-  leaves_effect p s (next regs bytes) = same_tree
-  leaves_effect p s (trap signal) = table_gone p.table
-  leaves_effect p s (refused access) = tt
-  leaves_effect p s call = leaves_asked p s (sent (number_of p.regs) (args_of p.regs) s.bytes)
-
-  leaves_in : (p : Process) (found : Option LiveSpace) → Leaves (in_space (λ q s. effect w q s (meaning q.regs s.bytes (writable_in s.maps))) p found)
-  leaves_in p None = tt
-  leaves_in p (Some s) = leaves_effect p s.space (meaning p.regs s.space.bytes (writable_in s.space.maps))
-
-  leaves_by : (found : Option Process) → Leaves (by_process w.spaces (λ q s. effect w q s (meaning q.regs s.bytes (writable_in s.maps))) found)
-  leaves_by None = tt
-  leaves_by (Some p) = leaves_in p (find id_of p.space w.spaces)
-
-  leaves_event : (pid : ℕ) → Leaves (event w pid)
-  unfolding event at_process
-  leaves_event pid = leaves_by (find pid_of pid w.procs)
+  event_ages : (pid : ℕ) → Went (λ now t. LaterIn now.rest) (event w pid)
+  event_ages pid =
+      by_event (λ now t. LaterIn now.rest) LaterIn w same_tree pid (λ p s lives has. act_ages p s.space) (λ p s bytes. all_rows (ask_of w p s bytes) most low few)
 
 pub events_age_files : EventsAgeFiles
-events_age_files w pid now t most low few is = subst (Leaves w most low few) is (leaves_event w most low few pid)
+events_age_files w pid now t most low few is = subst (Went (λ v u. LaterIn w most low few v.rest)) is (event_ages w most low few pid)

@@ -22,7 +22,7 @@ use Rattle.machine_world.specs.PathCalls.{path_fault, path_of, with_path, remove
 -- what a row leaves outside of the space, if it replies
 abbrev pub Answers : (Rest → Type 0) → Row → Type 0
 Answers P (replies r) = P r.rest
-Answers P waits = ⊤
+Answers P (waits who) = ⊤
 
 -- the call's descriptor shows v, which leads there
 abbrev pub Shows : Ask → View → Target → Type 0

@@ -9,6 +9,7 @@
 -- Signals   the signals of instructions
 -- Kept      each change that a row may make outside of the space
 -- ByRows    what holds after each of them holds of what every row leaves
+-- ByEvents  what holds after each change of an event holds after every event, turn and run
 -- OtherTables  the tables of descriptors beside one that changes
 -- Beside    what an event leaves of all other processes, spaces and tables of descriptors
 -- FreeNumbers  the lowest free number isn't above the count of those that are taken
@@ -21,9 +22,6 @@
 -- PlacementLaws  which pages a block and a mapping of its own get
 -- NodesAge  nodes age by each change of the tree
 -- Aging     and so by rows and events
-mod Samples
-mod FileSamples
-mod MapSamples
 pub mod States
 pub mod TurnLaws
 pub mod RunLaws
@@ -32,14 +30,11 @@ pub mod Loads
 pub mod Signals
 pub mod Kept
 pub mod ByRows
+pub mod ByEvents
 pub mod OtherTables
-pub mod Beside
 pub mod FreeNumbers
 pub mod FewOpen
 pub mod Steady
-pub mod InOrder
-pub mod OrderKept
-pub mod OrderBegins
 pub mod Refused
 mod PlacementLaws
 pub mod NodesAge

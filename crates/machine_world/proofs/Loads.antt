@@ -1,145 +1,124 @@
 -- The programs that load notes name.
-use Rattle.std.proofs.Common.{◌≡◌, ℕ, zero, suc, ◌<◌, Bool, true, false, List, [], ◌∷◌, length, Some, None, refl, sym, ap, subst, map, arith}
-use Rattle.std.specs.Prelude.{Option, Result, Ok, Err, slice_get, if◌then◌else◌}
+use Rattle.std.proofs.Common.{◌≡◌, ℕ, zero, suc, ◌<◌, Bool, true, false, List, [], ◌∷◌, length, Some, None, refl, sym, ap, subst, arith}
+use Rattle.std.specs.Prelude.{Option, Result, Ok, Err, slice_get}
 use Rattle.std.proofs.lemmas.Option.{same_Some}
-use Rattle.byte_words.specs.ByteMap.{Bytes}
-use Rattle.rv32im_step.specs.Meaning.{Meaning, next, call, trap, refused, meaning}
-use Rattle.mmap_rules.specs.Space.{Space, writable_in}
-use Rattle.quantum_sched.specs.Picked.{picked}
-use Rattle.vfork_exec.specs.Keyed.{find}
-use Rattle.call_log.specs.Notes.{has_room, weight_of}
-use Rattle.call_log.specs.Sent.{Span, sent}
+use Rattle.mmap_rules.specs.Space.{Space}
 use Rattle.flat_loader.specs.Original.{block_pages}
 use Rattle.flat_loader.specs.Frame.{frame_fits}
-use Rattle.machine_world.specs.World.{Program, Process, LiveSpace, Rest, World, pid_of, id_of}
 use Rattle.call_log.specs.declared.errno.Errno.{Errno}
 use Rattle.mem_files.specs.Inodes.{program_of}
 use Rattle.mem_files.specs.Paths.{lookup}
+use Rattle.machine_world.specs.World.{Program, Process, Rest, World}
 use Rattle.machine_world.specs.Free.{free}
-use Rattle.machine_world.specs.Asks.{Ask, Reply, Row, replies, waits}
-use Rattle.machine_world.specs.Rows.{row}
-use Rattle.machine_world.specs.Event.{Outcome, went, strays, full, idle, number_of, args_of, put_got, stepped, trapped, ended, served, put, waited, answered, exited, is_exit, asked, ask_of, answer, effect, in_space, by_process, at_process, event}
-use Rattle.machine_world.specs.Turns.{Walk, End, stays_at, traced, turned, turn, going_on, quantum_turn, turns}
-use Rattle.machine_world.specs.Boot.{StartLine, BootFault, Found, found, found_program, found_mark, found_node, path_of, taken, placed, fitting, located, started, all_started, then_started, empty_world, boot}
-use Rattle.machine_world.specs.Programs.{AreLoaded, BootsLoadPrograms, TurnsLoadNothing, RunsLoadNothing}
+use Rattle.machine_world.specs.Asks.{Ask}
+use Rattle.machine_world.specs.Found.{Found, found, found_program, found_mark, found_node, taken}
+use Rattle.machine_world.specs.FamilyCalls.{or_eacces, runs_node, runs}
+use Rattle.machine_world.specs.Event.{ended, ask_of, event}
+use Rattle.machine_world.specs.Boot.{StartLine, BootFault, path_of, placed, fitting, located, started, all_started, then_started, empty_world, boot}
+use Rattle.machine_world.specs.Programs.{AreLoaded, LoadsPrograms, BootsLoadPrograms, TurnsLoadPrograms, RunsLoadPrograms}
+use Rattle.machine_world.proofs.Kept.{Kept}
+use Rattle.machine_world.proofs.ByRows.{by_rows}
+use Rattle.machine_world.proofs.ByEvents.{Answered, Happened, Keeps, by_event, by_turn, by_turns}
 
--- ---- an event
+-- ---- a program that is found is there
 
-abbrev Stays : ℕ → Outcome → Type 0
-Stays n (went now t) = AreLoaded n now.notes
-Stays n (strays access) = Unit {0}
-Stays n full = Unit {0}
-Stays n idle = Unit {0}
-
-stays_if : (n : ℕ) (b : Bool) (x y : Outcome) → Stays n x → Stays n y → Stays n (if b then x else y)
-stays_if n true x y hx hy = hx
-stays_if n false x y hx hy = hy
-
-module _ (n : ℕ) (w : World) (are : AreLoaded n w.notes) where
-  stays_served : (a : Ask) (r : Reply) (bytes : Bytes) → Stays n (served w a r bytes)
-  unfolding served
-  stays_served a r bytes = stays_if n (has_room w.notes (weight_of a.sent r.got)) (went _ _) full (tt, are) tt
-
-  stays_put : (a : Ask) (r : Reply) (found : Result Bytes Span) → Stays n (put w a r found)
-  stays_put a r (Ok bytes) = stays_served a r bytes
-  stays_put a r (Err span) = tt
-
-  stays_answered : (a : Ask) (r : Row) → Stays n (answered w a r)
-  unfolding waited
-  stays_answered a (replies r) = stays_put a r (put_got r.space.bytes (writable_in r.space.maps) r.got)
-  stays_answered a waits = are
-
-  stays_exited : (a : Ask) → Stays n (exited w a)
-  unfolding exited ended
-  stays_exited a = stays_if n (has_room w.notes (weight_of a.sent [])) (went _ _) full (tt, (tt, are)) tt
-
-  stays_asked : (p : Process) (s : Space) (found : Result (List ℕ) Span) → Stays n (asked w p s found)
-  stays_asked p s (Ok bytes) =
-      stays_if n (is_exit (number_of p.regs)) (exited w (ask_of w p s bytes)) (answered w (ask_of w p s bytes) (row (ask_of w p s bytes)))
-      (stays_exited (ask_of w p s bytes)) (stays_answered (ask_of w p s bytes) (row (ask_of w p s bytes)))
-  stays_asked p s (Err span) = tt
-
-  stays_effect : (p : Process) (s : Space) (m : Meaning) → Stays n (effect w p s m)
-  unfolding stepped trapped ended answer
-  stays_effect p s (next regs bytes) = are
-  stays_effect p s (trap signal) = (tt, are)
-  stays_effect p s (refused access) = tt
-  stays_effect p s call = stays_asked p s (sent (number_of p.regs) (args_of p.regs) s.bytes)
-
-  stays_in : (p : Process) (found : Option LiveSpace) → Stays n (in_space (λ q s. effect w q s (meaning q.regs s.bytes (writable_in s.maps))) p found)
-  stays_in p None = tt
-  stays_in p (Some s) = stays_effect p s.space (meaning p.regs s.space.bytes (writable_in s.space.maps))
-
-  stays_by : (found : Option Process) → Stays n (by_process w.spaces (λ q s. effect w q s (meaning q.regs s.bytes (writable_in s.maps))) found)
-  stays_by None = tt
-  stays_by (Some p) = stays_in p (find id_of p.space w.spaces)
-
-  stays_event : (pid : ℕ) → Stays n (event w pid)
-  unfolding event at_process
-  stays_event pid = stays_by (find pid_of pid w.procs)
-
--- ---- turns
-
-turned_stays : (n : ℕ) (more : World → Walk) (w : World) (pid : ℕ) (o : Outcome) → AreLoaded n w.notes → Stays n o
-    → ((v : World) → AreLoaded n v.notes → AreLoaded n (more v).world.notes) → AreLoaded n (turned more w pid o).world.notes
-turned_stays n more w pid (went now t) are stays on = over t.over
-  where
-    over : (b : Bool) → AreLoaded n (traced t (if b then stays_at now None else more now)).world.notes
-    over true = stays
-    over false = on now stays
-turned_stays n more w pid (strays access) are stays on = (tt, are)
-turned_stays n more w pid full are stays on = are
-turned_stays n more w pid idle are stays on = are
-
-pub turn_loads_nothing : TurnsLoadNothing
-unfolding turn
-turn_loads_nothing n zero pid w are = are
-turn_loads_nothing n (suc count) pid w are =
-    turned_stays n (turn count pid) w pid (event w pid) are (stays_event n w are pid) (λ v h. turn_loads_nothing n count pid v h)
-
-quantum_stays : (n : ℕ) (more : World → Walk) (w : World) (count : ℕ) (chosen : Option ℕ) → AreLoaded n w.notes
-    → ((v : World) → AreLoaded n v.notes → AreLoaded n (more v).world.notes) → AreLoaded n (quantum_turn more w count chosen).world.notes
-quantum_stays n more w count None are on = are
-quantum_stays n more w count (Some pid) are on = goes (turn count pid w) (turn_loads_nothing n count pid w are)
-  where
-    goes : (walk : Walk) → AreLoaded n walk.world.notes → AreLoaded n (going_on more walk).world.notes
-    goes walk h = at walk.end
-      where
-        at : (end : Option End) → AreLoaded n (going_on more (record walk { end = end })).world.notes
-        at (Some end) = h
-        at None = on walk.world h
-
-pub run_loads_nothing : RunsLoadNothing
-unfolding turns
-run_loads_nothing n [] w are = are
-run_loads_nothing n (q ∷ qs) w are = quantum_stays n (turns qs) w q.count (picked q.pick (map pid_of w.procs)) are (λ v h. run_loads_nothing n qs v h)
-
--- ---- the start lines
-
--- a program that is found is there
 place_below : (ps : List Program) (i : ℕ) (p : Program) → slice_get ps i ≡ Some p → i < length ps
 place_below [] i p is = absurd cc
 place_below (p ∷ ps) zero q is = omega arith
 place_below (p ∷ ps) (suc i) q is = let more = place_below ps i q is in omega (arith, more)
 
+program_below : (rest : Rest) (f : Found) (i : ℕ) (p : Option Program) → slice_get rest.programs i ≡ p → found_program i p ≡ Some f → f.index < length rest.programs
+program_below rest f i None there same = absurd cc
+program_below rest f i (Some p) there same =
+    let e : i ≡ f.index = ap (λ (g : Found). g.index) (same_Some _ _ same) in
+    let below = place_below rest.programs i p there in
+    omega (arith, e, below)
+
+mark_below : (rest : Rest) (f : Found) (mark : Option ℕ) → found_mark rest.programs mark ≡ Some f → f.index < length rest.programs
+mark_below rest f None same = absurd cc
+mark_below rest f (Some i) same = program_below rest f i (slice_get rest.programs i) refl same
+
 found_below : (rest : Rest) (path : List ℕ) (f : Found) → found rest path ≡ Some f → f.index < length rest.programs
 found_below rest path f is = by_node (lookup rest.tree path) is
   where
-    by_program : (i : ℕ) (p : Option Program) → slice_get rest.programs i ≡ p → found_program i p ≡ Some f → f.index < length rest.programs
-    by_program i None there same = absurd cc
-    by_program i (Some p) there same =
-        let e : i ≡ f.index = ap (λ (g : Found). g.index) (same_Some _ _ same) in
-        let below = place_below rest.programs i p there in
-        omega (arith, e, below)
-
-    by_mark : (mark : Option ℕ) → found_mark rest.programs mark ≡ Some f → f.index < length rest.programs
-    by_mark None same = absurd cc
-    by_mark (Some i) same = by_program i (slice_get rest.programs i) refl same
-
     by_node : (node : Result (Option ℕ) Errno) → found_node rest node ≡ Some f → f.index < length rest.programs
-    by_node (Ok (Some node)) same = by_mark (program_of rest.tree node) same
+    by_node (Ok (Some node)) same = mark_below rest f (program_of rest.tree node) same
     by_node (Ok None) same = absurd cc
     by_node (Err errno) same = absurd cc
+
+mark_runs : (o : Option Found) (f : Found) → or_eacces o ≡ Ok f → o ≡ Some f
+mark_runs None f is = absurd cc
+mark_runs (Some g) f is = let same : g ≡ f = cc in ap Some same
+
+runs_below : (rest : Rest) (path : List ℕ) (f : Found) → runs rest path ≡ Ok f → f.index < length rest.programs
+runs_below rest path f is = by_node (lookup rest.tree path) is
+  where
+    by_node : (node : Result (Option ℕ) Errno) → runs_node rest node ≡ Ok f → f.index < length rest.programs
+    by_node (Ok (Some node)) same =
+        mark_below rest f (program_of rest.tree node) (mark_runs (found_mark rest.programs (program_of rest.tree node)) f same)
+    by_node (Ok None) same = absurd cc
+    by_node (Err errno) same = absurd cc
+
+-- ---- an event
+
+-- so many programs
+abbrev Counts : ℕ → Rest → Type 0
+Counts n rest = length rest.programs ≡ n
+
+rows_count : (n : ℕ) (a : Ask) → Counts n a.rest → Kept (Counts n) a
+rows_count n a same = record {
+  dup = λ free is. same;
+  dup3 = λ none. same;
+  close = λ none. same;
+  seek = λ v node at shows is. same;
+  list = λ v node shows is. same;
+  read = λ v node spans shows reads is. same;
+  take = λ v spans shows reads. same;
+  write = λ v node bytes nodes shows may some is. same;
+  print = λ v bytes shows may. same;
+  make = λ nodes is. same;
+  remove = λ nodes is. same;
+  open_old = λ fd node free found none. same;
+  open_new = λ fd nodes free found may made. same;
+}
+
+module _ (n : ℕ) (w : World) (h : LoadsPrograms n w) where
+  call_loads : (a : Ask) → Answered (λ now t. LoadsPrograms n now) (Counts n) w a
+  unfolding ended
+  call_loads a = record {
+    reply = λ ended r m same room. record { count = same; loaded = (tt, h.loaded) };
+    wait = λ who. record { count = h.count; loaded = h.loaded };
+    exit = λ room. record { count = h.count; loaded = (tt, (tt, h.loaded)) };
+    fork = λ few room. record { count = h.count; loaded = (tt, h.loaded) };
+    load = λ f s page is fits room.
+        let below = runs_below w.rest _ f is in
+        record { count = h.count; loaded = (omega (arith, below, h.count), (tt, h.loaded)) };
+  }
+
+  act_loads : (p : Process) (s : Space) → Happened (λ now t. LoadsPrograms n now) (Counts n) w p s
+  unfolding ended
+  act_loads p s = record {
+    step = λ regs bytes. record { count = h.count; loaded = h.loaded };
+    trap = λ signal. record { count = h.count; loaded = (tt, h.loaded) };
+    calls = λ bytes. call_loads (ask_of w p s bytes);
+  }
+
+  event_loads : (pid : ℕ) → Keeps (LoadsPrograms n) (event w pid)
+  event_loads pid =
+      by_event (λ now t. LoadsPrograms n now) (Counts n) w h.count pid (λ p s lives has. act_loads p s.space)
+      (λ p s bytes. by_rows (Counts n) (ask_of w p s bytes) (rows_count n (ask_of w p s bytes) h.count) h.count)
+
+-- ---- turns
+
+pub turn_loads_programs : TurnsLoadPrograms
+turn_loads_programs n count pid w h =
+    by_turn (LoadsPrograms n) (λ v own holds. event_loads n v holds own) (λ v own access holds. record { count = holds.count; loaded = (tt, holds.loaded) }) count pid w h
+
+pub run_loads_programs : RunsLoadPrograms
+run_loads_programs n quanta w h =
+    by_turns (LoadsPrograms n) (λ v own holds. event_loads n v holds own) (λ v own access holds. record { count = holds.count; loaded = (tt, holds.loaded) }) quanta w h
+
+-- ---- the start lines
 
 -- what a start line gives has its load note, of a program that is there, and the same programs
 abbrev Began : List Program → Result World BootFault → Type 0
@@ -176,4 +155,6 @@ began_all programs (s ∷ ss) w same are = on (started w s) (subst (λ r. Began 
 
 pub boot_loads_programs : BootsLoadPrograms
 unfolding boot
-boot_loads_programs rest starts w is = (subst (Began rest.programs) is (began_all rest.programs starts (empty_world rest) refl tt)).0
+boot_loads_programs rest starts w is =
+    let began = subst (Began rest.programs) is (began_all rest.programs starts (empty_world rest) refl tt) in
+    record { count = ap length began.1; loaded = began.0 }

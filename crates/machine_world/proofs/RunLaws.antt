@@ -1,9 +1,10 @@
 -- Runs, quantum by quantum.
-use Rattle.std.proofs.Common.{◌≡◌, ℕ, List, [], ◌∷◌, ◌++◌, map, length, Option, Some, None, refl, sym, ap, ◌∙◌, append_assoc}
+use Rattle.std.proofs.Common.{◌≡◌, ℕ, List, [], ◌∷◌, ◌++◌, length, Option, Some, None, refl, sym, ap, ◌∙◌, append_assoc}
 use Rattle.std.specs.Prelude.{◌==◌, if◌then◌else◌}
 use Rattle.quantum_sched.specs.declared.Quantum.{Quantum}
 use Rattle.quantum_sched.specs.Picked.{picked}
-use Rattle.machine_world.specs.World.{World, pid_of}
+use Rattle.machine_world.specs.World.{World}
+use Rattle.machine_world.specs.Families.{ready_pids}
 use Rattle.machine_world.specs.Turns.{End, all_ended, out_of_quanta, Walk, stays_at, turn, turns, walked, going_on, quantum_turn}
 use Rattle.machine_world.specs.Courses.{Comes}
 use Rattle.machine_world.proofs.TurnLaws.{walked_more}
@@ -22,15 +23,15 @@ comes_on front more old mid new x y = record {
 -- ---- one quantum
 
 module _ (q : Quantum) (w : World) where
-  turns_next : (qs : List Quantum) (pid : Option ℕ) → picked q.pick (map pid_of w.procs) ≡ pid → turns (q ∷ qs) w ≡ quantum_turn (turns qs) w q.count pid
+  turns_next : (qs : List Quantum) (pid : Option ℕ) → picked q.pick (ready_pids w.procs) ≡ pid → turns (q ∷ qs) w ≡ quantum_turn (turns qs) w q.count pid
   unfolding turns
   turns_next qs pid is = ap (quantum_turn (turns qs) w q.count) is
 
-  -- no process lives
-  pub none_chosen : picked q.pick (map pid_of w.procs) ≡ None → (qs : List Quantum) → turns (q ∷ qs) w ≡ stays_at w (Some all_ended)
+  -- no process may run
+  pub none_chosen : picked q.pick (ready_pids w.procs) ≡ None → (qs : List Quantum) → turns (q ∷ qs) w ≡ stays_at w (Some all_ended)
   none_chosen is qs = turns_next qs None is
 
-  module _ (pid : ℕ) (chosen : picked q.pick (map pid_of w.procs) ≡ Some pid) (walk : Walk) (is : turn q.count pid w ≡ walk) where
+  module _ (pid : ℕ) (chosen : picked q.pick (ready_pids w.procs) ≡ Some pid) (walk : Walk) (is : turn q.count pid w ≡ walk) where
     -- the turn stops the run
     pub turn_stops : (end : End) → walk.end ≡ Some end → (qs : List Quantum) → turns (q ∷ qs) w ≡ walk
     turn_stops end stops qs = turns_next qs (Some pid) chosen ∙ ap (going_on (turns qs)) is ∙ goes walk stops
@@ -49,6 +50,6 @@ unfolding turns
 none_left w = refl
 
 -- where no process lives, the first quantum tells it
-pub none_lives : (q : Quantum) (w : World) → w.procs ≡ [] → picked q.pick (map pid_of w.procs) ≡ None
-unfolding picked
+pub none_lives : (q : Quantum) (w : World) → w.procs ≡ [] → picked q.pick (ready_pids w.procs) ≡ None
+unfolding picked ready_pids
 none_lives q w is = rw is refl

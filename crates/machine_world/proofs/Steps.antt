@@ -1,5 +1,5 @@
 -- Instructions of one process, one after the other, are as many events.
-use Rattle.std.proofs.Common.{◌≡◌, ℕ, zero, suc, ◌+◌, false, [], Some, refl, sym, ap, subst, ◌∙◌, arith}
+use Rattle.std.proofs.Common.{◌≡◌, ℕ, zero, suc, ◌+◌, false, [], Some, None, refl, sym, ap, subst, ◌∙◌, arith}
 use Rattle.byte_words.specs.ByteMap.{Bytes}
 use Rattle.rv32im_step.specs.declared.regs.Regs.{Regs}
 use Rattle.rv32im_step.specs.declared.stop.Stop.{Stop}
@@ -39,7 +39,7 @@ module _ (pid : ℕ) where
       → meaning p.regs s.space.bytes (writable_in s.space.maps) ≡ next after now → Leads pid w 1 (moved w p after (record s.space { bytes = now }) 1)
   unfolding stepped
   one w p s lives has after now is =
-      leads_event pid w (moved w p after (record s.space { bytes = now }) 1) (record { space = p.space; events = 1; items = []; over = false })
+      leads_event pid w (moved w p after (record s.space { bytes = now }) 1) (record { space = p.space; events = 1; items = []; begins = None; over = false })
       (event_is w pid p s lives has ∙ ap (effect w p s.space) is) refl
 
   pub run_on : (n : ℕ) (w : World) (p : Process) (s : LiveSpace) → find pid_of pid w.procs ≡ Some p → find id_of p.space w.spaces ≡ Some s

@@ -1,13 +1,12 @@
 -- What waitid, clone and execve are asked (Linux, wait(2), vfork(2), execve(2), include/uapi/linux/wait.h, sched.h and
 -- asm-generic/siginfo.h, in this project's profile).
-use Rattle.std.specs.Prelude.{ℕ, ◌%◌, ◌==◌, Bool, not, ◌||◌, nat_le, nat_lt, if◌then◌else◌, List, [], ◌∷◌, flat_map, replicate, Option, Some, None, Result, Ok, Err}
+use Rattle.std.specs.Prelude.{ℕ, ◌==◌, Bool, not, ◌||◌, nat_lt, if◌then◌else◌, List, [], ◌∷◌, flat_map, replicate, Option, Some, None, Result, Ok, Err}
 use Rattle.byteorder.specs.Endian.{little_bytes}
 use Rattle.byte_words.specs.Search.{first}
 use Rattle.call_log.specs.declared.errno.Errno.{Errno}
 use Rattle.call_log.specs.declared.errno.Errno.TheVariants.{Enoent, Eacces, Einval}
 use Rattle.call_log.specs.declared.how.How.{How}
 use Rattle.call_log.specs.declared.how.How.TheVariants.{Exit, Signal}
-use Rattle.call_log.specs.Flags.{has_flag}
 use Rattle.call_log.specs.Notes.{Written}
 use Rattle.mem_files.specs.Inodes.{program_of}
 use Rattle.mem_files.specs.Paths.{lookup}

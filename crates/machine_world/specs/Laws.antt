@@ -1,5 +1,5 @@
 -- Laws of events.
-use Rattle.std.specs.Prelude.{◌≡◌, ℕ, false, if◌then◌else◌, List, [], ◌∷◌, Some}
+use Rattle.std.specs.Prelude.{◌≡◌, ℕ, false, if◌then◌else◌, List, [], ◌∷◌, Some, None}
 use Rattle.mmap_rules.specs.Space.{writable_in}
 use Rattle.region_watch.specs.Instructions.{Ran, instructions}
 use Rattle.vfork_exec.specs.Keyed.{find, change}
