@@ -69,7 +69,7 @@ impl State {
     }
 
     /// The state of process `own` once a process with this pid and this parent has ended.
-    #[tactic(auto, unfolding(crate::specs::Families::state_behind))]
+    #[tactic(auto, unfolding(crate::specs::Families::state_behind, crate::specs::Families::resumed))]
     pub fn behind(self, own: u32, pid: u32, parent: u32) -> State
         ensures { result ≡ state_behind own pid parent self }
     {

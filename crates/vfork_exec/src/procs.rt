@@ -201,7 +201,7 @@ impl<P> Procs<P> {
     /// How many processes live.
     pub fn live(&self) -> u32
         ensures count { result ≡ length self.now.entries }
-        ensures most { length self.now.entries + length self.now.ended ≤ most_entries }
+        ensures most { count self.now ≤ most_entries }
         ensures falls { Falls pid_of self.now.next_pid self.now.entries }
     {
         self.entries.len() as u32
