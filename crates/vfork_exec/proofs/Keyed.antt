@@ -1,11 +1,11 @@
 -- Laws of lists whose items have numbers of their own.
 use Rattle.std.proofs.Common.{◌≡◌, ◌≢◌, ℕ, suc, ◌<◌, ◌≤◌, Bool, true, false, not, cond, ◌⊎◌, inl, inr, List, [], ◌∷◌, map, length, set, Some, None, refl, sym, ap, subst, ◌∙◌, arith}
-use Rattle.std.specs.Prelude.{◌==◌, nat_lt, is_some, IsSome, filter, slice_get, option_map}
-use Rattle.std.specs.List.{remove}
+use Rattle.std.specs.Prelude.{◌==◌, ◌||◌, nat_lt, is_some, IsSome, filter, slice_get, option_map}
+use Rattle.std.specs.List.{remove, list_any}
 use Rattle.std.proofs.lemmas.Bool.Decides.{nat_tests}
 use Rattle.vfork_exec.specs.Keyed.{find, change, without, place_of, Falls}
 
-decide : (b : Bool) → (b ≡ true) ⊎ (b ≡ false)
+pub decide : (b : Bool) → (b ≡ true) ⊎ (b ≡ false)
 decide true = inl refl
 decide false = inr refl
 
@@ -15,7 +15,7 @@ eqb_other n k h = grind (arith, nat_tests)
 pub eqb_same : (n k : ℕ) → n ≡ k → (n == k) ≡ true
 eqb_same n k h = grind (arith, nat_tests)
 
-eqb_is : (n k : ℕ) → (n == k) ≡ true → n ≡ k
+pub eqb_is : (n k : ℕ) → (n == k) ≡ true → n ≡ k
 eqb_is n k h = grind (arith, nat_tests)
 
 lt_suc : (n : ℕ) → nat_lt 0 (suc n) ≡ true
@@ -24,9 +24,30 @@ lt_suc n = grind (arith, nat_tests)
 lt_both : (m n : ℕ) → nat_lt (suc m) (suc n) ≡ nat_lt m n
 lt_both m n = grind (arith, nat_tests)
 
-falls_more : {A : Type 0} (key : A → ℕ) (b c : ℕ) (xs : List A) → b ≤ c → Falls key b xs → Falls key c xs
+pub falls_more : {A : Type 0} (key : A → ℕ) (b c : ℕ) (xs : List A) → b ≤ c → Falls key b xs → Falls key c xs
 falls_more key b c [] le f = tt
 falls_more key b c (x ∷ xs) le f = (omega (arith, f.0, le), f.1)
+
+-- ---- a test at a list's head
+
+any_head : {A : Type 0} (p : A → Bool) (x : A) (xs : List A) (b : Bool) → p x ≡ b → list_any p (x ∷ xs) ≡ (b || list_any p xs)
+any_head p x xs b is = ap (λ t. t || list_any p xs) is
+
+any_here : {A : Type 0} (p : A → Bool) (x : A) (xs : List A) → p x ≡ true → list_any p (x ∷ xs) ≡ true
+any_here p x xs is = any_head p x xs true is
+
+pub any_there : {A : Type 0} (p : A → Bool) (x : A) (xs : List A) → list_any p xs ≡ true → list_any p (x ∷ xs) ≡ true
+any_there p x xs is = elim (decide (p x)) [
+  | inl here ↦ any_head p x xs true here
+  | inr here ↦ any_head p x xs false here ∙ is
+]
+
+pub any_map : {A B : Type 0} (p : B → Bool) (q : A → Bool) (g : A → B) → ((x : A) → p (g x) ≡ q x) → (xs : List A) → list_any p (map g xs) ≡ list_any q xs
+any_map p q g same [] = refl
+any_map p q g same (x ∷ xs) = ap (λ t. t || list_any p (map g xs)) (same x) ∙ ap (λ t. q x || t) (any_map p q g same xs)
+
+filter_head : {A : Type 0} (p : A → Bool) (x : A) (xs : List A) (b : Bool) → p x ≡ b → filter p (x ∷ xs) ≡ cond b (x ∷ filter p xs) (filter p xs)
+filter_head p x xs b is = ap (λ t. cond t (x ∷ filter p xs) (filter p xs)) is
 
 module _ {A : Type 0} (key : A → ℕ) (k : ℕ) where
   -- ---- the words at a list's head
@@ -35,11 +56,11 @@ module _ {A : Type 0} (key : A → ℕ) (k : ℕ) where
   unfolding find
   find_head x xs b is = ap (λ (t : Bool). cond t (Some x) (find key k xs)) is
 
-  change_head : (f : A → A) (x : A) (xs : List A) (b : Bool) → (key x == k) ≡ b → change key k f (x ∷ xs) ≡ cond b (f x ∷ xs) (x ∷ change key k f xs)
+  pub change_head : (f : A → A) (x : A) (xs : List A) (b : Bool) → (key x == k) ≡ b → change key k f (x ∷ xs) ≡ cond b (f x ∷ xs) (x ∷ change key k f xs)
   unfolding change
   change_head f x xs b is = ap (λ (t : Bool). cond t (f x ∷ xs) (x ∷ change key k f xs)) is
 
-  without_head : (x : A) (xs : List A) (b : Bool) → (key x == k) ≡ b → without key k (x ∷ xs) ≡ cond (not b) (x ∷ without key k xs) (without key k xs)
+  pub without_head : (x : A) (xs : List A) (b : Bool) → (key x == k) ≡ b → without key k (x ∷ xs) ≡ cond (not b) (x ∷ without key k xs) (without key k xs)
   unfolding without
   without_head x xs b is = ap (λ (t : Bool). cond (not t) (x ∷ filter (λ y. not (key y == k)) xs) (filter (λ y. not (key y == k)) xs)) is
 
@@ -115,6 +136,43 @@ module _ {A : Type 0} (key : A → ℕ) (k : ℕ) where
     | inr is ↦ rw (change_head f x xs false is) (h.0, falls_change f same (key x) xs h.1)
   ]
 
+  -- ---- what is found
+
+  pub find_key : (xs : List A) (x : A) → find key k xs ≡ Some x → key x ≡ k
+  unfolding find
+  find_key [] x h = absurd cc
+  find_key (y ∷ ys) x h = elim (decide (key y == k)) [
+    | inl is ↦ let same : y ≡ x = let e = sym (find_head y ys true is) ∙ h in cc in ap key (sym same) ∙ eqb_is (key y) k is
+    | inr is ↦ find_key ys x (sym (find_head y ys false is) ∙ h)
+  ]
+
+  pub find_below : (b : ℕ) (xs : List A) (x : A) → Falls key b xs → find key k xs ≡ Some x → k < b
+  unfolding find
+  find_below b [] x f h = absurd cc
+  find_below b (y ∷ ys) x f h = elim (decide (key y == k)) [
+    | inl is ↦ let e = eqb_is (key y) k is in omega (arith, e, f.0)
+    | inr is ↦ let e = find_below (key y) ys x f.1 (sym (find_head y ys false is) ∙ h) in omega (arith, e, f.0)
+  ]
+
+  -- behind an item of another number
+  pub find_later : (x : A) (xs : List A) → key x ≢ k → find key k (x ∷ xs) ≡ find key k xs
+  find_later x xs other = find_head x xs false (eqb_other (key x) k other)
+
+  pub lives_later : (x : A) (xs : List A) → IsSome (find key k xs) → IsSome (find key k (x ∷ xs))
+  lives_later x xs h = elim (decide (key x == k)) [
+    | inl is ↦ rw (find_head x xs true is) refl
+    | inr is ↦ rw (find_head x xs false is) h
+  ]
+
+  -- an item that is found passes
+  pub found_any : (p : A → Bool) (xs : List A) (x : A) → find key k xs ≡ Some x → p x ≡ true → list_any p xs ≡ true
+  unfolding find
+  found_any p [] x h is = absurd cc
+  found_any p (y ∷ ys) x h is = elim (decide (key y == k)) [
+    | inl here ↦ let same : y ≡ x = let e = sym (find_head y ys true here) ∙ h in cc in any_here p y ys (ap p same ∙ is)
+    | inr here ↦ any_there p y ys (found_any p ys x (sym (find_head y ys false here) ∙ h) is)
+  ]
+
   -- ---- finding after a change
 
   pub find_changed : (f : A → A) → ((x : A) → key (f x) ≡ key x) → (xs : List A) → find key k (change key k f xs) ≡ option_map f (find key k xs)
@@ -123,6 +181,15 @@ module _ {A : Type 0} (key : A → ℕ) (k : ℕ) where
   find_changed f same (x ∷ xs) = elim (decide (key x == k)) [
     | inl is ↦ rw (change_head f x xs true is, find_head x xs true is, find_head (f x) xs true (ap (λ n. n == k) (same x) ∙ is)) refl
     | inr is ↦ rw (change_head f x xs false is, find_head x xs false is, find_head x (change key k f xs) false is) (find_changed f same xs)
+  ]
+
+  -- a test that the change doesn't reach
+  pub any_change : (p : A → Bool) (f : A → A) → ((x : A) → p (f x) ≡ p x) → (xs : List A) → list_any p (change key k f xs) ≡ list_any p xs
+  unfolding change
+  any_change p f same [] = refl
+  any_change p f same (x ∷ xs) = elim (decide (key x == k)) [
+    | inl is ↦ rw (change_head f x xs true is) (ap (λ t. t || list_any p xs) (same x))
+    | inr is ↦ rw (change_head f x xs false is) (ap (λ t. p x || t) (any_change p f same xs))
   ]
 
   pub find_gone : (xs : List A) → find key k (without key k xs) ≡ None
@@ -202,4 +269,50 @@ module _ {A B : Type 0} (key : A → ℕ) (label : B → ℕ) (k : ℕ) (g : A �
   without_map (x ∷ xs) = elim (decide (key x == k)) [
     | inl is ↦ rw (without_head key k x xs true is, without_head label k (g x) (map g xs) true (test x true is)) (without_map xs)
     | inr is ↦ rw (without_head key k x xs false is, without_head label k (g x) (map g xs) false (test x false is)) (ap (λ ys. g x ∷ ys) (without_map xs))
+  ]
+
+  pub falls_map : (b : ℕ) (xs : List A) → Falls key b xs → Falls label b (map g xs)
+  falls_map b [] f = tt
+  falls_map b (x ∷ xs) f = subst (λ n. (n < b) × Falls label n (map g xs)) (sym (same x)) (f.0, falls_map (key x) xs f.1)
+
+  pub keys_map : (xs : List A) → map label (map g xs) ≡ map key xs
+  keys_map [] = refl
+  keys_map (x ∷ xs) = ap (λ n. n ∷ map label (map g xs)) (same x) ∙ ap (λ ns. key x ∷ ns) (keys_map xs)
+
+-- ---- items that pass a test
+
+module _ {A : Type 0} (key : A → ℕ) (p : A → Bool) where
+  pub falls_filter : (b : ℕ) (xs : List A) → Falls key b xs → Falls key b (filter p xs)
+  falls_filter b [] f = tt
+  falls_filter b (x ∷ xs) f = elim (decide (p x)) [
+    | inl is ↦ rw (filter_head p x xs true is) (f.0, falls_filter (key x) xs f.1)
+    | inr is ↦ rw (filter_head p x xs false is) (falls_more key (key x) b (filter p xs) (omega (arith, f.0)) (falls_filter (key x) xs f.1))
+  ]
+
+  -- one that passes is found among those that pass
+  pub find_passing : (k : ℕ) (xs : List A) (x : A) → find key k xs ≡ Some x → p x ≡ true → find key k (filter p xs) ≡ Some x
+  unfolding find
+  find_passing k [] x h is = h
+  find_passing k (y ∷ ys) x h is = elim (decide (key y == k)) [
+    | inl here ↦
+        let same : y ≡ x = let e = sym (find_head key k y ys true here) ∙ h in cc in
+        rw (filter_head p y ys true (ap p same ∙ is), find_head key k y (filter p ys) true here) (ap Some same)
+    | inr here ↦
+        let e = find_passing k ys x (sym (find_head key k y ys false here) ∙ h) is in
+        elim (decide (p y)) [
+          | inl passes ↦ rw (filter_head p y ys true passes, find_head key k y (filter p ys) false here) e
+          | inr passes ↦ rw (filter_head p y ys false passes) e
+        ]
+  ]
+
+  -- one that passes has a number under which it is found
+  pub any_found : (b : ℕ) (xs : List A) → Falls key b xs → list_any p xs ≡ true → (x : A) × (find key (key x) xs ≡ Some x) × (p x ≡ true)
+  unfolding find
+  any_found b [] f h = absurd cc
+  any_found b (y ∷ ys) f h = elim (decide (p y)) [
+    | inl is ↦ (y, find_head key (key y) y ys true (eqb_same (key y) (key y) refl), is)
+    | inr is ↦
+        let later = any_found (key y) ys f.1 (sym (any_head p y ys false is) ∙ h) in
+        let less : key later.0 < key y = find_below key (key later.0) (key y) ys later.0 f.1 later.1 in
+        (later.0, find_later key (key later.0) y ys (omega (arith, less)) ∙ later.1, later.2)
   ]

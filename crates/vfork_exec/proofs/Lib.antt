@@ -1,2 +1,5 @@
 pub mod Keyed
 pub mod Places
+mod Loops
+pub mod Families
+pub mod WaitsWell

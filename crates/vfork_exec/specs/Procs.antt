@@ -82,12 +82,15 @@ module _ {P : Type 0} where
 
   -- ---- a process more
 
-  -- that no process started
-  abbrev pub with_start : Listed P → P → Listed P
-  with_start s value = record s {
-    entries = record { pid = s.next_pid; parent = 0; state = Ready; value = value } ∷ s.entries;
+  abbrev pub with_entry : Listed P → (parent : ℕ) → P → Listed P
+  with_entry s parent value = record s {
+    entries = record { pid = s.next_pid; parent = parent; state = Ready; value = value } ∷ s.entries;
     next_pid = s.next_pid + 1;
   }
+
+  -- that no process started
+  abbrev pub with_start : Listed P → P → Listed P
+  with_start s value = with_entry s 0 value
 
   -- where there are 64 nothing starts
   abbrev pub Starts : Listed P → P → Listed P → Option ℕ → Type 0
@@ -112,14 +115,14 @@ module _ {P : Type 0} where
   abbrev pub with_exec : Listed P → ℕ → Listed P
   with_exec s pid = record s { entries = map (λ e. with_state e (resumed pid e.state)) s.entries }
 
-  -- another process behind the end of this one
-  abbrev pub left_by : Entry P → Entry P → Entry P
-  left_by gone e = record e { parent = parent_behind gone.pid e.parent; state = state_behind e.pid gone.pid gone.parent e.state }
+  -- another process behind the end of one with this pid and this parent
+  abbrev pub behind : (pid parent : ℕ) → Entry P → Entry P
+  behind pid parent e = record e { parent = parent_behind pid e.parent; state = state_behind e.pid pid parent e.state }
 
   -- it ends
   abbrev pub with_end : Listed P → Entry P → How → Listed P
   with_end s gone how = record s {
-    entries = map (left_by gone) (without pid_of gone.pid s.entries);
+    entries = map (behind gone.pid gone.parent) (without pid_of gone.pid s.entries);
     ended = ended_behind (record { pid = gone.pid; parent = gone.parent; how = how }) s.ended;
   }
 

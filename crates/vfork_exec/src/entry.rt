@@ -2,7 +2,7 @@
 
 ghost use Rattle.std.specs.Prelude.{◌≡◌};
 ghost use Rattle.std.specs.Borrow.{Lends, sem};
-ghost use Rattle.vfork_exec.specs.Procs.{with_value};
+ghost use Rattle.vfork_exec.specs.Procs.{with_value, behind};
 
 use crate::family::State;
 
@@ -23,5 +23,15 @@ impl<P> Entry<P> {
         ensures value { result.now ≡ self.old.value }
     {
         &mut self.value
+    }
+
+    /// A process with this pid and this parent has ended.
+    pub fn leave(&mut self, pid: u32, parent: u32)
+        ensures { self.new ≡ behind pid parent self.old }
+    {
+        self.state = self.state.behind(self.pid, pid, parent);
+        if self.parent == pid {
+            self.parent = 0;
+        }
     }
 }

@@ -1,5 +1,8 @@
 //! How processes stand to each other.
 
+ghost use Rattle.std.specs.Prelude.{◌≡◌};
+ghost use Rattle.vfork_exec.specs.Families.{is_child, is_ready, is_lent_to, resumed, state_behind};
+
 use call_log::How;
 
 /// Which of its children a process waits for.
@@ -8,6 +11,19 @@ pub enum Who {
     All,
     /// The child with this pid.
     Pid(u32),
+}
+
+impl Who {
+    /// Whether a process with this pid and this parent is one of the children that process `own` means.
+    pub fn is_child(self, own: u32, pid: u32, parent: u32) -> bool
+        ensures { result ≡ is_child own self pid parent }
+    {
+        parent == own
+            && match self {
+                Who::All => true,
+                Who::Pid(id) => pid == id,
+            }
+    }
 }
 
 /// How it stands with a process that lives.
@@ -19,6 +35,51 @@ pub enum State {
     Waiting(Who),
     /// It stands still while the child with this pid runs in its space: from vfork until the child's exec or end.
     Lent(u32),
+}
+
+impl State {
+    pub fn is_ready(self) -> bool
+        ensures { result ≡ is_ready self }
+    {
+        match self {
+            State::Ready => true,
+            State::Waiting(_) | State::Lent(_) => false,
+        }
+    }
+
+    /// Whether it stands still for this child.
+    pub fn is_lent_to(self, child: u32) -> bool
+        ensures { result ≡ is_lent_to child self }
+    {
+        match self {
+            State::Ready | State::Waiting(_) => false,
+            State::Lent(pid) => pid == child,
+        }
+    }
+
+    /// Once this child has left its space.
+    #[tactic(auto, unfolding(crate::specs::Families::resumed))]
+    pub fn resumed(self, child: u32) -> State
+        ensures { result ≡ resumed child self }
+    {
+        if self.is_lent_to(child) {
+            return State::Ready;
+        }
+        self
+    }
+
+    /// The state of process `own` once a process with this pid and this parent has ended.
+    #[tactic(auto, unfolding(crate::specs::Families::state_behind, crate::specs::Families::resumed))]
+    pub fn behind(self, own: u32, pid: u32, parent: u32) -> State
+        ensures { result ≡ state_behind own pid parent self }
+    {
+        if let State::Waiting(who) = self
+            && who.is_child(own, pid, parent)
+        {
+            return State::Ready;
+        }
+        self.resumed(pid)
+    }
 }
 
 /// A process that has ended, and that its parent hasn't waited for.

@@ -3,6 +3,8 @@
 //! No registers, no memory and no turn.
 #![tactic(auto)]
 
+mod ended;
+mod entries;
 mod entry;
 mod family;
 mod procs;

@@ -1,11 +1,13 @@
 //! The list of processes.
 
-ghost use Rattle.std.specs.Prelude.{◌≡◌, ℕ, ◌<◌, ◌≤◌, ◌^◌, length, map, reverse, slice_get, is_some, nat_le, Some, IfOk};
+ghost use Rattle.std.specs.Prelude.{◌≡◌, ℕ, ◌<◌, ◌≤◌, ◌^◌, ◌⊎◌, length, map, reverse, slice_get, is_some, nat_le, Some, IfOk};
 ghost use Rattle.std.specs.Borrow.{sem};
 ghost use Rattle.vfork_exec.specs.declared.entry.Entry.{Entry as Process};
-ghost use Rattle.vfork_exec.specs.Procs.{most_entries, none_yet, count, Starts, Forks, with_exec, with_end, looked, with_wait, Lives, process, value_at, parent_at, pid_of, ready, ready_pids, borrows};
+ghost use Rattle.vfork_exec.specs.Procs.{most_entries, none_yet, count, Starts, Forks, with_exec, with_end, looked, with_wait, Lives, process, value_at, parent_at, pid_of, ready, ready_pids, borrows, with_entry};
 ghost use Rattle.vfork_exec.specs.Keyed.{place_of, Falls};
 
+use crate::ended::{first_ended, forget_children, forget_first};
+use crate::entries::{has_child, is_lent, leave, ready_at, ready_count, resume};
 use crate::entry::Entry;
 use crate::family::{Ended, State, Waited, Who};
 use call_log::{Errno, How};
@@ -51,16 +53,18 @@ impl<P> Procs<P> {
     pub fn new(alloc: Global) -> Result<Procs<P>, AllocError>
         ensures { IfOk result (λ procs. procs ≡ none_yet) }
     {
+        let ended = Vec::with_capacity(alloc, MOST_ENTRIES)?;
         Ok(Procs {
             entries: Vec::with_capacity(alloc, MOST_ENTRIES)?,
-            ended: Vec::with_capacity(alloc, MOST_ENTRIES)?,
+            ended,
             given: 0,
         })
     }
 
     /// Whether there are 64 processes, those that have ended among them.
     pub fn full(&self) -> bool
-        ensures { result ≡ nat_le most_entries (count self.now) }
+        ensures full { result ≡ nat_le most_entries (count self.now) }
+        ensures most { count self.now ≤ most_entries }
     {
         self.entries.len() + self.ended.len() == MOST_ENTRIES
     }
@@ -90,9 +94,10 @@ impl<P> Procs<P> {
         if self.full() {
             return Err(Errno::Eagain);
         }
+        let child = self.add(pid, child);
         let at = self.place(pid);
-        self.entries[at].state = State::Lent(self.given + 1);
-        Ok(self.add(pid, child))
+        self.entries[at].state = State::Lent(child);
+        Ok(child)
     }
 
     /// A process has a space of its own from now on: the parent that stood still for it goes on.
@@ -100,9 +105,7 @@ impl<P> Procs<P> {
         requires { Lives self.old pid }
         ensures { self.new ≡ with_exec self.old pid }
     {
-        for entry in &mut self.entries {
-            entry.resume(pid);
-        }
+        resume(&mut self.entries, pid);
     }
 
     /// A process ends. The parent that stood still or waits for it goes on, its children have no parent, and those that have ended
@@ -113,11 +116,10 @@ impl<P> Procs<P> {
         requires { Lives self.old pid }
         ensures { (e : Process P) → process self.old pid ≡ Some e → self.new ≡ with_end self.old e how }
     {
-        let parent = self.entries.remove(self.place(pid)).parent;
-        for entry in &mut self.entries {
-            entry.leave(pid, parent);
-        }
-        self.ended.retain(|ended| ended.parent != pid);
+        let at = self.place(pid);
+        let parent = self.entries.remove(at).parent;
+        leave(&mut self.entries, pid, parent);
+        forget_children(&mut self.ended, pid);
         if parent != 0 && self.ended.push(Ended { pid, parent, how }).is_err() {
             unreachable!();
         }
@@ -127,14 +129,20 @@ impl<P> Procs<P> {
     pub fn wait_look(&self, pid: u32, who: Who, may_wait: bool) -> Result<Waited, Errno>
         ensures { result ≡ looked self.now pid who may_wait }
     {
-        if let Some(at) = self.first_ended(pid, who) {
-            let Ended { pid, how, .. } = self.ended[at];
-            return Ok(Waited::Child { pid, how });
+        if let Some(child) = first_ended(&self.ended, pid, who) {
+            return Ok(Waited::Child {
+                pid: child.pid,
+                how: child.how,
+            });
         }
-        if !self.has_child(pid, who) {
+        if !has_child(&self.entries, pid, who) {
             return Err(Errno::Echild);
         }
-        Ok(if may_wait { Waited::Waits } else { Waited::NoneYet })
+        Ok(if may_wait {
+            Waited::Waits
+        } else {
+            Waited::NoneYet
+        })
     }
 
     /// A process asks for one of its children that has ended. The one that ended first goes from the list. If none has ended it
@@ -146,7 +154,7 @@ impl<P> Procs<P> {
     {
         let told = self.wait_look(pid, who, may_wait)?;
         match told {
-            Waited::Child { .. } => self.forget_first(pid, who),
+            Waited::Child { .. } => forget_first(&mut self.ended, pid, who),
             Waited::NoneYet => {}
             Waited::Waits => {
                 let at = self.place(pid);
@@ -160,7 +168,7 @@ impl<P> Procs<P> {
     pub fn borrows(&self, pid: u32) -> bool
         ensures { result ≡ borrows self.now pid }
     {
-        self.entries.iter().any(|entry| entry.state == State::Lent(pid))
+        is_lent(&self.entries, pid)
     }
 
     /// What is kept of a process.
@@ -193,7 +201,7 @@ impl<P> Procs<P> {
     /// How many processes live.
     pub fn live(&self) -> u32
         ensures count { result ≡ length self.now.entries }
-        ensures most { length self.now.entries + length self.now.ended ≤ most_entries }
+        ensures most { count self.now ≤ most_entries }
         ensures falls { Falls pid_of self.now.next_pid self.now.entries }
     {
         self.entries.len() as u32
@@ -211,7 +219,7 @@ impl<P> Procs<P> {
         ensures count { result ≡ length (ready self.now) }
         ensures one { 1 ≤ length self.now.entries → 1 ≤ result }
     {
-        self.entries.iter().filter(|entry| entry.is_ready()).count() as u32
+        ready_count(&self.entries) as u32
     }
 
     /// The pid of the process that may run with this number, from 0, ascending by pid.
@@ -219,7 +227,30 @@ impl<P> Procs<P> {
         requires { k < length (ready self.now) }
         ensures { slice_get (reverse (ready_pids self.now)) k ≡ Some result }
     {
-        unimplemented
+        ready_at(&self.entries, k as usize)
+    }
+
+    fn add(&mut self, parent: u32, value: P) -> u32
+    where
+        P: Drop,
+        requires room { count self.old < most_entries }
+        requires pids { self.old.next_pid < 2 ^ 32 }
+        requires parent { (parent ≡ 0) ⊎ Lives self.old parent }
+        ensures pid { result ≡ self.old.next_pid }
+        ensures after { self.new ≡ with_entry self.old parent value }
+    {
+        let pid = self.given + 1;
+        let entry = Entry {
+            pid,
+            parent,
+            state: State::Ready,
+            value,
+        };
+        if self.entries.insert(0, entry).is_err() {
+            unreachable!();
+        }
+        self.given = pid;
+        pid
     }
 
     fn place(&self, pid: u32) -> usize
