@@ -4,7 +4,7 @@ use Rattle.std.specs.declared.alloc.AllocError.{AllocError}
 use Rattle.rv32im_step.specs.declared.access.Access.{Access}
 use Rattle.call_log.specs.Notes.{stray_note}
 use Rattle.quantum_sched.specs.declared.Quantum.{Quantum}
-use Rattle.vfork_exec.specs.Procs.{Lives}
+use Rattle.vfork_exec.specs.Procs.{CanRun}
 use Rattle.machine_world.specs.World.{World}
 use Rattle.machine_world.specs.Event.{Outcome, went, strays, full, noted}
 use Rattle.machine_world.specs.Turns.{seen_of, turn, turns}
@@ -20,7 +20,7 @@ use Rattle.flat_machine.specs.Runs.{Ends, StandsStill, Stops}
 -- by what comes of the event in the world that the old parts stand for: out of memory nothing changed
 abbrev pub Carried : About → Outcome → Kept → Kept → ℕ → Result After AllocError → Type 0
 Carried a outcome old new pid (Err error) = new ≡ old
-Carried a (went now t) old new pid (Ok after.GoesOn) = (now ≡ world_of (later 1 a) new) × (t.over ≡ false) × Lives new.procs pid
+Carried a (went now t) old new pid (Ok after.GoesOn) = (now ≡ world_of (later 1 a) new) × (t.over ≡ false) × CanRun new.procs pid
 Carried a (went now t) old new pid (Ok after.TurnEnds) = (now ≡ world_of (later 1 a) new) × (t.over ≡ true)
 Carried a (strays access) old new pid (Ok (after.RunEnds (told.Stray seen))) =
     (seen ≡ access) × (world_of a new ≡ noted (stray_note pid (seen_of access)) (world_of a old))

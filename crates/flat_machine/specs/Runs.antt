@@ -1,5 +1,5 @@
 -- What a run leaves, and why it stops.
-use Rattle.std.specs.Prelude.{◌≡◌, ◌≢◌, ℕ, zero, suc, ◌<◌, List, [], ◌∷◌, ◌++◌, map, Option, Some, None, Result, Ok, Err, OnOk}
+use Rattle.std.specs.Prelude.{◌≡◌, ◌≢◌, ℕ, zero, suc, ◌<◌, List, [], ◌∷◌, ◌++◌, Option, Some, None, Result, Ok, Err, OnOk}
 use Rattle.std.specs.declared.alloc.AllocError.{AllocError}
 use Rattle.byte_words.specs.ByteMap.{Bytes}
 use Rattle.rv32im_step.specs.declared.regs.Regs.{Regs}
@@ -9,6 +9,7 @@ use Rattle.quantum_sched.specs.declared.Quantum.{Quantum}
 use Rattle.quantum_sched.specs.Picked.{picked}
 use Rattle.vfork_exec.specs.Keyed.{find}
 use Rattle.machine_world.specs.World.{World, Process, LiveSpace, pid_of, id_of}
+use Rattle.machine_world.specs.Families.{ready_pids}
 use Rattle.machine_world.specs.Turns.{End, all_ended, out_of_quanta, stray_at, log_full, turn, turns}
 use Rattle.stays_laws.specs.Stays.{Stay, AreRight, stays}
 use Rattle.flat_machine.specs.declared.run.End.{End as Told}
@@ -46,7 +47,7 @@ pub record Stops (quanta : List Quantum) (old new : World) : Type 0 where
   pub before : World
   pub reached : (turns front old).world ≡ before
   pub pid : ℕ
-  pub chosen : picked quantum.pick (map pid_of before.procs) ≡ Some pid
+  pub chosen : picked quantum.pick (ready_pids before.procs) ≡ Some pid
   pub done : ℕ
   pub less : done < quantum.count
   pub walked : (turn done pid before).world ≡ new

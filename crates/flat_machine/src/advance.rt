@@ -2,7 +2,7 @@
 
 ghost use Rattle.std.specs.Prelude.{◌≡◌, ◌≤◌, true};
 ghost use Rattle.mmap_rules.specs.Space.{writable_in, may_use};
-ghost use Rattle.vfork_exec.specs.Procs.{Lives};
+ghost use Rattle.vfork_exec.specs.Procs.{CanRun};
 ghost use Rattle.machine_world.specs.Courses.{Leads, Halts};
 ghost use Rattle.syscall_layer.specs.Stands.{About, later, world_of};
 
@@ -27,10 +27,10 @@ fn window(space: &Space) -> Window
     Window { from: 0, size: 0 }
 }
 
-/// Carries out up to `count` instructions of a process, and stops at the first that isn't carried out.
+/// Carries out up to `count` instructions of a process that may run, and stops at the first that isn't carried out.
 pub(crate) fn advance(parts: &mut Parts, pid: u32, count: u32) -> Progress
-    requires { Lives parts.old.procs pid }
-    ensures lives { Lives parts.new.procs pid }
+    requires { CanRun parts.old.procs pid }
+    ensures ready { CanRun parts.new.procs pid }
     ensures within { result.done ≤ count }
     ensures leads { (a : About) → Leads pid (world_of a parts.old) result.done (world_of (later result.done a) parts.new) }
     ensures halts { (a : About) → Halts (world_of (later result.done a) parts.new) pid count result.done result.stop }

@@ -2,7 +2,8 @@
 
 ghost use Rattle.std.specs.Prelude.{◌≡◌, ◌^◌, ◌<◌, ◌≤◌, ℕ, Some, slice_get, length};
 ghost use Rattle.mem_files.specs.Paths.{lookup};
-ghost use Rattle.vfork_exec.specs.Procs.{most_entries};
+ghost use Rattle.vfork_exec.specs.Procs.{count, most_entries};
+ghost use Rattle.syscall_layer.specs.Regular.{most_first};
 ghost use Rattle.machine_world.specs.Ages.{AreChanged, most_at_boot};
 ghost use Rattle.syscall_layer.specs.Stands.{world_of};
 ghost use Rattle.page_runs.specs.Choosers.{IsChooser, kind_of};
@@ -82,9 +83,9 @@ fn begin<F: Fn(&[Run], u32) -> Option<usize>>(
     requires paths { length paths.now ≡ length programs.now }
     requires programs { length programs.now < 2 ^ 32 }
     requires args { 0 < length start.now.args.items }
-    requires few { length parts.old.procs.entries < most_entries }
-    requires pids { parts.old.procs.next_pid < 2 ^ 32 }
-    requires spaces { length parts.old.spaces < 2 ^ 32 }
+    requires few { count parts.old.procs < most_entries }
+    requires pids { parts.old.procs.next_pid < most_first }
+    requires spaces { length parts.old.spaces < most_first }
     ensures { let a = about_boot (kind_of chooser.now) paths.now programs.now in
         Begins a (started (world_of a parts.old) (line_of start.now)) parts.new result }
 {

@@ -1,10 +1,10 @@
 //! A run by quanta.
 
-ghost use Rattle.std.specs.Prelude.{◌≡◌, ◌+◌, ◌*◌, ◌^◌, ◌<◌, ◌≤◌, [], ◌∷◌, map, sum_by, IfSome};
+ghost use Rattle.std.specs.Prelude.{◌≡◌, ◌+◌, ◌*◌, ◌^◌, ◌<◌, ◌≤◌, [], ◌∷◌, sum_by, IfSome};
 ghost use Rattle.page_runs.specs.Choosers.{IsChooser, kind_of};
-ghost use Rattle.vfork_exec.specs.Procs.{Lives};
+ghost use Rattle.vfork_exec.specs.Procs.{CanRun};
 ghost use Rattle.quantum_sched.specs.Picked.{picked};
-ghost use Rattle.machine_world.specs.World.{pid_of};
+ghost use Rattle.machine_world.specs.Families.{ready_pids};
 ghost use Rattle.machine_world.specs.Turns.{turns};
 ghost use Rattle.syscall_layer.specs.Stands.{About, world_of};
 ghost use Rattle.flat_machine.specs.State.{world};
@@ -32,10 +32,10 @@ pub enum End {
     LogFull,
 }
 
-/// The process of a quantum, if any lives.
+/// The process of a quantum, if any may run.
 fn chosen(parts: &Parts, quantum: Quantum) -> Option<u32>
-    ensures picked { (a : About) → result ≡ picked quantum.pick (map pid_of (world_of a parts.now).procs) }
-    ensures lives { IfSome result (λ pid. Lives parts.now.procs pid) }
+    ensures picked { (a : About) → result ≡ picked quantum.pick (ready_pids (world_of a parts.now).procs) }
+    ensures ready { IfSome result (λ pid. CanRun parts.now.procs pid) }
 {
     pick(&parts.procs, quantum)
 }
@@ -68,7 +68,13 @@ impl Machine {
         let Some(pid) = chosen(&self.parts, quantum) else {
             return Ok(Some(End::AllEnded));
         };
-        let TurnEnd { events, end } = turn(&mut self.parts, pid, quantum.count, chooser);
+        let TurnEnd { events, end } = turn(
+            &mut self.parts,
+            pid,
+            quantum.count,
+            &self.programs,
+            chooser,
+        );
         self.events += u64::from(events);
         end
     }

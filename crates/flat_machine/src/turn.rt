@@ -2,14 +2,16 @@
 
 ghost use Rattle.std.specs.Prelude.{◌≡◌, ◌≤◌};
 ghost use Rattle.page_runs.specs.Choosers.{IsChooser, kind_of};
-ghost use Rattle.vfork_exec.specs.Procs.{Lives};
+ghost use Rattle.vfork_exec.specs.Procs.{CanRun};
 ghost use Rattle.machine_world.specs.Event.{event};
 ghost use Rattle.machine_world.specs.Courses.{StandsAt};
+ghost use Rattle.syscall_layer.specs.Flats.{AreFlats};
 ghost use Rattle.syscall_layer.specs.Stands.{About, later, world_of};
 ghost use Rattle.flat_machine.specs.Leaves.{Carried, TellsStray, TurnLeaves};
 
 use crate::advance::advance;
 use crate::run::End;
+use bflt_format::Flat;
 use page_runs::{Chooser, Run};
 use rv32im_step::{Access, Stop};
 use std::alloc::AllocError;
@@ -34,23 +36,24 @@ fn stray(parts: &mut Parts, pid: u32, access: Access) -> Result<After, AllocErro
     Ok(After::RunEnds(End::Stray(access)))
 }
 
-/// The event of a process whose next step ends so.
+/// The event of a process that may run and whose next step ends so.
 fn next_event<F: Fn(&[Run], u32) -> Option<usize>>(
     parts: &mut Parts,
     pid: u32,
     stop: Stop,
+    programs: &[Flat],
     chooser: &Chooser<F>,
 ) -> Result<After, AllocError>
     requires chooser { IsChooser F.pre F.post chooser.now }
-    requires lives { Lives parts.old.procs pid }
+    requires ready { CanRun parts.old.procs pid }
     requires stands { (a : About) → StandsAt (world_of a parts.old) pid stop }
-    ensures { (a : About) → a.kind ≡ kind_of chooser.now → Carried a (event (world_of a parts.old) pid) parts.old parts.new pid result }
+    ensures { (a : About) → a.kind ≡ kind_of chooser.now → AreFlats a.programs programs.now → Carried a (event (world_of a parts.old) pid) parts.old parts.new pid result }
 {
     match stop {
         Stop::Next => Ok(After::GoesOn),
-        Stop::Call => match serve(parts, pid, chooser)? {
+        Stop::Call => match serve(parts, pid, programs, chooser)? {
             Served::Replied => Ok(After::GoesOn),
-            Served::TurnEnds | Served::Ended => Ok(After::TurnEnds),
+            Served::TurnEnds | Served::Waits | Served::Ended => Ok(After::TurnEnds),
             Served::Stray(access) => stray(parts, pid, access),
             Served::LogFull => Ok(After::RunEnds(End::LogFull)),
         },
@@ -71,17 +74,18 @@ pub(crate) struct TurnEnd {
     pub(crate) end: Result<Option<End>, AllocError>,
 }
 
-/// Up to `count` events of a process.
+/// Up to `count` events of a process that may run.
 pub(crate) fn turn<F: Fn(&[Run], u32) -> Option<usize>>(
     parts: &mut Parts,
     pid: u32,
     count: u32,
+    programs: &[Flat],
     chooser: &Chooser<F>,
 ) -> TurnEnd
     requires chooser { IsChooser F.pre F.post chooser.now }
-    requires lives { Lives parts.old.procs pid }
+    requires ready { CanRun parts.old.procs pid }
     ensures within { result.events ≤ count }
-    ensures leaves { (a : About) → a.kind ≡ kind_of chooser.now → TurnLeaves pid count (world_of a parts.old) result.events (world_of (later result.events a) parts.new) result.end }
+    ensures leaves { (a : About) → a.kind ≡ kind_of chooser.now → AreFlats a.programs programs.now → TurnLeaves pid count (world_of a parts.old) result.events (world_of (later result.events a) parts.new) result.end }
 {
     let mut events = 0;
     while events < count {
@@ -93,7 +97,7 @@ pub(crate) fn turn<F: Fn(&[Run], u32) -> Option<usize>>(
                 end: Ok(None),
             };
         }
-        match next_event(parts, pid, progress.stop, chooser) {
+        match next_event(parts, pid, progress.stop, programs, chooser) {
             Ok(After::GoesOn) => events += 1,
             Ok(After::TurnEnds) => {
                 return TurnEnd {
