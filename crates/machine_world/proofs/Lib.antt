@@ -32,6 +32,7 @@ pub mod Kept
 pub mod ByRows
 pub mod ByEvents
 pub mod OtherTables
+pub mod Beside
 pub mod FreeNumbers
 pub mod FewOpen
 pub mod Steady

@@ -1,13 +1,14 @@
 -- The tables of descriptors beside one that changes: what they have stays, and so does which of them are there.
 use Rattle.std.proofs.Common.{◌≡◌, ◌≢◌, ℕ, zero, suc, Bool, true, false, List, [], ◌∷◌, Option, Some, None, refl, ap, ◌∙◌}
-use Rattle.std.specs.Prelude.{nat_le, slice_get}
+use Rattle.std.specs.Prelude.{IsSome, nat_le, slice_get}
 use Rattle.fd_tables.specs.declared.view.Way.{Way}
 use Rattle.fd_tables.specs.declared.open_file.OpenFile.{OpenFile}
 use Rattle.fd_tables.specs.declared.open_file.Handle.{Handle}
 use Rattle.fd_tables.specs.declared.open_file.Handle.TheVariants.{Input, Output, Open}
 use Rattle.fd_tables.specs.declared.open_file.Descriptor.{Descriptor}
 use Rattle.fd_tables.specs.Files.{Table, OpenFiles, at_number, table_at, descriptor}
-use Rattle.fd_tables.specs.Changes.{Storage, with_item, with_descriptor, shared, dropped, dropped_file, closed, closed_descriptor, opened, copied_descriptor, with_cloexec, duplicated, replaced, moved, moved_handle, taken, all_closed, all_descriptors, without_table}
+use Rattle.fd_tables.specs.Changes.{Storage, with_item, with_descriptor, shared, dropped, dropped_file, closed, closed_descriptor, opened, copied_descriptor, with_cloexec, duplicated, replaced, moved, moved_handle, taken, all_closed, all_descriptors, copied_table, with_copy, exec_closed, without_table}
+use Rattle.fd_tables.proofs.TablesThere.{copy_keeps_tables}
 use Rattle.machine_world.specs.World.{Rest}
 use Rattle.machine_world.specs.Asks.{Ask}
 use Rattle.machine_world.specs.Descriptors.{table_of}
@@ -118,6 +119,25 @@ module _ (t other : ℕ) (beside : other ≢ t) where
   unfolding without_table
   other-without_table s =
       other_item (λ table. None) (all_closed (λ d. true) s t all_descriptors).files.tables t other beside ∙ other-all_closed (λ d. true) all_descriptors s
+
+  pub other-exec_closed : (s : Storage) → table_at (exec_closed s t).files other ≡ table_at s.files other
+  unfolding exec_closed
+  other-exec_closed s = other-all_closed (λ d. d.cloexec) all_descriptors s
+
+-- ---- a copy takes a number that is free
+
+module _ (fs : OpenFiles) (t other : ℕ) where
+  copy_keeps : (table : Table) → table_at fs other ≡ Some table → (o : Option Table) → table_at fs t ≡ o → table_at (with_copy fs t) other ≡ Some table
+  unfolding with_copy
+  copy_keeps table there None is = ap (λ (o : Option Table). table_at (copied_table fs o) other) is ∙ there
+  copy_keeps table there (Some copied) is = copy_keeps_tables other fs t copied table is there
+
+  copy_leaves : (o : Option Table) → table_at fs other ≡ o → IsSome o → table_at (with_copy fs t) other ≡ o
+  copy_leaves (Some table) there some = copy_keeps table there (table_at fs t) refl
+  copy_leaves None there some = let no : ⊥ = cc in absurd no
+
+  pub other-with_copy : IsSome (table_at fs other) → table_at (with_copy fs t) other ≡ table_at fs other
+  other-with_copy some = copy_leaves (table_at fs other) refl some
 
 -- ---- all rows
 

@@ -2,6 +2,7 @@
 
 ghost use Rattle.machine_world.specs.Ages.{EventsAgeFiles};
 ghost use Rattle.machine_world.specs.Laws.{InstructionsAreEvents, RefusalsChangeNothingElse};
+ghost use Rattle.machine_world.specs.Others.{EventsLeaveOthers};
 ghost use Rattle.machine_world.specs.Placements.{MapsAreExact, StartsAreExact};
 ghost use Rattle.machine_world.specs.Programs.{BootsLoadPrograms, TurnsLoadPrograms, RunsLoadPrograms};
 
@@ -20,6 +21,12 @@ pub fn programs_law()
 /// A system call that is refused changes nothing but the reply, the next instruction, the notes and the count of events.
 pub fn refused_calls_law()
     ensures { RefusalsChangeNothingElse }
+{}
+
+/// An event of a process leaves the registers, the space and the table of every other process, every other space and every other
+/// table of descriptors as they were. Open files, which tables share, may change.
+pub fn others_law()
+    ensures { EventsLeaveOthers }
 {}
 
 /// The bytes of a file change only with its count of changes, as long as that is below its end, 2^64 - 1, and a number is given
