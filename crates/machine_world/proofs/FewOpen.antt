@@ -90,7 +90,7 @@ used_by : (o : Option OpenFile) → IfSome o (λ f. 1 ≤ f.uses) → one (is_so
 used_by None used = omega arith
 used_by (Some f) used = used
 
-pub free_below : (s : Storage) → Counted s → length s.files.tables ≤ 2 ^ 16 → free_number s.files.files < 2 ^ 32
+pub free_below : (s : Storage) → Counted s → length s.files.tables < 2 ^ 27 → free_number s.files.files < 2 ^ 32
 free_below s c few =
     omega (
       arith,

@@ -36,6 +36,9 @@ pub mod Beside
 pub mod FreeNumbers
 pub mod FewOpen
 pub mod Steady
+pub mod InOrder
+pub mod OrderKept
+pub mod OrderBegins
 pub mod Refused
 mod PlacementLaws
 pub mod NodesAge

@@ -1,5 +1,5 @@
 -- What opens and closes leaves a tree of names, and as many tables as before.
-use Rattle.std.proofs.Common.{◌≡◌, ℕ, Bool, true, false, List, [], ◌∷◌, length, Option, Some, None, refl, ap, ◌∙◌}
+use Rattle.std.proofs.Common.{◌≡◌, ℕ, ◌+◌, ◌≤◌, Bool, true, false, List, [], ◌∷◌, length, Option, Some, None, refl, ap, ◌∙◌, arith}
 use Rattle.std.specs.Prelude.{nat_le}
 use Rattle.mem_files.specs.Trees.{IsTree}
 use Rattle.mem_files.proofs.Alike.{tree-held, tree-let_go}
@@ -8,10 +8,11 @@ use Rattle.fd_tables.specs.declared.open_file.OpenFile.{OpenFile}
 use Rattle.fd_tables.specs.declared.open_file.Handle.{Handle}
 use Rattle.fd_tables.specs.declared.open_file.Handle.TheVariants.{Input, Output, Open}
 use Rattle.fd_tables.specs.declared.open_file.Descriptor.{Descriptor}
-use Rattle.fd_tables.specs.Files.{OpenFiles, at_number, descriptor}
-use Rattle.fd_tables.specs.Changes.{Storage, with_descriptor, dropped, dropped_file, closed, closed_descriptor, opened, copied_descriptor, with_cloexec, duplicated, replaced, moved, moved_handle, taken, all_closed, all_descriptors, without_table}
+use Rattle.fd_tables.specs.Files.{Table, OpenFiles, at_number, with_next, table_at, descriptor}
+use Rattle.fd_tables.specs.Changes.{Storage, with_descriptor, dropped, dropped_file, closed, closed_descriptor, opened, shared, copied_descriptor, with_cloexec, duplicated, replaced, moved, moved_handle, taken, all_shared, copied_table, with_copy, all_closed, all_descriptors, exec_closed, without_table}
 use Rattle.fd_tables.proofs.Items.{length-item}
 use Rattle.fd_tables.proofs.TablesThere.{tables-shared}
+use Rattle.machine_world.proofs.FreeNumbers.{length-one_more}
 
 -- a tree of names, and so many tables
 pub record Steady (n : ℕ) (s : Storage) : Type 0 where
@@ -44,6 +45,23 @@ length-copied fs t fd (Some d) = ap length (tables-shared (with_descriptor fs t 
 pub length-duplicated : (fs : OpenFiles) (t old new : ℕ) (cloexec : Bool) → length (duplicated fs t old new cloexec).tables ≡ length fs.tables
 unfolding duplicated
 length-duplicated fs t old new cloexec = length-copied fs t new (with_cloexec cloexec (descriptor fs t old))
+
+tables-all_shared : (ds : List (Option Descriptor)) (fs : OpenFiles) → (all_shared fs ds).tables ≡ fs.tables
+tables-all_shared [] fs = refl
+tables-all_shared (Some d ∷ ds) fs = tables-all_shared ds (shared fs d.handle) ∙ tables-shared fs d.handle
+tables-all_shared (None ∷ ds) fs = tables-all_shared ds fs
+
+copied_length : (fs : OpenFiles) (o : Option Table) → length (copied_table fs o).tables ≤ length fs.tables + 1
+copied_length fs None = omega arith
+copied_length fs (Some table) =
+    let same : length (copied_table fs (Some table)).tables ≡ length (with_next table fs.tables) =
+    ap length (tables-all_shared table (record fs { tables = with_next table fs.tables })) in
+    omega (arith, same, length-one_more table fs.tables)
+
+-- a copy is one table more at most
+pub length-with_copy : (fs : OpenFiles) (t : ℕ) → length (with_copy fs t).tables ≤ length fs.tables + 1
+unfolding with_copy
+length-with_copy fs t = copied_length fs (table_at fs t)
 
 -- ---- files and nodes
 
@@ -97,3 +115,7 @@ module _ (n : ℕ) where
   steady-without_table s t h =
       let now = steady-all_closed (λ d. true) t all_descriptors s h in
       record { tree = now.tree; tables = length-item (λ table. None) (all_closed (λ d. true) s t all_descriptors).files.tables t ∙ now.tables }
+
+  pub steady-exec_closed : (s : Storage) (t : ℕ) → Steady n s → Steady n (exec_closed s t)
+  unfolding exec_closed
+  steady-exec_closed s t h = steady-all_closed (λ d. d.cloexec) t all_descriptors s h

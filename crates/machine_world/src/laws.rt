@@ -2,6 +2,7 @@
 
 ghost use Rattle.machine_world.specs.Ages.{EventsAgeFiles};
 ghost use Rattle.machine_world.specs.Laws.{InstructionsAreEvents, RefusalsChangeNothingElse};
+ghost use Rattle.machine_world.specs.Order.{EventsKeepOrder, TurnsKeepOrder, RunsKeepOrder, BootsBeginInOrder};
 ghost use Rattle.machine_world.specs.Others.{EventsLeaveOthers};
 ghost use Rattle.machine_world.specs.Placements.{MapsAreExact, StartsAreExact};
 ghost use Rattle.machine_world.specs.Programs.{BootsLoadPrograms, TurnsLoadPrograms, RunsLoadPrograms};
@@ -27,6 +28,15 @@ pub fn refused_calls_law()
 /// table of descriptors as they were. Open files, which tables share, may change.
 pub fn others_law()
     ensures { EventsLeaveOthers }
+{}
+
+/// Every event keeps the nodes a tree of names, and all counts exact: an open file counts the descriptors that share it, and a
+/// node the open files that hold it. So it is in every world of a run that boots over such a tree.
+pub fn counts_law()
+    ensures boots { BootsBeginInOrder }
+    ensures events { EventsKeepOrder }
+    ensures turns { TurnsKeepOrder }
+    ensures runs { RunsKeepOrder }
 {}
 
 /// The bytes of a file change only with its count of changes, as long as that is below its end, 2^64 - 1, and a number is given

@@ -7,4 +7,7 @@
 
 mod laws;
 
-pub use laws::{ages_law, instructions_law, others_law, placement_law, programs_law, refused_calls_law};
+pub use laws::{
+    ages_law, counts_law, instructions_law, others_law, placement_law, programs_law,
+    refused_calls_law,
+};
