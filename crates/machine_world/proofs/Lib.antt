@@ -22,6 +22,7 @@
 -- PlacementLaws  which pages a block and a mapping of its own get
 -- NodesAge  nodes age by each change of the tree
 -- Aging     and so by rows and events
+-- Chains    the processes of each space, of which one at most may run
 pub mod States
 pub mod TurnLaws
 pub mod RunLaws
@@ -43,3 +44,4 @@ pub mod Refused
 mod PlacementLaws
 pub mod NodesAge
 pub mod Aging
+pub mod Chains
