@@ -95,7 +95,7 @@ pub table_ages : (s : Storage) (t most : ℕ) → AreChanged most s.nodes
     → Follows s.nodes (without_table s t).nodes × AreChanged most (without_table s t).nodes
 table_ages s t most low = by_table (Since s.nodes most) (since_let_go s.nodes most) s t (since_itself s.nodes most low)
 
-exec_ages : (s : Storage) (t most : ℕ) → AreChanged most s.nodes → Since s.nodes most (exec_closed s t).nodes
+pub exec_ages : (s : Storage) (t most : ℕ) → AreChanged most s.nodes → Since s.nodes most (exec_closed s t).nodes
 exec_ages s t most low = by_exec (Since s.nodes most) (since_let_go s.nodes most) s t (since_itself s.nodes most low)
 
 -- ---- all rows

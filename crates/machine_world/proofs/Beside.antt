@@ -1,6 +1,6 @@
 -- What an event leaves of all other processes, spaces and tables of descriptors.
-use Rattle.std.proofs.Common.{◌≡◌, ◌≢◌, ℕ, Bool, true, false, List, [], ◌∷◌, map, Option, Some, None, refl, sym, ap, subst, ◌∙◌}
-use Rattle.std.specs.Prelude.{IsSome, if◌then◌else◌, option_map}
+use Rattle.std.proofs.Common.{◌≡◌, ◌≢◌, ℕ, Bool, true, false, List, ◌∷◌, map, Option, Some, None, refl, sym, ap, subst, ◌∙◌}
+use Rattle.std.specs.Prelude.{if◌then◌else◌, option_map}
 use Rattle.rv32im_step.specs.Meaning.{meaning}
 use Rattle.mmap_rules.specs.Space.{Space, writable_in}
 use Rattle.flat_loader.specs.Begin.{begin_regs}
@@ -12,7 +12,7 @@ use Rattle.fd_tables.specs.Files.{table_at}
 use Rattle.machine_world.specs.Families.{borrows, spaces_left, let_go, left_by, all_left_by}
 use Rattle.machine_world.specs.Asks.{Ask, storage_of}
 use Rattle.machine_world.specs.Rows.{row}
-use Rattle.machine_world.specs.Event.{Outcome, went, strays, full, idle, departed, ended, replied, ask_of, with_child, with_exec, effect, in_space, by_process, at_process, event}
+use Rattle.machine_world.specs.Event.{Outcome, went, strays, full, idle, ended, replied, ask_of, with_child, with_exec, effect, in_space, by_process, at_process, event}
 use Rattle.machine_world.specs.Others.{KeepsOwn, IsKept, LeavesOthers, EventsLeaveOthers}
 use Rattle.machine_world.proofs.States.{find_has}
 use Rattle.machine_world.proofs.Kept.{Answers}
@@ -103,30 +103,42 @@ module _ (w : World) (p : Process) where
     beside_call : Answered (λ now t. (t.space ≡ p.space) × LeavesOthers p.pid p.space p.table w now) (OthersAsIn p.table w.rest.files) w a
     unfolding ended
     beside_call = record {
-      reply = λ ended r m tables room. (refl, record {
-        procs = λ other ne new. beside_changed (λ q. record q { regs = replied p.regs r.value }) (λ q. refl) other ne;
-        spaces = λ other ne new. beside_space (λ l. record l { space = record r.space { bytes = m } }) (λ l. refl) other ne;
-        tables = λ other ne there. tables other ne;
-      });
-      wait = λ who. (refl, record {
-        procs = λ other ne new. beside_changed (λ q. record q { state = Waiting who }) (λ q. refl) other ne;
-        spaces = λ other ne new. refl;
-        tables = λ other ne there. refl;
-      });
+      reply = λ ended r m tables room. (
+        refl,
+        record {
+          procs = λ other ne new. beside_changed (λ q. record q { regs = replied p.regs r.value }) (λ q. refl) other ne;
+          spaces = λ other ne new. beside_space (λ l. record l { space = record r.space { bytes = m } }) (λ l. refl) other ne;
+          tables = λ other ne there. tables other ne;
+        },
+      );
+      wait = λ who. (
+        refl,
+        record {
+          procs = λ other ne new. beside_changed (λ q. record q { state = Waiting who }) (λ q. refl) other ne;
+          spaces = λ other ne new. refl;
+          tables = λ other ne there. refl;
+        },
+      );
       exit = λ room. (refl, beside_departed _ refl refl (λ other ne. other-without_table p.table other ne (storage_of w.rest)));
-      fork = λ few room. (refl, record {
-        procs = beside_child;
-        spaces = λ other ne new. refl;
-        tables = λ other ne there. other-with_copy w.rest.files p.table other there;
-      });
-      load = λ f strings page is fits room. (refl, record {
-        procs = λ other ne new.
-            own_by (let_go p.pid) (λ q. record { regs = refl; space = refl; table = refl }) (find pid_of other w.procs)
-            (find pid_of other (with_exec w p (loading_of f strings page)).procs)
-            (find_let_go p w.procs w.spaces (λ q. record q { regs = begin_regs (loading_of f strings page); space = w.loads }) (λ q. refl) other ne);
-        spaces = λ other ne new. find_behind id_of _ (spaces_left p w.procs w.spaces) other new ∙ find_space_left p w.procs w.spaces other ne;
-        tables = λ other ne there. other-exec_closed p.table other ne (storage_of w.rest);
-      });
+      fork = λ few room. (
+        refl,
+        record {
+          procs = beside_child;
+          spaces = λ other ne new. refl;
+          tables = λ other ne there. other-with_copy w.rest.files p.table other there;
+        },
+      );
+      load = λ f strings page is fits room. (
+        refl,
+        record {
+          procs = λ other ne new.
+              own_by (let_go p.pid) (λ q. record { regs = refl; space = refl; table = refl }) (find pid_of other w.procs)
+              (find pid_of other (with_exec w p (loading_of f strings page)).procs)
+              (find_let_go p w.procs w.spaces (λ q. record q { regs = begin_regs (loading_of f strings page); space = w.loads }) (λ q. refl) other ne);
+          spaces = λ other ne new. find_behind id_of _ (spaces_left p w.procs w.spaces) other new ∙ find_space_left p w.procs w.spaces other ne;
+          tables = λ other ne there. other-exec_closed p.table other ne (storage_of w.rest);
+        },
+      );
     }
 
     beside_rows : Answers (OthersAsIn p.table w.rest.files) (row a)
@@ -135,11 +147,14 @@ module _ (w : World) (p : Process) where
   beside_act : (s : Space) → Happened (λ now t. (t.space ≡ p.space) × LeavesOthers p.pid p.space p.table w now) (OthersAsIn p.table w.rest.files) w p s
   unfolding ended
   beside_act s = record {
-    step = λ regs bytes. (refl, record {
-      procs = λ other ne new. beside_changed (λ q. record q { regs = regs }) (λ q. refl) other ne;
-      spaces = λ other ne new. beside_space (λ l. record l { space = record s { bytes = bytes } }) (λ l. refl) other ne;
-      tables = λ other ne there. refl;
-    });
+    step = λ regs bytes. (
+      refl,
+      record {
+        procs = λ other ne new. beside_changed (λ q. record q { regs = regs }) (λ q. refl) other ne;
+        spaces = λ other ne new. beside_space (λ l. record l { space = record s { bytes = bytes } }) (λ l. refl) other ne;
+        tables = λ other ne there. refl;
+      },
+    );
     trap = λ signal. (refl, beside_departed _ refl refl (λ other ne. other-without_table p.table other ne (storage_of w.rest)));
     calls = beside_call s;
   }

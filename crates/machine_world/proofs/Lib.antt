@@ -23,6 +23,9 @@
 -- NodesAge  nodes age by each change of the tree
 -- Aging     and so by rows and events
 -- Chains    the processes of each space, of which one at most may run
+mod Samples
+mod FileSamples
+mod MapSamples
 pub mod States
 pub mod TurnLaws
 pub mod RunLaws

@@ -2,7 +2,7 @@
 use Rattle.std.proofs.Common.{◌≡◌, ℕ, ◌+◌, ◌<◌, ◌≤◌, Bool, true, false, List, [], ◌∷◌, length, Option, Some, None, Result, Ok, Err, refl, sym, ap, subst, arith}
 use Rattle.flat_loader.specs.Original.{block_pages}
 use Rattle.flat_loader.specs.Frame.{frame_fits}
-use Rattle.fd_tables.specs.Files.{OpenFiles, with_next}
+use Rattle.fd_tables.specs.Files.{OpenFiles}
 use Rattle.fd_tables.specs.Changes.{storage, first_table, with_table}
 use Rattle.fd_tables.specs.Counts.{Counted}
 use Rattle.fd_tables.proofs.CountsMean.{counted-nothing_open}
@@ -13,7 +13,7 @@ use Rattle.machine_world.specs.Asks.{with_files, storage_of}
 use Rattle.machine_world.specs.Boot.{StartLine, BootFault, Found, found, path_of, taken, placed, fitting, located, started, all_started, then_started, empty_world, boot}
 use Rattle.machine_world.proofs.FreeNumbers.{free_within, length-one_more}
 use Rattle.machine_world.specs.Ages.{kept_calls}
-use Rattle.machine_world.specs.Order.{most_tables, IsInOrder, IsFresh, BootsBeginInOrder}
+use Rattle.machine_world.specs.Order.{most_tables, IsFresh, BootsBeginInOrder}
 use Rattle.machine_world.proofs.InOrder.{IsOrderly}
 
 -- ---- a table more
