@@ -1,8 +1,12 @@
 -- The processes of each space: the newest may run, and each other one stands still for the one before it.
 use Rattle.std.proofs.Common.{◌≡◌, ◌≢◌, ℕ, ◌+◌, ◌<◌, Bool, true, false, cond, inl, inr, List, [], ◌∷◌, map, not, Option, Some, None, refl, sym, ap, subst, ◌∙◌, arith}
-use Rattle.std.specs.Prelude.{◌==◌, ◌||◌, if◌then◌else◌, filter, option_map, Result, Ok, Err}
-use Rattle.std.specs.List.{list_any}
+use Rattle.std.specs.Prelude.{◌-◌, ◌%◌, length, reverse, get_or, ◌==◌, ◌||◌, if◌then◌else◌, filter, option_map, Result, Ok, Err}
+use Rattle.std.specs.List.{list_any, All}
 use Rattle.std.proofs.lemmas.Bool.{cases_Bool}
+use Rattle.std.proofs.lemmas.List.{length-reverse, get_or-reverse}
+use Rattle.std.proofs.lemmas.List.Elements.{All-nil, All-cons, All-get_or}
+use Rattle.std.proofs.lemmas.Option.{slice_get_within, get_or_from_slice_get}
+use Rattle.quantum_sched.specs.Picked.{picked}
 use Rattle.std.proofs.lemmas.Bool.Decides.{nat_tests}
 use Rattle.vfork_exec.specs.declared.family.Who.{Who}
 use Rattle.vfork_exec.specs.declared.family.State.{State}
@@ -10,8 +14,9 @@ use Rattle.vfork_exec.specs.declared.family.State.TheVariants.{Ready, Waiting, L
 use Rattle.vfork_exec.specs.Keyed.{find, change, without, Falls}
 use Rattle.vfork_exec.specs.declared.family.Waited.{Waited}
 use Rattle.vfork_exec.specs.declared.family.Waited.TheVariants.{Child, NoneYet, Waits}
-use Rattle.vfork_exec.specs.Families.{is_child, is_lent_to, resumed, woken, state_behind, without_first}
+use Rattle.vfork_exec.specs.Families.{is_child, is_lent_to, resumed, is_ready, woken, state_behind, without_first}
 use Rattle.vfork_exec.proofs.Keyed.{eqb_other, eqb_same, find_head, none_below, falls_without, falls_change, find_changed, find_gone, find_beside_change, find_beside_without, find_map}
+use Rattle.flat_loader.specs.Alone.{Runner, child_regs}
 use Rattle.flat_loader.specs.Begin.{Loading, begin_regs}
 use Rattle.byte_words.specs.ByteMap.{Bytes}
 use Rattle.rv32im_step.specs.declared.regs.Regs.{Regs}
@@ -30,7 +35,7 @@ use Rattle.machine_world.specs.Found.{Found, address_of, taken}
 use Rattle.machine_world.specs.PathCalls.{path_of}
 use Rattle.machine_world.specs.Rows.{row}
 use Rattle.machine_world.specs.FamilyCalls.{who_of, waitid_fault, child_info, no_info, info_at, vfork_flags, runs}
-use Rattle.machine_world.specs.Families.{MayRun, is_full, borrows, let_go, left_by, all_left_by, sharing, is_lent, AreLenders, IsChain, AreChains}
+use Rattle.machine_world.specs.Families.{MayRun, ready_pids, is_full, borrows, let_go, left_by, all_left_by, sharing, is_lent, AreLenders, IsChain, AreChains}
 use Rattle.machine_world.specs.Asks.{Ask, Reply, Row, replies, waits, arg, gives, refuses}
 use Rattle.machine_world.specs.Event.{Trace, Outcome, went, strays, full, idle, number_of, args_of, replied, put_got, ask_of, child_of, with_child, with_exec, stepped, trapped, served, put, waited, answered, is_exit, exited, forked, cloned, executed, exec_at, exec_program, exec_strings, exec, reaped, told_in, waitid_behind, waitid, classed, asked, answer, effect, in_space, by_process, at_process, event}
 use Rattle.machine_world.proofs.States.{find_has}
@@ -43,7 +48,7 @@ eqb_isnt n k h = grind (arith, nat_tests)
 
 -- ---- the words at a list's head
 
-sharing_head : (i : ℕ) (p : Process) (ps : List Process) (b : Bool) → (p.space == i) ≡ b → sharing i (p ∷ ps) ≡ cond b (p ∷ sharing i ps) (sharing i ps)
+pub sharing_head : (i : ℕ) (p : Process) (ps : List Process) (b : Bool) → (p.space == i) ≡ b → sharing i (p ∷ ps) ≡ cond b (p ∷ sharing i ps) (sharing i ps)
 unfolding sharing
 sharing_head i p ps b is = ap (λ (t : Bool). cond t (p ∷ filter (λ q. q.space == i) ps) (filter (λ q. q.space == i) ps)) is
 
@@ -100,7 +105,7 @@ module _ (pid : ℕ) (p : Process) where
   found_behind q qs lives is = sym (find_head pid_of pid q qs false is) ∙ lives
 
   -- a process is one of its space
-  find_sharing : (ps : List Process) → find pid_of pid ps ≡ Some p → find pid_of pid (sharing p.space ps) ≡ Some p
+  pub find_sharing : (ps : List Process) → find pid_of pid ps ≡ Some p → find pid_of pid (sharing p.space ps) ≡ Some p
   unfolding find
   find_sharing [] lives = absurd cc
   find_sharing (q ∷ qs) lives = elim (cases_Bool (q.pid == pid)) [
@@ -151,7 +156,7 @@ module _ (pid : ℕ) (p : Process) where
   ]
 
   -- a space in which no process was, and into which it goes
-  sharing_into : (i : ℕ) (f : Process → Process) → p.space ≢ i → (f p).space ≡ i → (ps : List Process) → find pid_of pid ps ≡ Some p → sharing i ps ≡ []
+  pub sharing_into : (i : ℕ) (f : Process → Process) → p.space ≢ i → (f p).space ≡ i → (ps : List Process) → find pid_of pid ps ≡ Some p → sharing i ps ≡ []
       → sharing i (change pid_of pid f ps) ≡ f p ∷ []
   unfolding find change
   sharing_into i f other goes [] lives empty = absurd cc
@@ -178,7 +183,7 @@ module _ (pid : ℕ) (p : Process) where
         let same : q ≡ p = cc in
         eqb_isnt q.pid pid is (ap (λ (x : Process). x.pid) same ∙ key)
 
-    sharing_own_change : (f : Process → Process) (b : Bool) → ((f p).space == p.space) ≡ b → (ps qs : List Process) → find pid_of pid ps ≡ Some p
+    pub sharing_own_change : (f : Process → Process) (b : Bool) → ((f p).space == p.space) ≡ b → (ps qs : List Process) → find pid_of pid ps ≡ Some p
         → sharing p.space ps ≡ p ∷ qs → sharing p.space (change pid_of pid f ps) ≡ cond b (f p ∷ qs) qs
     unfolding find change
     sharing_own_change f b stays [] rs lives first = absurd cc
@@ -198,7 +203,7 @@ module _ (pid : ℕ) (p : Process) where
       ]
     ]
 
-    sharing_own_without : (b : ℕ) (ps qs : List Process) → Falls pid_of b ps → find pid_of pid ps ≡ Some p → sharing p.space ps ≡ p ∷ qs
+    pub sharing_own_without : (b : ℕ) (ps qs : List Process) → Falls pid_of b ps → find pid_of pid ps ≡ Some p → sharing p.space ps ≡ p ∷ qs
         → sharing p.space (without pid_of pid ps) ≡ qs
     unfolding find without
     sharing_own_without b [] rs falls lives first = absurd cc
@@ -337,6 +342,15 @@ module _ (f : Process → Process) (pids : (q : Process) → (f q).pid ≡ q.pid
   chains_same procs pid chains i =
       chain_alike (sharing i procs) (sharing i (change pid_of pid f procs)) (sym (sharing_same i pid procs)) (chains i)
 
+-- ---- the processes of a space with their registers
+
+abbrev pub runner : Process → Runner
+runner q = record { pid = q.pid; regs = q.regs }
+
+runners_map : (g : Process → Process) → ((q : Process) → runner (g q) ≡ runner q) → (qs : List Process) → map runner (map g qs) ≡ map runner qs
+runners_map g same [] = refl
+runners_map g same (q ∷ qs) = λ j. same q j ∷ runners_map g same qs j
+
 -- ---- the newest waits
 
 pub chains_waiting : (procs : List Process) (pid : ℕ) (p : Process) (who : Who) → AreChains procs → find pid_of pid procs ≡ Some p → p.state ≡ Ready
@@ -374,6 +388,25 @@ module _ (w : World) (a : Ask) where
       let away : a.process.space ≢ i = λ e. other (sym e) in
       sharing_head i (child_of w a) (change pid_of a.process.pid parent_now w.procs) false (eqb_other a.process.space i away)
       ∙ sharing_beside_change a.process.pid a.process i parent_now away away w.procs lives
+
+  pub runners_forked : (qs : List Process) → find pid_of a.process.pid w.procs ≡ Some a.process → sharing a.process.space w.procs ≡ a.process ∷ qs
+      → map runner (sharing a.process.space (with_child w a).procs)
+      ≡ record { pid = w.next_pid; regs = child_regs a.process.regs (arg a 1) } ∷ record { pid = a.process.pid; regs = replied a.process.regs w.next_pid } ∷ map runner qs
+  runners_forked qs lives first = ap (map runner) (sharing_forked qs lives first)
+
+  pub find_forked : (other : ℕ) → other ≢ w.next_pid → other ≢ a.process.pid → find pid_of other (with_child w a).procs ≡ find pid_of other w.procs
+  find_forked other new ne =
+      find_head pid_of other (child_of w a) (change pid_of a.process.pid parent_now w.procs) false (eqb_other w.next_pid other (λ e. new (sym e)))
+      ∙ find_beside_change pid_of a.process.pid other ne parent_now (λ q. refl) w.procs
+
+  pub find_forked_child : find pid_of w.next_pid (with_child w a).procs ≡ Some (child_of w a)
+  find_forked_child = find_head pid_of w.next_pid (child_of w a) (change pid_of a.process.pid parent_now w.procs) true (eqb_same w.next_pid w.next_pid refl)
+
+  pub find_forked_own : a.process.pid ≢ w.next_pid → find pid_of a.process.pid w.procs ≡ Some a.process
+      → find pid_of a.process.pid (with_child w a).procs ≡ Some (parent_now a.process)
+  find_forked_own new lives =
+      find_head pid_of a.process.pid (child_of w a) (change pid_of a.process.pid parent_now w.procs) false (eqb_other w.next_pid a.process.pid (λ e. new (sym e)))
+      ∙ find_changed pid_of a.process.pid parent_now (λ q. refl) w.procs ∙ ap (option_map parent_now) lives
 
   pub chains_forked : AreChains w.procs → Falls pid_of w.next_pid w.procs → find pid_of a.process.pid w.procs ≡ Some a.process → a.process.state ≡ Ready → AreChains (with_child w a).procs
   chains_forked chains falls lives ready i =
@@ -497,6 +530,14 @@ module _ (procs : List Process) (p : Process) where
       → sharing p.space (all_left_by p procs) ≡ map (left_by p) qs
   sharing_own_left b qs falls lives first = sharing_left p.space ∙ ap (map (left_by p)) (sharing_own_without p.pid p refl b procs qs falls lives first)
 
+  pub runners_beside_left : (i b : ℕ) → i ≢ p.space → Falls pid_of b procs → find pid_of p.pid procs ≡ Some p
+      → map runner (sharing i (all_left_by p procs)) ≡ map runner (sharing i procs)
+  runners_beside_left i b other falls lives = ap (map runner) (sharing_beside_left i b other falls lives) ∙ runners_map (left_by p) (λ q. refl) (sharing i procs)
+
+  pub runners_own_left : (b : ℕ) (qs : List Process) → Falls pid_of b procs → find pid_of p.pid procs ≡ Some p → sharing p.space procs ≡ p ∷ qs
+      → map runner (sharing p.space (all_left_by p procs)) ≡ map runner qs
+  runners_own_left b qs falls lives first = ap (map runner) (sharing_own_left b qs falls lives first) ∙ runners_map (left_by p) (λ q. refl) qs
+
   -- whom it was the newest of, and all others, are without it
   others_own : (b : ℕ) (qs : List Process) → Falls pid_of b procs → find pid_of p.pid procs ≡ Some p → sharing p.space procs ≡ p ∷ qs → find pid_of p.pid qs ≡ None
   others_own b qs falls lives first =
@@ -570,6 +611,19 @@ module _ (w : World) (p : Process) (l : Loading) where
   sharing_new_exec lives empty =
       sharing_into p.pid (let_go p.pid p) w.loads begun (moves lives empty) refl freed (freed_lives lives) (shared_freed w.loads ∙ ap (map (let_go p.pid)) empty)
 
+  pub runners_beside_exec : (i : ℕ) → i ≢ p.space → i ≢ w.loads → find pid_of p.pid w.procs ≡ Some p
+      → map runner (sharing i (with_exec w p l).procs) ≡ map runner (sharing i w.procs)
+  runners_beside_exec i other away lives =
+      ap (map runner) (sharing_beside_exec i other away lives) ∙ runners_map (let_go p.pid) (λ q. refl) (sharing i w.procs)
+
+  pub runners_own_exec : (qs : List Process) → find pid_of p.pid w.procs ≡ Some p → sharing w.loads w.procs ≡ [] → sharing p.space w.procs ≡ p ∷ qs
+      → map runner (sharing p.space (with_exec w p l).procs) ≡ map runner qs
+  runners_own_exec qs lives empty first = ap (map runner) (sharing_own_exec qs lives empty first) ∙ runners_map (let_go p.pid) (λ q. refl) qs
+
+  pub runners_new_exec : find pid_of p.pid w.procs ≡ Some p → sharing w.loads w.procs ≡ []
+      → map runner (sharing w.loads (with_exec w p l).procs) ≡ record { pid = p.pid; regs = begin_regs l } ∷ []
+  runners_new_exec lives empty = ap (map runner) (sharing_new_exec lives empty)
+
   pub chains_exec : AreChains w.procs → Falls pid_of w.next_pid w.procs → find pid_of p.pid w.procs ≡ Some p → p.state ≡ Ready → sharing w.loads w.procs ≡ []
       → AreChains (with_exec w p l).procs
   chains_exec chains falls lives ready empty i =
@@ -592,6 +646,49 @@ module _ (w : World) (p : Process) (l : Loading) where
                   (chain_still p.pid (let_go p.pid) (lets_go p.pid) (sharing i w.procs) (chains i) (others_beside w.procs p i b away falls lives))
             ]
       ]
+
+-- ---- the process of a turn
+
+ready_head : (p : Process) (ps : List Process) (b : Bool) → is_ready p.state ≡ b → ready_pids (p ∷ ps) ≡ cond b (p.pid ∷ ready_pids ps) (ready_pids ps)
+unfolding ready_pids
+ready_head p ps true is = ap (λ (t : Bool). map pid_of (cond t (p ∷ filter (λ q. is_ready q.state) ps) (filter (λ q. is_ready q.state) ps))) is
+ready_head p ps false is = ap (λ (t : Bool). map pid_of (cond t (p ∷ filter (λ q. is_ready q.state) ps) (filter (λ q. is_ready q.state) ps))) is
+
+is_ready_state : (s : State) → is_ready s ≡ true → s ≡ Ready
+is_ready_state Ready is = refl
+is_ready_state (Waiting who) is = absurd cc
+is_ready_state (Lent child) is = absurd cc
+
+all_ready : (P : ℕ → Type 0) (b : ℕ) (ps : List Process) → Falls pid_of b ps → ((q : Process) → q.pid < b → find pid_of q.pid ps ≡ Some q → q.state ≡ Ready → P q.pid)
+    → All P (ready_pids ps)
+unfolding ready_pids
+all_ready P b [] falls each = All-nil P
+all_ready P b (p ∷ ps) falls each =
+    let later : All P (ready_pids ps) = all_ready P p.pid ps falls.1
+    (λ q below lives ready. each q (omega (arith, below, falls.0)) (find_head pid_of q.pid p ps false (eqb_other p.pid q.pid (omega (arith, below))) ∙ lives) ready) in
+    elim (cases_Bool (is_ready p.state)) [
+      | inl is ↦
+          subst (All P) (sym (ready_head p ps true is)) (All-cons P p.pid (ready_pids ps)
+          (each p falls.0 (find_head pid_of p.pid p ps true (eqb_same p.pid p.pid refl)) (is_ready_state p.state is)) later)
+      | inr is ↦ subst (All P) (sym (ready_head p ps false is)) later
+    ]
+
+picked_of_all : (P : ℕ → Type 0) (k : ℕ) (pids : List ℕ) (pid : ℕ) → All P pids → picked k pids ≡ Some pid → P pid
+unfolding picked
+picked_of_all P k pids pid all is =
+    let j : ℕ = k % length pids in
+    let inside : j < length (reverse pids) = slice_get_within (reverse pids) j pid is in
+    let n : length (reverse pids) ≡ length pids = length-reverse pids in
+    let there : get_or (reverse pids) j pid ≡ pid = get_or_from_slice_get (reverse pids) j pid pid is in
+    let at : get_or (reverse pids) j pid ≡ get_or pids (length pids - 1 - j) pid = get_or-reverse pids j pid (omega (arith, inside, n)) in
+    subst P (sym at ∙ there) (All-get_or P pids (length pids - 1 - j) pid (omega (arith, inside, n)) all)
+
+pub ready_found : (procs : List Process) (b k pid : ℕ) → picked k (ready_pids procs) ≡ Some pid → Falls pid_of b procs
+    → option_map (λ p. p.state) (find pid_of pid procs) ≡ Some Ready
+ready_found procs b k pid is falls =
+    picked_of_all (λ n. option_map (λ p. p.state) (find pid_of n procs) ≡ Some Ready) k (ready_pids procs) pid
+    (all_ready (λ n. option_map (λ p. p.state) (find pid_of n procs) ≡ Some Ready) b procs falls
+    (λ q below lives ready. ap (option_map (λ p. p.state)) lives ∙ ap Some ready)) is
 
 -- ---- a process whose turn isn't over may run still
 
