@@ -37,4 +37,4 @@ refusals_change_nothing_else w p s bytes e has is =
     let spaces : change id_of p.space (λ l. record l { space = s.space }) w.spaces ≡ w.spaces =
     change_same id_of p.space (λ l. record l { space = s.space }) w.spaces s has refl in
     let none : brought (entry_of a (refusal e) []) s.space.bytes ≡ [] = brings_nothing (entry_of a (refusal e) []) s.space.bytes (is_refused e) in
-    ap (answered w a) is ∙ (rw (spaces, none) refl)
+    is ∙ (rw (spaces, none) refl)

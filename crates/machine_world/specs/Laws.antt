@@ -8,8 +8,7 @@ use Rattle.call_log.specs.Errno.{refusal}
 use Rattle.call_log.specs.Notes.{call_note, weight_of, has_room}
 use Rattle.machine_world.specs.World.{World, Process, LiveSpace, pid_of, id_of}
 use Rattle.machine_world.specs.Asks.{Ask, refuses}
-use Rattle.machine_world.specs.Rows.{row}
-use Rattle.machine_world.specs.Event.{Outcome, went, full, counted, noted, ask_of, entry_of, plain_item, replied, answered}
+use Rattle.machine_world.specs.Event.{Outcome, went, full, counted, noted, ask_of, entry_of, plain_item, replied, answered, classed}
 use Rattle.machine_world.specs.Courses.{Leads, Halts, moved}
 
 -- up to n instructions of a process over the bytes of its space are as many events: a turn goes on behind them, and where one
@@ -35,4 +34,4 @@ abbrev pub RefusalsChangeNothingElse : Type 0
 RefusalsChangeNothingElse =
     (w : World) (p : Process) (s : LiveSpace) (bytes : List ℕ) (e : Errno) → find id_of p.space w.spaces ≡ Some s →
     let a : Ask = ask_of w p s.space bytes in
-    row a ≡ refuses a e → answered w a (row a) ≡ refused_outcome w p a e
+    classed w a ≡ answered w a (refuses a e) → classed w a ≡ refused_outcome w p a e
