@@ -128,6 +128,15 @@ module _ {A : Type 0} (key : A → ℕ) (k : ℕ) where
     | inr is ↦ rw (without_head x xs false is) (omega (arith, length_without xs))
   ]
 
+  -- where one has the number, one is less
+  pub length_gone : (xs : List A) → IsSome (find key k xs) → length (without key k xs) < length xs
+  unfolding find
+  length_gone [] h = absurd cc
+  length_gone (x ∷ xs) h = elim (decide (key x == k)) [
+    | inl is ↦ rw (without_head x xs true is) (omega (arith, length_without xs))
+    | inr is ↦ rw (without_head x xs false is) (omega (arith, length_gone xs (subst IsSome (find_head x xs false is) h)))
+  ]
+
   pub falls_change : (f : A → A) → ((x : A) → key (f x) ≡ key x) → (b : ℕ) (xs : List A) → Falls key b xs → Falls key b (change key k f xs)
   unfolding change
   falls_change f same b [] h = tt

@@ -3,3 +3,4 @@ pub mod Places
 mod Loops
 pub mod Families
 pub mod WaitsWell
+mod Holds

@@ -11,10 +11,10 @@ use Rattle.vfork_exec.specs.declared.family.State.TheVariants.{Ready, Waiting, L
 use Rattle.vfork_exec.specs.declared.family.Ended.{Ended}
 use Rattle.vfork_exec.specs.declared.entry.Entry.{Entry}
 use Rattle.vfork_exec.specs.Keyed.{find, change, without, Falls}
-use Rattle.vfork_exec.specs.Families.{is_child, is_meant, parent_behind, is_ready, resumed, woken, state_behind, ended_behind, first_ended}
+use Rattle.vfork_exec.specs.Families.{is_child, is_meant, parent_behind, is_ready, resumed, woken, state_behind, ended_behind, first_ended, without_first}
 use Rattle.vfork_exec.specs.Procs.{Listed, WaitsWell, process, parent_at, has_child, pid_of, behind, with_state, with_entry, with_exec, with_end, ready}
-use Rattle.vfork_exec.proofs.Keyed.{decide, eqb_is, eqb_same, eqb_other, find_head, find_key, find_below, find_later, find_changed, find_beside_change, find_map, find_gone, find_beside_without, any_found, any_there, found_any}
-use Rattle.vfork_exec.proofs.Families.{none_filtered, none_appended, none_last}
+use Rattle.vfork_exec.proofs.Keyed.{decide, eqb_is, eqb_same, eqb_other, find_head, find_key, find_below, find_later, any_change, any_map, find_changed, find_beside_change, find_map, find_gone, find_beside_without, any_found, any_there, found_any}
+use Rattle.vfork_exec.proofs.Families.{none_filtered, none_appended, none_last, none_without}
 
 -- ---- states
 
@@ -243,3 +243,67 @@ module _ {P : Type 0} where
 
     last : (pid : ℕ) (who : Who) → is_child pid who gone.pid gone.parent ≡ false → first_ended pid who (cond (gone.parent == 0) [] (record { pid = gone.pid; parent = gone.parent; how = how } ∷ [])) ≡ None
     last pid who wrong = none_last pid who (record { pid = gone.pid; parent = gone.parent; how = how }) (gone.parent == 0) wrong
+
+  -- a process whose parent and number stay, in a state that is right
+  pub well_change : (s : Listed P) (pid : ℕ) (f : Entry P → Entry P)
+      → ((e : Entry P) → (f e).pid ≡ e.pid)
+      → ((e : Entry P) → (f e).parent ≡ e.parent)
+      → ((child : ℕ) (e : Entry P) → process s pid ≡ Some e → (f e).state ≡ Lent child → parent_at s child ≡ Some pid)
+      → ((who : Who) (e : Entry P) → process s pid ≡ Some e → (f e).state ≡ Waiting who → (has_child s pid who ≡ true) × (first_ended pid who s.ended ≡ None))
+      → WaitsWell s → WaitsWell (record s { entries = change pid_of pid f s.entries })
+  well_change s pid f same keeps lent waits well = well_kept s (record s { entries = change pid_of pid f s.entries }) (λ j e. cond (j == pid) (f e) e)
+      (λ j. found_change f same pid j s.entries)
+      (λ j e. elim (decide (j == pid)) [
+        | inl at ↦ rw at (keeps e)
+        | inr at ↦ rw at refl
+      ])
+      (λ j child e is so. elim (decide (j == pid)) [
+        | inl at ↦
+            let one : j ≡ pid = eqb_is j pid at in
+            let now : (f e).state ≡ Lent child = sym (ap (λ b. (cond b (f e) e).state) at) ∙ so in
+            lent child e (ap (process s) (sym one) ∙ is) now ∙ ap Some (sym one)
+        | inr at ↦ let now : e.state ≡ Lent child = sym (ap (λ b. (cond b (f e) e).state) at) ∙ so in well.lenders j child e is now
+      ])
+      (λ j who e is so. elim (decide (j == pid)) [
+        | inl at ↦
+            let one : j ≡ pid = eqb_is j pid at in
+            let now : (f e).state ≡ Waiting who = sym (ap (λ b. (cond b (f e) e).state) at) ∙ so in
+            let h = waits who e (ap (process s) (sym one) ∙ is) now in
+            (child_kept j who ∙ subst (λ k. has_child s k who ≡ true) (sym one) h.0, subst (λ k. first_ended k who s.ended ≡ None) (sym one) h.1)
+        | inr at ↦
+            let now : e.state ≡ Waiting who = sym (ap (λ b. (cond b (f e) e).state) at) ∙ so in
+            let h = well.waiters j who e is now in (child_kept j who ∙ h.0, h.1)
+      ])
+      well where
+    child_kept : (j : ℕ) (who : Who) → list_any (λ (e : Entry P). is_child j who e.pid e.parent) (change pid_of pid f s.entries) ≡ has_child s j who
+    child_kept j who = any_change pid_of pid (λ (e : Entry P). is_child j who e.pid e.parent) f (λ e. ap (λ n. is_child j who n (f e).parent) (same e) ∙ ap (is_child j who e.pid) (keeps e)) s.entries
+
+  -- a process leaves its space
+  pub well_exec : (s : Listed P) (pid : ℕ) → WaitsWell s → WaitsWell (with_exec s pid)
+  well_exec s pid well = well_kept s (with_exec s pid) (λ j. f)
+      (λ j. find_map pid_of pid_of j f (λ x. refl) s.entries)
+      (λ j e. refl)
+      (λ j child e is so. well.lenders j child e is (lent_resumed pid child e.state so).0)
+      (λ j who e is so.
+        let h = well.waiters j who e is (waits_resumed pid who e.state so) in
+        (any_map (λ (y : Entry P). is_child j who y.pid y.parent) (λ (y : Entry P). is_child j who y.pid y.parent) f (λ x. refl) s.entries ∙ h.0, h.1))
+      well where
+    f : Entry P → Entry P
+    f e = with_state e (resumed pid e.state)
+
+  -- one that has ended is told of
+  pub well_first : (s : Listed P) (own : ℕ) (who : Who) → WaitsWell s → WaitsWell (record s { ended = without_first own who s.ended })
+  well_first s own who well = record {
+    parents = well.parents;
+    lenders = well.lenders;
+    waiters = λ pid meant e is so. let h = well.waiters pid meant e is so in (h.0, none_without pid meant own who s.ended h.1);
+  }
+
+  -- none
+  pub well_none : (n : ℕ) → WaitsWell {P = P} (record { entries = []; ended = []; next_pid = n })
+  unfolding find
+  well_none n = record {
+    parents = λ pid e is. absurd cc;
+    lenders = λ pid child e is so. absurd cc;
+    waiters = λ pid who e is so. absurd cc;
+  }

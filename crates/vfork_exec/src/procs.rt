@@ -165,6 +165,7 @@ impl<P> Procs<P> {
     }
 
     /// Whether a process runs in the space of another one, which stands still for it.
+    #[tactic(auto, unfolding(crate::specs::Procs::borrows))]
     pub fn borrows(&self, pid: u32) -> bool
         ensures { result ≡ borrows self.now pid }
     {
