@@ -23,6 +23,7 @@
 -- NodesAge  nodes age by each change of the tree
 -- Aging     and so by rows and events
 -- Chains    the processes of each space, of which one at most may run
+-- FamilySamples  vfork, execve, waitid and ends, computed on worked examples
 mod Samples
 mod FileSamples
 mod MapSamples
@@ -48,3 +49,4 @@ mod PlacementLaws
 pub mod NodesAge
 pub mod Aging
 pub mod Chains
+mod FamilySamples
