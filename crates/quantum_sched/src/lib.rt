@@ -2,7 +2,7 @@
 #![tactic(auto)]
 
 ghost use Rattle.std.specs.Prelude.{◌≡◌, ◌↔◌, [], IsNone};
-ghost use Rattle.vfork_exec.specs.Procs.{pids};
+ghost use Rattle.vfork_exec.specs.Procs.{ready_pids};
 ghost use Rattle.quantum_sched.specs.Picked.{picked};
 
 use vfork_exec::Procs;
@@ -19,8 +19,8 @@ pub struct Quantum {
 /// The pid of the process whose turn it is; None exactly where none may run.
 #[tactic(auto, unfolding(crate::specs::Picked::picked))]
 pub fn pick<P>(procs: &Procs<P>, q: Quantum) -> Option<u32>
-    ensures picked { result ≡ picked q.pick (pids procs.now) }
-    ensures none { IsNone result ↔ (pids procs.now ≡ []) }
+    ensures picked { result ≡ picked q.pick (ready_pids procs.now) }
+    ensures none { IsNone result ↔ (ready_pids procs.now ≡ []) }
 {
     let count = procs.runnable();
     if count == 0 {
