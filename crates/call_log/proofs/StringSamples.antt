@@ -3,7 +3,7 @@ use Rattle.std.proofs.Common.{◌≡◌, ℕ, List, [], ◌∷◌, ◌++◌, Som
 use Rattle.std.specs.Prelude.{Result}
 use Rattle.byte_words.specs.ByteMap.{Bytes, with_bytes, little_bytes}
 use Rattle.byte_words.specs.Numbers.{number_at}
-use Rattle.call_log.specs.Sent.{Span, read_span, list_sent, exec_sent, sent}
+use Rattle.call_log.specs.Sent.{Span, read_span, string_from, strings_from, list_sent, exec_sent, sent}
 use Rattle.call_log.specs.Strings.{strings_in, program_strings}
 
 -- the path "/a" at 16, the string "a" at 32 and "bc" at 40, and at 64 their pointers with a zero behind them
@@ -25,22 +25,22 @@ list = 32 ∷ 0 ∷ 0 ∷ 0 ∷ 97 ∷ 0 ∷ 40 ∷ 0 ∷ 0 ∷ 0 ∷ 98 ∷ 99 
 
 -- execve("/a", {"a", "bc"}, NULL)
 two_strings : sent 221 (16 ∷ 64 ∷ 0 ∷ []) memory ≡ Ok (path ++ list)
-unfolding sent read_span number_at
+unfolding sent string_from strings_from read_span number_at
 two_strings = refl
 
 -- the same list as environment, and none of arguments
 environment : exec_sent memory 16 0 64 ≡ Ok (path ++ list)
-unfolding read_span number_at
+unfolding string_from strings_from read_span number_at
 environment = refl
 
 -- both, one behind the other
 both_lists : exec_sent memory 16 64 64 ≡ Ok (path ++ (list ++ list))
-unfolding read_span number_at
+unfolding string_from strings_from read_span number_at
 both_lists = refl
 
 -- a list that isn't there
 no_list : exec_sent memory 16 80 0 ≡ Err (record { addr = 80; len = 4 })
-unfolding read_span
+unfolding strings_from read_span
 no_list = refl
 
 -- ---- where the most bytes are passed, here fewer: the strings count thirteen, and the zero behind their pointers nothing
@@ -49,22 +49,22 @@ abbrev done : ℕ → Result (List ℕ) Span
 done left = Ok []
 
 all_read : list_sent memory 64 13 done ≡ Ok list
-unfolding read_span number_at
+unfolding string_from strings_from read_span number_at
 all_read = refl
 
 -- the zero of "bc" passes them
 last_passes : list_sent memory 64 12 done ≡ Ok (take 13 list)
-unfolding read_span number_at
+unfolding string_from strings_from read_span number_at
 last_passes = refl
 
 -- the second pointer
 pointer_passes : list_sent memory 64 9 done ≡ Ok (take 10 list)
-unfolding read_span number_at
+unfolding string_from strings_from read_span number_at
 pointer_passes = refl
 
 -- the first byte of "bc"
 byte_passes : list_sent memory 64 10 done ≡ Ok (take 11 list)
-unfolding read_span number_at
+unfolding string_from strings_from read_span number_at
 byte_passes = refl
 
 -- ---- the strings

@@ -111,7 +111,7 @@ most_strings = 1048576
 
 -- a string, byte by byte up to its zero, and then what is read with what is left of those bytes; behind the byte that passes them
 -- nothing more is read
-abbrev pub string_from : ℕ → Bytes → (at left : ℕ) → (ℕ → Result (List ℕ) Span) → Result (List ℕ) Span
+unfoldable pub string_from : ℕ → Bytes → (at left : ℕ) → (ℕ → Result (List ℕ) Span) → Result (List ℕ) Span
 string_from zero m at left more = Ok []
 string_from (suc most) m at left more = followed (read_span m (record { addr = at % 2 ^ 32; len = 1 })) (λ byte.
     if left == 0 then Ok []
@@ -119,7 +119,7 @@ string_from (suc most) m at left more = followed (read_span m (record { addr = a
     else string_from most m (at + 1) (left - 1) more)
 
 -- a list of pointers to strings, each string behind its pointer, up to the pointer that is zero
-abbrev pub strings_from : ℕ → Bytes → (at left : ℕ) → (ℕ → Result (List ℕ) Span) → Result (List ℕ) Span
+unfoldable pub strings_from : ℕ → Bytes → (at left : ℕ) → (ℕ → Result (List ℕ) Span) → Result (List ℕ) Span
 strings_from zero m at left more = Ok []
 strings_from (suc most) m at left more = followed (read_span m (record { addr = at % 2 ^ 32; len = 4 })) (λ word.
     if number_at low_first 4 word 0 == 0 then more left

@@ -255,18 +255,27 @@ forks : seen [] (solo_step (calls (six 0x4111 0x8000_4800) 220) (item (six 0x411
 unfolding solo_step meaning effect decoded loaded register with_register own_of writable_of number_at byte_at opcode funct3 funct7 rd rs1 rs2 imm_i sent is_errno is_call
 forks = refl
 
+-- execve of the empty path at 0x80000041, with no arguments and no environment
+abbrev execs : ℕ → Left
+execs reply = solo_step (calls (six 0x8000_0041 0) 221) (record { entry = record (entry (six 0x8000_0041 0) 221 reply []) { sent = 0 ∷ [] }; brought = [] } ∷ [])
+
 -- an end and an execve leave the space; a refused execve doesn't
 leaves :
     map (λ (l : Left). seen [] l) (solo_step (calls (six 3 0) 93) (item (six 3 0) 93 0 ∷ [])
     ∷ solo_step (calls (six 3 0) 94) (item (six 3 0) 94 0 ∷ [])
-    ∷ solo_step (calls (six 3 0) 221) (item (six 3 0) 221 0 ∷ [])
-    ∷ solo_step (calls (six 3 0) 221) (item (six 3 0) 221 0xffff_fffe ∷ [])
+    ∷ execs 0
+    ∷ execs 0xffff_fffe
     ∷ [])
     ≡ replicate 3 (Some (record { stack = []; ranges = all; bytes = []; items = [] }))
     ++ Some (record { stack = record { pid = 7; regs = record (regs (six 0xffff_fffe 0) 221) { pc = 0x8000_0044 } } ∷ []; ranges = all; bytes = []; items = [] })
     ∷ []
-unfolding solo_step meaning effect decoded loaded register with_register own_of writable_of number_at byte_at opcode funct3 funct7 rd rs1 rs2 imm_i sent is_errno is_call
+unfolding solo_step meaning effect decoded loaded register with_register own_of writable_of number_at byte_at opcode funct3 funct7 rd rs1 rs2 imm_i sent read_span is_errno is_call
 leaves = refl
+
+-- of a path that isn't own
+refuted-exec : solo_step (calls (six 3 0) 221) (item (six 3 0) 221 0 ∷ []) ≡ None
+unfolding solo_step meaning effect decoded loaded register with_register own_of writable_of number_at byte_at opcode funct3 funct7 rd rs1 rs2 imm_i sent read_span is_errno is_call
+refuted-exec = refl
 
 -- the one below goes on, as it stood
 pops :

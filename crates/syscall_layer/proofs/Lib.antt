@@ -6,6 +6,7 @@
 -- OutputRanges  the ranges that a call gives are ranges that an access can have
 -- Puts      ranges written into memory, one behind the other
 -- ReadPath  the path that a call reads, byte by byte, and which reading is whose
+-- ReadStrings  the strings that an execve reads, each one behind its pointer
 -- CallRows  the row of each call, and the effect that the code gives it
 -- Runs      a process that runs in its space, and the call at which it stands
 -- CopiesKept  live copies hold their file in a memory that has the same bytes there
@@ -70,3 +71,4 @@ pub mod Outcomes
 pub mod Finishes
 pub mod ReadRanges
 pub mod ReadPath
+pub mod ReadStrings

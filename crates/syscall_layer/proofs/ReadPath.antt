@@ -9,7 +9,7 @@ use Rattle.mmap_rules.specs.Space.{may_use}
 use Rattle.mmap_rules.specs.Owners.{owns}
 use Rattle.region_watch.specs.Private.{only, physical}
 use Rattle.region_watch.proofs.Accesses.{own_within}
-use Rattle.call_log.specs.Sent.{Span, read_span, followed, up_to_zero, path_from, write_sent, writev_sent, readv_sent, path_sent, has_path, sent}
+use Rattle.call_log.specs.Sent.{Span, read_span, followed, up_to_zero, path_from, write_sent, writev_sent, readv_sent, path_sent, has_path, exec_sent, sent}
 use Rattle.syscall_layer.specs.declared.reading.Unread.{Unread}
 use Rattle.syscall_layer.specs.declared.reading.Unread.TheVariants.{Stray, Memory}
 use Rattle.syscall_layer.specs.Reading.{Reads, ReadsByte, appended}
@@ -120,10 +120,14 @@ module _ (n : ℕ) (args : List ℕ) (m : Bytes) where
   unfolding sent
   sent_readv is = rw is refl
 
+  pub sent_exec : n ≡ 221 → sent n args m ≡ exec_sent m (slice_index args 0) (slice_index args 1) (slice_index args 2)
+  unfolding sent
+  sent_exec is = rw is refl
+
   pub sent_path : n ≢ 64 → n ≢ 66 → n ≢ 65 → has_path n ≡ true → sent n args m ≡ path_sent m (slice_index args 1)
   unfolding sent
   sent_path n64 n66 n65 is = rw (eqb_other n 64 n64, eqb_other n 66 n66, eqb_other n 65 n65, is) refl
 
-  pub sent_nothing : n ≢ 64 → n ≢ 66 → n ≢ 65 → has_path n ≡ false → sent n args m ≡ Ok []
+  pub sent_nothing : n ≢ 64 → n ≢ 66 → n ≢ 65 → has_path n ≡ false → n ≢ 221 → sent n args m ≡ Ok []
   unfolding sent
-  sent_nothing n64 n66 n65 is = rw (eqb_other n 64 n64, eqb_other n 66 n66, eqb_other n 65 n65, is) refl
+  sent_nothing n64 n66 n65 is n221 = rw (eqb_other n 64 n64, eqb_other n 66 n66, eqb_other n 65 n65, is, eqb_other n 221 n221) refl

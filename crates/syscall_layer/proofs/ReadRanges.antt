@@ -84,7 +84,7 @@ from_length m a (suc len) bs e = one_more (m a) (bytes_from m (a + 1) len) (from
     one_more (Some b) None long e = absurd (cc)
     one_more None more long e = absurd (cc)
 
-read_length : (m : Bytes) (span : Span) (bytes : List ℕ) → read_span m span ≡ Ok bytes → length bytes ≡ span.len
+pub read_length : (m : Bytes) (span : Span) (bytes : List ℕ) → read_span m span ≡ Ok bytes → length bytes ≡ span.len
 unfolding read_span
 read_length m span bytes is = read (nat_le (span.addr + span.len) (2 ^ 32)) (bytes_from m span.addr span.len) (from_length m span.addr span.len) is
   where

@@ -1,9 +1,10 @@
 //! The bytes that a system call reads.
 
-ghost use Rattle.std.specs.Prelude.{◌≡◌, ◌*◌, ◌≤◌, IfOk, OnErr, length};
-ghost use Rattle.call_log.specs.Sent.{read_span, read_spans, piece_spans, data_spans, write_sent, writev_sent, readv_sent, path_sent, has_path, sent};
+ghost use Rattle.std.specs.Prelude.{◌≡◌, ◌*◌, ◌≤◌, IfOk, OnErr, length, slice_index};
+ghost use Rattle.byte_words.specs.Numbers.{low_first, number_at};
+ghost use Rattle.call_log.specs.Sent.{read_span, read_spans, piece_spans, data_spans, write_sent, writev_sent, readv_sent, path_sent, has_path, has_zero, string_from, list_sent, exec_sent, sent};
 ghost use Rattle.syscall_layer.specs.Stands.{private_bytes};
-ghost use Rattle.syscall_layer.specs.Reading.{Reads, ReadsByte, Appends};
+ghost use Rattle.syscall_layer.specs.Reading.{Reads, ReadsByte, Appends, AppendsNumber, ReadsOn};
 
 use byte_words::word;
 use mmap_rules::Space;
@@ -18,6 +19,10 @@ const MOST_PIECES: u32 = 1024;
 
 /// The most bytes that are read of a path.
 const MOST_PATH: u32 = 4096;
+
+/// The most bytes of the arguments and the environment of a program: four for each pointer, and those of the strings with
+/// their zeros.
+const MOST_STRINGS: u32 = 1_048_576;
 
 /// Why the bytes of a call are not read.
 #[derive(Clone, Copy, Debug, PartialEq, Eq)]
@@ -189,6 +194,112 @@ fn read_readv(
     read_pieces(alloc, mem, space, at, count)
 }
 
+/// Adds a byte of its own.
+fn add_byte(mem: &PhysMem, space: &Space, addr: u32, into: &mut Vec<u8>) -> Result<u8, Unread>
+    requires memory { length mem.now ≡ 4096 * space.now.pages }
+    ensures { AppendsNumber (λ bytes. slice_index bytes 0) (read_span (private_bytes mem.now space.now) (record { addr = addr; len = 1 })) into.old.items into.new.items result }
+{
+    let byte = read_byte(mem, space, addr)?;
+    if into.push(byte).is_err() {
+        return Err(Unread::Memory);
+    }
+    Ok(byte)
+}
+
+/// Adds a word of its own.
+fn add_word(mem: &PhysMem, space: &Space, addr: u32, into: &mut Vec<u8>) -> Result<u32, Unread>
+    requires memory { length mem.now ≡ 4096 * space.now.pages }
+    ensures { AppendsNumber (λ bytes. number_at low_first 4 bytes 0) (read_span (private_bytes mem.now space.now) (record { addr = addr; len = 4 })) into.old.items into.new.items result }
+{
+    let from = into.len();
+    read_range(mem, space, addr, 4, into)?;
+    Ok(word(into, from))
+}
+
+/// Adds a string, up to its zero. Gives what is left of the most bytes, and none where a byte passes them: it is the last one.
+fn add_string(
+    mem: &PhysMem,
+    space: &Space,
+    at: u32,
+    mut left: u32,
+    into: &mut Vec<u8>,
+) -> Result<Option<u32>, Unread>
+    requires memory { length mem.now ≡ 4096 * space.now.pages }
+    ensures { ReadsOn (string_from 1048577 (private_bytes mem.now space.now) at left) into.old.items into.new.items result }
+{
+    for i in 0..=MOST_STRINGS {
+        let byte = add_byte(mem, space, at.wrapping_add(i), into)?;
+        if left == 0 {
+            return Ok(None);
+        }
+        left -= 1;
+        if byte == 0 {
+            return Ok(Some(left));
+        }
+    }
+    Ok(None)
+}
+
+/// Adds a list of strings, each one behind its pointer, up to the pointer that is zero. No list stands at 0.
+fn add_list(
+    mem: &PhysMem,
+    space: &Space,
+    at: u32,
+    mut left: u32,
+    into: &mut Vec<u8>,
+) -> Result<Option<u32>, Unread>
+    requires memory { length mem.now ≡ 4096 * space.now.pages }
+    ensures { ReadsOn (list_sent (private_bytes mem.now space.now) at left) into.old.items into.new.items result }
+{
+    if at == 0 {
+        return Ok(Some(left));
+    }
+    for i in 0..=MOST_STRINGS {
+        let pointer = add_word(mem, space, at.wrapping_add(4 * i), into)?;
+        if pointer == 0 {
+            return Ok(Some(left));
+        }
+        if left < 4 {
+            return Ok(None);
+        }
+        let Some(less) = add_string(mem, space, pointer, left - 4, into)? else {
+            return Ok(None);
+        };
+        left = less;
+    }
+    Ok(None)
+}
+
+/// A zero is among the bytes.
+fn has_zero(bytes: &[u8]) -> bool
+    ensures { result ≡ has_zero bytes.now }
+{
+    bytes.contains(&0)
+}
+
+/// What an execve reads: its path, and behind one that isn't too long its arguments and its environment.
+fn read_exec(
+    alloc: Global,
+    mem: &PhysMem,
+    space: &Space,
+    path: u32,
+    args: u32,
+    env: u32,
+) -> Result<Vec<u8>, Unread>
+    requires memory { length mem.now ≡ 4096 * space.now.pages }
+    ensures { Reads (exec_sent (private_bytes mem.now space.now) path args env) result }
+{
+    let mut bytes = read_path(alloc, mem, space, path)?;
+    if !has_zero(&bytes) {
+        return Ok(bytes);
+    }
+    let Some(left) = add_list(mem, space, args, MOST_STRINGS, &mut bytes)? else {
+        return Ok(bytes);
+    };
+    add_list(mem, space, env, left, &mut bytes)?;
+    Ok(bytes)
+}
+
 /// mkdirat, unlinkat and openat.
 fn has_path(number: u32) -> bool
     ensures { result ≡ has_path number }
@@ -211,6 +322,7 @@ pub fn read_sent(
         64 => read_write(alloc, mem, space, args[1], args[2]),
         66 => read_writev(alloc, mem, space, args[1], args[2]),
         65 => read_readv(alloc, mem, space, args[1], args[2]),
+        221 => read_exec(alloc, mem, space, args[0], args[1], args[2]),
         number if has_path(number) => read_path(alloc, mem, space, args[1]),
         _ => Ok(Vec::new(alloc)),
     }

@@ -4,7 +4,7 @@ use Rattle.std.specs.Prelude.{ℕ, Result}
 use Rattle.call_log.specs.Sent.{Span}
 use Rattle.syscall_layer.specs.Stands.{private_bytes}
 use Rattle.syscall_layer.specs.Reading.{Reads}
-use Rattle.syscall_layer.proofs.ReadPath.{sent_write, sent_writev, sent_readv, sent_path, sent_nothing}
+use Rattle.syscall_layer.proofs.ReadPath.{sent_write, sent_writev, sent_readv, sent_exec, sent_path, sent_nothing}
 use Rattle.syscall_layer.proofs.reading.read_sent.Goals as goal
 
 pub returns-in-64 : goal.returns-in-64
@@ -18,6 +18,10 @@ returns-in-66 c =
 pub returns-in-65 : goal.returns-in-65
 returns-in-65 c =
     subst (λ (x : Result (List ℕ) Span). Reads x c.read_readv.result) (sym (sent_readv c.args.number c.args.args.now (private_bytes c.args.mem.now c.args.space.now) c.in-65.is)) c.read_readv.ensures
+
+pub returns-in-221 : goal.returns-in-221
+returns-in-221 c =
+    subst (λ (x : Result (List ℕ) Span). Reads x c.read_exec.result) (sym (sent_exec c.args.number c.args.args.now (private_bytes c.args.mem.now c.args.space.now) c.in-221.is)) c.read_exec.ensures
 
 pub returns-in_default : goal.returns-in_default
 returns-in_default c =
@@ -34,5 +38,6 @@ returns-in_default-2 c =
     let n64 : n ≢ 64 = omega arith in
     let n66 : n ≢ 66 = omega arith in
     let n65 : n ≢ 65 = omega arith in
+    let n221 : n ≢ 221 = omega arith in
     let done : List ℕ → Result (List ℕ) Span = λ x. Ok x in
-    sent_nothing n c.args.args.now (private_bytes c.args.mem.now c.args.space.now) n64 n66 n65 (sym c.has_path.ensures ∙ c.if-has_path.false) ∙ ap done (sym c.new.ensures.items)
+    sent_nothing n c.args.args.now (private_bytes c.args.mem.now c.args.space.now) n64 n66 n65 (sym c.has_path.ensures ∙ c.if-has_path.false) n221 ∙ ap done (sym c.new.ensures.items)
