@@ -1,6 +1,6 @@
 //! A program in the place of another one (Linux, execve(2), in this project's profile).
 
-ghost use Rattle.std.specs.Prelude.{◌≡◌, ◌∷◌, [], true};
+ghost use Rattle.std.specs.Prelude.{◌≡◌, ◌≤◌, ◌∷◌, [], true, length};
 ghost use Rattle.page_runs.specs.Choosers.{IsChooser, kind_of};
 ghost use Rattle.call_log.specs.Notes.{has_room, load_note};
 ghost use Rattle.mmap_rules.specs.Held.{Held};
@@ -8,7 +8,8 @@ ghost use Rattle.flat_loader.specs.Frame.{frame_fits, texts};
 ghost use Rattle.flat_loader.specs.Original.{flat_original};
 ghost use Rattle.vfork_exec.specs.declared.entry.Entry.{Entry as Listed};
 ghost use Rattle.vfork_exec.specs.Procs.{CanRun, Lives, value_at, with_exec, with_value_at};
-ghost use Rattle.machine_world.specs.Event.{exec_fitting};
+ghost use Rattle.machine_world.specs.Asks.{refuses};
+ghost use Rattle.machine_world.specs.Event.{answered, exec_fitting};
 ghost use Rattle.syscall_layer.specs.declared.task.Task.{Task};
 ghost use Rattle.syscall_layer.specs.Stands.{About, world_of};
 ghost use Rattle.syscall_layer.specs.Serves.{Serves};
