@@ -6,6 +6,7 @@
 -- Starts   what the start of a program leaves
 -- Inside   the fields of `Parts` as what is kept
 -- Reading  what the reading of a call's bytes answers
+-- StringsOf  the strings that an execve read, as the code gives them
 -- Gone     the parts without a process and its space
 -- Calls    a system call by its parts, and what is kept after it
 -- MapsIn   what mmap2 and munmap leave of the spaces
@@ -19,6 +20,7 @@ pub mod Serves
 pub mod Starts
 pub mod Inside
 pub mod Reading
+pub mod StringsOf
 pub mod Gone
 pub mod Calls
 pub mod Refusals

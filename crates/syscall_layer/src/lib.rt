@@ -18,12 +18,14 @@ mod reading;
 mod reply;
 mod start;
 mod stray;
+mod strings;
 mod task;
 
 pub use answer::{Served, serve};
 pub use parts::Parts;
 pub use reading::{Unread, read_range};
 pub use start::StartRefusal;
+pub use strings::{ProgramStrings, program_strings};
 pub use task::Task;
 
 #[cfg(test)]
