@@ -7,6 +7,7 @@
 -- Puts      ranges written into memory, one behind the other
 -- ReadPath  the path that a call reads, byte by byte, and which reading is whose
 -- ReadStrings  the strings that an execve reads, each one behind its pointer
+-- StringLists  the strings of a list, parsed from the front
 -- CallRows  the row of each call, and the effect that the code gives it
 -- Runs      a process that runs in its space, and the call at which it stands
 -- CopiesKept  live copies hold their file in a memory that has the same bytes there
@@ -72,3 +73,4 @@ pub mod Finishes
 pub mod ReadRanges
 pub mod ReadPath
 pub mod ReadStrings
+pub mod StringLists

@@ -1,13 +1,18 @@
 //! waitid, clone and execve (Linux, wait(2), vfork(2), execve(2), in this project's profile).
 
-ghost use Rattle.std.specs.Prelude.{◌≡◌, ◌<◌, ◌^◌, IfOk, Option, Some, None, map, option_map, slice_index, take_while};
+ghost use Rattle.std.specs.Prelude.{◌≡◌, false, IfOk, Ok};
 ghost use Rattle.page_runs.specs.Choosers.{IsChooser, kind_of};
-ghost use Rattle.call_log.specs.Values.{written_value};
 ghost use Rattle.mmap_rules.specs.Held.{Held};
 ghost use Rattle.vfork_exec.specs.declared.entry.Entry.{Entry};
 ghost use Rattle.vfork_exec.specs.Procs.{CanRun};
-ghost use Rattle.machine_world.specs.FamilyCalls.{child_info, no_info, info_at};
-ghost use Rattle.machine_world.specs.Event.{waitid, cloned, exec};
+ghost use Rattle.vfork_exec.specs.Procs.{Lives, looked};
+ghost use Rattle.mem_files.specs.Paths.{lookup};
+ghost use Rattle.machine_world.specs.Asks.{Ask};
+ghost use Rattle.machine_world.specs.FamilyCalls.{who_of, waitid_fault, info_at};
+ghost use Rattle.machine_world.specs.Event.{waitid, reaped, cloned, exec};
+ghost use Rattle.file_calls.specs.Calls.{written_of};
+ghost use Rattle.file_calls.specs.declared.outcome.Then.TheVariants.{Nothing};
+ghost use Rattle.syscall_layer.specs.Families.{info_of, mark_at};
 ghost use Rattle.syscall_layer.specs.declared.task.Task.{Task};
 ghost use Rattle.syscall_layer.specs.Stands.{About, world_of};
 ghost use Rattle.syscall_layer.specs.Serves.{Serves};
@@ -17,7 +22,7 @@ ghost use Rattle.syscall_layer.specs.Calls.{RunsIn, IsCall, ask_in};
 use crate::answer::{Served, answer_effect, answer_given, has_room};
 use crate::effect::Effect;
 use crate::parts::Parts;
-use crate::strings::program_strings;
+use crate::strings::{at_zero, program_strings};
 use bflt_format::Flat;
 use call_log::{Errno, Got, How};
 use file_calls::{Call, Outcome, Then};
@@ -37,19 +42,32 @@ const SIGCHLD: u32 = 17;
 const CLD_EXITED: u32 = 1;
 const CLD_KILLED: u32 = 2;
 
-/// Whether a waitid is refused before it looks for children.
-fn is_refused(args: &[u32; 6]) -> bool {
+/// Why a waitid is refused before it looks for children.
+fn fault_of(args: &[u32; 6]) -> Option<Errno>
+    ensures { (a : Ask) → a.args ≡ args.now → result ≡ waitid_fault a }
+{
     let (kind, options, usage) = (args[0], args[3], args[4]);
-    kind > 1 || (options != EXITED && options != EXITED + NO_HANG) || usage != 0
+    if kind > 1 || (options != EXITED && options != EXITED + NO_HANG) || usage != 0 {
+        return Some(Errno::Einval);
+    }
+    None
 }
 
-/// Which children a waitid means: P_ALL, or the one child of P_PID.
-fn meant(args: &[u32; 6]) -> Who {
-    if args[0] == 0 { Who::All } else { Who::Pid(args[1]) }
+/// Which children a waitid means that isn't refused: P_ALL, or the one child of P_PID.
+fn meant(args: &[u32; 6]) -> Who
+    ensures { (a : Ask) → a.args ≡ args.now → result ≡ who_of a }
+{
+    if args[0] == 0 {
+        Who::All
+    } else {
+        Who::Pid(args[1])
+    }
 }
 
 /// What is told of a child.
-fn info_of(alloc: Global, told: Waited) -> Result<Vec<u8>, AllocError> {
+fn info_of(alloc: Global, told: Waited) -> Result<Vec<u8>, AllocError>
+    ensures { IfOk result (λ info. info.items ≡ info_of told) }
+{
     let mut info = Vec::with_capacity(alloc, INFO_LEN)?;
     let words = match told {
         Waited::Child { pid, how } => {
@@ -67,14 +85,51 @@ fn info_of(alloc: Global, told: Waited) -> Result<Vec<u8>, AllocError> {
     Ok(info)
 }
 
+/// What a waitid gives that doesn't wait.
+fn told_outcome(alloc: Global, at: u32, told: Waited) -> Result<Outcome, AllocError>
+    ensures value { IfOk result (λ o. o.value ≡ 0) }
+    ensures got { IfOk result (λ o. written_of o ≡ info_at at (info_of told)) }
+    ensures nothing { IfOk result (λ o. o.then ≡ Nothing) }
+{
+    let mut got = Vec::new(alloc);
+    if at != 0 {
+        got.push(Got {
+            addr: at,
+            bytes: info_of(alloc, told)?,
+        })?;
+    }
+    Ok(Outcome {
+        value: 0,
+        got,
+        then: Then::Nothing,
+    })
+}
+
+/// Tells a process of a child that has ended, which goes from the list, or that none has.
+fn answer_told(parts: &mut Parts, call: Call, who: Who, told: Waited) -> Result<Served, AllocError>
+    requires lives { Lives parts.old.procs call.pid }
+    requires told { looked parts.old.procs call.pid who false ≡ Ok told }
+    ensures { (a : About) → (e : Entry Task) → (h : Held) → RunsIn parts.old call.pid e h → IsCall parts.old.mem e h call →
+        Serves a (reaped (world_of a parts.old) (ask_in a parts.old e h call) who (Ok told)) parts.old parts.new call.pid result }
+{
+    let alloc = *parts.console.allocator();
+    let pid = call.pid;
+    let outcome = told_outcome(alloc, call.args[2], told)?;
+    let served = answer_given(parts, call, outcome)?;
+    if served == Served::Replied {
+        let _ = parts.procs.wait(pid, who, false);
+    }
+    Ok(served)
+}
+
 /// Carries out waitid, where its output may be written and the log has room for it.
 pub(crate) fn answer_waitid(parts: &mut Parts, call: Call) -> Result<Served, AllocError>
     requires { CanRun parts.old.procs call.pid }
     ensures { (a : About) → (e : Entry Task) → (h : Held) → RunsIn parts.old call.pid e h → IsCall parts.old.mem e h call →
         Serves a (waitid (world_of a parts.old) (ask_in a parts.old e h call)) parts.old parts.new call.pid result }
 {
-    if is_refused(&call.args) {
-        return answer_effect(parts, call, Effect::Answer(Errno::Einval.refusal()));
+    if let Some(errno) = fault_of(&call.args) {
+        return answer_effect(parts, call, Effect::Answer(errno.refusal()));
     }
     let who = meant(&call.args);
     let may_wait = call.args[3] == EXITED;
@@ -86,22 +141,6 @@ pub(crate) fn answer_waitid(parts: &mut Parts, call: Call) -> Result<Served, All
         }
         Ok(told) => answer_told(parts, call, who, told),
     }
-}
-
-/// Tells a process of a child that has ended, which goes from the list, or that none has.
-fn answer_told(parts: &mut Parts, call: Call, who: Who, told: Waited) -> Result<Served, AllocError> {
-    let alloc = *parts.console.allocator();
-    let (pid, at) = (call.pid, call.args[2]);
-    let mut got = Vec::new(alloc);
-    if at != 0 {
-        got.push(Got { addr: at, bytes: info_of(alloc, told)? })?;
-    }
-    let outcome = Outcome { value: 0, got, then: Then::Nothing };
-    let served = answer_given(parts, call, outcome)?;
-    if served == Served::Replied {
-        let _ = parts.procs.wait(pid, who, false);
-    }
-    Ok(served)
 }
 
 /// Carries out clone, where the log has room for it.
@@ -125,17 +164,16 @@ pub(crate) fn answer_clone(parts: &mut Parts, call: Call) -> Result<Served, Allo
 
 /// The number of the program to which a path leads. ENOENT where nothing is there, EACCES where it is a folder or a file that is no
 /// program.
-fn program_at(tree: &Tree, path: &[u8]) -> Result<u32, Errno> {
+fn program_at(tree: &Tree, path: &[u8]) -> Result<u32, Errno>
+    ensures { result ≡ mark_at tree.now (lookup tree.now path.now) }
+{
     let Some(node) = tree.lookup(path)? else {
         return Err(Errno::Enoent);
     };
-    tree.program(node).ok_or(Errno::Eacces)
-}
-
-/// What stands before the first zero; None where there is none.
-fn before_zero(bytes: &[u8]) -> Option<&[u8]> {
-    let at = bytes.iter().position(|byte| *byte == 0)?;
-    Some(&bytes[..at])
+    match tree.program(node) {
+        Some(index) => Ok(index),
+        None => Err(Errno::Eacces),
+    }
 }
 
 /// Carries out execve, where the log has room for it.
@@ -150,7 +188,7 @@ pub(crate) fn answer_exec<F: Fn(&[Run], u32) -> Option<usize>>(
     ensures { (a : About) → a.kind ≡ kind_of chooser.now → AreFlats a.programs programs.now → (e : Entry Task) → (h : Held) → RunsIn parts.old call.pid e h → IsCall parts.old.mem e h call →
         Serves a (exec (world_of a parts.old) (ask_in a parts.old e h call)) parts.old parts.new call.pid result }
 {
-    let Some(path) = before_zero(&call.sent) else {
+    let Some((path, _)) = at_zero(&call.sent) else {
         return answer_effect(parts, call, Effect::Answer(Errno::Enametoolong.refusal()));
     };
     let alloc = *parts.console.allocator();

@@ -28,6 +28,7 @@ pub use answer::{Served, serve};
 pub use parts::Parts;
 pub use reading::{Unread, read_range};
 pub use start::StartRefusal;
+pub use strings::{ProgramStrings, program_strings};
 pub use task::Task;
 
 #[cfg(test)]
