@@ -10,7 +10,6 @@
 -- Flats    the programs that can be run are flat files
 -- Families  what a process is told of its children, and which program a path leads to
 -- StringsOf  the strings that an execve read, as the code gives them
--- Gone     the parts without a process and its space
 -- Calls    a system call by its parts, and what is kept after it
 -- MapsIn   what mmap2 and munmap leave of the spaces
 -- Puts     what a call writes into its caller's memory, range by range
