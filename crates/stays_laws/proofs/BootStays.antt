@@ -1,40 +1,25 @@
 -- What is told of the first stays is right for the opening world.
-use Rattle.std.proofs.Common.{◌≡◌, ◌≢◌, ℕ, zero, suc, ◌+◌, ◌<◌, ◌≤◌, Bool, true, false, ◌⊎◌, inl, inr, List, [], ◌∷◌, ◌++◌, length, Option, Some, None, Result, Ok, Err, refl, sym, ap, subst, ◌∙◌, arith, length-append}
+use Rattle.std.proofs.Common.{◌≡◌, ◌≢◌, ℕ, ◌+◌, ◌≤◌, Bool, true, false, inl, inr, List, [], ◌∷◌, ◌++◌, length, Option, Some, None, Result, Ok, Err, refl, sym, ap, subst, ◌∙◌, arith, length-append}
 use Rattle.std.specs.Prelude.{slice_get}
 use Rattle.std.proofs.lemmas.List.{map-append, append-nil}
 use Rattle.std.proofs.Common.{append_assoc}
+use Rattle.vfork_exec.specs.declared.family.State.TheVariants.{Ready}
 use Rattle.vfork_exec.specs.Keyed.{find}
 use Rattle.vfork_exec.proofs.Keyed.{find_head}
 use Rattle.flat_loader.specs.Original.{block_pages}
 use Rattle.flat_loader.specs.Frame.{frame_fits}
 use Rattle.flat_loader.specs.Begin.{Loading, begin_space, begin_regs}
-use Rattle.flat_loader.specs.Alone.{solo_run, solo_begin, alone, memory_of}
+use Rattle.flat_loader.specs.Alone.{memory_of}
 use Rattle.fd_tables.specs.Files.{free_number}
 use Rattle.machine_world.specs.World.{Process, Rest, World, id_of}
 use Rattle.machine_world.specs.Free.{free}
 use Rattle.machine_world.specs.Boot.{StartLine, BootFault, Found, found, path_of, begun, address_of, taken, placed, fitting, located, started, then_started, all_started, empty_world, boot}
 use Rattle.stays_laws.specs.Stays.{Stay, loading_at, loading_in, loading_of, first_stay, behind_start, first_stays, runner_of, runners, Agrees, kept_calls_of, loads_of, belonging, head_of, loaded_head, AreRight}
 use Rattle.stays_laws.specs.Laws.{BootsBeginStays}
-use Rattle.stays_laws.proofs.Lists.{eqb_other, eqb_same}
+use Rattle.stays_laws.proofs.Lists.{eqb_other, eqb_same, more_item, item_below}
 use Rattle.stays_laws.proofs.Runners.{runners_head}
-use Rattle.stays_laws.proofs.Frame.{agrees_same, entries_of}
-
--- ---- an item more at the end
-
-module _ {A : Type 0} where
-  more_item : (xs : List A) (x : A) (j : ℕ) (y : A) → slice_get (xs ++ x ∷ []) j ≡ Some y → (slice_get xs j ≡ Some y) ⊎ ((j ≡ length xs) × (y ≡ x))
-  more_item [] x zero y there = let same : y ≡ x = cc in inr (refl, same)
-  more_item [] x (suc j) y there = absurd cc
-  more_item (z ∷ xs) x zero y there = inl there
-  more_item (z ∷ xs) x (suc j) y there = elim (more_item xs x j y there) [
-    | inl old ↦ inl old
-    | inr new ↦ inr (let e = new.0 in omega (arith, e), new.1)
-  ]
-
-  item_below : (xs : List A) (j : ℕ) (y : A) → slice_get xs j ≡ Some y → j < length xs
-  item_below [] j y there = absurd cc
-  item_below (x ∷ xs) zero y there = omega arith
-  item_below (x ∷ xs) (suc j) y there = let less = item_below xs j y there in omega (arith, less)
+use Rattle.stays_laws.proofs.SoloRuns.{begins_alone}
+use Rattle.stays_laws.proofs.Frame.{agrees_same, told_new}
 
 -- ---- a program begins
 
@@ -42,10 +27,6 @@ module _ {A : Type 0} where
 pub record Opens (ys : List Stay) (w : World) : Type 0 where
   pub right : AreRight ys w
   pub none : (i : ℕ) → w.loads ≤ i → runners i w.procs ≡ []
-
-begins_alone : (l : Loading) (pid : ℕ) → alone l pid [] 0 ≡ Some (solo_begin l pid)
-unfolding alone solo_run
-begins_alone l pid = refl
 
 module _ (ys : List Stay) (w : World) (opens : Opens ys w) (index : ℕ) (l : Loading) where
   abbrev now : World
@@ -55,7 +36,7 @@ module _ (ys : List Stay) (w : World) (opens : Opens ys w) (index : ℕ) (l : Lo
   new = record { loading = l; pid = w.next_pid; items = []; events = 0 }
 
   abbrev process : Process
-  process = record { pid = w.next_pid; parent = 0; regs = begin_regs l; space = w.loads; table = free_number w.rest.files.tables }
+  process = record { pid = w.next_pid; parent = 0; regs = begin_regs l; space = w.loads; table = free_number w.rest.files.tables; state = Ready }
 
   len : length (ys ++ new ∷ []) ≡ w.loads + 1
   len = let e = length-append ys (new ∷ []) in omega (arith, e, opens.right.count)
@@ -88,15 +69,7 @@ module _ (ys : List Stay) (w : World) (opens : Opens ys w) (index : ℕ) (l : Lo
             let at : w.loads ≡ j = omega (arith, new_one.0, opens.right.count) in
             subst (λ k. Agrees k now.procs y (find id_of k now.spaces)) at (subst (λ z. Agrees w.loads now.procs z (find id_of w.loads now.spaces)) (sym new_one.1) agree_new)
       ];
-      told = record {
-        places = opens.right.told.places;
-        each = opens.right.told.each;
-        entries = λ j y there. elim (more_item ys new j y there) [
-          | inl old ↦ opens.right.told.entries j y old
-          | inr new_one ↦ ap (λ (z : Stay). entries_of z.items) new_one.1 ∙ sym (opens.right.told.no_others j (omega (arith, new_one.0)))
-        ];
-        no_others = λ j past. opens.right.told.no_others j (let e = length-append ys (new ∷ []) in omega (arith, e, past));
-      };
+      told = told_new ys now.notes new refl (record { places = opens.right.told.places; each = opens.right.told.each; entries = opens.right.told.entries; no_others = opens.right.told.no_others });
     };
     none = λ j past.
         let outside = eqb_other w.loads j (omega (arith, past)) in

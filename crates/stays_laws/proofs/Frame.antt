@@ -11,9 +11,9 @@ use Rattle.vfork_exec.specs.Keyed.{find, Falls}
 use Rattle.vfork_exec.proofs.Keyed.{find_head}
 use Rattle.flat_loader.specs.Alone.{Item, memory_of, own_of, writable_of}
 use Rattle.machine_world.specs.World.{Process, LiveSpace, World, id_of}
-use Rattle.machine_world.specs.Event.{Trace}
-use Rattle.stays_laws.specs.Stays.{Stay, change_at, longer, collect, runners, Agrees, AllAgree, kept_calls_of, belonging, AreTold}
-use Rattle.stays_laws.proofs.Lists.{eqb_is, eqb_isnt, length-change_at, changed_here, changed_beside, belonging_behind, belonging_here, belonging_beside}
+use Rattle.machine_world.specs.Event.{Begins, Trace}
+use Rattle.stays_laws.specs.Stays.{Stay, change_at, longer, runners, Agrees, AllAgree, kept_calls_of, belonging, AreTold}
+use Rattle.stays_laws.proofs.Lists.{eqb_is, eqb_isnt, item_below, more_item, length-change_at, changed_here, changed_beside, belonging_behind, belonging_here, belonging_beside}
 
 -- ---- own ranges are those of the mappings
 
@@ -52,22 +52,24 @@ pub agrees_same : (j : ℕ) (ps qs : List Process) (y : Stay) (o : Option LiveSp
 agrees_same j ps qs y None same h = h
 agrees_same j ps qs y (Some s) same h = h ∙ ap (λ l. Some (record { stack = l; memory = memory_of s.space })) (sym same)
 
--- the processes and spaces of other numbers are as they were
+-- the processes and spaces of other numbers that were given are as they were
 pub record BesideSpace (i : ℕ) (w now : World) : Type 0 where
-  pub procs : (j : ℕ) → j ≢ i → runners j now.procs ≡ runners j w.procs
-  pub spaces : (j : ℕ) → j ≢ i → find id_of j now.spaces ≡ find id_of j w.spaces
+  pub procs : (j : ℕ) → j ≢ i → j < w.loads → runners j now.procs ≡ runners j w.procs
+  pub spaces : (j : ℕ) → j ≢ i → j < w.loads → find id_of j now.spaces ≡ find id_of j w.spaces
 
-pub agree_after : (ys : List Stay) (w now : World) (i : ℕ) (f : Stay → Stay) → AllAgree ys w → BesideSpace i w now
+pub agree_after : (ys : List Stay) (w now : World) (i : ℕ) (f : Stay → Stay) → length ys ≡ w.loads → AllAgree ys w → BesideSpace i w now
     → ((y : Stay) → slice_get ys i ≡ Some y → Agrees i now.procs (f y) (find id_of i now.spaces)) → AllAgree (change_at i f ys) now
-agree_after ys w now i f agree beside here = λ j y there. elim (cases_Bool (j == i)) [
+agree_after ys w now i f count agree beside here = λ j y there. elim (cases_Bool (j == i)) [
   | inl is ↦
       let same : i ≡ j = sym (eqb_is j i is) in
       subst (λ k. slice_get (change_at i f ys) k ≡ Some y → Agrees k now.procs y (find id_of k now.spaces)) same
       (λ at. let was = changed_here f i ys y at in subst (λ z. Agrees i now.procs z (find id_of i now.spaces)) was.is (here was.old was.there)) there
   | inr isnt ↦
       let other = eqb_isnt j i isnt in
-      subst (λ o. Agrees j now.procs y o) (sym (beside.spaces j other))
-      (agrees_same j w.procs now.procs y (find id_of j w.spaces) (beside.procs j other) (agree j y (sym (changed_beside f i j ys other) ∙ there)))
+      let was : slice_get ys j ≡ Some y = sym (changed_beside f i j ys other) ∙ there in
+      let given : j < w.loads = let below = item_below ys j y was in omega (arith, below, count) in
+      subst (λ o. Agrees j now.procs y o) (sym (beside.spaces j other given))
+      (agrees_same j w.procs now.procs y (find id_of j w.spaces) (beside.procs j other given) (agree j y was))
 ]
 
 -- ---- the entries of each stay
@@ -75,10 +77,10 @@ agree_after ys w now i f agree beside here = λ j y there. elim (cases_Bool (j =
 abbrev pub entries_of : List Item → List CallEntry
 entries_of items = map (λ (x : Item). x.entry) items
 
-module _ (ys : List Stay) (notes now : List Note) (i n : ℕ) (items : List Item) (over : Bool) (below : i < length ys) (told : AreTold ys notes)
+module _ (ys : List Stay) (notes now : List Note) (i n : ℕ) (items : List Item) (begins : Option Begins) (over : Bool) (below : i < length ys) (told : AreTold ys notes)
     (kept : kept_calls_of now ≡ kept_calls_of notes ++ entries_of items) where
   abbrev trace : Trace
-  trace = record { space = i; events = n; items = items; over = over }
+  trace = record { space = i; events = n; items = items; begins = begins; over = over }
 
   abbrev places : List ℕ
   places = told.places ++ map (λ x. i) items
@@ -92,7 +94,7 @@ module _ (ys : List Stay) (notes now : List Note) (i n : ℕ) (items : List Item
       belong j ∙ ap (λ (l : List CallEntry). belonging j told.places (kept_calls_of notes) ++ l) (belonging_beside j (λ (x : Item). x.entry) i items (λ e. other (sym e)))
       ∙ append-nil (belonging j told.places (kept_calls_of notes))
 
-  pub told_after : AreTold (collect ys trace) now
+  pub told_after : AreTold (change_at i (longer trace) ys) now
   told_after = record {
     places = places;
     each =
@@ -120,3 +122,15 @@ module _ (ys : List Stay) (notes now : List Note) (i n : ℕ) (items : List Item
         let other : j ≢ i = omega (arith, len, past, below) in
         others_belong j other ∙ told.no_others j (omega (arith, len, past));
   }
+
+-- a stay more, to which no call belongs yet
+pub told_new : (ys : List Stay) (notes : List Note) (new : Stay) → new.items ≡ [] → AreTold ys notes → AreTold (ys ++ new ∷ []) notes
+told_new ys notes new none told = record {
+  places = told.places;
+  each = told.each;
+  entries = λ j y there. elim (more_item ys new j y there) [
+    | inl old ↦ told.entries j y old
+    | inr new_one ↦ ap (λ (z : Stay). entries_of z.items) new_one.1 ∙ ap entries_of none ∙ sym (told.no_others j (omega (arith, new_one.0)))
+  ];
+  no_others = λ j past. told.no_others j (let e = length-append ys (new ∷ []) in omega (arith, e, past));
+}

@@ -5,7 +5,9 @@
 -- AllMaps      the mappings of all live spaces, when one space changes or goes
 -- Bytes        the bytes that a write leaves; no write changes a copy's
 -- Files        a copy has its file's bytes as long as the file isn't changed
--- Moved        a sound world in which one process and its space change, or go
+-- Moved        a sound world in which one process and its space change
+-- SpacesLeft   the spaces that are left where a process leaves its own
+-- SoundEnds    a sound world that a process has left
 -- Spaces       a space of a sound world, and how its bytes change
 -- Unmaps       a space of a sound world behind munmap
 -- Wanted       what an mmap2 asks for
@@ -13,10 +15,16 @@
 -- FreePages    a run that is chosen is apart from all mappings
 -- Maps         a space of a sound world behind mmap2
 -- SoundBegins  the opening world is sound
+-- SoundForks   a sound world in which a process has a child
+-- SoundExecs   a sound world in which a process has gone on to another program
 -- SoundRuns    each event, turn and run keeps a world sound
 -- Frame        what is told stays right where one space changes
--- EventStays   one event keeps what is told right
+-- EventStays   instructions, answered calls and waits keep what is told right
+-- Ends         and so do ends
 -- PlainCalls   calls that are refused, and those that leave the mappings
+-- Forks        and so does a clone
+-- Execs        and an execve
+-- Waits        and a waitid
 -- TurnStays    and so turns and runs
 -- BootStays    the first stays are right
 -- Unmapping    munmap leaves alone what it leaves in the world
@@ -35,6 +43,8 @@ pub mod AllMaps
 pub mod Bytes
 pub mod Files
 pub mod Moved
+pub mod SpacesLeft
+pub mod SoundEnds
 pub mod Spaces
 pub mod Unmaps
 pub mod Wanted
@@ -42,10 +52,16 @@ pub mod MoreMaps
 pub mod FreePages
 pub mod Maps
 pub mod SoundBegins
+pub mod SoundForks
+pub mod SoundExecs
 pub mod SoundRuns
 pub mod Frame
 pub mod EventStays
+pub mod Ends
 pub mod PlainCalls
+pub mod Forks
+pub mod Execs
+pub mod Waits
 pub mod TurnStays
 pub mod BootStays
 pub mod Unmapping

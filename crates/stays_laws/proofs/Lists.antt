@@ -1,5 +1,5 @@
 -- Lists: one item that is changed, by its place; and items that belong to places.
-use Rattle.std.proofs.Common.{◌≡◌, ◌≢◌, ℕ, zero, suc, Bool, true, false, cond, List, [], ◌∷◌, ◌++◌, map, length, Some, refl, sym, ap, ◌∙◌, arith}
+use Rattle.std.proofs.Common.{◌≡◌, ◌≢◌, ℕ, zero, suc, ◌<◌, Bool, true, false, cond, ◌⊎◌, inl, inr, List, [], ◌∷◌, ◌++◌, map, length, Some, refl, sym, ap, ◌∙◌, arith}
 use Rattle.std.specs.Prelude.{if◌then◌else◌, ◌==◌, slice_get}
 use Rattle.std.proofs.lemmas.Bool.Decides.{nat_tests}
 use Rattle.stays_laws.specs.Stays.{change_at, belonging}
@@ -66,6 +66,23 @@ module _ {A : Type 0} (f : A → A) where
   change_at-same same i [] = refl
   change_at-same same zero (x ∷ xs) = ap (λ y. y ∷ xs) (same x)
   change_at-same same (suc i) (x ∷ xs) = ap (λ ys. x ∷ ys) (change_at-same same i xs)
+
+-- ---- an item more at the end
+
+module _ {A : Type 0} where
+  pub more_item : (xs : List A) (x : A) (j : ℕ) (y : A) → slice_get (xs ++ x ∷ []) j ≡ Some y → (slice_get xs j ≡ Some y) ⊎ ((j ≡ length xs) × (y ≡ x))
+  more_item [] x zero y there = let same : y ≡ x = cc in inr (refl, same)
+  more_item [] x (suc j) y there = absurd cc
+  more_item (z ∷ xs) x zero y there = inl there
+  more_item (z ∷ xs) x (suc j) y there = elim (more_item xs x j y there) [
+    | inl old ↦ inl old
+    | inr new ↦ inr (let e = new.0 in omega (arith, e), new.1)
+  ]
+
+  pub item_below : (xs : List A) (j : ℕ) (y : A) → slice_get xs j ≡ Some y → j < length xs
+  item_below [] j y there = absurd cc
+  item_below (x ∷ xs) zero y there = omega arith
+  item_below (x ∷ xs) (suc j) y there = let less = item_below xs j y there in omega (arith, less)
 
 -- ---- what belongs to a place
 

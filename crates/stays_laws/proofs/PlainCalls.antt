@@ -6,7 +6,7 @@ use Rattle.byte_words.specs.ByteMap.{Bytes}
 use Rattle.call_log.specs.declared.errno.Errno.{Errno}
 use Rattle.call_log.specs.Errno.{refusal}
 use Rattle.mmap_rules.specs.Space.{Space, writable_in}
-use Rattle.flat_loader.specs.Alone.{Solo, Item, memory_of, number_of, replied, put_got, is_errno, leaves_space, solo_mapped, solo_unmapped, solo_forked, solo_effect, solo_answered, solo_put}
+use Rattle.flat_loader.specs.Alone.{Runner, Solo, Item, memory_of, number_of, replied, put_got, is_errno, leaves_space, solo_mapped, solo_unmapped, solo_forked, solo_effect, solo_answered, solo_put}
 use Rattle.machine_world.specs.World.{Process, World}
 use Rattle.machine_world.specs.Asks.{Ask, Row, replies, waits, refuses}
 use Rattle.machine_world.specs.Rows.{row}
@@ -19,7 +19,7 @@ use Rattle.stays_laws.proofs.Lists.{if_yes, if_no}
 use Rattle.stays_laws.proofs.RowSpaces.{LeavesSpace, row_leaves}
 use Rattle.stays_laws.proofs.EventStays.{Follows}
 
-if_either : {A : Type 0} (b : Bool) (x y z : A) → x ≡ z → y ≡ z → (if b then x else y) ≡ z
+pub if_either : {A : Type 0} (b : Bool) (x y z : A) → x ≡ z → y ≡ z → (if b then x else y) ≡ z
 if_either true x y z hx hy = hx
 if_either false x y z hx hy = hy
 
@@ -27,7 +27,7 @@ and_no : (b c : Bool) → c ≡ false → (b && c) ≡ false
 and_no true c is = is
 and_no false c is = refl
 
-zero_isnt : is_errno 0 ≡ false
+pub zero_isnt : is_errno 0 ≡ false
 unfolding is_errno
 zero_isnt = refl
 
@@ -41,7 +41,7 @@ errno_isnt_zero v is = by (v == 0) refl
     by false h = refl
     by true h = let none = ap is_errno (eqb_zero v h) ∙ zero_isnt in absurd (let e : true ≡ false = sym is ∙ none in cc)
 
-module _ (w : World) (p : Process) (s : Space) (bytes : List ℕ) where
+module _ (w : World) (p : Process) (below : List Runner) (s : Space) (bytes : List ℕ) where
   abbrev a : Ask
   a = ask_of w p s bytes
 
@@ -49,19 +49,19 @@ module _ (w : World) (p : Process) (s : Space) (bytes : List ℕ) where
   n = number_of p.regs
 
   -- the process with its reply, over these bytes
-  abbrev now : ℕ → Bytes → Solo
-  now value m = record { stack = runner_of (with_regs p (replied p.regs value)) ∷ []; memory = record (memory_of s) { bytes = m } }
+  abbrev pub now : ℕ → Bytes → Solo
+  now value m = record { stack = runner_of (with_regs p (replied p.regs value)) ∷ below; memory = record (memory_of s) { bytes = m } }
 
   -- it doesn't leave the space
-  answered_here : (i : Item) (m : Bytes) → leaves_space i.entry ≡ false → solo_answered (runner_of p) [] (memory_of s) i m
+  pub answered_here : (i : Item) (m : Bytes) → leaves_space i.entry ≡ false → solo_answered (runner_of p) below (memory_of s) i m
       ≡ (if is_errno i.entry.reply then Some (now i.entry.reply m) else solo_effect (now i.entry.reply m) p.regs i)
   answered_here i m stays =
-      if_no (leaves_space i.entry) (Some (record { stack = []; memory = record (memory_of s) { bytes = m } }))
+      if_no (leaves_space i.entry) (Some (record { stack = below; memory = record (memory_of s) { bytes = m } }))
       (if is_errno i.entry.reply then Some (now i.entry.reply m) else solo_effect (now i.entry.reply m) p.regs i) stays
 
   -- ---- a refused call
 
-  pub follows_refused : is_exit n ≡ false → (e : Errno) → Follows p s a (refuses a e)
+  pub follows_refused : is_exit n ≡ false → (e : Errno) → Follows p below s a (refuses a e)
   follows_refused stays e = λ m wrote.
       let same : s.bytes ≡ m = cc in
       let i : Item = item_of (entry_of a (refusal e) []) m in
@@ -81,24 +81,24 @@ module _ (w : World) (p : Process) (s : Space) (bytes : List ℕ) where
         ∙ if_no (i.entry.call == 215) (solo_unmapped t i.entry) _ (is 215 no_munmap)
         ∙ if_no (i.entry.call == 220) (Some (solo_forked t p.regs i.entry)) (Some t) (is 220 no_clone)
 
-    by_row : (r : Row) → LeavesSpace s r → Follows p s a r
-    by_row waits same = tt
-    by_row (replies r) same = λ m wrote.
+    pub follows_same : (r : Row) → LeavesSpace s r → Follows p below s a r
+    follows_same (waits who) same = tt
+    follows_same (replies r) same = λ m wrote.
         let i : Item = item_of (entry_of a r.value r.got) m in
         let put : put_got s.bytes (writable_in s.maps) r.got ≡ Ok m = (λ j. put_got (sym same.bytes j) (writable_in (sym same.maps j)) r.got) ∙ wrote in
         let here : leaves_space i.entry ≡ false = (λ j. stays j || (no_execve j && (r.value == 0))) in
-        ap (solo_put (runner_of p) [] (memory_of s) i) put
+        ap (solo_put (runner_of p) below (memory_of s) i) put
         ∙ answered_here i m here
         ∙ if_either (is_errno r.value) (Some (now r.value m)) (solo_effect (now r.value m) p.regs i) (Some (now r.value m)) refl (no_effect (now r.value m) i refl)
-        ∙ ap (λ maps. Some (record { stack = runner_of (with_regs p (replied p.regs r.value)) ∷ []; memory = record { ranges = ranges_of maps; bytes = m } })) (sym same.maps)
+        ∙ ap (λ maps. Some (record { stack = runner_of (with_regs p (replied p.regs r.value)) ∷ below; memory = record { ranges = ranges_of maps; bytes = m } })) (sym same.maps)
 
-    pub follows_plain : Follows p s a (row a)
-    follows_plain = by_row (row a) (row_leaves a no_munmap no_mmap2)
+    pub follows_plain : Follows p below s a (row a)
+    follows_plain = follows_same (row a) (row_leaves a no_munmap no_mmap2)
 
   -- ---- mmap2 and munmap
 
   pub answers_map : n ≡ 222 → (i : Item) → i.entry.call ≡ n → is_errno i.entry.reply ≡ false
-      → solo_put (runner_of p) [] (memory_of s) i (Ok s.bytes) ≡ solo_mapped (now i.entry.reply s.bytes) i
+      → solo_put (runner_of p) below (memory_of s) i (Ok s.bytes) ≡ solo_mapped (now i.entry.reply s.bytes) i
   answers_map is i same granted =
       let call : i.entry.call ≡ 222 = same ∙ is in
       let here : leaves_space i.entry ≡ false = ap (λ (c : ℕ). c == 93 || c == 94 || (c == 221 && (i.entry.reply == 0))) call in
@@ -107,7 +107,7 @@ module _ (w : World) (p : Process) (s : Space) (bytes : List ℕ) where
       ∙ if_yes (i.entry.call == 222) (solo_mapped (now i.entry.reply s.bytes) i) _ (ap (λ (c : ℕ). c == 222) call)
 
   pub answers_unmap : n ≡ 215 → (i : Item) → i.entry.call ≡ n → is_errno i.entry.reply ≡ false
-      → solo_put (runner_of p) [] (memory_of s) i (Ok s.bytes) ≡ solo_unmapped (now i.entry.reply s.bytes) i.entry
+      → solo_put (runner_of p) below (memory_of s) i (Ok s.bytes) ≡ solo_unmapped (now i.entry.reply s.bytes) i.entry
   answers_unmap is i same granted =
       let call : i.entry.call ≡ 215 = same ∙ is in
       let here : leaves_space i.entry ≡ false = ap (λ (c : ℕ). c == 93 || c == 94 || (c == 221 && (i.entry.reply == 0))) call in

@@ -1,4 +1,4 @@
--- A row leaves the caller's mappings and bytes, but for munmap and mmap2; and what isn't refused is none of clone and execve.
+-- A row leaves the caller's mappings and bytes, but for munmap and mmap2.
 use Rattle.std.proofs.Common.{◌≡◌, ℕ, ◌+◌, ◌*◌, Bool, true, false, not, List, [], ◌∷◌, length, map, drop, Option, Some, None, Result, Ok, Err, refl, sym, ◌∙◌}
 use Rattle.std.specs.Prelude.{⊤, ◌==◌, ◌||◌, ◌&&◌, ◌^◌, nat_lt, if◌then◌else◌}
 use Rattle.std.specs.List.{range_with_len}
@@ -29,7 +29,7 @@ pub record SameSpace (old now : Space) : Type 0 where
 
 abbrev pub LeavesSpace : Space → Row → Type 0
 LeavesSpace s (replies r) = SameSpace s r.space
-LeavesSpace s waits = ⊤
+LeavesSpace s (waits who) = ⊤
 
 module _ (a : Ask) where
   same : SameSpace a.space a.space
@@ -205,11 +205,3 @@ row-munmap a is = rw is refl
 pub row-mmap2 : (a : Ask) → a.number ≡ 222 → row a ≡ mmap2_row a
 unfolding row
 row-mmap2 a is = rw is refl
-
-pub row-clone : (a : Ask) → a.number ≡ 220 → row a ≡ refuses a Enosys
-unfolding row
-row-clone a is = rw is refl
-
-pub row-execve : (a : Ask) → a.number ≡ 221 → row a ≡ refuses a Enosys
-unfolding row
-row-execve a is = rw is refl

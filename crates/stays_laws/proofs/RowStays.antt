@@ -6,7 +6,7 @@ use Rattle.std.proofs.lemmas.List.{map-append}
 use Rattle.std.proofs.lemmas.Bool.{cases_Bool}
 use Rattle.byte_words.specs.ByteMap.{Bytes, with_bytes}
 use Rattle.call_log.specs.declared.errno.Errno.{Errno}
-use Rattle.call_log.specs.declared.errno.Errno.TheVariants.{Enosys, Enomem, Einval}
+use Rattle.call_log.specs.declared.errno.Errno.TheVariants.{Enomem, Einval}
 use Rattle.call_log.specs.Flags.{has_flag}
 use Rattle.call_log.specs.Notes.{CallEntry}
 use Rattle.call_log.specs.Sent.{bytes_from}
@@ -16,7 +16,7 @@ use Rattle.mmap_rules.specs.declared.want.Want.TheVariants.{Anon, File}
 use Rattle.mmap_rules.specs.Want.{pages_for, map_anonymous, prot_write, wanted}
 use Rattle.mmap_rules.specs.Mappings.{Hit, hit, without_hit}
 use Rattle.vfork_exec.specs.Keyed.{find}
-use Rattle.flat_loader.specs.Alone.{Solo, Item, OwnMemory, memory_of, number_of, replied, is_errno, new_range, new_bytes, brings_all, is_placed, may_lie, may_map, with_range, with_memory, solo_mapped}
+use Rattle.flat_loader.specs.Alone.{Runner, Solo, Item, OwnMemory, memory_of, number_of, replied, is_errno, new_range, new_bytes, brings_all, is_placed, may_lie, may_map, with_range, with_memory, solo_mapped}
 use Rattle.machine_world.specs.World.{Process, LiveSpace, World, id_of}
 use Rattle.machine_world.specs.Free.{free_runs_in}
 use Rattle.machine_world.specs.Asks.{Ask, arg, with_ok, view_of}
@@ -30,19 +30,19 @@ use Rattle.stays_laws.proofs.LaidBytes.{read_back}
 use Rattle.stays_laws.proofs.Wanted.{There, there_side}
 use Rattle.stays_laws.proofs.Grants.{Asks, asked, Grant, length-first_bytes, granted}
 use Rattle.stays_laws.proofs.Lists.{if_yes, if_no, eqb_same, eqb_is}
-use Rattle.stays_laws.proofs.RowSpaces.{row-munmap, row-mmap2, row-clone, row-execve}
+use Rattle.stays_laws.proofs.RowSpaces.{row-munmap, row-mmap2}
 use Rattle.stays_laws.proofs.Unmapping.{unmaps_alone}
 use Rattle.stays_laws.proofs.EventStays.{solo_of, Follows}
 use Rattle.stays_laws.proofs.PlainCalls.{follows_refused, follows_plain, answers_map, answers_unmap}
 
-not_errno : (n : ℕ) → n < 0xfffff001 → is_errno n ≡ false
+pub not_errno : (n : ℕ) → n < 0xfffff001 → is_errno n ≡ false
 unfolding is_errno
 not_errno n less = over n less
   where
     over : (k : ℕ) → k < 0xfffff001 → nat_le 0xfffff001 k ≡ false
     over k below = grind (arith, nat_tests)
 
-module _ (w : World) (sound : IsSound w) (p : Process) (s : LiveSpace) (has : find id_of p.space w.spaces ≡ Some s) (bytes : List ℕ)
+module _ (w : World) (sound : IsSound w) (p : Process) (below : List Runner) (s : LiveSpace) (has : find id_of p.space w.spaces ≡ Some s) (bytes : List ℕ)
     (stays : is_exit (number_of p.regs) ≡ false) where
   abbrev a : Ask
   a = ask_of w p s.space bytes
@@ -52,18 +52,18 @@ module _ (w : World) (sound : IsSound w) (p : Process) (s : LiveSpace) (has : fi
 
   -- ---- munmap
 
-  follows_unmaps : n ≡ 215 → (o : Option Hit) → hit s.space.maps (arg a 0) (arg a 1) ≡ o → Follows p s.space a (unmaps a o)
-  follows_unmaps is None hits = follows_refused w p s.space bytes stays Einval
+  follows_unmaps : n ≡ 215 → (o : Option Hit) → hit s.space.maps (arg a 0) (arg a 1) ≡ o → Follows p below s.space a (unmaps a o)
+  follows_unmaps is None hits = follows_refused w p below s.space bytes stays Einval
   follows_unmaps is (Some h) hits = λ m wrote.
       let i : Item = item_of (entry_of a 0 []) m in
       let left : List Mapping = without_hit s.space.maps h in
       let same : (over_maps s.space left).bytes ≡ m = cc in
-      let now : Solo = solo_of (with_regs p (replied p.regs 0)) s.space in
-      answers_unmap w p s.space bytes is i refl (not_errno 0 (omega arith))
+      let now : Solo = solo_of (with_regs p (replied p.regs 0)) below s.space in
+      answers_unmap w p below s.space bytes is i refl (not_errno 0 (omega arith))
       ∙ ap (with_memory now) (unmaps_alone w.rest.pages s.space (arg a 0) (arg a 1) (sound.spaces p.space s has) h hits)
       ∙ ap (λ b. Some (record { stack = now.stack; memory = record { ranges = ranges_of left; bytes = b } })) same
 
-  follows_munmap : n ≡ 215 → Follows p s.space a (munmap_row a)
+  follows_munmap : n ≡ 215 → Follows p below s.space a (munmap_row a)
   unfolding munmap_row
   follows_munmap is = follows_unmaps is (hit s.space.maps (arg a 0) (arg a 1)) refl
 
@@ -182,45 +182,39 @@ module _ (w : World) (sound : IsSound w) (p : Process) (s : LiveSpace) (has : fi
           ∙ if_yes (may_map (memory_of s.space) m.range l) (Some (record t { memory = with_range (memory_of s.space) m.range (new_bytes m.range l) })) None (may l b has_pages)
           ∙ ap (λ (o : OwnMemory). Some (record t { memory = o })) (with_it l b)
 
-      follows_map : Follows p s.space a (maps a want (Some m))
+      follows_map : Follows p below s.space a (maps a want (Some m))
       follows_map = λ bs wrote.
           let same : laid ≡ bs = cc in
-          let now : Solo = solo_of (with_regs p (replied p.regs m.range.from)) s.space in
+          let now : Solo = solo_of (with_regs p (replied p.regs m.range.from)) below s.space in
           let i : Item = item_of entry bs in
-          answers_map w p s.space bytes is i refl no_errno
+          answers_map w p below s.space bytes is i refl no_errno
           ∙ maps_alone now (brought entry bs) (subst (λ (x : Bytes). Brings want (brought entry x)) same brings) refl
           ∙ ap (λ b. Some (record { stack = now.stack; memory = record { ranges = ranges_of (s.space.maps ++ m ∷ []); bytes = b } })) same
 
   follows_maps : n ≡ 222 → (want : Want) → Asks (arg a 1) (arg a 2) (arg a 3) (file_side a) want → (o : Option Mapping)
-      → or_own (in_copy w.spaces want) (in_free_run w.rest.kind (free_runs_in w.rest.pages w.spaces) want) ≡ o → Follows p s.space a (maps a want o)
-  follows_maps is want asks None choice = follows_refused w p s.space bytes stays Enomem
+      → or_own (in_copy w.spaces want) (in_free_run w.rest.kind (free_runs_in w.rest.pages w.spaces) want) ≡ o → Follows p below s.space a (maps a want o)
+  follows_maps is want asks None choice = follows_refused w p below s.space bytes stays Enomem
   follows_maps is want asks (Some m) choice =
       follows_map is want m
       (granted w sound p.space s has (arg a 1) (arg a 2) (arg a 3) (file_side a) (λ id change leads. subst (There w.rest.tree) leads (there_side w.rest.tree (view_of a (arg a 4)))) want m asks choice) asks
 
-  follows_wanted : n ≡ 222 → (o : Result Want Errno) → wanted (arg a 0) (arg a 1) (arg a 2) (arg a 3) (arg a 5) (file_side a) ≡ o → Follows p s.space a (with_ok a o (mapped a))
-  follows_wanted is (Err e) asks = follows_refused w p s.space bytes stays e
+  follows_wanted : n ≡ 222 → (o : Result Want Errno) → wanted (arg a 0) (arg a 1) (arg a 2) (arg a 3) (arg a 5) (file_side a) ≡ o → Follows p below s.space a (with_ok a o (mapped a))
+  follows_wanted is (Err e) asks = follows_refused w p below s.space bytes stays e
   follows_wanted is (Ok want) asks =
       follows_maps is want (asked (arg a 1) (arg a 2) (arg a 3) (file_side a) (arg a 0) (arg a 5) want asks)
       (or_own (in_copy w.spaces want) (in_free_run w.rest.kind (free_runs_in w.rest.pages w.spaces) want)) refl
 
-  follows_mmap2 : n ≡ 222 → Follows p s.space a (mmap2_row a)
+  follows_mmap2 : n ≡ 222 → Follows p below s.space a (mmap2_row a)
   unfolding mmap2_row
   follows_mmap2 is = follows_wanted is (wanted (arg a 0) (arg a 1) (arg a 2) (arg a 3) (arg a 5) (file_side a)) refl
 
   -- ---- any row
 
-  pub follows_row : Follows p s.space a (row a)
-  follows_row = elim (cases_Bool (n == 222)) [
-    | inl is ↦ subst (Follows p s.space a) (sym (row-mmap2 a (eqb_is n 222 is))) (follows_mmap2 (eqb_is n 222 is))
+  pub follows_row : (n == 220) ≡ false → (n == 221) ≡ false → Follows p below s.space a (row a)
+  follows_row no_clone no_execve = elim (cases_Bool (n == 222)) [
+    | inl is ↦ subst (Follows p below s.space a) (sym (row-mmap2 a (eqb_is n 222 is))) (follows_mmap2 (eqb_is n 222 is))
     | inr no_mmap2 ↦ elim (cases_Bool (n == 215)) [
-      | inl is ↦ subst (Follows p s.space a) (sym (row-munmap a (eqb_is n 215 is))) (follows_munmap (eqb_is n 215 is))
-      | inr no_munmap ↦ elim (cases_Bool (n == 220)) [
-        | inl is ↦ subst (Follows p s.space a) (sym (row-clone a (eqb_is n 220 is))) (follows_refused w p s.space bytes stays Enosys)
-        | inr no_clone ↦ elim (cases_Bool (n == 221)) [
-          | inl is ↦ subst (Follows p s.space a) (sym (row-execve a (eqb_is n 221 is))) (follows_refused w p s.space bytes stays Enosys)
-          | inr no_execve ↦ follows_plain w p s.space bytes stays no_munmap no_mmap2 no_clone no_execve
-        ]
-      ]
+      | inl is ↦ subst (Follows p below s.space a) (sym (row-munmap a (eqb_is n 215 is))) (follows_munmap (eqb_is n 215 is))
+      | inr no_munmap ↦ follows_plain w p below s.space bytes stays no_munmap no_mmap2 no_clone no_execve
     ]
   ]

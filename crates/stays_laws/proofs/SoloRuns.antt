@@ -85,3 +85,8 @@ alone_more l pid items more events s is =
     let behind : solo_run events begins (items ++ more) ≡ Some (s, more) =
     subst (λ (o : Left). Behind more o (solo_run events begins (items ++ more))) ran (run_more more events begins items) in
     ap (λ n. none_left (solo_run n begins (items ++ more))) one ∙ ap none_left (run_last events begins (items ++ more)) ∙ ap (λ o. none_left (then_left solo_step o)) behind
+
+-- no event, and no call
+pub begins_alone : (l : Loading) (pid : ℕ) → alone l pid [] 0 ≡ Some (solo_begin l pid)
+unfolding alone solo_run
+begins_alone l pid = refl

@@ -1,39 +1,62 @@
 -- The opening world is sound, and each event, turn and run of a sound world leaves a sound one.
 pub use Rattle.stays_laws.proofs.SoundBegins.{boots_are_sound}
-use Rattle.std.proofs.Common.{◌≡◌, ℕ, zero, suc, ◌+◌, ◌<◌, ◌≤◌, Bool, true, false, inl, inr, List, [], ◌∷◌, ◌++◌, map, sum, Option, Some, None, Result, Ok, Err, refl, sym, ap, subst, arith}
-use Rattle.std.specs.Prelude.{◌==◌, nat_le, slice_get, if◌then◌else◌}
+use Rattle.std.proofs.Common.{◌≡◌, ℕ, zero, suc, ◌+◌, ◌<◌, ◌≤◌, Bool, true, false, not, inl, inr, List, [], ◌∷◌, ◌++◌, map, sum, Option, Some, None, Result, Ok, Err, refl, sym, ap, subst, arith}
+use Rattle.std.specs.Prelude.{◌==◌, nat_le, slice_get, option_map, if◌then◌else◌}
 use Rattle.std.proofs.lemmas.Bool.{cases_Bool, eqb-true, and_parts, leb-true}
+use Rattle.std.proofs.lemmas.Option.{same_Some}
 use Rattle.std.proofs.lemmas.List.Sums.{sum_by-cons}
 use Rattle.byte_words.specs.ByteMap.{Bytes}
 use Rattle.rv32im_step.specs.Meaning.{Meaning, next, call, trap, refused, meaning}
 use Rattle.rv32im_step.proofs.MeaningLaws.{keeps}
+use Rattle.call_log.specs.declared.errno.Errno.{Errno}
+use Rattle.call_log.specs.declared.errno.Errno.TheVariants.{E2big, Eagain, Enomem, Einval, Enametoolong}
 use Rattle.call_log.specs.declared.how.How.TheVariants.{Exit, Signal}
-use Rattle.call_log.specs.Notes.{Note, call_note, end_note, stray_note, calls_in, bytes_in, most_calls, most_bytes, has_room, weight_of}
-use Rattle.call_log.specs.Sent.{Span, sent}
+use Rattle.call_log.specs.Errno.{refusal}
+use Rattle.call_log.specs.Notes.{Written, Note, call_note, end_note, stray_note, calls_in, bytes_in, most_calls, most_bytes, has_room, weight_of}
+use Rattle.call_log.specs.Strings.{ProgramStrings, program_strings}
+use Rattle.call_log.specs.Sent.{Span, has_zero, sent}
 use Rattle.mmap_rules.specs.declared.mapping.Mapping.{Mapping}
 use Rattle.mmap_rules.specs.Space.{writable_in}
 use Rattle.mmap_rules.specs.Mappings.{Hit, hit}
 use Rattle.mem_files.specs.Inodes.{Inodes}
 use Rattle.quantum_sched.specs.Picked.{picked}
+use Rattle.vfork_exec.specs.declared.family.Who.{Who}
+use Rattle.vfork_exec.specs.declared.family.State.TheVariants.{Ready}
+use Rattle.vfork_exec.specs.declared.family.Ended.{Ended}
+use Rattle.vfork_exec.specs.declared.family.Waited.{Waited}
+use Rattle.vfork_exec.specs.declared.family.Waited.TheVariants.{Child, NoneYet, Waits}
 use Rattle.vfork_exec.specs.Keyed.{Falls, find}
-use Rattle.fd_tables.specs.Changes.{without_table}
-use Rattle.machine_world.specs.World.{Process, LiveSpace, World, pid_of, id_of}
-use Rattle.machine_world.specs.Asks.{Ask, arg, Reply, Row, replies, waits, storage_of, with_storage}
+use Rattle.vfork_exec.specs.Families.{without_first}
+use Rattle.fd_tables.specs.Changes.{with_copy, exec_closed, without_table}
+use Rattle.flat_loader.specs.Original.{block_pages}
+use Rattle.flat_loader.specs.Frame.{frame_fits}
+use Rattle.flat_loader.specs.Begin.{Loading}
+use Rattle.machine_world.specs.World.{Process, LiveSpace, Rest, World, pid_of, id_of}
+use Rattle.machine_world.specs.Families.{MayRun, ready_pids, is_full}
+use Rattle.machine_world.specs.FamilyCalls.{who_of, waitid_fault, child_info, no_info, info_at, vfork_flags, runs}
+use Rattle.machine_world.specs.Free.{free}
+use Rattle.machine_world.specs.Found.{Found, address_of, taken}
+use Rattle.machine_world.specs.Asks.{Ask, arg, Reply, Row, replies, waits, gives, refuses, with_files, storage_of, with_storage}
+use Rattle.machine_world.specs.PathCalls.{path_of}
 use Rattle.machine_world.specs.MapCalls.{all_maps, unmaps, munmap_row}
 use Rattle.machine_world.specs.Rows.{row}
-use Rattle.machine_world.specs.Event.{Outcome, went, strays, full, idle, number_of, args_of, replied, entry_of, exit_code, noted, put_got, stepped, trapped, ended, served, put, waited, answered, exited, is_exit, asked, ask_of, answer, effect, in_space, by_process, at_process, event}
+use Rattle.machine_world.specs.Event.{Outcome, went, strays, full, idle, number_of, args_of, replied, entry_of, exit_code, noted, put_got, stepped, trapped, ended, served, put, waited, answered, exited, is_exit, reaped, told_in, waitid_behind, waitid, forked, cloned, load_of, executed, exec_at, exec_program, exec_strings, exec, classed, asked, ask_of, answer, effect, in_space, by_process, at_process, event}
 use Rattle.machine_world.specs.Turns.{Walk, End, traced, stays_at, turned, turn, seen_of, going_on, quantum_turn, turns}
 use Rattle.machine_world.specs.Ages.{AreChanged, Follows, most_changes, kept_calls, most_at_boot}
 use Rattle.machine_world.proofs.Kept.{Answers, Kept}
 use Rattle.machine_world.proofs.ByRows.{by_rows}
-use Rattle.machine_world.proofs.Aging.{rows_age, table_ages}
-use Rattle.stays_laws.specs.Sound.{IsSound}
+use Rattle.machine_world.proofs.Aging.{rows_age, table_ages, exec_ages}
+use Rattle.machine_world.proofs.Chains.{may_run_still, ready_found}
+use Rattle.stays_laws.specs.Sound.{most_given, IsSound}
 use Rattle.stays_laws.specs.Laws.{EventsKeepSound, TurnsKeepSound, RunsKeepSound}
 use Rattle.stays_laws.proofs.Bytes.{put_keeps}
 use Rattle.stays_laws.proofs.Files.{follows_itself}
 use Rattle.stays_laws.proofs.FreePages.{each_of_all}
-use Rattle.stays_laws.proofs.Moved.{Goes, own_around, moved_sound, left_sound}
+use Rattle.stays_laws.proofs.Moved.{Goes, ended_sound, own_around, moved_sound, waiting_sound}
 use Rattle.stays_laws.proofs.Spaces.{IsFit, InSpace, fit_later, fit_there}
+use Rattle.stays_laws.proofs.SoundEnds.{left_sound}
+use Rattle.stays_laws.proofs.SoundForks.{forked_sound}
+use Rattle.stays_laws.proofs.SoundExecs.{exec_sound}
 use Rattle.stays_laws.proofs.RowSpaces.{LeavesSpace, row_leaves, row-munmap, row-mmap2}
 use Rattle.stays_laws.proofs.Unmaps.{is_hit, fit_unmapped}
 use Rattle.stays_laws.proofs.Maps.{fit_mapped}
@@ -82,7 +105,7 @@ module _ (a : Ask) (front back : List Mapping) (fit : IsFit a.rest.pages front b
   fit_same (replies r) same =
       fit_later a.rest.pages front back a.space r.space a.rest.tree a.rest.tree same.maps (follows_itself a.rest.tree)
       (λ addr locked. ap (λ (f : Bytes). f addr) same.bytes) fit
-  fit_same waits same = tt
+  fit_same (waits who) same = tt
 
   fit_munmap : InSpace (IsFit a.rest.pages front back a.rest.tree) (munmap_row a)
   unfolding munmap_row
@@ -121,132 +144,229 @@ leaves_either false x y hx hy = hy
 all_inside : (w : World) → IsSound w → (j : ℕ) (m : Mapping) → slice_get (all_maps w.spaces) j ≡ Some m → m.first + m.pages ≤ w.rest.pages
 all_inside w h = each_of_all (λ m. m.first + m.pages ≤ w.rest.pages) w.loads w.spaces h.numbers (λ i s found. (h.spaces i s found).inside)
 
-module _ (w : World) (h : IsSound w) (pid : ℕ) (p : Process) (s : LiveSpace) (lives : find pid_of pid w.procs ≡ Some p) (has : find id_of p.space w.spaces ≡ Some s) where
+module _ (w : World) (h : IsSound w) (pid : ℕ) (p : Process) (s : LiveSpace) (lives : find pid_of pid w.procs ≡ Some p) (ready : p.state ≡ Ready) (has : find id_of p.space w.spaces ≡ Some s) where
   abbrev front : List Mapping
-  front = (own_around w h pid p s lives has).front
+  front = (own_around w h pid p s lives ready has).front
 
   abbrev back : List Mapping
-  back = (own_around w h pid p s lives has).back
+  back = (own_around w h pid p s lives ready has).back
 
   fit : IsFit w.rest.pages front back w.rest.tree s.space
-  fit = fit_there w h pid p s lives has
+  fit = fit_there w h pid p s lives ready has
+
+  -- nodes that aged as far as a call may change them, under more notes
+  goes_on : (rest : Rest) (notes : List Note) (most : ℕ) → rest.pages ≡ w.rest.pages → Follows w.rest.tree rest.tree × AreChanged most rest.tree → most ≤ most_at_boot + kept_calls notes
+      → kept_calls w.notes ≤ kept_calls notes → kept_calls notes ≤ most_calls → Goes w rest notes
+  goes_on rest notes most pages ages low more few = record {
+    pages = pages;
+    follows = ages.0;
+    changes = more_changed most (most_at_boot + kept_calls notes) rest.tree low ages.1;
+    more = more;
+    calls = few;
+  }
 
   -- a table goes
   table_gone : (notes : List Note) → kept_calls w.notes ≤ kept_calls notes → kept_calls notes ≤ most_calls
       → Goes w (with_storage w.rest (without_table (storage_of w.rest) p.table)) notes
   table_gone notes more few =
-      let ages = table_ages (storage_of w.rest) p.table (most_at_boot + kept_calls w.notes) h.changes in
-      record {
-        pages = refl;
-        follows = ages.0;
-        changes = more_changed (most_at_boot + kept_calls w.notes) (most_at_boot + kept_calls notes) (without_table (storage_of w.rest) p.table).nodes (omega (arith, more)) ages.1;
-        calls = few;
-      }
+      goes_on (with_storage w.rest (without_table (storage_of w.rest) p.table)) notes (most_at_boot + kept_calls w.notes) refl
+      (table_ages (storage_of w.rest) p.table (most_at_boot + kept_calls w.notes) h.changes) (omega (arith, more)) more few
 
-  leaves_served : (bytes : List ℕ) (r : Reply) (m : Bytes) → row (ask_of w p s.space bytes) ≡ replies r
-      → put_got r.space.bytes (writable_in r.space.maps) r.got ≡ Ok m → Leaves (served w (ask_of w p s.space bytes) r m)
-  unfolding served
-  leaves_served bytes r m is wrote =
-      leaves_if (has_room w.notes (weight_of bytes r.got)) (went _ _) full
-      (λ room. moved_sound w h pid p s lives has r.rest (call_note (entry_of (ask_of w p s.space bytes) r.value r.got) ∷ w.notes) (w.events + 1) (goes room) (replied p.regs r.value) (record r.space { bytes = m })
-      now.is_space now.apart now.holds) tt
-    where
-      ages : Follows w.rest.tree r.rest.tree × AreChanged (most_at_boot + kept_calls w.notes + 1) r.rest.tree
-      ages = rows_age (ask_of w p s.space bytes) r (most_at_boot + kept_calls w.notes) is h.changes (low_enough w.notes h.calls)
+  -- ---- a reply
 
-      counted_more : kept_calls (call_note (entry_of (ask_of w p s.space bytes) r.value r.got) ∷ w.notes) ≡ 1 + kept_calls w.notes
-      counted_more = noted_more (call_note (entry_of (ask_of w p s.space bytes) r.value r.got)) w.notes
+  -- what a reply leaves
+  abbrev Fits : Reply → Type 0
+  Fits r = (r.rest.pages ≡ w.rest.pages) × (Follows w.rest.tree r.rest.tree × AreChanged (most_at_boot + kept_calls w.notes + 1) r.rest.tree) × IsFit w.rest.pages front back w.rest.tree r.space
 
-      goes : has_room w.notes (weight_of bytes r.got) ≡ true → Goes w r.rest (call_note (entry_of (ask_of w p s.space bytes) r.value r.got) ∷ w.notes)
-      goes room = record {
-        pages = subst (Answers (λ rest. rest.pages ≡ w.rest.pages)) is (same_pages (ask_of w p s.space bytes));
-        follows = ages.0;
-        changes = more_changed (most_at_boot + kept_calls w.notes + 1) (most_at_boot + kept_calls (call_note (entry_of (ask_of w p s.space bytes) r.value r.got) ∷ w.notes)) r.rest.tree (omega (arith, counted_more)) ages.1;
-        calls = (let left = room_left w.notes (weight_of bytes r.got) room in omega (arith, left, counted_more));
-      }
+  module _ (bytes : List ℕ) where
+    abbrev the_ask : Ask
+    the_ask = ask_of w p s.space bytes
 
-      there : IsFit w.rest.pages front back w.rest.tree r.space
-      there =
+    leaves_served : (r : Reply) (m : Bytes) → Fits r → put_got r.space.bytes (writable_in r.space.maps) r.got ≡ Ok m → Leaves (served w the_ask r m)
+    unfolding served
+    leaves_served r m fits wrote =
+        leaves_if (has_room w.notes (weight_of bytes r.got)) (went _ _) full
+        (λ room. moved_sound w h pid p s lives ready has r.rest (call_note (entry_of the_ask r.value r.got) ∷ w.notes) (w.events + 1) (goes room) (replied p.regs r.value) (record r.space { bytes = m })
+        now.is_space now.apart now.holds) tt
+      where
+        counted_more : kept_calls (call_note (entry_of the_ask r.value r.got) ∷ w.notes) ≡ 1 + kept_calls w.notes
+        counted_more = noted_more (call_note (entry_of the_ask r.value r.got)) w.notes
+
+        goes : has_room w.notes (weight_of bytes r.got) ≡ true → Goes w r.rest (call_note (entry_of the_ask r.value r.got) ∷ w.notes)
+        goes room =
+            goes_on r.rest (call_note (entry_of the_ask r.value r.got) ∷ w.notes) (most_at_boot + kept_calls w.notes + 1) fits.0 fits.1 (omega (arith, counted_more)) (omega (arith, counted_more))
+            (let left = room_left w.notes (weight_of bytes r.got) room in omega (arith, left, counted_more))
+
+        now : IsFit w.rest.pages front back r.rest.tree (record r.space { bytes = m })
+        now =
+            fit_later w.rest.pages front back r.space (record r.space { bytes = m }) w.rest.tree r.rest.tree refl fits.1.0
+            (λ addr locked. put_keeps r.got r.space.bytes m (writable_in r.space.maps) addr wrote locked) fits.2
+
+    leaves_put : (r : Reply) (found : Result Bytes Span) → Fits r → put_got r.space.bytes (writable_in r.space.maps) r.got ≡ found → Leaves (put w the_ask r found)
+    leaves_put r (Ok m) fits wrote = leaves_served r m fits wrote
+    leaves_put r (Err span) fits wrote = tt
+
+    leaves_waited : (who : Who) → Leaves (waited w the_ask who)
+    unfolding waited
+    leaves_waited who = waiting_sound w h pid p s lives ready has who
+
+    leaves_answered : (r : Row) → ((reply : Reply) → r ≡ replies reply → Fits reply) → Leaves (answered w the_ask r)
+    leaves_answered (replies r) fits = leaves_put r (put_got r.space.bytes (writable_in r.space.maps) r.got) (fits r refl) refl
+    leaves_answered (waits who) fits = leaves_waited who
+
+    -- a reply, and bytes
+    pub leaves_given : (value : ℕ) (got : List Written) → Leaves (answered w the_ask (gives the_ask value got w.rest))
+    leaves_given value got =
+        let r : Reply = record { value = value; got = got; rest = w.rest; space = s.space; over = false } in
+        leaves_put r (put_got s.space.bytes (writable_in s.space.maps) got)
+        (refl, (follows_itself w.rest.tree, more_changed (most_at_boot + kept_calls w.notes) (most_at_boot + kept_calls w.notes + 1) w.rest.tree (omega arith) h.changes), fit) refl
+
+    pub leaves_refused : (e : Errno) → Leaves (answered w the_ask (refuses the_ask e))
+    leaves_refused e = leaves_given (refusal e) []
+
+    leaves_row : Leaves (answered w the_ask (row the_ask))
+    leaves_row =
+        leaves_answered (row the_ask)
+        (λ r is. (
+          subst (Answers (λ rest. rest.pages ≡ w.rest.pages)) is (same_pages the_ask),
+          rows_age the_ask r (most_at_boot + kept_calls w.notes) is h.changes (low_enough w.notes h.calls),
           subst (InSpace (IsFit w.rest.pages front back w.rest.tree)) is
-          (fit_row (ask_of w p s.space bytes) front back fit w.loads h.numbers (own_around w h pid p s lives has).is (all_inside w h))
+              (fit_row the_ask front back fit w.loads h.numbers (own_around w h pid p s lives ready has).is (all_inside w h)),
+        ))
 
-      now : IsFit w.rest.pages front back r.rest.tree (record r.space { bytes = m })
-      now =
-          fit_later w.rest.pages front back r.space (record r.space { bytes = m }) w.rest.tree r.rest.tree refl ages.0
-          (λ addr locked. put_keeps r.got r.space.bytes m (writable_in r.space.maps) addr wrote locked) there
+    -- ---- an end
 
-  leaves_put : (bytes : List ℕ) (r : Reply) (found : Result Bytes Span) → row (ask_of w p s.space bytes) ≡ replies r
-      → put_got r.space.bytes (writable_in r.space.maps) r.got ≡ found → Leaves (put w (ask_of w p s.space bytes) r found)
-  leaves_put bytes r (Ok m) is wrote = leaves_served bytes r m is wrote
-  leaves_put bytes r (Err span) is wrote = tt
+    leaves_exited : Leaves (exited w the_ask)
+    unfolding exited ended
+    leaves_exited =
+        leaves_if (has_room w.notes (weight_of bytes [])) (went _ _) full
+        (λ room. (
+        let left = room_left w.notes (weight_of bytes []) room in
+        let one = noted_more (call_note (entry_of the_ask 0 [])) w.notes in
+        let both = noted_more (end_note p.pid (Exit (exit_code the_ask))) (call_note (entry_of the_ask 0 []) ∷ w.notes) in
+        left_sound w h pid p s lives ready has _ (with_storage w.rest (without_table (storage_of w.rest) p.table))
+        (end_note p.pid (Exit (exit_code the_ask)) ∷ call_note (entry_of the_ask 0 []) ∷ w.notes) (w.events + 1)
+        (table_gone (end_note p.pid (Exit (exit_code the_ask)) ∷ call_note (entry_of the_ask 0 []) ∷ w.notes) (omega (arith, one, both)) (omega (arith, left, one, both))))) tt
 
-  leaves_answered : (bytes : List ℕ) (r : Row) → row (ask_of w p s.space bytes) ≡ r → Leaves (answered w (ask_of w p s.space bytes) r)
-  unfolding waited
-  leaves_answered bytes (replies r) is = leaves_put bytes r (put_got r.space.bytes (writable_in r.space.maps) r.got) is refl
-  leaves_answered bytes waits is = record {
-    some = h.some;
-    most = h.most;
-    pids = h.pids;
-    numbers = h.numbers;
-    homes = h.homes;
-    owners = h.owners;
-    spaces = h.spaces;
-    apart = h.apart;
-    copies = h.copies;
-    changes = h.changes;
-    calls = h.calls;
-  }
+    -- ---- a child
 
-  leaves_exited : (bytes : List ℕ) → Leaves (exited w (ask_of w p s.space bytes))
-  unfolding exited ended
-  leaves_exited bytes =
-      let a : Ask = ask_of w p s.space bytes in
-      leaves_if (has_room w.notes (weight_of bytes [])) (went _ _) full
-      (λ room. (
-      let left = room_left w.notes (weight_of bytes []) room in
-      let one = noted_more (call_note (entry_of a 0 [])) w.notes in
-      let both = noted_more (end_note p.pid (Exit (exit_code a))) (call_note (entry_of a 0 []) ∷ w.notes) in
-      left_sound w h pid p s lives has (with_storage w.rest (without_table (storage_of w.rest) p.table))
-      (end_note p.pid (Exit (exit_code a)) ∷ call_note (entry_of a 0 []) ∷ w.notes) (w.events + 1)
-      (table_gone (end_note p.pid (Exit (exit_code a)) ∷ call_note (entry_of a 0 []) ∷ w.notes) (omega (arith, one, both)) (omega (arith, left, one, both))))) tt
+    leaves_forked : Leaves (forked w the_ask)
+    unfolding forked
+    leaves_forked =
+        leaves_if (has_room w.notes (weight_of bytes [])) (went _ _) full
+        (λ room. (
+        let left = room_left w.notes (weight_of bytes []) room in
+        let one = noted_more (call_note (entry_of the_ask w.next_pid [])) w.notes in
+        forked_sound w h pid p s lives ready has bytes (call_note (entry_of the_ask w.next_pid []) ∷ w.notes) (w.events + 1)
+        (goes_on (with_files w.rest (with_copy w.rest.files p.table)) (call_note (entry_of the_ask w.next_pid []) ∷ w.notes) (most_at_boot + kept_calls w.notes) refl
+        (follows_itself w.rest.tree, h.changes) (omega (arith, one)) (omega (arith, one)) (omega (arith, left, one)))
+        (omega (arith, one)))) tt
+
+    leaves_cloned : Leaves (cloned w the_ask)
+    unfolding cloned
+    leaves_cloned =
+        leaves_either (not (arg the_ask 0 == vfork_flags)) (answered w the_ask (refuses the_ask Einval)) _ (leaves_refused Einval)
+        (leaves_either (is_full w) (answered w the_ask (refuses the_ask Eagain)) (forked w the_ask) (leaves_refused Eagain) leaves_forked)
+
+    -- ---- another program
+
+    leaves_executed : (index page : ℕ) (l : Loading) → l.block ≡ address_of page → taken w (block_pages l.original) (free w) ≡ Some page → Leaves (executed w the_ask index l)
+    unfolding executed
+    leaves_executed index page l is chosen =
+        leaves_if (has_room w.notes (weight_of bytes [])) (went _ _) full
+        (λ room. (
+        let left = room_left w.notes (weight_of bytes []) room in
+        let one = noted_more (call_note (entry_of the_ask 0 [])) w.notes in
+        let both = noted_more (load_of p index l) (call_note (entry_of the_ask 0 []) ∷ w.notes) in
+        exec_sound w h pid p s lives ready has page l is chosen (with_storage w.rest (exec_closed (storage_of w.rest) p.table))
+        (load_of p index l ∷ call_note (entry_of the_ask 0 []) ∷ w.notes) (w.events + 1)
+        (goes_on (with_storage w.rest (exec_closed (storage_of w.rest) p.table)) (load_of p index l ∷ call_note (entry_of the_ask 0 []) ∷ w.notes) (most_at_boot + kept_calls w.notes) refl
+        (exec_ages (storage_of w.rest) p.table (most_at_boot + kept_calls w.notes) h.changes) (omega (arith, one, both)) (omega (arith, one, both)) (omega (arith, left, one, both))))) tt
+
+    leaves_exec_at : (f : Found) (strings : ProgramStrings) (page : Option ℕ) → taken w (block_pages f.original) (free w) ≡ page → Leaves (exec_at w the_ask f strings page)
+    leaves_exec_at f strings None chosen = leaves_refused Enomem
+    leaves_exec_at f strings (Some page) chosen =
+        leaves_executed f.index page (record { original = f.original; block = address_of page; args = strings.args; env = strings.env }) refl chosen
+
+    leaves_exec_program : (strings : ProgramStrings) (o : Result Found Errno) → Leaves (exec_program w the_ask strings o)
+    leaves_exec_program strings (Ok f) =
+        leaves_either (frame_fits f.original strings.args strings.env) (exec_at w the_ask f strings (taken w (block_pages f.original) (free w))) (answered w the_ask (refuses the_ask E2big))
+        (leaves_exec_at f strings (taken w (block_pages f.original) (free w)) refl) (leaves_refused E2big)
+    leaves_exec_program strings (Err e) = leaves_refused e
+
+    leaves_exec_strings : (o : Option ProgramStrings) → Leaves (exec_strings w the_ask o)
+    leaves_exec_strings (Some strings) = leaves_exec_program strings (runs w.rest (path_of the_ask))
+    leaves_exec_strings None = leaves_refused E2big
+
+    leaves_exec : Leaves (exec w the_ask)
+    unfolding exec
+    leaves_exec =
+        leaves_either (has_zero bytes) (exec_strings w the_ask (program_strings bytes (arg the_ask 1) (arg the_ask 2))) (answered w the_ask (refuses the_ask Enametoolong))
+        (leaves_exec_strings (program_strings bytes (arg the_ask 1) (arg the_ask 2))) (leaves_refused Enametoolong)
+
+module _ (w : World) (h : IsSound w) (pid : ℕ) (p : Process) (s : LiveSpace) (lives : find pid_of pid w.procs ≡ Some p) (ready : p.state ≡ Ready) (has : find id_of p.space w.spaces ≡ Some s) where
+  -- ---- a process asks for its children
+
+  module _ (bytes : List ℕ) where
+    leaves_reaped : (who : Who) (r : Result Waited Errno) → Leaves (reaped w (the_ask w h pid p s lives ready has bytes) who r)
+    leaves_reaped who (Ok (Child child how)) =
+        let ended : List Ended = without_first p.pid who w.ended in
+        leaves_given (record w { ended = ended }) (ended_sound w ended h) pid p s lives ready has bytes 0 (info_at (arg (ask_of w p s.space bytes) 2) (child_info child how))
+    leaves_reaped who (Ok NoneYet) = leaves_given w h pid p s lives ready has bytes 0 (info_at (arg (ask_of w p s.space bytes) 2) no_info)
+    leaves_reaped who (Ok Waits) = leaves_waited w h pid p s lives ready has bytes who
+    leaves_reaped who (Err e) = leaves_refused w h pid p s lives ready has bytes e
+
+    leaves_waitid : Leaves (waitid w (ask_of w p s.space bytes))
+    unfolding waitid
+    leaves_waitid = by (waitid_fault (ask_of w p s.space bytes))
+      where
+        by : (o : Option Errno) → Leaves (waitid_behind w (ask_of w p s.space bytes) o)
+        by (Some e) = leaves_refused w h pid p s lives ready has bytes e
+        by None = leaves_reaped (who_of (ask_of w p s.space bytes)) (told_in w (ask_of w p s.space bytes))
+
+    leaves_classed : Leaves (classed w (ask_of w p s.space bytes))
+    leaves_classed =
+        leaves_either (is_exit (number_of p.regs)) (exited w (ask_of w p s.space bytes)) _ (leaves_exited w h pid p s lives ready has bytes)
+        (leaves_either (number_of p.regs == 95) (waitid w (ask_of w p s.space bytes)) _ leaves_waitid
+        (leaves_either (number_of p.regs == 220) (cloned w (ask_of w p s.space bytes)) _ (leaves_cloned w h pid p s lives ready has bytes)
+        (leaves_either (number_of p.regs == 221) (exec w (ask_of w p s.space bytes)) _ (leaves_exec w h pid p s lives ready has bytes) (leaves_row w h pid p s lives ready has bytes))))
 
   leaves_asked : (found : Result (List ℕ) Span) → Leaves (asked w p s.space found)
-  leaves_asked (Ok bytes) =
-      let a : Ask = ask_of w p s.space bytes in
-      leaves_either (is_exit (number_of p.regs)) (exited w a) (answered w a (row a)) (leaves_exited bytes) (leaves_answered bytes (row a) refl)
+  leaves_asked (Ok bytes) = leaves_classed bytes
   leaves_asked (Err span) = tt
 
   leaves_effect : (m : Meaning) → meaning p.regs s.space.bytes (writable_in s.space.maps) ≡ m → Leaves (effect w p s.space m)
   unfolding stepped trapped ended answer
   leaves_effect (next regs bytes) is =
       let now =
-      fit_later w.rest.pages front back s.space (record s.space { bytes = bytes }) w.rest.tree w.rest.tree refl (follows_itself w.rest.tree)
-      (λ addr locked. (keeps p.regs regs s.space.bytes bytes (writable_in s.space.maps) is).unwritable addr locked) fit in
-      moved_sound w h pid p s lives has w.rest w.notes (w.events + 1)
-      (record { pages = refl; follows = follows_itself w.rest.tree; changes = h.changes; calls = h.calls }) regs (record s.space { bytes = bytes }) now.is_space now.apart now.holds
+      fit_later w.rest.pages (front w h pid p s lives ready has) (back w h pid p s lives ready has) s.space (record s.space { bytes = bytes }) w.rest.tree w.rest.tree refl (follows_itself w.rest.tree)
+      (λ addr locked. (keeps p.regs regs s.space.bytes bytes (writable_in s.space.maps) is).unwritable addr locked) (fit w h pid p s lives ready has) in
+      moved_sound w h pid p s lives ready has w.rest w.notes (w.events + 1)
+      (record { pages = refl; follows = follows_itself w.rest.tree; changes = h.changes; more = omega arith; calls = h.calls }) regs (record s.space { bytes = bytes }) now.is_space now.apart now.holds
   leaves_effect (trap signal) is =
-      left_sound w h pid p s lives has (with_storage w.rest (without_table (storage_of w.rest) p.table)) (end_note p.pid (Signal signal) ∷ w.notes) (w.events + 1)
-      (table_gone (end_note p.pid (Signal signal) ∷ w.notes) (omega (arith, noted_more (end_note p.pid (Signal signal)) w.notes))
+      left_sound w h pid p s lives ready has _ (with_storage w.rest (without_table (storage_of w.rest) p.table)) (end_note p.pid (Signal signal) ∷ w.notes) (w.events + 1)
+      (table_gone w h pid p s lives ready has (end_note p.pid (Signal signal) ∷ w.notes) (omega (arith, noted_more (end_note p.pid (Signal signal)) w.notes))
       (let few = h.calls in omega (arith, few, noted_more (end_note p.pid (Signal signal)) w.notes)))
   leaves_effect (refused access) is = tt
   leaves_effect call is = leaves_asked (sent (number_of p.regs) (args_of p.regs) s.space.bytes)
 
 module _ (w : World) (h : IsSound w) (pid : ℕ) where
-  leaves_in : (p : Process) → find pid_of pid w.procs ≡ Some p → (found : Option LiveSpace) → find id_of p.space w.spaces ≡ found
+  leaves_in : (p : Process) → find pid_of pid w.procs ≡ Some p → p.state ≡ Ready → (found : Option LiveSpace) → find id_of p.space w.spaces ≡ found
       → Leaves (in_space (λ q s. effect w q s (meaning q.regs s.bytes (writable_in s.maps))) p found)
-  leaves_in p lives None has = tt
-  leaves_in p lives (Some s) has = leaves_effect w h pid p s lives has (meaning p.regs s.space.bytes (writable_in s.space.maps)) refl
+  leaves_in p lives ready None has = tt
+  leaves_in p lives ready (Some s) has = leaves_effect w h pid p s lives ready has (meaning p.regs s.space.bytes (writable_in s.space.maps)) refl
 
-  leaves_by : (found : Option Process) → find pid_of pid w.procs ≡ found → Leaves (by_process w.spaces (λ q s. effect w q s (meaning q.regs s.bytes (writable_in s.maps))) found)
-  leaves_by None lives = tt
-  leaves_by (Some p) lives = leaves_in p lives (find id_of p.space w.spaces) refl
+  leaves_by : (found : Option Process) → find pid_of pid w.procs ≡ found → option_map (λ p. p.state) found ≡ Some Ready
+      → Leaves (by_process w.spaces (λ q s. effect w q s (meaning q.regs s.bytes (writable_in s.maps))) found)
+  leaves_by None lives may = tt
+  leaves_by (Some p) lives may = leaves_in p lives (same_Some p.state Ready may) (find id_of p.space w.spaces) refl
 
-  leaves_event : Leaves (event w pid)
+  leaves_event : MayRun w pid → Leaves (event w pid)
   unfolding event at_process
-  leaves_event = leaves_by (find pid_of pid w.procs) refl
+  leaves_event may = leaves_by (find pid_of pid w.procs) refl may
 
 pub events_keep_sound : EventsKeepSound
-events_keep_sound w pid now t h is = subst Leaves is (leaves_event w h pid)
+events_keep_sound w pid now t h may is = subst Leaves is (leaves_event w h pid may)
 
 -- ---- turns
 
@@ -259,8 +379,9 @@ stray_sound w n none h =
       most = h.most;
       pids = h.pids;
       numbers = h.numbers;
+      given = subst (λ (k : ℕ). w.next_pid ≤ most_given + k) same h.given;
       homes = h.homes;
-      owners = h.owners;
+      chains = h.chains;
       spaces = h.spaces;
       apart = h.apart;
       copies = h.copies;
@@ -268,26 +389,27 @@ stray_sound w n none h =
       calls = subst (λ (k : ℕ). k ≤ most_calls) same h.calls;
     }
 
-turned_leaves : (more : World → Walk) (w : World) (pid : ℕ) (o : Outcome) → IsSound w → Leaves o
-    → ((v : World) → IsSound v → IsSound (more v).world) → IsSound (turned more w pid o).world
-turned_leaves more w pid (went now t) h leaves on = over t.over
+turned_leaves : (more : World → Walk) (w : World) (pid : ℕ) (o : Outcome) → event w pid ≡ o → MayRun w pid → IsSound w → Leaves o
+    → ((v : World) → IsSound v → MayRun v pid → IsSound (more v).world) → IsSound (turned more w pid o).world
+turned_leaves more w pid (went now t) is may h leaves on = over t.over refl
   where
-    over : (b : Bool) → IsSound (traced t (if b then stays_at now None else more now)).world
-    over true = leaves
-    over false = on now leaves
-turned_leaves more w pid (strays access) h leaves on = stray_sound w (stray_note pid (seen_of access)) refl h
-turned_leaves more w pid full h leaves on = h
-turned_leaves more w pid idle h leaves on = h
+    over : (b : Bool) → t.over ≡ b → IsSound (traced t (if b then stays_at now None else more now)).world
+    over true ends = leaves
+    over false ends = on now leaves (may_run_still w pid now t may is ends)
+turned_leaves more w pid (strays access) is may h leaves on = stray_sound w (stray_note pid (seen_of access)) refl h
+turned_leaves more w pid full is may h leaves on = h
+turned_leaves more w pid idle is may h leaves on = h
 
 pub turns_keep_sound : TurnsKeepSound
 unfolding turn
-turns_keep_sound zero pid w h = h
-turns_keep_sound (suc count) pid w h = turned_leaves (turn count pid) w pid (event w pid) h (leaves_event w h pid) (λ v sound. turns_keep_sound count pid v sound)
+turns_keep_sound zero pid w h may = h
+turns_keep_sound (suc count) pid w h may =
+    turned_leaves (turn count pid) w pid (event w pid) refl may h (leaves_event w h pid may) (λ v sound still. turns_keep_sound count pid v sound still)
 
-quantum_leaves : (more : World → Walk) (w : World) (count : ℕ) (chosen : Option ℕ) → IsSound w
+quantum_leaves : (more : World → Walk) (w : World) (count : ℕ) (chosen : Option ℕ) → ((pid : ℕ) → chosen ≡ Some pid → MayRun w pid) → IsSound w
     → ((v : World) → IsSound v → IsSound (more v).world) → IsSound (quantum_turn more w count chosen).world
-quantum_leaves more w count None h on = h
-quantum_leaves more w count (Some pid) h on = goes (turn count pid w) (turns_keep_sound count pid w h)
+quantum_leaves more w count None may h on = h
+quantum_leaves more w count (Some pid) may h on = goes (turn count pid w) (turns_keep_sound count pid w h (may pid refl))
   where
     goes : (walk : Walk) → IsSound walk.world → IsSound (going_on more walk).world
     goes walk sound = at walk.end
@@ -299,4 +421,5 @@ quantum_leaves more w count (Some pid) h on = goes (turn count pid w) (turns_kee
 pub runs_keep_sound : RunsKeepSound
 unfolding turns
 runs_keep_sound [] w h = h
-runs_keep_sound (q ∷ qs) w h = quantum_leaves (turns qs) w q.count (picked q.pick (map pid_of w.procs)) h (λ v sound. runs_keep_sound qs v sound)
+runs_keep_sound (q ∷ qs) w h =
+    quantum_leaves (turns qs) w q.count (picked q.pick (ready_pids w.procs)) (λ pid is. ready_found w.procs w.next_pid q.pick pid is h.pids) h (λ v sound. runs_keep_sound qs v sound)

@@ -3,6 +3,7 @@ use Rattle.std.proofs.Common.{◌≡◌, ℕ, false, List, ◌++◌, Some, sym, 
 use Rattle.mmap_rules.specs.declared.mapping.Mapping.{Mapping}
 use Rattle.mmap_rules.specs.Space.{Space, writable_in}
 use Rattle.mem_files.specs.Inodes.{Inodes}
+use Rattle.vfork_exec.specs.declared.family.State.TheVariants.{Ready}
 use Rattle.vfork_exec.specs.Keyed.{find}
 use Rattle.machine_world.specs.World.{LiveSpace, World, Process, id_of, pid_of}
 use Rattle.machine_world.specs.Asks.{Row, replies, waits}
@@ -40,15 +41,15 @@ module _ (pages : ℕ) (front back : List Mapping) (s : Space) where
       apart = subst (λ (ms : List Mapping). AreApart (front ++ (ms ++ back))) (sym same) fit.apart
 
 -- the space of a process
-pub fit_there : (w : World) (h : IsSound w) (pid : ℕ) (p : Process) (s : LiveSpace) (lives : find pid_of pid w.procs ≡ Some p) (has : find id_of p.space w.spaces ≡ Some s)
-    → IsFit w.rest.pages (own_around w h pid p s lives has).front (own_around w h pid p s lives has).back w.rest.tree s.space
-fit_there w h pid p s lives has = record {
+pub fit_there : (w : World) (h : IsSound w) (pid : ℕ) (p : Process) (s : LiveSpace) (lives : find pid_of pid w.procs ≡ Some p) (ready : p.state ≡ Ready) (has : find id_of p.space w.spaces ≡ Some s)
+    → IsFit w.rest.pages (own_around w h pid p s lives ready has).front (own_around w h pid p s lives ready has).back w.rest.tree s.space
+fit_there w h pid p s lives ready has = record {
   is_space = h.spaces p.space s has;
-  apart = subst AreApart (own_around w h pid p s lives has).is h.apart;
+  apart = subst AreApart (own_around w h pid p s lives ready has).is h.apart;
   holds = h.copies p.space s has;
 }
 
 -- what a row leaves of the caller's space, if it replies
 abbrev pub InSpace : (Space → Type 0) → Row → Type 0
 InSpace P (replies r) = P r.space
-InSpace P waits = Unit {0}
+InSpace P (waits who) = Unit {0}

@@ -1,12 +1,14 @@
 -- What is told of the stays is right behind turns and runs, where every event keeps it so, and the world sound.
-use Rattle.std.proofs.Common.{◌≡◌, ℕ, zero, suc, Bool, true, false, List, [], ◌∷◌, ◌++◌, map, Option, Some, None, refl, sym, subst}
+use Rattle.std.proofs.Common.{◌≡◌, ℕ, zero, suc, Bool, true, false, List, [], ◌∷◌, ◌++◌, Option, Some, None, refl, sym, subst}
 use Rattle.std.specs.Prelude.{if◌then◌else◌}
 use Rattle.call_log.specs.declared.how.Seen.{Seen}
 use Rattle.call_log.specs.Notes.{stray_note}
 use Rattle.quantum_sched.specs.Picked.{picked}
-use Rattle.machine_world.specs.World.{World, pid_of}
+use Rattle.machine_world.specs.World.{World}
+use Rattle.machine_world.specs.Families.{MayRun, ready_pids}
 use Rattle.machine_world.specs.Event.{Trace, Outcome, went, strays, full, idle, noted, event}
 use Rattle.machine_world.specs.Turns.{Walk, End, seen_of, traced, stays_at, turned, turn, going_on, quantum_turn, turns}
+use Rattle.machine_world.proofs.Chains.{may_run_still, ready_found}
 use Rattle.stays_laws.specs.Stays.{Stay, collect, collect_all, kept_calls_of, loads_of, AreRight}
 use Rattle.stays_laws.specs.Sound.{IsSound}
 use Rattle.stays_laws.specs.Laws.{EventsKeepSound, TurnsKeepSound, EventsKeepStays, TurnsKeepStays, RunsKeepStays}
@@ -27,32 +29,34 @@ told_stray ys w pid seen right = record {
 }
 
 module _ (sounds : EventsKeepSound) (rights : EventsKeepStays) where
-  turned_keeps : (ys : List Stay) (more : World → Walk) (w : World) (pid : ℕ) (o : Outcome) → event w pid ≡ o → IsSound w → AreRight ys w
-      → ((zs : List Stay) (v : World) → IsSound v → AreRight zs v → AreRight (collect_all zs (more v).traces) (more v).world)
+  turned_keeps : (ys : List Stay) (more : World → Walk) (w : World) (pid : ℕ) (o : Outcome) → event w pid ≡ o → IsSound w → MayRun w pid → AreRight ys w
+      → ((zs : List Stay) (v : World) → IsSound v → MayRun v pid → AreRight zs v → AreRight (collect_all zs (more v).traces) (more v).world)
       → AreRight (collect_all ys (turned more w pid o).traces) (turned more w pid o).world
   unfolding collect_all
-  turned_keeps ys more w pid (went now t) is sound right on = over t.over
+  turned_keeps ys more w pid (went now t) is sound may right on = over t.over refl
     where
-      over : (b : Bool) → AreRight (collect_all ys (traced t (if b then stays_at now None else more now)).traces) (traced t (if b then stays_at now None else more now)).world
-      over true = rights ys w pid now t sound right is
-      over false = on (collect ys t) now (sounds w pid now t sound is) (rights ys w pid now t sound right is)
-  turned_keeps ys more w pid (strays a) is sound right on = told_stray ys w pid (seen_of a) right
-  turned_keeps ys more w pid full is sound right on = right
-  turned_keeps ys more w pid idle is sound right on = right
+      over : (b : Bool) → t.over ≡ b
+          → AreRight (collect_all ys (traced t (if b then stays_at now None else more now)).traces) (traced t (if b then stays_at now None else more now)).world
+      over true ends = rights ys w pid now t sound may right is
+      over false ends = on (collect ys t) now (sounds w pid now t sound may is) (may_run_still w pid now t may is ends) (rights ys w pid now t sound may right is)
+  turned_keeps ys more w pid (strays a) is sound may right on = told_stray ys w pid (seen_of a) right
+  turned_keeps ys more w pid full is sound may right on = right
+  turned_keeps ys more w pid idle is sound may right on = right
 
   pub turns_keep_stays_by : TurnsKeepStays
   unfolding turn collect_all
-  turns_keep_stays_by ys zero pid w sound right = right
-  turns_keep_stays_by ys (suc count) pid w sound right =
-      turned_keeps ys (turn count pid) w pid (event w pid) refl sound right (λ zs v s r. turns_keep_stays_by zs count pid v s r)
+  turns_keep_stays_by ys zero pid w sound may right = right
+  turns_keep_stays_by ys (suc count) pid w sound may right =
+      turned_keeps ys (turn count pid) w pid (event w pid) refl sound may right (λ zs v s m r. turns_keep_stays_by zs count pid v s m r)
 
   module _ (turn_sounds : TurnsKeepSound) where
-    quantum_keeps : (ys : List Stay) (more : World → Walk) (w : World) (count : ℕ) (chosen : Option ℕ) → IsSound w → AreRight ys w
+    quantum_keeps : (ys : List Stay) (more : World → Walk) (w : World) (count : ℕ) (chosen : Option ℕ) → IsSound w → ((pid : ℕ) → chosen ≡ Some pid → MayRun w pid) → AreRight ys w
         → ((zs : List Stay) (v : World) → IsSound v → AreRight zs v → AreRight (collect_all zs (more v).traces) (more v).world)
         → AreRight (collect_all ys (quantum_turn more w count chosen).traces) (quantum_turn more w count chosen).world
     unfolding collect_all
-    quantum_keeps ys more w count None sound right on = right
-    quantum_keeps ys more w count (Some pid) sound right on = goes (turn count pid w) (turn_sounds count pid w sound) (turns_keep_stays_by ys count pid w sound right)
+    quantum_keeps ys more w count None sound may right on = right
+    quantum_keeps ys more w count (Some pid) sound may right on =
+        goes (turn count pid w) (turn_sounds count pid w sound (may pid refl)) (turns_keep_stays_by ys count pid w sound (may pid refl) right)
       where
         goes : (walk : Walk) → IsSound walk.world → AreRight (collect_all ys walk.traces) walk.world
             → AreRight (collect_all ys (going_on more walk).traces) (going_on more walk).world
@@ -66,4 +70,5 @@ module _ (sounds : EventsKeepSound) (rights : EventsKeepStays) where
     unfolding turns collect_all
     runs_keep_stays_by ys [] w sound right = right
     runs_keep_stays_by ys (q ∷ qs) w sound right =
-        quantum_keeps ys (turns qs) w q.count (picked q.pick (map pid_of w.procs)) sound right (λ zs v s r. runs_keep_stays_by zs qs v s r)
+        quantum_keeps ys (turns qs) w q.count (picked q.pick (ready_pids w.procs)) sound (λ pid is. ready_found w.procs w.next_pid q.pick pid is sound.pids) right
+        (λ zs v s r. runs_keep_stays_by zs qs v s r)
