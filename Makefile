@@ -1,5 +1,5 @@
 # make            the proved program, at build/flatc
-# make demo       the main job: converts the shipped ELF file and shows the bytes of the flat file
+# make demo       the main job: converts the shipped ELF file and shows the bytes of the flat file, and runs two programs in one memory
 # make check      the gate: every proof, must-fail edit, test and program, and the repository's papers
 # make papers     the papers alone: names, links, paths and exit statuses agree
 # make kit        compares the toolchain with the one that the proofs were checked with
@@ -23,6 +23,7 @@ demo: build/flatc
 	cp crates/flatc/data/a.elf build/a.elf
 	cd build && ./flatc convert a.elf a.flt
 	od -A d -t x1 build/a.flt
+	cd build && ./flatc demo 2
 
 check:
 	.ci/run
