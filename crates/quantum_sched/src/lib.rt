@@ -2,7 +2,7 @@
 #![tactic(auto)]
 
 ghost use Rattle.std.specs.Prelude.{◌≡◌, ◌↔◌, [], IsNone};
-ghost use Rattle.vfork_exec.specs.Procs.{pids};
+ghost use Rattle.vfork_exec.specs.Procs.{ready_pids};
 ghost use Rattle.quantum_sched.specs.Picked.{picked};
 
 use vfork_exec::Procs;
@@ -16,11 +16,12 @@ pub struct Quantum {
     pub count: u32,
 }
 
-/// The pid of the process whose turn it is; None exactly where none may run.
+/// The pid of the process whose turn it is. None exactly where none may run, which is where none lives.
 #[tactic(auto, unfolding(crate::specs::Picked::picked))]
 pub fn pick<P>(procs: &Procs<P>, q: Quantum) -> Option<u32>
-    ensures picked { result ≡ picked q.pick (pids procs.now) }
-    ensures none { IsNone result ↔ (pids procs.now ≡ []) }
+    ensures picked { result ≡ picked q.pick (ready_pids procs.now) }
+    ensures none { IsNone result ↔ (ready_pids procs.now ≡ []) }
+    ensures empty { IsNone result ↔ (procs.now.entries ≡ []) }
 {
     let count = procs.runnable();
     if count == 0 {

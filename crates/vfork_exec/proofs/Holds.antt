@@ -26,15 +26,7 @@ length_first own who (e ∷ es) = elim (decide (is_child own who e.pid e.parent)
   | inr is ↦ rw is (omega (arith, length_first own who es))
 ]
 
-pub behind_gone : (e : Ended) (es : List Ended) → e.parent ≡ 0 → ended_behind e es ≡ filter (λ (child : Ended). not (child.parent == e.pid)) es
-unfolding ended_behind
-behind_gone e es is = ap (λ b. filter (λ (child : Ended). not (child.parent == e.pid)) es ++ cond b [] (e ∷ [])) (eqb_same e.parent 0 is) ∙ append-nil (filter (λ (child : Ended). not (child.parent == e.pid)) es)
-
-pub behind_kept : (e : Ended) (es : List Ended) → e.parent ≢ 0 → ended_behind e es ≡ filter (λ (child : Ended). not (child.parent == e.pid)) es ++ e ∷ []
-unfolding ended_behind
-behind_kept e es is = ap (λ b. filter (λ (child : Ended). not (child.parent == e.pid)) es ++ cond b [] (e ∷ [])) (eqb_other e.parent 0 is)
-
-pub length_passing : (p : Ended → Bool) (es : List Ended) → length (filter p es) ≤ length es
+length_passing : (p : Ended → Bool) (es : List Ended) → length (filter p es) ≤ length es
 length_passing p es = omega (arith, length-filter p es, count_by-le-length p es)
 
 -- who is told to wait has a child that lives, and none that has ended
