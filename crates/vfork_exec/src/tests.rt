@@ -110,10 +110,7 @@ fn run(procs: &Procs<u8>, pids: &[u32]) -> bool {
 }
 
 fn child(pid: u32) -> Answer {
-    Told(Waited::Child {
-        pid,
-        how: how(pid),
-    })
+    Told(Waited::Child { pid, how: how(pid) })
 }
 
 #[test]

@@ -1,5 +1,5 @@
 -- Where none lives none is ready.
-use Rattle.std.proofs.Common.{◌≡◌, List, length, true, false, ap, arith}
+use Rattle.std.proofs.Common.{List, length, ap, arith}
 use Rattle.std.specs.Prelude.{filter}
 use Rattle.vfork_exec.specs.declared.entry.Entry.{Entry}
 use Rattle.vfork_exec.specs.Families.{is_ready}

@@ -1,5 +1,5 @@
 -- The end of a process that lives gives no pid.
-use Rattle.std.proofs.Common.{◌≡◌, ◌+◌, ◌≤◌, sym, ap, ◌∙◌, arith}
+use Rattle.std.proofs.Common.{sym, ap, ◌∙◌, arith}
 use Rattle.vfork_exec.specs.Procs.{Listed, pid_of}
 use Rattle.vfork_exec.proofs.Places.{found}
 use Rattle.vfork_exec.proofs.tests.serve.Goals as goal

@@ -1,16 +1,15 @@
 -- The process goes from the one list, and the others are as its end leaves them.
-use Rattle.std.proofs.Common.{◌≡◌, ◌≢◌, ℕ, ◌+◌, ◌<◌, ◌≤◌, true, false, cond, List, [], ◌∷◌, ◌++◌, map, length, get_or, Some, Vec, Global, refl, sym, ap, subst, ◌∙◌, arith}
-use Rattle.std.specs.Prelude.{◌==◌, not, filter, vec_len, vec_capacity, IsSome}
+use Rattle.std.proofs.Common.{◌≡◌, ℕ, ◌+◌, ◌<◌, List, map, length, get_or, Some, Vec, Global, refl, sym, ap, subst, ◌∙◌, arith}
+use Rattle.std.specs.Prelude.{IsSome}
 use Rattle.std.specs.Vec.{with_items}
 use Rattle.std.specs.List.{remove}
 use Rattle.std.proofs.lemmas.List.{with_items_is, length-map}
 use Rattle.std.proofs.lemmas.Option.{same_Some}
-use Rattle.call_log.specs.declared.how.How.{How}
 use Rattle.vfork_exec.specs.declared.family.Ended.{Ended}
 use Rattle.vfork_exec.specs.declared.entry.Entry.{Entry}
 use Rattle.vfork_exec.specs.Keyed.{find, without, place_of, Falls}
 use Rattle.vfork_exec.specs.Families.{ended_behind}
-use Rattle.vfork_exec.specs.Procs.{Listed, pid_of, process, behind, with_end}
+use Rattle.vfork_exec.specs.Procs.{Listed, pid_of, behind, with_end}
 use Rattle.vfork_exec.proofs.Keyed.{find_key, without_at}
 use Rattle.vfork_exec.proofs.Places.{item_at}
 use Rattle.vfork_exec.proofs.Holds.{Holds, holds_end}
@@ -50,7 +49,7 @@ invariant_of-self g c =
     let found = gone_is c.args.pid c.place-at.result s.entries c.args.self.now.entries e same c.place-at.ensures.place c.place-at.ensures.within c.remove-parent.ensures.value in
     let key : e.pid ≡ c.args.pid = find_key pid_of c.args.pid s.entries e found in
     let left = left_is c.args.pid c.place-at.result s.next_pid s.entries c.args.self.now.entries c.remove-parent.new.self c.deref_mut.result.now c.leave.new.entries e same c.self.invariant.0
-        c.place-at.ensures.place found c.remove-parent.ensures.items c.deref_mut.ensures.value c.leave.ensures in
+    c.place-at.ensures.place found c.remove-parent.ensures.items c.deref_mut.ensures.value c.leave.ensures in
     let ended : c.add_ended.new.ended.items ≡ (with_end s e c.args.how).ended = c.add_ended.ensures.items ∙ ap (λ n. ended_behind (record { pid = n; parent = e.parent; how = c.args.how }) s.ended) (sym key) in
     let after : Holds (with_end s e c.args.how) = holds_end s e c.args.how (ap (λ n. find pid_of n s.entries) key ∙ found) (inv.0, inv.1, inv.4) in
     let one = subst (λ (es : List (Entry g.row.P.Denot)). Holds (record { entries = es; ended = (with_end s e c.args.how).ended; next_pid = s.next_pid })) (sym left) after in
@@ -65,7 +64,7 @@ returns g c one is =
     let found = gone_is c.args.pid c.place-at.result s.entries c.args.self.now.entries e same c.place-at.ensures.place c.place-at.ensures.within c.remove-parent.ensures.value in
     let key : e.pid ≡ c.args.pid = find_key pid_of c.args.pid s.entries e found in
     let left = left_is c.args.pid c.place-at.result s.next_pid s.entries c.args.self.now.entries c.remove-parent.new.self c.deref_mut.result.now c.leave.new.entries e same c.self.invariant.0
-        c.place-at.ensures.place found c.remove-parent.ensures.items c.deref_mut.ensures.value c.leave.ensures in
+    c.place-at.ensures.place found c.remove-parent.ensures.items c.deref_mut.ensures.value c.leave.ensures in
     let ended : c.add_ended.new.ended.items ≡ (with_end s e c.args.how).ended = c.add_ended.ensures.items ∙ ap (λ n. ended_behind (record { pid = n; parent = e.parent; how = c.args.how }) s.ended) (sym key) in
     let gone : e ≡ one = same_Some e one (sym found ∙ ap (find pid_of c.args.pid) same ∙ is) in
     ap (λ (es : List (Entry g.row.P.Denot)). record { entries = es; ended = c.add_ended.new.ended.items; next_pid = s.next_pid }) left
