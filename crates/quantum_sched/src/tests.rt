@@ -1,4 +1,4 @@
-//! Numbers above the count go round.
+//! Numbers above the count of those that may run go round.
 
 use super::*;
 use std::test::*;
@@ -21,9 +21,9 @@ fn numbers_go_round(rt: HostRuntime) -> Result<(), Fail> {
     assert_eq!(rt; procs.start(0), Some(2));
     assert_eq!(rt; procs.start(0), Some(3));
     if procs.lives(2) {
-        procs.end(2);
+        assert_eq!(rt; procs.vfork(2, 0), Ok(4));
     }
-    for (number, pid) in [(0u32, 1u32), (1, 3), (2, 1), (u32::MAX, 3)] {
+    for (number, pid) in [(0u32, 1u32), (1, 3), (2, 4), (3, 1), (u32::MAX - 1, 4)] {
         assert_eq!(rt; nth(&procs, number), Some(pid));
     }
     Ok(())

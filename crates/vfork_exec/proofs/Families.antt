@@ -1,5 +1,5 @@
 -- Laws of processes that stand still for each other and wait for each other.
-use Rattle.std.proofs.Common.{◌≡◌, ℕ, ◌+◌, ◌<◌, ◌≤◌, Bool, true, false, cond, List, [], ◌∷◌, ◌++◌, length, get_or, take, drop, Option, Some, None, inl, inr, refl, sym, ap, ◌∙◌, arith, add-one, take-suc, append_assoc}
+use Rattle.std.proofs.Common.{◌≡◌, ℕ, ◌+◌, ◌<◌, Bool, true, false, cond, List, [], ◌∷◌, ◌++◌, length, get_or, take, drop, Some, None, inl, inr, refl, sym, ap, ◌∙◌, add-one, take-suc, append_assoc}
 use Rattle.std.specs.Prelude.{filter}
 use Rattle.vfork_exec.specs.declared.family.Who.{Who}
 use Rattle.vfork_exec.specs.declared.family.Ended.{Ended}

@@ -1,19 +1,18 @@
 -- What holds of the list at every moment, call by call.
-use Rattle.std.proofs.Common.{◌≡◌, ◌≢◌, ℕ, ◌+◌, ◌<◌, ◌≤◌, Bool, true, false, cond, ◌⊎◌, inl, inr, List, [], ◌∷◌, ◌++◌, map, length, get_or, set, Option, Some, None, refl, sym, ap, subst, ◌∙◌, arith, length-append, append-nil, Ok}
+use Rattle.std.proofs.Common.{◌≡◌, ℕ, ◌+◌, ◌<◌, ◌≤◌, Bool, true, false, ◌⊎◌, inl, inr, List, [], ◌∷◌, length, get_or, set, Option, Some, None, refl, sym, ap, subst, ◌∙◌, arith, length-append, Ok}
 use Rattle.std.specs.Prelude.{◌==◌, not, filter, IsSome, option_map}
 use Rattle.std.proofs.lemmas.List.{length-map}
 use Rattle.std.proofs.lemmas.List.Sums.{length-filter, count_by-le-length}
 use Rattle.call_log.specs.declared.how.How.{How}
 use Rattle.vfork_exec.specs.declared.family.Who.{Who}
-use Rattle.vfork_exec.specs.declared.family.State.{State}
 use Rattle.vfork_exec.specs.declared.family.State.TheVariants.{Ready, Waiting, Lent}
 use Rattle.vfork_exec.specs.declared.family.Ended.{Ended}
 use Rattle.vfork_exec.specs.declared.family.Waited.TheVariants.{Waits}
 use Rattle.vfork_exec.specs.declared.entry.Entry.{Entry}
-use Rattle.vfork_exec.specs.Keyed.{find, change, without, place_of, Falls}
+use Rattle.vfork_exec.specs.Keyed.{change, without, place_of, Falls}
 use Rattle.vfork_exec.specs.Families.{resumed, is_ready, told, ended_behind, first_ended, without_first, is_child}
 use Rattle.vfork_exec.specs.Procs.{Listed, WaitsWell, Lives, process, parent_at, has_child, pid_of, behind, with_state, with_value, with_entry, with_exec, with_end, with_state_at, with_value_at, with_child, ready, count, most_entries}
-use Rattle.vfork_exec.proofs.Keyed.{decide, eqb_same, eqb_other, find_head, change_head, falls_more, falls_change, falls_map, falls_without, length_change, length_gone, change_at, find_below}
+use Rattle.vfork_exec.proofs.Keyed.{decide, eqb_same, eqb_other, find_head, change_head, falls_change, falls_map, falls_without, length_change, length_gone, change_at, find_below}
 use Rattle.vfork_exec.proofs.Places.{found, item_at}
 use Rattle.vfork_exec.proofs.Loops.{filter_head}
 use Rattle.vfork_exec.proofs.WaitsWell.{newest_ready, well_more, well_change, well_exec, well_end, well_first, well_none}
@@ -26,15 +25,7 @@ length_first own who (e ∷ es) = elim (decide (is_child own who e.pid e.parent)
   | inr is ↦ rw is (omega (arith, length_first own who es))
 ]
 
-pub behind_gone : (e : Ended) (es : List Ended) → e.parent ≡ 0 → ended_behind e es ≡ filter (λ (child : Ended). not (child.parent == e.pid)) es
-unfolding ended_behind
-behind_gone e es is = ap (λ b. filter (λ (child : Ended). not (child.parent == e.pid)) es ++ cond b [] (e ∷ [])) (eqb_same e.parent 0 is) ∙ append-nil (filter (λ (child : Ended). not (child.parent == e.pid)) es)
-
-pub behind_kept : (e : Ended) (es : List Ended) → e.parent ≢ 0 → ended_behind e es ≡ filter (λ (child : Ended). not (child.parent == e.pid)) es ++ e ∷ []
-unfolding ended_behind
-behind_kept e es is = ap (λ b. filter (λ (child : Ended). not (child.parent == e.pid)) es ++ cond b [] (e ∷ [])) (eqb_other e.parent 0 is)
-
-pub length_passing : (p : Ended → Bool) (es : List Ended) → length (filter p es) ≤ length es
+length_passing : (p : Ended → Bool) (es : List Ended) → length (filter p es) ≤ length es
 length_passing p es = omega (arith, length-filter p es, count_by-le-length p es)
 
 -- who is told to wait has a child that lives, and none that has ended

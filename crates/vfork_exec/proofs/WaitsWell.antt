@@ -1,6 +1,6 @@
 -- Who stands still or waits does so for a younger process that lives: what keeps this, and what follows.
-use Rattle.std.proofs.Common.{◌≡◌, ◌≢◌, ℕ, ◌+◌, ◌<◌, ◌≤◌, Bool, true, false, cond, ◌⊎◌, inl, inr, List, [], ◌∷◌, ◌++◌, map, length, Option, Some, None, refl, sym, ap, subst, ◌∙◌, arith}
-use Rattle.std.specs.Prelude.{◌==◌, ◌&&◌, not, filter, option_map}
+use Rattle.std.proofs.Common.{◌≡◌, ◌≢◌, ℕ, ◌+◌, ◌<◌, Bool, true, false, cond, ◌⊎◌, inl, inr, List, [], ◌∷◌, Option, Some, None, refl, sym, ap, subst, ◌∙◌, arith}
+use Rattle.std.specs.Prelude.{◌==◌, ◌&&◌, not, option_map}
 use Rattle.std.specs.List.{list_any}
 use Rattle.std.proofs.lemmas.Option.{same_Some}
 use Rattle.std.proofs.lemmas.Iterator.Adapters.{option_map_id}
@@ -8,11 +8,10 @@ use Rattle.call_log.specs.declared.how.How.{How}
 use Rattle.vfork_exec.specs.declared.family.Who.{Who}
 use Rattle.vfork_exec.specs.declared.family.State.{State}
 use Rattle.vfork_exec.specs.declared.family.State.TheVariants.{Ready, Waiting, Lent}
-use Rattle.vfork_exec.specs.declared.family.Ended.{Ended}
 use Rattle.vfork_exec.specs.declared.entry.Entry.{Entry}
 use Rattle.vfork_exec.specs.Keyed.{find, change, without, Falls}
-use Rattle.vfork_exec.specs.Families.{is_child, is_meant, parent_behind, is_ready, resumed, woken, state_behind, ended_behind, first_ended, without_first}
-use Rattle.vfork_exec.specs.Procs.{Listed, WaitsWell, process, parent_at, has_child, pid_of, behind, with_state, with_entry, with_exec, with_end, ready}
+use Rattle.vfork_exec.specs.Families.{is_child, is_meant, parent_behind, resumed, woken, state_behind, ended_behind, first_ended, without_first}
+use Rattle.vfork_exec.specs.Procs.{Listed, WaitsWell, process, parent_at, has_child, pid_of, behind, with_state, with_entry, with_exec, with_end}
 use Rattle.vfork_exec.proofs.Keyed.{decide, eqb_is, eqb_same, eqb_other, find_head, find_key, find_below, find_later, any_change, any_map, find_changed, find_beside_change, find_map, find_gone, find_beside_without, any_found, any_there, found_any}
 use Rattle.vfork_exec.proofs.Families.{none_filtered, none_appended, none_last, none_without}
 
@@ -235,9 +234,9 @@ module _ {P : Type 0} where
         let x = one.0 in
         let parent : x.parent ≡ pid = eqb_is x.parent pid (both (x.parent == pid) (is_meant who x.pid) one.2).0 in
         let other : x.pid ≢ gone.pid = λ e.
-            let same : x ≡ gone = same_Some x gone (sym one.1 ∙ ap (process s) e ∙ lives) in
-            let yes : is_child pid who gone.pid gone.parent ≡ true = subst (λ (y : Entry P). is_child pid who y.pid y.parent ≡ true) same one.2 in
-            let bad : true ≡ false = sym yes ∙ wrong in absurd cc in
+        let same : x ≡ gone = same_Some x gone (sym one.1 ∙ ap (process s) e ∙ lives) in
+        let yes : is_child pid who gone.pid gone.parent ≡ true = subst (λ (y : Entry P). is_child pid who y.pid y.parent ≡ true) same one.2 in
+        let bad : true ≡ false = sym yes ∙ wrong in absurd cc in
         let after : parent_behind gone.pid x.parent ≡ x.parent = ap (parent_behind gone.pid) parent ∙ own pid ne ∙ sym parent in
         found_any pid_of x.pid (λ (e : Entry P). is_child pid who e.pid e.parent) t.entries (f x) (stays x.pid x other one.1) (ap (is_child pid who x.pid) after ∙ one.2)
 
@@ -275,8 +274,8 @@ module _ {P : Type 0} where
             let h = well.waiters j who e is now in (child_kept j who ∙ h.0, h.1)
       ])
       well where
-    child_kept : (j : ℕ) (who : Who) → list_any (λ (e : Entry P). is_child j who e.pid e.parent) (change pid_of pid f s.entries) ≡ has_child s j who
-    child_kept j who = any_change pid_of pid (λ (e : Entry P). is_child j who e.pid e.parent) f (λ e. ap (λ n. is_child j who n (f e).parent) (same e) ∙ ap (is_child j who e.pid) (keeps e)) s.entries
+        child_kept : (j : ℕ) (who : Who) → list_any (λ (e : Entry P). is_child j who e.pid e.parent) (change pid_of pid f s.entries) ≡ has_child s j who
+        child_kept j who = any_change pid_of pid (λ (e : Entry P). is_child j who e.pid e.parent) f (λ e. ap (λ n. is_child j who n (f e).parent) (same e) ∙ ap (is_child j who e.pid) (keeps e)) s.entries
 
   -- a process leaves its space
   pub well_exec : (s : Listed P) (pid : ℕ) → WaitsWell s → WaitsWell (with_exec s pid)
@@ -285,11 +284,11 @@ module _ {P : Type 0} where
       (λ j e. refl)
       (λ j child e is so. well.lenders j child e is (lent_resumed pid child e.state so).0)
       (λ j who e is so.
-        let h = well.waiters j who e is (waits_resumed pid who e.state so) in
-        (any_map (λ (y : Entry P). is_child j who y.pid y.parent) (λ (y : Entry P). is_child j who y.pid y.parent) f (λ x. refl) s.entries ∙ h.0, h.1))
+      let h = well.waiters j who e is (waits_resumed pid who e.state so) in
+      (any_map (λ (y : Entry P). is_child j who y.pid y.parent) (λ (y : Entry P). is_child j who y.pid y.parent) f (λ x. refl) s.entries ∙ h.0, h.1))
       well where
-    f : Entry P → Entry P
-    f e = with_state e (resumed pid e.state)
+        f : Entry P → Entry P
+        f e = with_state e (resumed pid e.state)
 
   -- one that has ended is told of
   pub well_first : (s : Listed P) (own : ℕ) (who : Who) → WaitsWell s → WaitsWell (record s { ended = without_first own who s.ended })

@@ -6,7 +6,7 @@ ghost use Rattle.vfork_exec.specs.declared.entry.Entry.{Entry as Process};
 ghost use Rattle.vfork_exec.specs.Procs.{most_entries, none_yet, count, Starts, Forks, with_exec, with_end, looked, with_wait, Lives, process, value_at, parent_at, pid_of, ready, ready_pids, borrows, with_entry};
 ghost use Rattle.vfork_exec.specs.Keyed.{place_of, Falls};
 
-use crate::ended::{first_ended, forget_children, forget_first};
+use crate::ended::{add_ended, first_ended, forget_first};
 use crate::entries::{has_child, is_lent, leave, ready_at, ready_count, resume};
 use crate::entry::Entry;
 use crate::family::{Ended, State, Waited, Who};
@@ -119,10 +119,7 @@ impl<P> Procs<P> {
         let at = self.place(pid);
         let parent = self.entries.remove(at).parent;
         leave(&mut self.entries, pid, parent);
-        forget_children(&mut self.ended, pid);
-        if parent != 0 && self.ended.push(Ended { pid, parent, how }).is_err() {
-            unreachable!();
-        }
+        add_ended(&mut self.ended, Ended { pid, parent, how });
     }
 
     /// What `wait` would answer. ECHILD where there is no such child.

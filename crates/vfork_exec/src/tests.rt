@@ -1,6 +1,9 @@
-//! Starts and ends, and the list at its limit.
+//! Families call by call, and the list at its limit.
+
+ghost use Rattle.std.specs.Prelude.{◌≡◌, ◌+◌, ◌<◌, ◌≤◌, ◌^◌};
 
 use super::*;
+use call_log::{Errno, How};
 use std::test::*;
 
 #[test]
@@ -17,27 +20,167 @@ fn processes_start_and_end(rt: HostRuntime) -> Result<(), Fail> {
     }
     if procs.lives(2) {
         assert_eq!(rt; *procs.get(2), 21);
-        procs.end(2);
+        procs.end(2, How::Exit(0));
     }
     assert_eq!(rt; procs.lives(2), false);
-    assert_eq!(rt; procs.runnable(), 2);
-    if procs.runnable() > 1 {
-        assert_eq!(rt; procs.runnable_at(0), 1);
-        assert_eq!(rt; procs.runnable_at(1), 3);
+    assert!(rt; run(&procs, &[1, 3]));
+    Ok(())
+}
+
+#[derive(Clone, Copy)]
+enum Call {
+    Start,
+    Vfork(u32),
+    ExecDone(u32),
+    End(u32),
+    Wait(u32, Who),
+    WaitNoHang(u32, Who),
+}
+
+#[derive(Clone, Copy, Debug, PartialEq, Eq)]
+enum Answer {
+    Done,
+    Pid(u32),
+    Told(Waited),
+    Refused(Errno),
+    Dead,
+}
+
+use Answer::{Dead, Done, Pid, Refused, Told};
+use Call::{End, ExecDone, Start, Vfork, Wait, WaitNoHang};
+
+fn reply(given: Result<Waited, Errno>) -> Answer {
+    match given {
+        Ok(waited) => Told(waited),
+        Err(errno) => Refused(errno),
+    }
+}
+
+/// How a process ends here.
+fn how(pid: u32) -> How {
+    How::Exit((pid % 256) as u8)
+}
+
+fn serve(procs: &mut Procs<u8>, call: Call) -> Answer
+    requires { procs.old.next_pid < 2 ^ 32 }
+    ensures { procs.new.next_pid ≤ procs.old.next_pid + 1 }
+{
+    let pid = match call {
+        Start => {
+            return match procs.start(0) {
+                Some(pid) => Pid(pid),
+                None => Refused(Errno::Eagain),
+            };
+        }
+        Vfork(pid) | ExecDone(pid) | End(pid) | Wait(pid, _) | WaitNoHang(pid, _) => pid,
+    };
+    if !procs.lives(pid) {
+        return Dead;
+    }
+    match call {
+        Start => Dead,
+        Vfork(_) => match procs.vfork(pid, 0) {
+            Ok(child) => Pid(child),
+            Err(errno) => Refused(errno),
+        },
+        ExecDone(_) => {
+            procs.exec_done(pid);
+            Done
+        }
+        End(_) => {
+            procs.end(pid, how(pid));
+            Done
+        }
+        Wait(_, who) => reply(procs.wait(pid, who, true)),
+        WaitNoHang(_, who) => reply(procs.wait(pid, who, false)),
+    }
+}
+
+/// Whether those that may run are these.
+fn run(procs: &Procs<u8>, pids: &[u32]) -> bool {
+    if procs.runnable() as usize != pids.len() {
+        return false;
+    }
+    for k in 0..procs.runnable() {
+        if procs.runnable_at(k) != pids[k as usize] {
+            return false;
+        }
+    }
+    true
+}
+
+fn child(pid: u32) -> Answer {
+    Told(Waited::Child { pid, how: how(pid) })
+}
+
+#[test]
+fn families(rt: HostRuntime) -> Result<(), Fail> {
+    let mut procs: Procs<u8> = Procs::new(rt.alloc())?;
+    let calls: [(Call, Answer, &[u32]); 31] = [
+        // The parent stands still until the child's exec or end, and no other child's.
+        (Start, Pid(1), &[1]),
+        (Vfork(1), Pid(2), &[2]),
+        (ExecDone(2), Done, &[1, 2]),
+        (Vfork(1), Pid(3), &[2, 3]),
+        (ExecDone(2), Done, &[2, 3]),
+        (End(2), Done, &[3]),
+        (End(3), Done, &[1]),
+        // Of two that have ended it is told of the one that ended first, or of the one that it means.
+        (Vfork(1), Pid(4), &[4]),
+        (End(4), Done, &[1]),
+        (Wait(1, Who::All), child(2), &[1]),
+        (Wait(1, Who::Pid(4)), child(4), &[1]),
+        (WaitNoHang(1, Who::All), child(3), &[1]),
+        (Wait(1, Who::All), Refused(Errno::Echild), &[1]),
+        // It waits for one of two, and the end of the other one changes nothing.
+        (Vfork(1), Pid(5), &[5]),
+        (ExecDone(5), Done, &[1, 5]),
+        (Vfork(1), Pid(6), &[5, 6]),
+        (ExecDone(6), Done, &[1, 5, 6]),
+        (WaitNoHang(1, Who::All), Told(Waited::NoneYet), &[1, 5, 6]),
+        (Wait(1, Who::Pid(7)), Refused(Errno::Echild), &[1, 5, 6]),
+        (Wait(1, Who::Pid(5)), Told(Waited::Waits), &[5, 6]),
+        (End(6), Done, &[5]),
+        (End(5), Done, &[1]),
+        (Wait(1, Who::Pid(5)), child(5), &[1]),
+        // Where the parent ends the child goes on, and goes at once when it ends. So do those that had ended.
+        (Vfork(1), Pid(7), &[7]),
+        (Vfork(7), Pid(8), &[8]),
+        (End(7), Done, &[1, 8]),
+        (Vfork(8), Pid(9), &[1, 9]),
+        (End(9), Done, &[1, 8]),
+        (End(8), Done, &[1]),
+        (Wait(8, Who::All), Dead, &[1]),
+        (End(1), Done, &[]),
+    ];
+    for (call, wanted, pids) in calls {
+        assert_eq!(rt; serve(&mut procs, call), wanted);
+        assert!(rt; run(&procs, pids));
     }
     Ok(())
 }
 
 #[test]
-fn pids_go_on_at_the_limit(rt: HostRuntime) -> Result<(), Fail> {
+fn those_that_have_ended_count(rt: HostRuntime) -> Result<(), Fail> {
     let mut procs: Procs<u8> = Procs::new(rt.alloc())?;
-    for pid in 1..65 {
-        assert_eq!(rt; procs.start(0), Some(pid));
+    assert_eq!(rt; serve(&mut procs, Start), Pid(1));
+    for pid in 2..65 {
+        assert_eq!(rt; serve(&mut procs, Vfork(1)), Pid(pid));
+        assert_eq!(rt; serve(&mut procs, End(pid)), Done);
     }
-    assert_eq!(rt; procs.start(0), None);
-    if procs.lives(7) {
-        procs.end(7);
+    assert!(rt; procs.full());
+    for (call, wanted) in [
+        (Vfork(1), Refused(Errno::Eagain)),
+        (Start, Refused(Errno::Eagain)),
+        (Wait(1, Who::All), child(2)),
+        (Vfork(1), Pid(65)),
+        (Vfork(1), Refused(Errno::Eagain)),
+        // Its children that have ended go with it.
+        (End(1), Done),
+        (Start, Pid(66)),
+    ] {
+        assert_eq!(rt; serve(&mut procs, call), wanted);
     }
-    assert_eq!(rt; procs.start(0), Some(65));
+    assert!(rt; run(&procs, &[65, 66]));
     Ok(())
 }

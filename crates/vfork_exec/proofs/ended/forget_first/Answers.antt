@@ -1,5 +1,5 @@
 -- The rest begins with the child, or with none.
-use Rattle.std.proofs.Common.{◌≡◌, ◌<◌, ◌≤◌, [], ◌++◌, true, false, length, take, drop, sym, ap, ◌∙◌, drop_of_length-le, append-nil, take_all, arith, Vec, Global}
+use Rattle.std.proofs.Common.{◌<◌, ◌≤◌, [], ◌++◌, true, length, take, sym, ap, ◌∙◌, drop_of_length-le, append-nil, take_all, arith, Vec, Global}
 use Rattle.vfork_exec.specs.declared.family.Ended.{Ended}
 use Rattle.vfork_exec.specs.Families.{is_child, without_first}
 use Rattle.vfork_exec.proofs.Families.{without_first_at, without_first_later}

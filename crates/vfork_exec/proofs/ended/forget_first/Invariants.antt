@@ -1,6 +1,5 @@
 -- The rest has the one that goes.
 use Rattle.std.proofs.Common.{◌≡◌, ◌++◌, take, drop}
-use Rattle.std.specs.Prelude.{vec_capacity}
 use Rattle.vfork_exec.specs.Families.{without_first}
 use Rattle.vfork_exec.proofs.ended.forget_first.Given as goal
 

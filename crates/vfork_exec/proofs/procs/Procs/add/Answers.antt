@@ -1,5 +1,5 @@
 -- One more, that may run.
-use Rattle.std.proofs.Common.{◌≡◌, ℕ, ◌+◌, ◌<◌, ◌⊎◌, inl, inr, cond, List, ◌∷◌, sym, ap, subst, ◌∙◌, arith}
+use Rattle.std.proofs.Common.{◌≡◌, ◌+◌, ◌<◌, ◌⊎◌, cond, List, sym, ap, subst, ◌∙◌, arith}
 use Rattle.vfork_exec.specs.declared.entry.Entry.{Entry}
 use Rattle.vfork_exec.specs.Procs.{Listed, Lives, with_entry, count, most_entries}
 use Rattle.vfork_exec.proofs.Holds.{Holds, holds_entry}

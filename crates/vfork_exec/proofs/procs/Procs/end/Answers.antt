@@ -1,21 +1,19 @@
--- The process goes from the one list, and onto the other where its parent lives.
-use Rattle.std.proofs.Common.{◌≡◌, ◌≢◌, ℕ, ◌+◌, ◌<◌, ◌≤◌, true, false, cond, List, [], ◌∷◌, ◌++◌, map, length, get_or, Some, Vec, Global, refl, sym, ap, subst, ◌∙◌, arith}
-use Rattle.std.specs.Prelude.{◌==◌, not, filter, vec_len, vec_capacity, IsSome}
+-- The process goes from the one list, and the others are as its end leaves them.
+use Rattle.std.proofs.Common.{◌≡◌, ℕ, ◌+◌, ◌<◌, List, map, length, get_or, Some, Vec, Global, refl, sym, ap, subst, ◌∙◌, arith}
+use Rattle.std.specs.Prelude.{IsSome}
 use Rattle.std.specs.Vec.{with_items}
 use Rattle.std.specs.List.{remove}
 use Rattle.std.proofs.lemmas.List.{with_items_is, length-map}
 use Rattle.std.proofs.lemmas.Option.{same_Some}
-use Rattle.call_log.specs.declared.how.How.{How}
 use Rattle.vfork_exec.specs.declared.family.Ended.{Ended}
 use Rattle.vfork_exec.specs.declared.entry.Entry.{Entry}
 use Rattle.vfork_exec.specs.Keyed.{find, without, place_of, Falls}
 use Rattle.vfork_exec.specs.Families.{ended_behind}
-use Rattle.vfork_exec.specs.Procs.{Listed, pid_of, process, behind, with_end}
+use Rattle.vfork_exec.specs.Procs.{Listed, pid_of, behind, with_end}
 use Rattle.vfork_exec.proofs.Keyed.{find_key, without_at}
 use Rattle.vfork_exec.proofs.Places.{item_at}
-use Rattle.vfork_exec.proofs.Holds.{Holds, holds_end, behind_gone, behind_kept, length_passing}
+use Rattle.vfork_exec.proofs.Holds.{Holds, holds_end}
 use Rattle.vfork_exec.proofs.procs.Procs.end.Goals as goal
-use Rattle.vfork_exec.proofs.procs.Procs.end.Goals.{else-parent-ne0-via-then-parent-ne0+else-is_err, else-parent-ne0-via-else-parent-ne0}
 
 -- the one that goes, by its place
 gone_is : {P : Type 0} (pid at : ℕ) (items entries : List (Entry P)) (e : Entry P) → items ≡ entries → at ≡ place_of pid_of pid entries → at < length entries → e ≡ get_or items at e → find pid_of pid items ≡ Some e
@@ -36,31 +34,11 @@ left_is pid at b items entries rest passed left e same falls place found gone gi
     ∙ ap (map (behind pid e.parent)) (given ∙ gone ∙ ap (remove items) there ∙ without_at pid_of pid b items falls (subst IsSome (sym found) refl))
     ∙ ap (λ n. map (behind n e.parent) (without pid_of n items)) (sym key)
 
--- its parent hasn't waited for it yet
-kept_is : (pid own parent : ℕ) (how : How) (old new : List Ended) → own ≡ pid → parent ≢ 0 → new ≡ filter (λ (child : Ended). not (child.parent == pid)) old ++ (record { pid = pid; parent = parent; how = how }) ∷ []
-    → new ≡ ended_behind (record { pid = own; parent = parent; how = how }) old
-kept_is pid own parent how old new key some is =
-    is
-    ∙ ap (λ n. filter (λ (child : Ended). not (child.parent == n)) old ++ (record { pid = n; parent = parent; how = how }) ∷ []) (sym key)
-    ∙ sym (behind_kept (record { pid = own; parent = parent; how = how }) old some)
-
--- it has no parent
-gone_at_once : (pid own parent : ℕ) (how : How) (old new : List Ended) → own ≡ pid → parent ≡ 0 → new ≡ filter (λ (child : Ended). not (child.parent == pid)) old
-    → new ≡ ended_behind (record { pid = own; parent = parent; how = how }) old
-gone_at_once pid own parent how old new key none is =
-    is
-    ∙ ap (λ n. filter (λ (child : Ended). not (child.parent == n)) old) (sym key)
-    ∙ sym (behind_gone (record { pid = own; parent = parent; how = how }) old none)
-
-pub unreachable-requires : goal.unreachable-requires
-unreachable-requires g c =
+pub add_ended-requires : goal.add_ended-requires
+add_ended-requires g c =
     let inv = c.self.invariant in
-    let ended = c.forget_children.new.ended in
-    let few = length_passing (λ (child : Ended). not (child.parent == c.args.pid)) c.self.inside.ended.items in
     let one : 0 < length c.self.inside.entries.items = let below = c.place-at.ensures.within in omega (arith, below, ap (λ (x : Listed g.row.P.Denot). length x.entries) c.self.view_is) in
-    let room : vec_len ended < vec_capacity ended = omega (arith, one, few, ap length c.forget_children.ensures.items, ended.ok.0, inv.1, inv.3, c.forget_children.ensures.capacity) in
-    let wrong : false ≡ true = sym c.if-is_err.ensures.negation ∙ c.push.ensures.succeeds room in
-    absurd cc
+    omega (arith, one, c.self.inside.ended.ok.0, inv.1, inv.3)
 
 pub invariant_of-self : goal.invariant_of-self
 invariant_of-self g c =
@@ -71,30 +49,12 @@ invariant_of-self g c =
     let found = gone_is c.args.pid c.place-at.result s.entries c.args.self.now.entries e same c.place-at.ensures.place c.place-at.ensures.within c.remove-parent.ensures.value in
     let key : e.pid ≡ c.args.pid = find_key pid_of c.args.pid s.entries e found in
     let left = left_is c.args.pid c.place-at.result s.next_pid s.entries c.args.self.now.entries c.remove-parent.new.self c.deref_mut.result.now c.leave.new.entries e same c.self.invariant.0
-        c.place-at.ensures.place found c.remove-parent.ensures.items c.deref_mut.ensures.value c.leave.ensures in
-    let ended = kept_is c.args.pid e.pid e.parent c.args.how s.ended c.push.new.self.items key c.if-parent-ne0.true
-        (c.push.ensures.items ∙ ap (λ b. cond b (c.forget_children.new.ended.items ++ (record { pid = c.args.pid; parent = e.parent; how = c.args.how }) ∷ []) c.forget_children.new.ended.items) c.if-is_err.ensures.negation
-        ∙ ap (λ (ds : List Ended). ds ++ (record { pid = c.args.pid; parent = e.parent; how = c.args.how }) ∷ []) c.forget_children.ensures.items) in
+    c.place-at.ensures.place found c.remove-parent.ensures.items c.deref_mut.ensures.value c.leave.ensures in
+    let ended : c.add_ended.new.ended.items ≡ (with_end s e c.args.how).ended = c.add_ended.ensures.items ∙ ap (λ n. ended_behind (record { pid = n; parent = e.parent; how = c.args.how }) s.ended) (sym key) in
     let after : Holds (with_end s e c.args.how) = holds_end s e c.args.how (ap (λ n. find pid_of n s.entries) key ∙ found) (inv.0, inv.1, inv.4) in
     let one = subst (λ (es : List (Entry g.row.P.Denot)). Holds (record { entries = es; ended = (with_end s e c.args.how).ended; next_pid = s.next_pid })) (sym left) after in
     let h = subst (λ (ds : List Ended). Holds (record { entries = (with_items c.remove-parent.new.self c.leave.new.entries).items; ended = ds; next_pid = s.next_pid })) (sym ended) one in
-    (h.0, h.1, omega (arith, inv.2, c.remove-parent.ensures.capacity), omega (arith, inv.3, c.push.ensures.capacity, c.forget_children.ensures.capacity), h.2)
-
-pub invariant_of-self-else-parent-ne0 : goal.invariant_of-self-else-parent-ne0
-invariant_of-self-else-parent-ne0 g c =
-    let inv = c.self.invariant in
-    let e = c.remove-parent.result in
-    let s : Listed g.row.P.Denot = record { entries = c.self.inside.entries.items; ended = c.self.inside.ended.items; next_pid = c.self.inside.given + 1 } in
-    let same = ap (λ (x : Listed g.row.P.Denot). x.entries) c.self.view_is in
-    let found = gone_is c.args.pid c.place-at.result s.entries c.args.self.now.entries e same c.place-at.ensures.place c.place-at.ensures.within c.remove-parent.ensures.value in
-    let key : e.pid ≡ c.args.pid = find_key pid_of c.args.pid s.entries e found in
-    let left = left_is c.args.pid c.place-at.result s.next_pid s.entries c.args.self.now.entries c.remove-parent.new.self c.deref_mut.result.now c.leave.new.entries e same c.self.invariant.0
-        c.place-at.ensures.place found c.remove-parent.ensures.items c.deref_mut.ensures.value c.leave.ensures in
-    let ended = gone_at_once c.args.pid e.pid e.parent c.args.how s.ended c.forget_children.new.ended.items key c.if-parent-ne0.false c.forget_children.ensures.items in
-    let after : Holds (with_end s e c.args.how) = holds_end s e c.args.how (ap (λ n. find pid_of n s.entries) key ∙ found) (inv.0, inv.1, inv.4) in
-    let one = subst (λ (es : List (Entry g.row.P.Denot)). Holds (record { entries = es; ended = (with_end s e c.args.how).ended; next_pid = s.next_pid })) (sym left) after in
-    let h = subst (λ (ds : List Ended). Holds (record { entries = (with_items c.remove-parent.new.self c.leave.new.entries).items; ended = ds; next_pid = s.next_pid })) (sym ended) one in
-    (h.0, h.1, omega (arith, inv.2, c.remove-parent.ensures.capacity), omega (arith, inv.3, c.forget_children.ensures.capacity), h.2)
+    (h.0, h.1, omega (arith, inv.2, c.remove-parent.ensures.capacity), omega (arith, inv.3, c.add_ended.ensures.capacity), h.2)
 
 pub returns : goal.returns
 returns g c one is =
@@ -104,22 +64,10 @@ returns g c one is =
     let found = gone_is c.args.pid c.place-at.result s.entries c.args.self.now.entries e same c.place-at.ensures.place c.place-at.ensures.within c.remove-parent.ensures.value in
     let key : e.pid ≡ c.args.pid = find_key pid_of c.args.pid s.entries e found in
     let left = left_is c.args.pid c.place-at.result s.next_pid s.entries c.args.self.now.entries c.remove-parent.new.self c.deref_mut.result.now c.leave.new.entries e same c.self.invariant.0
-        c.place-at.ensures.place found c.remove-parent.ensures.items c.deref_mut.ensures.value c.leave.ensures in
+    c.place-at.ensures.place found c.remove-parent.ensures.items c.deref_mut.ensures.value c.leave.ensures in
+    let ended : c.add_ended.new.ended.items ≡ (with_end s e c.args.how).ended = c.add_ended.ensures.items ∙ ap (λ n. ended_behind (record { pid = n; parent = e.parent; how = c.args.how }) s.ended) (sym key) in
     let gone : e ≡ one = same_Some e one (sym found ∙ ap (find pid_of c.args.pid) same ∙ is) in
-    let rest = ap (λ (x : Listed g.row.P.Denot). with_end x e c.args.how) c.self.view_is ∙ ap (λ (x : Entry g.row.P.Denot). with_end c.args.self.now x c.args.how) gone in
-    elim c.else-parent-ne0.branch [
-      | else-parent-ne0-via-then-parent-ne0+else-is_err w ↦
-        let ended = kept_is c.args.pid e.pid e.parent c.args.how s.ended w.push.new.self.items key w.if-parent-ne0.true
-            (w.push.ensures.items ∙ ap (λ b. cond b (c.forget_children.new.ended.items ++ (record { pid = c.args.pid; parent = e.parent; how = c.args.how }) ∷ []) c.forget_children.new.ended.items) w.if-is_err.ensures.negation
-            ∙ ap (λ (ds : List Ended). ds ++ (record { pid = c.args.pid; parent = e.parent; how = c.args.how }) ∷ []) c.forget_children.ensures.items) in
-        w.self-is
-        ∙ ap (λ (es : List (Entry g.row.P.Denot)). record { entries = es; ended = w.push.new.self.items; next_pid = s.next_pid }) left
-        ∙ ap (λ (ds : List Ended). record { entries = (with_end s e c.args.how).entries; ended = ds; next_pid = s.next_pid }) ended
-        ∙ rest
-      | else-parent-ne0-via-else-parent-ne0 w ↦
-        let ended = gone_at_once c.args.pid e.pid e.parent c.args.how s.ended c.forget_children.new.ended.items key w.if-parent-ne0.false c.forget_children.ensures.items in
-        w.self-is
-        ∙ ap (λ (es : List (Entry g.row.P.Denot)). record { entries = es; ended = c.forget_children.new.ended.items; next_pid = s.next_pid }) left
-        ∙ ap (λ (ds : List Ended). record { entries = (with_end s e c.args.how).entries; ended = ds; next_pid = s.next_pid }) ended
-        ∙ rest
-    ]
+    ap (λ (es : List (Entry g.row.P.Denot)). record { entries = es; ended = c.add_ended.new.ended.items; next_pid = s.next_pid }) left
+    ∙ ap (λ (ds : List Ended). record { entries = (with_end s e c.args.how).entries; ended = ds; next_pid = s.next_pid }) ended
+    ∙ ap (λ (x : Listed g.row.P.Denot). with_end x e c.args.how) c.self.view_is
+    ∙ ap (λ (x : Entry g.row.P.Denot). with_end c.args.self.now x c.args.how) gone

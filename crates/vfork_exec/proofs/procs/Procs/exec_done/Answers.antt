@@ -1,9 +1,9 @@
 -- Who stood still goes on.
-use Rattle.std.proofs.Common.{◌≡◌, ℕ, ◌+◌, List, map, length, sym, ap, subst, ◌∙◌, arith}
+use Rattle.std.proofs.Common.{◌≡◌, ◌+◌, List, map, length, sym, ap, subst, ◌∙◌, arith}
 use Rattle.std.proofs.lemmas.List.{with_items_is, length-map}
 use Rattle.vfork_exec.specs.declared.entry.Entry.{Entry}
 use Rattle.vfork_exec.specs.Families.{resumed}
-use Rattle.vfork_exec.specs.Procs.{Listed, with_state, with_exec}
+use Rattle.vfork_exec.specs.Procs.{Listed, with_state}
 use Rattle.vfork_exec.proofs.Holds.{Holds, holds_exec}
 use Rattle.vfork_exec.proofs.procs.Procs.exec_done.Goals as goal
 

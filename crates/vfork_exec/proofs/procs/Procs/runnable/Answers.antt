@@ -1,11 +1,11 @@
 -- Those of the list that may run.
-use Rattle.std.proofs.Common.{◌≡◌, ℕ, ◌+◌, ◌≤◌, List, length, refl, sym, ap, subst, ◌∙◌, arith}
+use Rattle.std.proofs.Common.{◌≡◌, ◌+◌, ◌≤◌, List, length, refl, sym, ap, subst, ◌∙◌, arith}
 use Rattle.std.specs.Prelude.{filter}
 use Rattle.std.proofs.lemmas.List.Sums.{length-filter, count_by-le-length}
 use Rattle.vfork_exec.specs.declared.entry.Entry.{Entry}
 use Rattle.vfork_exec.specs.Families.{is_ready}
 use Rattle.vfork_exec.specs.Procs.{Listed, ready}
-use Rattle.vfork_exec.proofs.Holds.{Holds, one_ready}
+use Rattle.vfork_exec.proofs.Holds.{one_ready}
 use Rattle.vfork_exec.proofs.procs.Procs.runnable.Goals as goal
 
 pub overflow_cast-result : goal.overflow_cast-result

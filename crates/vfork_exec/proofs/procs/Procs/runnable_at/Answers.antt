@@ -3,7 +3,7 @@ use Rattle.std.proofs.Common.{◌≡◌, ◌<◌, List, map, length, Some, sym, 
 use Rattle.std.specs.Prelude.{filter, slice_get, reverse}
 use Rattle.vfork_exec.specs.declared.entry.Entry.{Entry}
 use Rattle.vfork_exec.specs.Families.{is_ready}
-use Rattle.vfork_exec.specs.Procs.{Listed, ready, ready_pids, pid_of}
+use Rattle.vfork_exec.specs.Procs.{Listed, ready, pid_of}
 use Rattle.vfork_exec.proofs.procs.Procs.runnable_at.Goals as goal
 
 pub ready_at-requires : goal.ready_at-requires

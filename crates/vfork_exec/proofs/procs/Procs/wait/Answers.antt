@@ -1,5 +1,5 @@
 -- The child that is told of goes; who waits has one that lives.
-use Rattle.std.proofs.Common.{◌≡◌, ℕ, ◌+◌, ◌<◌, true, List, Option, None, Ok, length, set, sym, ap, subst, ◌∙◌, arith}
+use Rattle.std.proofs.Common.{◌≡◌, ◌+◌, List, Ok, sym, ap, subst, ◌∙◌, arith}
 use Rattle.vfork_exec.specs.declared.family.Ended.{Ended}
 use Rattle.vfork_exec.specs.declared.family.Waited.{Waited}
 use Rattle.vfork_exec.specs.declared.family.Waited.TheVariants.{Waits}
@@ -25,7 +25,7 @@ invariant_of-self-in-Waits g c =
     let s : Listed g.row.P.Denot = record { entries = c.self.inside.entries.items; ended = c.self.inside.ended.items; next_pid = c.self.inside.given + 1 } in
     let v : s ≡ c.args.self.now = c.self.view_is in
     let is = written (λ (e : Entry g.row.P.Denot). with_state e (Waiting who)) pid s.entries c.args.self.now.entries c.place-at.result c.index_mut.result.now (ap (λ (x : Listed g.row.P.Denot). x.entries) v)
-        c.place-at.ensures.place c.place-at.ensures.within c.index_mut.ensures.value in
+    c.place-at.ensures.place c.place-at.ensures.within c.index_mut.ensures.value in
     let answer : looked s pid who c.args.may_wait ≡ Ok Waits = ap (λ (x : Listed g.row.P.Denot). looked x pid who c.args.may_wait) v ∙ sym c.wait_look.ensures ∙ c.in_ok-told.was ∙ ap (λ (w : Waited). Ok w) c.in-Waits.is in
     let why = told_waits (first_ended pid who s.ended) (has_child s pid who) c.args.may_wait answer in
     let h = subst (λ (es : List (Entry g.row.P.Denot)). Holds (record { entries = es; ended = s.ended; next_pid = s.next_pid })) (sym is) (holds_waiting s pid who why.1 why.0 (inv.0, inv.1, inv.4)) in
@@ -38,7 +38,7 @@ returns-in-Waits-clause-after g c =
     let s : Listed g.row.P.Denot = record { entries = c.self.inside.entries.items; ended = c.self.inside.ended.items; next_pid = c.self.inside.given + 1 } in
     let v : s ≡ c.args.self.now = c.self.view_is in
     let is = written (λ (e : Entry g.row.P.Denot). with_state e (Waiting who)) pid s.entries c.args.self.now.entries c.place-at.result c.index_mut.result.now (ap (λ (x : Listed g.row.P.Denot). x.entries) v)
-        c.place-at.ensures.place c.place-at.ensures.within c.index_mut.ensures.value in
+    c.place-at.ensures.place c.place-at.ensures.within c.index_mut.ensures.value in
     ap (λ (es : List (Entry g.row.P.Denot)). record { entries = es; ended = s.ended; next_pid = s.next_pid }) is
     ∙ ap (λ (x : Listed g.row.P.Denot). with_state_at x pid (Waiting who)) v
     ∙ ap (λ (w : Waited). with_wait c.args.self.now pid who (Ok w)) (sym c.in-Waits.is)

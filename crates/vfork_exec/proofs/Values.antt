@@ -1,0 +1,88 @@
+-- Which process lives, and what is kept of it, behind each call.
+use Rattle.std.proofs.Common.{◌≡◌, ◌≢◌, ℕ, true, cond, inl, inr, Option, Some, None, refl, sym, ap, ◌∙◌}
+use Rattle.std.specs.Prelude.{◌==◌, is_some, option_map}
+use Rattle.call_log.specs.declared.how.How.{How}
+use Rattle.vfork_exec.specs.declared.family.State.{State}
+use Rattle.vfork_exec.specs.declared.family.State.TheVariants.{Ready, Lent}
+use Rattle.vfork_exec.specs.declared.entry.Entry.{Entry}
+use Rattle.vfork_exec.specs.Keyed.{without}
+use Rattle.vfork_exec.specs.Families.{resumed}
+use Rattle.vfork_exec.specs.Procs.{Listed, process, value_at, pid_of, behind, with_state, with_entry, with_child, with_exec, with_end, with_state_at}
+use Rattle.vfork_exec.proofs.Keyed.{decide, eqb_same, find_head, find_later, find_map, find_gone, find_beside_without}
+use Rattle.vfork_exec.proofs.WaitsWell.{found_change}
+
+module _ {P : Type 0} where
+  value_kept : (g : Entry P → Entry P) → ((e : Entry P) → (g e).value ≡ e.value) → (o : Option (Entry P)) → option_map (λ (e : Entry P). e.value) (option_map g o) ≡ option_map (λ (e : Entry P). e.value) o
+  value_kept g same (Some e) = ap Some (same e)
+  value_kept g same None = refl
+
+  lives_kept : (g : Entry P → Entry P) (o : Option (Entry P)) → is_some (option_map g o) ≡ is_some o
+  lives_kept g (Some e) = refl
+  lives_kept g None = refl
+
+  -- ---- a process more
+
+  pub value_new : (s : Listed P) (parent : ℕ) (value : P) → value_at (with_entry s parent value) s.next_pid ≡ Some value
+  value_new s parent value = ap (option_map (λ (e : Entry P). e.value)) (find_head pid_of s.next_pid (record { pid = s.next_pid; parent = parent; state = Ready; value = value }) s.entries true (eqb_same s.next_pid s.next_pid refl))
+
+  pub process_beside_new : (s : Listed P) (parent : ℕ) (value : P) (pid : ℕ) → pid ≢ s.next_pid → process (with_entry s parent value) pid ≡ process s pid
+  process_beside_new s parent value pid other = find_later pid_of pid (record { pid = s.next_pid; parent = parent; state = Ready; value = value }) s.entries (λ e. other (sym e))
+
+  pub value_child : (s : Listed P) (parent : ℕ) (value : P) → value_at (with_child s parent value) s.next_pid ≡ Some value
+  value_child s parent value =
+      ap (option_map (λ (e : Entry P). e.value)) (find_head pid_of s.next_pid (record { pid = s.next_pid; parent = parent; state = Ready; value = value }) (with_state_at s parent (Lent s.next_pid)).entries true (eqb_same s.next_pid s.next_pid refl))
+
+  -- ---- another state
+
+  process_state : (s : Listed P) (at : ℕ) (state : State) (pid : ℕ) → process (with_state_at s at state) pid ≡ option_map (λ e. cond (pid == at) (with_state e state) e) (process s pid)
+  process_state s at state pid = found_change (λ e. with_state e state) (λ e. refl) at pid s.entries
+
+  value_either : (state : State) (pid at : ℕ) (e : Entry P) → (cond (pid == at) (with_state e state) e).value ≡ e.value
+  value_either state pid at e = elim (decide (pid == at)) [
+    | inl is ↦ rw is refl
+    | inr is ↦ rw is refl
+  ]
+
+  pub value_state : (s : Listed P) (at : ℕ) (state : State) (pid : ℕ) → value_at (with_state_at s at state) pid ≡ value_at s pid
+  value_state s at state pid =
+      ap (option_map (λ (e : Entry P). e.value)) (process_state s at state pid) ∙ value_kept (λ e. cond (pid == at) (with_state e state) e) (value_either state pid at) (process s pid)
+
+  pub lives_state : (s : Listed P) (at : ℕ) (state : State) (pid : ℕ) → is_some (process (with_state_at s at state) pid) ≡ is_some (process s pid)
+  lives_state s at state pid = ap is_some (process_state s at state pid) ∙ lives_kept (λ e. cond (pid == at) (with_state e state) e) (process s pid)
+
+  child_later : (s : Listed P) (parent : ℕ) (value : P) (pid : ℕ) → pid ≢ s.next_pid → process (with_child s parent value) pid ≡ process (with_state_at s parent (Lent s.next_pid)) pid
+  child_later s parent value pid other =
+      find_later pid_of pid (record { pid = s.next_pid; parent = parent; state = Ready; value = value }) (with_state_at s parent (Lent s.next_pid)).entries (λ e. other (sym e))
+
+  pub value_beside_child : (s : Listed P) (parent : ℕ) (value : P) (pid : ℕ) → pid ≢ s.next_pid → value_at (with_child s parent value) pid ≡ value_at s pid
+  value_beside_child s parent value pid other = ap (option_map (λ (e : Entry P). e.value)) (child_later s parent value pid other) ∙ value_state s parent (Lent s.next_pid) pid
+
+  pub lives_beside_child : (s : Listed P) (parent : ℕ) (value : P) (pid : ℕ) → pid ≢ s.next_pid → is_some (process (with_child s parent value) pid) ≡ is_some (process s pid)
+  lives_beside_child s parent value pid other = ap is_some (child_later s parent value pid other) ∙ lives_state s parent (Lent s.next_pid) pid
+
+  -- ---- a process leaves its space
+
+  process_exec : (s : Listed P) (at pid : ℕ) → process (with_exec s at) pid ≡ option_map (λ e. with_state e (resumed at e.state)) (process s pid)
+  process_exec s at pid = find_map pid_of pid_of pid (λ (e : Entry P). with_state e (resumed at e.state)) (λ e. refl) s.entries
+
+  pub value_exec : (s : Listed P) (at pid : ℕ) → value_at (with_exec s at) pid ≡ value_at s pid
+  value_exec s at pid = ap (option_map (λ (e : Entry P). e.value)) (process_exec s at pid) ∙ value_kept (λ e. with_state e (resumed at e.state)) (λ e. refl) (process s pid)
+
+  pub lives_exec : (s : Listed P) (at pid : ℕ) → is_some (process (with_exec s at) pid) ≡ is_some (process s pid)
+  lives_exec s at pid = ap is_some (process_exec s at pid) ∙ lives_kept (λ e. with_state e (resumed at e.state)) (process s pid)
+
+  -- the others, behind an end
+  pub process_end : (s : Listed P) (gone : Entry P) (how : How) (pid : ℕ) → pid ≢ gone.pid → process (with_end s gone how) pid ≡ option_map (behind gone.pid gone.parent) (process s pid)
+  process_end s gone how pid other =
+      find_map pid_of pid_of pid (behind gone.pid gone.parent) (λ e. refl) (without pid_of gone.pid s.entries) ∙ ap (option_map (behind gone.pid gone.parent)) (find_beside_without pid_of gone.pid pid other s.entries)
+
+  pub value_end : (s : Listed P) (gone : Entry P) (how : How) (pid : ℕ) → pid ≢ gone.pid → value_at (with_end s gone how) pid ≡ value_at s pid
+  value_end s gone how pid other = ap (option_map (λ (e : Entry P). e.value)) (process_end s gone how pid other) ∙ value_kept (behind gone.pid gone.parent) (λ e. refl) (process s pid)
+
+  pub lives_end : (s : Listed P) (gone : Entry P) (how : How) (pid : ℕ) → pid ≢ gone.pid → is_some (process (with_end s gone how) pid) ≡ is_some (process s pid)
+  lives_end s gone how pid other = ap is_some (process_end s gone how pid other) ∙ lives_kept (behind gone.pid gone.parent) (process s pid)
+
+  -- who has ended lives no more
+  pub gone_end : (s : Listed P) (gone : Entry P) (how : How) → process (with_end s gone how) gone.pid ≡ None
+  gone_end s gone how =
+      find_map pid_of pid_of gone.pid (behind gone.pid gone.parent) (λ e. refl) (without pid_of gone.pid s.entries) ∙ ap (option_map (behind gone.pid gone.parent)) (find_gone pid_of gone.pid s.entries)
