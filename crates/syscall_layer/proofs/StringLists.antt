@@ -55,10 +55,6 @@ abbrev pub strings_before : List (List ℕ) → Option Strings → Option String
 strings_before front None = None
 strings_before front (Some s) = Some (record s { strings = front ++ s.strings })
 
-nothing_before : (found : Option Strings) → strings_before [] found ≡ found
-nothing_before None = refl
-nothing_before (Some s) = refl
-
 one_before : (front : List (List ℕ)) (string : List ℕ) (found : Option Strings) → strings_before front (string_more string found) ≡ strings_before (front ++ string ∷ []) found
 one_before front string None = refl
 one_before front string (Some s) =
@@ -70,13 +66,6 @@ pub record ListSoFar (bytes rest : List ℕ) (front : List (List ℕ)) : Type 0 
   pub most : ℕ
   pub enough : length rest ≤ most
   pub whole : strings_before front (strings_in most rest) ≡ strings_in (length bytes) bytes
-
-pub list_begins : (bytes : List ℕ) (front : List (List ℕ)) → front ≡ [] → ListSoFar bytes bytes front
-list_begins bytes front none = record {
-  most = length bytes;
-  enough = omega arith;
-  whole = ap (λ (x : List (List ℕ)). strings_before x (strings_in (length bytes) bytes)) none ∙ nothing_before (strings_in (length bytes) bytes);
-}
 
 -- it ends before its zero
 short : (most : ℕ) (rest : List ℕ) → length rest < 4 → strings_in most rest ≡ None

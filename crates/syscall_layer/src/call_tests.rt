@@ -4,6 +4,7 @@ ghost use Rattle.vfork_exec.specs.Procs.{Lives};
 
 use super::*;
 use bflt_format::Flat;
+use call_log::Note;
 use fd_tables::Files;
 use mem_files::Tree;
 use page_runs::{Chooser, Kind, Run, first_fit};
@@ -139,6 +140,34 @@ fn files_are_written_and_read(rt: HostRuntime) -> Result<(), Fail> {
     assert_eq!(rt; parts.console.as_slice(), b"hi".as_slice());
     assert_eq!(rt; parts.files.stdin_left(), b"in".as_slice());
     assert_eq!(rt; parts.log.notes().len(), 12);
+    Ok(())
+}
+
+/// An execve with the path, the arguments and the environment that the process has on its own stack: they are read.
+#[test]
+fn an_execve_reads_strings(rt: HostRuntime) -> Result<(), Fail> {
+    let mut parts = begun(rt)?;
+    if !parts.procs.lives(1) {
+        return Err(Fail::from("not started"));
+    }
+    let sp = parts.procs.get(1).regs.x[2];
+    let path = sp.wrapping_add(16);
+    let args = sp.wrapping_add(4);
+    let env = sp.wrapping_add(12);
+    let answer = call(&mut parts, 221, [path, args, env])?;
+    assert_eq!(rt; answer, (Some(Served::Replied), Some(0xffff_ffda)));
+    let Some(Note::Call(entry)) = parts.log.notes().last() else {
+        return Err(Fail::from("no call is noted"));
+    };
+    assert_eq!(rt; entry.sent.len(), 3 + 4 + 3 + 4 + 4);
+    let Some(strings) = program_strings(rt.alloc(), &entry.sent, args, env)? else {
+        return Err(Fail::from("no strings"));
+    };
+    assert_eq!(rt; strings.args.len(), 1);
+    for arg in &strings.args {
+        assert_eq!(rt; arg.as_slice(), b"/a".as_slice());
+    }
+    assert_eq!(rt; strings.env.len(), 0);
     Ok(())
 }
 

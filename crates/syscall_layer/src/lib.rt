@@ -34,4 +34,6 @@ pub use task::Task;
 #[cfg(test)]
 mod call_tests;
 #[cfg(test)]
+mod string_tests;
+#[cfg(test)]
 mod tests;
