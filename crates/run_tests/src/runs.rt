@@ -4,6 +4,7 @@ mod callers;
 mod calls;
 mod demo;
 mod examples;
+mod families;
 mod files;
 mod mappings;
 mod placements;

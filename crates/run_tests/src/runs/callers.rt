@@ -27,6 +27,11 @@ pub struct CallerCase {
     pub report: &'static str,
 }
 
+/// In the place of a call's number: where a0 isn't 0, so many of the next calls are skipped, as the first argument says.
+pub const SKIP: u32 = 0xffff_ffff;
+/// In the place of a call's number: ebreak.
+pub const TRAP: u32 = 0xffff_fffe;
+
 /// a0 to a5 and a7.
 const REGISTERS: [u32; 7] = [10, 11, 12, 13, 14, 15, 17];
 
@@ -40,16 +45,48 @@ fn set_register(register: u32, value: u32) -> [u32; 2] {
     ]
 }
 
-/// The flat file of a caller: 15 instructions for each call, behind its bytes.
+/// bne of a0, so many bytes further, below 2048.
+fn skip_bytes(count: u32) -> u32 {
+    let bits = ((count >> 5 & 0x3f) << 25) | ((count >> 1 & 0xf) << 8);
+    bits | (10 << 15) | (1 << 12) | 0x63
+}
+
+/// The instructions of a call are 15, and those in the place of one are one.
+fn len_of(call: &[u32; 7]) -> u32 {
+    if call[6] >= TRAP { 4 } else { 60 }
+}
+
+/// How far a skip goes.
+fn skipped(calls: &[[u32; 7]], at: usize) -> u32 {
+    let mut bytes = 4u32;
+    for call in calls.iter().skip(at + 1).take(calls[at][0] as usize) {
+        bytes = bytes.wrapping_add(len_of(call));
+    }
+    bytes
+}
+
+/// Sets all registers, and calls.
+fn add_call(body: &mut Vec<u8>, call: &[u32; 7]) -> Result<(), AllocError> {
+    for (register, value) in REGISTERS.iter().zip(call) {
+        for word in set_register(*register, *value) {
+            body.extend_from_slice(&word.to_le_bytes())?;
+        }
+    }
+    body.extend_from_slice(&u32::to_le_bytes(0x73))
+}
+
+/// The flat file of a caller: the instructions of its calls, behind its bytes.
 fn caller_file(alloc: Global, caller: &Caller) -> Result<Vec<u8>, AllocError> {
     let mut body = Vec::from_slice(alloc, caller.bytes.as_slice())?;
-    for call in caller.calls {
-        for (register, value) in REGISTERS.iter().zip(call) {
-            for word in set_register(*register, *value) {
-                body.extend_from_slice(&word.to_le_bytes())?;
+    for (at, call) in caller.calls.iter().enumerate() {
+        match call[6] {
+            SKIP => {
+                let far = skipped(caller.calls, at);
+                body.extend_from_slice(&skip_bytes(far).to_le_bytes())?;
             }
+            TRAP => body.extend_from_slice(&u32::to_le_bytes(0x0010_0073))?,
+            _ => add_call(&mut body, call)?,
         }
-        body.extend_from_slice(&u32::to_le_bytes(0x73))?;
     }
     let program = Program {
         stack: caller.stack,
