@@ -1,5 +1,5 @@
 /* Programs that start others: vfork, execv, waitpid, pipe, dup2 and kill, and what a status says. The machine doesn't serve
-   their calls yet, so this one is run under qemu-riscv32 alone, where the programs are those of the host. */
+   pipes and kill, so this one is run under qemu-riscv32 alone, where the programs are those of the host. */
 #define _GNU_SOURCE
 #include <errno.h>
 #include <signal.h>
