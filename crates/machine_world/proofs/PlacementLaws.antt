@@ -11,7 +11,8 @@ use Rattle.machine_world.specs.Asks.{Ask, arg, leaves, with_ok}
 use Rattle.machine_world.specs.MapCalls.{file_side, in_copy, own_run, with_mapping, first_bytes, maps, or_own, mapped, mmap2_row}
 use Rattle.machine_world.specs.Rows.{row}
 use Rattle.machine_world.specs.Boot.{placed, fitting, located, started}
-use Rattle.machine_world.specs.Placements.{placed_page, MapsExactly, MapsAreExact, StartsAreExact}
+use Rattle.machine_world.specs.Event.{exec_strings, exec_program, exec_fitting, exec_at, exec}
+use Rattle.machine_world.specs.Placements.{placed_page, MapsExactly, MapsAreExact, StartsAreExact, ExecsAreExact}
 
 is_mmap2 : (a : Ask) → a.number ≡ 222 → row a ≡ with_ok a (wanted (arg a 0) (arg a 1) (arg a 2) (arg a 3) (arg a 5) (file_side a)) (mapped a)
 unfolding row mmap2_row
@@ -47,3 +48,9 @@ unfolding started
 starts_are_exact w s f there fits =
     let begins = ap (located w s) there ∙ ap (fitting w s f) fits in
     record { own = λ page at. begins ∙ ap (placed w s f) at; full = λ none. begins ∙ ap (placed w s f) none }
+
+pub execs_are_exact : ExecsAreExact
+unfolding exec
+execs_are_exact w a f s zero read leads fits =
+    let begins = rw zero (ap (exec_strings w a) read) ∙ ap (exec_program w a s) leads ∙ ap (exec_fitting w a f s) fits in
+    record { own = λ page at. begins ∙ ap (exec_at w a f s) at; full = λ none. begins ∙ ap (exec_at w a f s) none }

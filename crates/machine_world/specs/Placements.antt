@@ -2,6 +2,8 @@
 use Rattle.std.specs.Prelude.{◌≡◌, ℕ, true, [], Option, Some, None, Ok, Err}
 use Rattle.page_runs.specs.Place.{place, first_of}
 use Rattle.call_log.specs.declared.errno.Errno.TheVariants.{Enomem}
+use Rattle.call_log.specs.Sent.{has_zero}
+use Rattle.call_log.specs.Strings.{ProgramStrings, program_strings}
 use Rattle.mmap_rules.specs.declared.mapping.Mapping.{Mapping}
 use Rattle.mmap_rules.specs.declared.want.Want.{Want}
 use Rattle.mmap_rules.specs.Held.{page_address}
@@ -12,8 +14,12 @@ use Rattle.machine_world.specs.World.{World}
 use Rattle.machine_world.specs.Free.{free_runs_in, free}
 use Rattle.machine_world.specs.Asks.{Ask, arg, leaves, refuses}
 use Rattle.machine_world.specs.MapCalls.{file_side, in_copy, pages_of, own_run, with_mapping, first_bytes}
+use Rattle.machine_world.specs.PathCalls.{path_of as exec_path}
 use Rattle.machine_world.specs.Rows.{row}
-use Rattle.machine_world.specs.Boot.{StartLine, Found, found, path_of, taken, begun, address_of, started, no_run}
+use Rattle.machine_world.specs.Found.{Found, found, taken, address_of}
+use Rattle.machine_world.specs.Boot.{StartLine, path_of, begun, started, no_run}
+use Rattle.machine_world.specs.FamilyCalls.{runs}
+use Rattle.machine_world.specs.Event.{answered, executed, exec}
 
 -- the first page of the free run that the placement gives for what is wanted
 abbrev pub placed_page : Ask → Want → Option ℕ
@@ -39,3 +45,15 @@ pub record StartsExactly (w : World) (s : StartLine) (f : Found) : Type 0 where
 
 abbrev pub StartsAreExact : Type 0
 StartsAreExact = (w : World) (s : StartLine) (f : Found) → found w.rest (path_of s) ≡ Some f → frame_fits f.original s.args [] ≡ true → StartsExactly w s f
+
+-- an execve that read these strings, whose path leads to a program and whose frame fits: its block begins at that page of the runs that
+-- are free while the old space is held, or it is ENOMEM
+pub record ExecsExactly (w : World) (a : Ask) (f : Found) (s : ProgramStrings) : Type 0 where
+  pub own : (page : ℕ) → taken w (block_pages f.original) (free w) ≡ Some page →
+      exec w a ≡ executed w a f.index (record { original = f.original; block = address_of page; args = s.args; env = s.env })
+  pub full : taken w (block_pages f.original) (free w) ≡ None → exec w a ≡ answered w a (refuses a Enomem)
+
+abbrev pub ExecsAreExact : Type 0
+ExecsAreExact =
+    (w : World) (a : Ask) (f : Found) (s : ProgramStrings) → has_zero a.sent ≡ true → program_strings a.sent (arg a 1) (arg a 2) ≡ Some s →
+    runs w.rest (exec_path a) ≡ Ok f → frame_fits f.original s.args s.env ≡ true → ExecsExactly w a f s

@@ -4,7 +4,7 @@ ghost use Rattle.machine_world.specs.Ages.{EventsAgeFiles};
 ghost use Rattle.machine_world.specs.Laws.{InstructionsAreEvents, RefusalsChangeNothingElse};
 ghost use Rattle.machine_world.specs.Order.{EventsKeepOrder, TurnsKeepOrder, RunsKeepOrder, BootsBeginInOrder};
 ghost use Rattle.machine_world.specs.Others.{EventsLeaveOthers};
-ghost use Rattle.machine_world.specs.Placements.{MapsAreExact, StartsAreExact};
+ghost use Rattle.machine_world.specs.Placements.{MapsAreExact, StartsAreExact, ExecsAreExact};
 ghost use Rattle.machine_world.specs.Programs.{BootsLoadPrograms, TurnsLoadPrograms, RunsLoadPrograms};
 
 /// Instructions of one process, one after the other, are events.
@@ -47,8 +47,9 @@ pub fn ages_law()
 
 /// A program's block, and a mapping that shares no copy, begin at the first page of the free run that the placement gives. Where it
 /// gives none, a start line whose program is there and whose frame fits finds no run, and an mmap2 that isn't refused before and
-/// finds no copy is ENOMEM.
+/// finds no copy is ENOMEM; so is an execve whose program is there and whose frame fits, while the old space is held.
 pub fn placement_law()
     ensures starts { StartsAreExact }
     ensures mmap2 { MapsAreExact }
+    ensures execs { ExecsAreExact }
 {}
