@@ -12,6 +12,7 @@ use Rattle.call_log.specs.Notes.{Note}
 use Rattle.mem_files.specs.Inodes.{Inodes}
 use Rattle.fd_tables.specs.Files.{OpenFiles}
 use Rattle.syscall_layer.specs.Kept.{Kept, nothing_yet}
+use Rattle.machine_world.specs.Families.{sharing, IsChain}
 use Rattle.machine_world.specs.Ages.{AreChanged, most_at_boot}
 use Rattle.syscall_layer.specs.Regular.{Regular, IsRegular}
 use Rattle.syscall_layer.proofs.CopiesStay.{copies_begin}
@@ -35,6 +36,11 @@ no_regions n v gone = record {
   apart = λ i j r s p is it has. absurd (no_page n i v r p gone is has);
 }
 
+-- no space has a process
+no_chain : (i : ℕ) → IsChain (sharing i [])
+unfolding sharing
+no_chain i = tt
+
 -- whatever stands in the log and on the console
 begins_with : (pages : ℕ) (tree : Inodes) (files : OpenFiles) (notes : List Note) (console : List ℕ) → 1 ≤ pages → pages ≤ 16384 → Regular (record (nothing_yet pages tree files) { notes = notes; console = console })
 unfolding find
@@ -52,9 +58,11 @@ begins_with pages tree files notes console some most =
       names = λ i j h m there. absurd (none-some _ there);
       pages = λ i h there. absurd (none-some _ there);
       runs = λ pid e is. absurd (none-some _ is);
-      alone = λ p q e f is. absurd (none-some _ is);
+      chains = λ i. no_chain i;
       falls = tt;
       few = omega arith;
+      pids = omega arith;
+      loads = omega arith;
     }
 
 pub sound_begins : (k : Kept) (pages : ℕ) (tree : Inodes) (files : OpenFiles) → 1 ≤ pages → pages ≤ 16384 → AreChanged most_at_boot tree → k ≡ nothing_yet pages tree files → IsRegular k

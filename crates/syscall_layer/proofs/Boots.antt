@@ -15,7 +15,8 @@ use Rattle.mmap_rules.specs.declared.mapping.Mapping.{Mapping}
 use Rattle.mmap_rules.specs.Space.{Space, memory_base, in_range, own_in}
 use Rattle.mmap_rules.specs.Held.{Held, page_address}
 use Rattle.region_watch.specs.Private.{only, physical}
-use Rattle.vfork_exec.specs.Procs.{most_entries, Listed, with_start, Starts as ProcsStart}
+use Rattle.vfork_exec.specs.declared.family.State.TheVariants.{Ready}
+use Rattle.vfork_exec.specs.Procs.{most_entries, count, Listed, with_start, Starts as ProcsStart}
 use Rattle.call_log.specs.Log.{Kept as LogKept, Pushes}
 use Rattle.call_log.specs.declared.log.LogFault.{LogFault}
 use Rattle.std.proofs.lemmas.Option.{same_Some, none-some}
@@ -38,7 +39,7 @@ use Rattle.syscall_layer.specs.Refusals.{refusal_of}
 use Rattle.fd_tables.specs.Files.{free_number}
 use Rattle.fd_tables.specs.Changes.{with_table}
 use Rattle.syscall_layer.specs.Kept.{Kept}
-use Rattle.syscall_layer.specs.Regular.{Regular}
+use Rattle.syscall_layer.specs.Regular.{Regular, most_first}
 use Rattle.syscall_layer.specs.Copies.{CopiesHold}
 use Rattle.syscall_layer.specs.Stands.{About, private_bytes, private_of, live_at, live_from, live_spaces, process_of, world_of}
 use Rattle.syscall_layer.specs.Starts.{Started, Starts}
@@ -177,11 +178,11 @@ module _ (k : Kept) (regular : Regular k) (f : Values) (args : List (List ℕ)) 
     pub others : (a : ℕ) → in_block (page_loading f page args []) a ≡ false → byte_of memory_base mem a ≡ byte_of memory_base k.mem a
     pub len : length mem ≡ length k.mem
 
-  pub regular_program : (index : ℕ) (mem : List ℕ) → Placed mem → length k.procs.entries < most_entries → Regular (with_program k index f args page mem)
-  regular_program index mem loaded few =
+  pub regular_program : (index : ℕ) (mem : List ℕ) → Placed mem → count k.procs < most_entries → k.procs.next_pid < most_first → length k.spaces < most_first → Regular (with_program k index f args page mem)
+  regular_program index mem loaded few pids spaces =
       regular_with k (block_region page (block_pages (flat_original f))) held (begin_regs loading) (free_number k.files.tables) mem (with_table k.files)
       (load_note (record { pid = k.procs.next_pid; program = index; base = page_address page; pages = block_pages (flat_original f) }) ∷ k.notes)
-      regular (fits loaded.free) loaded.len few
+      regular (fits loaded.free) loaded.len few pids spaces
 
   spaces_begin : (mem : List ℕ) → Placed mem
       → record { id = length k.spaces; space = begin_space loading } ∷ live_spaces k.mem k.spaces ≡ live_spaces mem (k.spaces ++ Some held ∷ [])
@@ -192,7 +193,8 @@ module _ (k : Kept) (regular : Regular k) (f : Values) (args : List (List ℕ)) 
   world_begins : (a : About) (index : ℕ) (mem : List ℕ) → Placed mem → begun (world_of a k) index loading ≡ world_of a (with_program k index f args page mem)
   unfolding world_of
   world_begins a index mem loaded = λ i. record {
-    procs = record { pid = k.procs.next_pid; parent = 0; regs = begin_regs loading; space = length k.spaces; table = free_number k.files.tables } ∷ map process_of k.procs.entries;
+    procs = record { pid = k.procs.next_pid; parent = 0; regs = begin_regs loading; space = length k.spaces; table = free_number k.files.tables; state = Ready } ∷ map process_of k.procs.entries;
+    ended = k.procs.ended;
     spaces = spaces_begin mem loaded i;
     loads = sym (length-append k.spaces (Some held ∷ [])) i;
     next_pid = k.procs.next_pid + 1;
@@ -326,11 +328,13 @@ placed_by : (k n : Kept) (regular : Regular k) (kind : Kind) (index : ℕ) (f : 
     → Placed k regular f args b.is.page n.mem
 placed_by k n regular kind index f args b = record { free = b.is.free; own = b.is.own; others = b.is.others; len = b.is.len }
 
-pub regular_by : (old k n : Kept) → k ≡ old → length old.procs.entries < most_entries → Regular k → (kind : Kind) (index : ℕ) (f : Values) (args : List (List ℕ))
+pub regular_by : (old k n : Kept) → k ≡ old → count old.procs < most_entries → old.procs.next_pid < most_first → length old.spaces < most_first → Regular k → (kind : Kind) (index : ℕ) (f : Values) (args : List (List ℕ))
     → Begun k n kind index f args → Regular n
-regular_by old k n view few regular kind index f args b =
-    let less : length k.procs.entries < most_entries = rw view few in
-    subst Regular (sym b.new) (regular_program k regular f args b.is.page index n.mem (placed_by k n regular kind index f args b) less)
+regular_by old k n view few pids spaces regular kind index f args b =
+    let less : count k.procs < most_entries = rw view few in
+    let given : k.procs.next_pid < most_first = rw view pids in
+    let loaded : length k.spaces < most_first = rw view spaces in
+    subst Regular (sym b.new) (regular_program k regular f args b.is.page index n.mem (placed_by k n regular kind index f args b) less given loaded)
 
 pub copies_by : (k n : Kept) → Regular k → CopiesHold k.regions k.mem k.tree k.notes → (kind : Kind) (index : ℕ) (f : Values) (args : List (List ℕ))
     → Begun k n kind index f args → CopiesHold n.regions n.mem n.tree n.notes

@@ -1,6 +1,6 @@
 -- What is kept after a call that has its reply, by what the code did.
 use Rattle.std.proofs.Common.{◌≡◌, ℕ, true, false, List, [], ◌∷◌, length, Some, Ok, refl, sym, ap, subst, ◌∙◌}
-use Rattle.std.specs.Prelude.{Bool, not, option_map, Option, slice_get, slice_set}
+use Rattle.std.specs.Prelude.{Bool, ◌≤◌, not, option_map, Option, slice_get, slice_set}
 use Rattle.call_log.specs.Notes.{Note}
 use Rattle.mmap_rules.specs.declared.owners.PageOwner.{PageOwner}
 use Rattle.nommu_regions.specs.declared.region.Region.{Region}
@@ -14,6 +14,7 @@ use Rattle.fd_tables.specs.Kept.{Kept as FilesKept}
 use Rattle.vfork_exec.specs.declared.entry.Entry.{Entry}
 use Rattle.vfork_exec.specs.Procs.{Listed, Lives, value_at, with_value_at}
 use Rattle.machine_world.specs.World.{Rest}
+use Rattle.machine_world.specs.Ages.{kept_calls}
 use Rattle.machine_world.specs.Asks.{Row, replies, leaves}
 use Rattle.machine_world.specs.Rows.{row}
 use Rattle.machine_world.specs.Event.{put_got, replied}
@@ -39,25 +40,25 @@ Finishes k pid value procs = (t : Task) → value_at k.procs pid ≡ Some t → 
 
 -- what holds of the parts still holds
 pub regular_finished : (k : Kept) (pid : ℕ) → Regular k → Lives k.procs pid → (value : ℕ) (mem : List ℕ) (tree : Inodes) (files : OpenFiles) (procs : Listed Task) (notes : List Note) (console : List ℕ) →
-    length mem ≡ length k.mem → Finishes k pid value procs →
+    length mem ≡ length k.mem → Finishes k pid value procs → kept_calls k.notes ≤ kept_calls notes →
     Regular (record k { mem = mem; tree = tree; files = files; procs = procs; notes = notes; console = console })
-regular_finished k pid regular lives value mem tree files procs notes console same finishes =
+regular_finished k pid regular lives value mem tree files procs notes console same finishes more =
     let r = runs_in k pid regular lives in
     let t : Task = r.0.value in
     let h : Held = r.1.0 in
     let kept = ap (option_map (λ (x : Entry Task). x.value)) r.1.1.lives in
     regular_replied k pid t h regular lives kept r.1.1.home (replied t.regs value) h.brk mem k.spaces tree files procs notes console
-    same (sym (set_kept k.spaces t.space (Some h) r.1.1.home)) (finishes t kept)
+    same (sym (set_kept k.spaces t.space (Some h) r.1.1.home)) (finishes t kept) more
 
 -- the same where the break of its space moves
 pub regular_settled : (k : Kept) (pid : ℕ) → Regular k → Lives k.procs pid → (t : Task) → value_at k.procs pid ≡ Some t → (value : ℕ) (brk : Held → ℕ) (spaces : List (Option Held)) (procs : Listed Task) (notes : List Note) →
-    ((h : Held) → slice_get k.spaces t.space ≡ Some (Some h) → spaces ≡ slice_set k.spaces t.space (Some (record h { brk = brk h }))) → Finishes k pid value procs →
+    ((h : Held) → slice_get k.spaces t.space ≡ Some (Some h) → spaces ≡ slice_set k.spaces t.space (Some (record h { brk = brk h }))) → Finishes k pid value procs → kept_calls k.notes ≤ kept_calls notes →
     Regular (record k { spaces = spaces; procs = procs; notes = notes })
-regular_settled k pid regular lives t kept value brk spaces procs notes moves finishes =
+regular_settled k pid regular lives t kept value brk spaces procs notes moves finishes more =
     let live = has_space k pid t regular lives kept in
     let h = live.held in
     regular_replied k pid t h regular lives kept live.there (replied t.regs value) (brk h) k.mem spaces k.tree k.files procs notes k.console
-    refl (moves h live.there) (finishes t kept)
+    refl (moves h live.there) (finishes t kept) more
 
 module _ (a : About) (k : Kept) (e : Entry Task) (h : Held) (call : Call) (runs : RunsIn k call.pid e h) where
   kept_value : value_at k.procs call.pid ≡ Some e.value

@@ -1,5 +1,5 @@
--- The parts without a process and its space are regular.
-use Rattle.std.proofs.Common.{◌≡◌, ◌≢◌, ℕ, zero, suc, ◌+◌, ◌-◌, ◌<◌, ◌≤◌, inl, inr, true, List, [], ◌∷◌, length, get_or, arith, refl, sym, ap, ◌∙◌, length-set}
+-- The parts without a process, and without a space, are regular.
+use Rattle.std.proofs.Common.{◌≡◌, ◌≢◌, ℕ, zero, suc, ◌+◌, ◌-◌, ◌<◌, ◌≤◌, inl, inr, Bool, true, false, List, [], ◌∷◌, length, get_or, arith, refl, sym, ap, ◌∙◌, length-set}
 use Rattle.std.specs.Prelude.{Option, Some, None, slice_get, slice_set, ◌==◌}
 use Rattle.std.proofs.lemmas.Option.{same_Some, none-some, slice_get_within, slice_get-get_or}
 use Rattle.std.proofs.lemmas.Bool.Decides.{nat_tests}
@@ -8,12 +8,15 @@ use Rattle.nommu_regions.specs.Regions.{holds, AreRegions, with_uses, uses_of, u
 use Rattle.mmap_rules.specs.declared.mapping.Mapping.{Mapping}
 use Rattle.mmap_rules.specs.Held.{Held, CanRelease, released}
 use Rattle.vfork_exec.specs.declared.entry.Entry.{Entry}
-use Rattle.vfork_exec.specs.Procs.{process, pid_of, with_end}
-use Rattle.vfork_exec.proofs.Keyed.{find_gone, find_beside_without, falls_without, length_without}
+use Rattle.vfork_exec.specs.declared.family.State.TheVariants.{Ready}
+use Rattle.vfork_exec.specs.Procs.{process, borrows, with_end}
 use Rattle.syscall_layer.specs.declared.task.Task.{Task}
 use Rattle.syscall_layer.specs.Kept.{Kept}
 use Rattle.syscall_layer.specs.Regular.{Regular, named_in, uses_in}
-use Rattle.syscall_layer.specs.Gone.{gone}
+use Rattle.call_log.specs.declared.how.How.{How}
+use Rattle.call_log.specs.Notes.{Note}
+use Rattle.syscall_layer.specs.Gone.{without_space, space_left, ended, gone}
+use Rattle.syscall_layer.proofs.Families.{stayed, alone_in, own_pid, chains_ended, falls_ended, count_ended}
 use Rattle.syscall_layer.proofs.Counts.{decide, get_set, get_other, after_set, eqb_is, named_yes, named_no, counted, named_by}
 
 -- ---- the uses of the regions
@@ -139,8 +142,7 @@ uses_without id (Some g ∷ spaces) zero h is =
 uses_without id (None ∷ spaces) (suc i) h is = uses_without id spaces i h is
 uses_without id (Some g ∷ spaces) (suc i) h is = omega (arith, uses_without id spaces i h is)
 
-module _ (k : Kept) (pid : ℕ) (e : Entry Task) (h : Held) (regular : Regular k) (lives : process k.procs pid ≡ Some e)
-    (space : slice_get k.spaces e.value.space ≡ Some (Some h)) where
+module _ (k : Kept) (number : ℕ) (h : Held) (regular : Regular k) (space : slice_get k.spaces number ≡ Some (Some h)) where
   enough : (id : ℕ) → named_in id h.maps ≤ uses_of k.regions id
   enough id = by_count (named_in id h.maps) refl
     where
@@ -148,29 +150,22 @@ module _ (k : Kept) (pid : ℕ) (e : Entry Task) (h : Held) (regular : Regular k
       by_count zero none = omega (arith, none)
       by_count (suc n) some =
           let one = named_by id h.maps (omega (arith, some)) in
-          let names = regular.names e.value.space one.place h one.mapping space one.there in
+          let names = regular.names number one.place h one.mapping space one.there in
           let there : slice_get k.regions id ≡ Some names.region = ap (slice_get k.regions) (sym one.names) ∙ names.there in
-          omega (arith, ap uses_at there, regular.uses id names.region there, counted id k.spaces e.value.space h space)
+          omega (arith, ap uses_at there, regular.uses id names.region there, counted id k.spaces number h space)
 
-  old_space : (i : ℕ) (g : Held) → slice_get (slice_set k.spaces e.value.space None) i ≡ Some (Some g) → slice_get k.spaces i ≡ Some (Some g)
-  old_space i g is = elim (after_set k.spaces e.value.space i None (Some g) is) [
+  pub can_give_up : CanRelease k.regions h.maps
+  can_give_up = can_release k.regions h.maps enough
+
+  old_space : (i : ℕ) (g : Held) → slice_get (slice_set k.spaces number None) i ≡ Some (Some g) → slice_get k.spaces i ≡ Some (Some g)
+  old_space i g is = elim (after_set k.spaces number i None (Some g) is) [
     | inl here ↦ absurd (none-some g (sym here.1))
     | inr other ↦ other.1
   ]
 
-  -- who lives then is another one, who lived before
-  old_process : (p : ℕ) (f : Entry Task) → process (with_end k.procs pid) p ≡ Some f → (p ≢ pid) × (process k.procs p ≡ Some f)
-  old_process p f is = elim (decide (p == pid)) [
-    | inl same ↦
-        let none : process (with_end k.procs pid) pid ≡ None = find_gone pid_of pid k.procs.entries in
-        absurd (none-some f (sym none ∙ ap (process (with_end k.procs pid)) (sym (eqb_is p pid same)) ∙ is))
-    | inr other ↦
-        let ne : p ≢ pid = grind (arith, nat_tests) in
-        (ne, sym (find_beside_without pid_of pid p ne k.procs.entries) ∙ is)
-  ]
-
-  regular_then : Regular (gone k pid e h)
-  regular_then =
+  -- a space goes, in which no process runs
+  pub regular_without : ((pid : ℕ) (e : Entry Task) → process k.procs pid ≡ Some e → e.value.space ≢ number) → Regular (without_space k number h)
+  regular_without nobody =
       let len = length_released k.regions h.maps in
       record {
         memory = rw len regular.memory;
@@ -179,7 +174,7 @@ module _ (k : Kept) (pid : ℕ) (e : Entry Task) (h : Held) (regular : Regular k
         regions = regions_released k.regions h.maps regular.regions;
         uses = λ id s is.
             let w = was k.regions h.maps id s is in
-            omega (arith, w.uses, regular.uses id w.old w.there, uses_without id k.spaces e.value.space h space);
+            omega (arith, w.uses, regular.uses id w.old w.there, uses_without id k.spaces number h space);
         one_use = λ id s is own.
             let w = was k.regions h.maps id s is in
             omega (arith, w.uses, regular.one_use id w.old w.there (sym w.source ∙ own));
@@ -196,18 +191,56 @@ module _ (k : Kept) (pid : ℕ) (e : Entry Task) (h : Held) (regular : Regular k
             };
         pages = λ i g is. regular.pages i g (old_space i g is) ∙ sym len;
         runs = λ p f is.
-            let o = old_process p f is in
-            let had = regular.runs p f o.1 in
-            record {
-              held = had.held;
-              there = get_other k.spaces e.value.space f.value.space None (λ same. o.0 (regular.alone p pid f e o.1 lives same)) ∙ had.there;
-            };
-        alone = λ p q f g is it. regular.alone p q f g (old_process p f is).1 (old_process q g it).1;
-        falls = falls_without pid_of pid k.procs.next_pid k.procs.entries regular.falls;
-        few = omega (arith, regular.few, length_without pid_of pid k.procs.entries);
+            let had = regular.runs p f is in
+            record { held = had.held; there = get_other k.spaces number f.value.space None (nobody p f is) ∙ had.there };
+        chains = regular.chains;
+        falls = regular.falls;
+        few = regular.few;
+        pids = regular.pids;
+        loads = omega (arith, regular.loads, length-set k.spaces number None);
       }
 
-pub regular_gone : (k : Kept) (pid : ℕ) (e : Entry Task) (h : Held) → Regular k → process k.procs pid ≡ Some e → slice_get k.spaces e.value.space ≡ Some (Some h)
-    → CanRelease k.regions h.maps × Regular (gone k pid e h)
-regular_gone k pid e h regular lives space =
-    (can_release k.regions h.maps (enough k pid e h regular lives space), regular_then k pid e h regular lives space)
+module _ (k : Kept) (pid : ℕ) (e : Entry Task) (how : How) (regular : Regular k) (lives : process k.procs pid ≡ Some e) (ready : e.state ≡ Ready) where
+  -- a process ends
+  pub regular_ended : Regular (ended k e how)
+  regular_ended = record {
+    memory = regular.memory;
+    some = regular.some;
+    most = regular.most;
+    regions = regular.regions;
+    uses = regular.uses;
+    one_use = regular.one_use;
+    names = regular.names;
+    pages = regular.pages;
+    runs = λ p f is.
+        let o = stayed k.procs e how p f is in
+        let had = regular.runs p o.old o.there in
+        record { held = had.held; there = ap (λ (t : Task). slice_get k.spaces t.space) o.value ∙ had.there };
+    chains = chains_ended k.procs pid e lives how regular.chains regular.falls ready;
+    falls = falls_ended k.procs pid e lives how k.procs.next_pid regular.falls;
+    few = omega (arith, regular.few, count_ended k.procs pid e lives how);
+    pids = regular.pids;
+    loads = regular.loads;
+  }
+
+  -- and without a lender nobody is left in its space
+  pub nobody_left : borrows k.procs e.pid ≡ false → (p : ℕ) (f : Entry Task) → process (with_end k.procs e how) p ≡ Some f → f.value.space ≢ e.value.space
+  nobody_left none p f is same =
+      let o = stayed k.procs e how p f is in
+      o.other (alone_in k.procs pid e lives regular.chains ready none p o.old o.there (ap (λ (t : Task). t.space) (sym o.value) ∙ same) ∙ sym (own_pid k.procs pid e lives))
+
+-- whichever of its parts a process leaves behind, it is gone from the list
+pub gone_procs : (k : Kept) (e : Entry Task) (h : Held) (how : How) → (gone k e h how).procs ≡ with_end k.procs e how
+gone_procs k e h how = either (borrows k.procs e.pid)
+  where
+    either : (lent : Bool) → (space_left (ended k e how) lent e.value.space h).procs ≡ with_end k.procs e how
+    either true = refl
+    either false = refl
+
+-- other notes change nothing of it
+pub gone_noted : (k : Kept) (e : Entry Task) (h : Held) (how : How) (notes : List Note) → gone (record k { notes = notes }) e h how ≡ record (gone k e h how) { notes = notes }
+gone_noted k e h how notes = either (borrows k.procs e.pid)
+  where
+    either : (lent : Bool) → space_left (ended (record k { notes = notes }) e how) lent e.value.space h ≡ record (space_left (ended k e how) lent e.value.space h) { notes = notes }
+    either true = refl
+    either false = refl

@@ -30,6 +30,7 @@
 -- Settled   small facts of a call's reply
 -- Moves     the world after one process went on, and after one is gone
 -- Outcomes  what comes of a call and of an end, in the world and in the parts
+-- Families   the list of processes, as the world has it
 -- Counts     places of lists, and how many mappings name a region
 -- Apart      what one space may write no other one has
 -- Gone       the parts without a process and its space
@@ -38,6 +39,7 @@
 -- Boots      they stand for the world that starts it
 mod Begins
 pub mod Worlds
+pub mod Families
 pub mod Counts
 pub mod Apart
 pub mod Gone

@@ -177,9 +177,11 @@ module _ (k : Kept) (number : ℕ) (h g : Held) (v : Region) (n : Mapping) (regu
         names = names_now;
         pages = λ i o is. pages_now pages i o is ∙ sym len;
         runs = λ pid e is. lives_on k.spaces number e.value.space h g home (regular.runs pid e is);
-        alone = regular.alone;
+        chains = regular.chains;
         falls = regular.falls;
         few = regular.few;
+        pids = regular.pids;
+        loads = omega (arith, regular.loads, length-set k.spaces number (Some g));
       }
 
 -- ---- both of what `map` leaves are so

@@ -1,6 +1,6 @@
 -- The world after one process went on, and after one is gone.
 use Rattle.std.proofs.Common.{◌≡◌, ℕ, ◌+◌, Bool, true, false, inl, inr, List, [], ◌∷◌, map, length, Option, Some, None, refl, sym, ap, ◌∙◌}
-use Rattle.std.specs.Prelude.{◌==◌, cond, IsSome, slice_set, option_map}
+use Rattle.std.specs.Prelude.{◌==◌, cond, IsSome, if◌then◌else◌, slice_set, option_map}
 use Rattle.std.proofs.lemmas.Option.{same_Some}
 use Rattle.std.proofs.lemmas.List.{length-set}
 use Rattle.nommu_regions.specs.declared.region.Region.{Region}
@@ -9,42 +9,25 @@ use Rattle.rv32im_step.specs.declared.regs.Regs.{Regs}
 use Rattle.call_log.specs.Notes.{Note}
 use Rattle.vfork_exec.specs.declared.entry.Entry.{Entry}
 use Rattle.vfork_exec.specs.Keyed.{find, change, without}
-use Rattle.vfork_exec.specs.Procs.{process, Lives, with_value, with_value_at, with_end}
-use Rattle.vfork_exec.specs.Procs.{pid_of as entry_pid}
-use Rattle.vfork_exec.proofs.Keyed.{find_head, find_changed, find_gone}
+use Rattle.call_log.specs.declared.how.How.{How}
+use Rattle.vfork_exec.specs.Procs.{Listed, process, Lives, with_value, with_value_at, with_end}
+use Rattle.vfork_exec.specs.Procs.{pid_of as entry_pid, borrows as entry_borrows}
+use Rattle.vfork_exec.proofs.Keyed.{find_changed}
 use Rattle.mem_files.specs.Inodes.{Inodes}
 use Rattle.fd_tables.specs.Files.{OpenFiles}
 use Rattle.file_calls.specs.Calls.{with_all}
 use Rattle.machine_world.specs.World.{Process, LiveSpace, World, pid_of, id_of}
+use Rattle.machine_world.specs.Families.{borrows, spaces_left}
 use Rattle.machine_world.specs.Event.{with_space, departed}
 use Rattle.syscall_layer.specs.declared.task.Task.{Task}
 use Rattle.syscall_layer.specs.Kept.{Kept}
-use Rattle.syscall_layer.specs.Gone.{closed_in, gone}
+use Rattle.syscall_layer.specs.Gone.{space_left, ended, gone}
 use Rattle.syscall_layer.specs.Stands.{About, later, private_of, live_spaces, process_of, world_of, OthersSame}
 use Rattle.syscall_layer.specs.Calls.{RunsIn, with_task}
-use Rattle.syscall_layer.proofs.Worlds.{change_space, without_space, change_process, without_process}
+use Rattle.syscall_layer.proofs.Worlds.{change_space, without_space}
+use Rattle.syscall_layer.proofs.Families.{moved_is, left_is, borrows_is, dead_ended}
 use Rattle.syscall_layer.proofs.Runs.{pid_found}
-use Rattle.syscall_layer.proofs.Counts.{decide}
-use Rattle.syscall_layer.proofs.Gone.{length_released}
-
--- two changes that agree at what is found
-module _ {A : Type 0} (key : A → ℕ) (k : ℕ) (f g : A → A) where
-  head : (h : A → A) (x : A) (xs : List A) (b : Bool) → (key x == k) ≡ b → change key k h (x ∷ xs) ≡ cond b (h x ∷ xs) (x ∷ change key k h xs)
-  unfolding change
-  head h x xs b is = ap (λ (t : Bool). cond t (h x ∷ xs) (x ∷ change key k h xs)) is
-
-  same_change : (xs : List A) (x : A) → find key k xs ≡ Some x → f x ≡ g x → change key k f xs ≡ change key k g xs
-  unfolding find
-  same_change [] x there same = absurd cc
-  same_change (y ∷ xs) x there same = elim (decide (key y == k)) [
-    | inl is ↦
-        let at : y ≡ x = same_Some y x (sym (find_head key k y xs true is) ∙ there) in
-        head f y xs true is ∙ ap (λ z. z ∷ xs) (ap f at ∙ same ∙ ap g (sym at)) ∙ sym (head g y xs true is)
-    | inr is ↦
-        head f y xs false is
-        ∙ ap (λ zs. y ∷ zs) (same_change xs x (sym (find_head key k y xs false is) ∙ there) same)
-        ∙ sym (head g y xs false is)
-  ]
+use Rattle.syscall_layer.proofs.Gone.{length_released, gone_procs}
 
 -- worlds by their parts
 same_world : (ps qs : List Process) (ss ts : List LiveSpace) (m n pages more : ℕ) (ns ms : List Note) (w : World) →
@@ -61,10 +44,7 @@ module _ (k : Kept) (pid : ℕ) (e : Entry Task) (h : Held) (runs : RunsIn k pid
     value = record e.value { regs = regs }
 
     procs_moved : map process_of (with_value_at k.procs pid value).entries ≡ change pid_of e.pid (λ (q : Process). record q { regs = regs }) (map process_of k.procs.entries)
-    procs_moved =
-        ap (map process_of) (same_change entry_pid pid (λ (x : Entry Task). with_value x value) (λ (x : Entry Task). record x { value = record x.value { regs = regs } }) k.procs.entries e runs.lives refl)
-        ∙ change_process pid (λ (x : Entry Task). record x { value = record x.value { regs = regs } }) (λ (q : Process). record q { regs = regs }) k.procs.entries (λ x. refl)
-        ∙ ap (λ n. change pid_of n (λ (q : Process). record q { regs = regs }) (map process_of k.procs.entries)) (pid_found k.procs pid e runs.lives)
+    procs_moved = moved_is k.procs pid e runs.lives regs ∙ ap (λ n. change pid_of n (λ (q : Process). record q { regs = regs }) (map process_of k.procs.entries)) (pid_found k.procs pid e runs.lives)
 
     spaces_moved : OthersSame k e.value.space now →
         live_spaces now (slice_set k.spaces e.value.space (Some g))
@@ -92,16 +72,49 @@ module _ (k : Kept) (pid : ℕ) (e : Entry Task) (h : Held) (runs : RunsIn k pid
 
   -- ---- a process is gone
 
-  procs_gone : map process_of (with_end k.procs pid).entries ≡ without pid_of e.pid (map process_of k.procs.entries)
-  procs_gone = without_process pid k.procs.entries ∙ ap (λ n. without pid_of n (map process_of k.procs.entries)) (pid_found k.procs pid e runs.lives)
+  module _ (how : How) where
+    -- and its space, if no other one lent it
+    left_world : (lent : Bool) (a : About) (n : ℕ) (notes : List Note) →
+        world_of (later n a) (record (space_left (ended k e how) lent e.value.space h) { notes = notes })
+        ≡ record (departed (world_of a k) (process_of e) how) {
+          spaces = if lent then live_spaces k.mem k.spaces else without id_of e.value.space (live_spaces k.mem k.spaces);
+          notes = notes;
+          events = a.events + n;
+        }
+    unfolding world_of
+    left_world true a n notes = λ i. record (departed (world_of a k) (process_of e) how) {
+      procs = left_is k.procs e how i;
+      spaces = live_spaces k.mem k.spaces;
+      notes = notes;
+      events = a.events + n;
+    }
+    left_world false a n notes = λ i. record (departed (world_of a k) (process_of e) how) {
+      procs = left_is k.procs e how i;
+      spaces = sym (without_space k.mem k.spaces e.value.space h runs.home) i;
+      loads = length-set k.spaces e.value.space None i;
+      rest = record (departed (world_of a k) (process_of e) how).rest { pages = length_released k.regions h.maps i };
+      notes = notes;
+      events = a.events + n;
+    }
 
-  pub gone_world : (a : About) (n : ℕ) (notes : List Note) →
-      world_of (later n a) (record (gone k pid e h) { notes = notes })
-      ≡ record (departed (world_of a k) (process_of e)) { notes = notes; events = a.events + n }
-  unfolding world_of
-  gone_world a n notes =
-      same_world _ _ _ _ _ _ _ _ notes notes (world_of (later n a) (record k { tree = (closed_in k e.value.table).nodes; files = (closed_in k e.value.table).files }))
-      procs_gone (sym (without_space k.mem k.spaces e.value.space h runs.home)) (length-set k.spaces e.value.space None) (length_released k.regions h.maps) refl
+    lent_world : (a : About) (n : ℕ) (notes : List Note) (lent : Bool) → borrows (process_of e) (map process_of k.procs.entries) ≡ lent →
+        record (departed (world_of a k) (process_of e) how) {
+          spaces = if lent then live_spaces k.mem k.spaces else without id_of e.value.space (live_spaces k.mem k.spaces);
+          notes = notes;
+          events = a.events + n;
+        }
+        ≡ record (departed (world_of a k) (process_of e) how) { notes = notes; events = a.events + n }
+    unfolding world_of spaces_left
+    lent_world a n notes lent is = ap (λ (b : Bool). record (departed (world_of a k) (process_of e) how) {
+      spaces = if b then live_spaces k.mem k.spaces else without id_of e.value.space (live_spaces k.mem k.spaces);
+      notes = notes;
+      events = a.events + n;
+    }) (sym is)
 
-  pub gone_dead : process (with_end k.procs pid) pid ≡ None
-  gone_dead = find_gone entry_pid pid k.procs.entries
+    pub gone_world : (a : About) (n : ℕ) (notes : List Note) →
+        world_of (later n a) (record (gone k e h how) { notes = notes })
+        ≡ record (departed (world_of a k) (process_of e) how) { notes = notes; events = a.events + n }
+    gone_world a n notes = left_world (entry_borrows k.procs e.pid) a n notes ∙ lent_world a n notes (entry_borrows k.procs e.pid) (borrows_is k.procs e)
+
+    pub gone_dead : process (gone k e h how).procs pid ≡ None
+    gone_dead = ap (λ (s : Listed Task). process s pid) (gone_procs k e h how) ∙ dead_ended k.procs pid e runs.lives how

@@ -1,6 +1,6 @@
 -- What comes of a call and of an end, in the world and in the parts.
-use Rattle.std.proofs.Common.{◌≡◌, ℕ, ◌+◌, Bool, true, false, List, [], ◌∷◌, length, Option, Some, None, refl, sym, ap, subst, ◌∙◌, add-zero}
-use Rattle.std.specs.Prelude.{◌%◌, option_map, Result, Ok, Err, slice_index}
+use Rattle.std.proofs.Common.{◌≡◌, ◌≢◌, ℕ, ◌+◌, Bool, true, false, List, [], ◌∷◌, length, Option, Some, None, refl, sym, ap, subst, ◌∙◌, add-zero}
+use Rattle.std.specs.Prelude.{if◌then◌else◌, ◌%◌, ◌==◌, option_map, Result, Ok, Err, slice_index}
 use Rattle.std.specs.declared.alloc.AllocError.{AllocError}
 use Rattle.byte_words.specs.ByteMap.{Bytes}
 use Rattle.rv32im_step.specs.declared.access.Access.{Access}
@@ -21,11 +21,11 @@ use Rattle.vfork_exec.specs.Procs.{Lives, value_at}
 use Rattle.machine_world.specs.World.{Process, LiveSpace, World, pid_of, id_of}
 use Rattle.machine_world.specs.Asks.{Ask, Reply, Row, replies, waits}
 use Rattle.machine_world.specs.Rows.{row}
-use Rattle.machine_world.specs.Event.{Trace, Outcome, went, strays, full, with_space, counted, noted, departed, ended, number_of, args_of, entry_of, item_of, call_access, replied, served, put, put_got, answered, exit_code, exited, is_exit, classed, answer, asked, trapped, called, died, at_process, by_process, in_space}
+use Rattle.machine_world.specs.Event.{Trace, Outcome, went, strays, full, with_space, counted, noted, departed, ended, number_of, args_of, entry_of, item_of, call_access, replied, served, put, put_got, answered, exit_code, exited, is_exit, waitid, cloned, exec, classed, answer, asked, trapped, called, died, at_process, by_process, in_space}
 use Rattle.syscall_layer.specs.declared.task.Task.{Task}
 use Rattle.file_calls.specs.declared.call.Call.{Call}
 use Rattle.file_calls.specs.declared.outcome.Outcome.{Outcome as Output}
-use Rattle.file_calls.specs.Calls.{MadeBy, with_all, after, written_of}
+use Rattle.file_calls.specs.Calls.{MadeBy, is_change, is_output, with_all, after, written_of}
 use Rattle.syscall_layer.specs.declared.effect.Effect.{Effect}
 use Rattle.syscall_layer.specs.declared.effect.Effect.TheVariants.{Answer, Yield, Break}
 use Rattle.syscall_layer.specs.declared.answer.Served.{Served}
@@ -36,12 +36,15 @@ use Rattle.syscall_layer.specs.Stands.{About, later, private_bytes, private_of, 
 use Rattle.syscall_layer.specs.Puts.{first_stray, access_at}
 use Rattle.syscall_layer.specs.Serves.{Went, Answered, Serves, Died}
 use Rattle.syscall_layer.specs.Gone.{gone}
-use Rattle.syscall_layer.specs.Calls.{RunsIn, IsCall, Changed, given, Gave, reply_of, ask_in, served_by, noted_call, held_as, after_reply, after_exit}
+use Rattle.syscall_layer.specs.Calls.{RunsIn, IsCall, Changed, given, Gave, reply_of, ask_in, served_by, noted_call, held_as, after_reply, exit_of, after_exit}
 use Rattle.std.proofs.lemmas.Option.{same_Some}
 use Rattle.syscall_layer.proofs.Puts.{put_all, put_strays}
 use Rattle.syscall_layer.proofs.QuietRows.{Quiet}
 use Rattle.syscall_layer.proofs.Worlds.{find_space, find_process}
 use Rattle.syscall_layer.proofs.Runs.{pid_found, value_found, runs_in}
+use Rattle.std.proofs.lemmas.Bool.{false≢true}
+use Rattle.vfork_exec.proofs.Keyed.{eqb_other}
+use Rattle.syscall_layer.proofs.Gone.{gone_noted}
 use Rattle.syscall_layer.proofs.Moves.{moved_world, moved_lives, gone_world, gone_dead}
 
 -- ---- the process and its space in the world
@@ -84,15 +87,53 @@ stray_serves a k pid e h runs span is = called_is a k pid e h runs ∙ answer_is
 class_exit : (w : World) (a : Ask) → is_exit a.number ≡ true → classed w a ≡ exited w a
 class_exit w a exits = rw exits refl
 
-class_row : (w : World) (a : Ask) (r : Row) → is_exit a.number ≡ false → row a ≡ r → classed w a ≡ answered w a r
-class_row w a r goes is = rw goes (ap (answered w a) is)
+-- a number of no class of its own
+pub record IsRow (n : ℕ) : Type 0 where
+  pub exits : is_exit n ≡ false
+  pub n95 : (n == 95) ≡ false
+  pub n220 : (n == 220) ≡ false
+  pub n221 : (n == 221) ≡ false
+
+class_row : (w : World) (a : Ask) (r : Row) → IsRow a.number → row a ≡ r → classed w a ≡ answered w a r
+class_row w a r c is =
+    ap (λ (b : Bool). if b then exited w a else if a.number == 95 then waitid w a else if a.number == 220 then cloned w a else if a.number == 221 then exec w a else answered w a (row a)) c.exits
+    ∙ ap (λ (b : Bool). if b then waitid w a else if a.number == 220 then cloned w a else if a.number == 221 then exec w a else answered w a (row a)) c.n95
+    ∙ ap (λ (b : Bool). if b then cloned w a else if a.number == 221 then exec w a else answered w a (row a)) c.n220
+    ∙ ap (λ (b : Bool). if b then exec w a else answered w a (row a)) c.n221
+    ∙ ap (answered w a) is
+
+class_waitid : (w : World) (a : Ask) → a.number ≡ 95 → classed w a ≡ waitid w a
+class_waitid w a is = rw is refl
+
+class_clone : (w : World) (a : Ask) → a.number ≡ 220 → classed w a ≡ cloned w a
+class_clone w a is = rw is refl
+
+class_exec : (w : World) (a : Ask) → a.number ≡ 221 → classed w a ≡ exec w a
+class_exec w a is = rw is refl
+
+-- a change or an output is a row
+module _ (n : ℕ) (goes : is_exit n ≡ false) where
+  pub plain_row : n ≢ 95 → n ≢ 220 → n ≢ 221 → IsRow n
+  plain_row n95 n220 n221 = record { exits = goes; n95 = eqb_other n 95 n95; n220 = eqb_other n 220 n220; n221 = eqb_other n 221 n221 }
+
+  isnt : (test : ℕ → Bool) (m : ℕ) → test n ≡ true → test m ≡ false → n ≢ m
+  isnt test m holds fails same = false≢true (sym fails ∙ ap test (sym same) ∙ holds)
+
+  pub change_row : is_change n ≡ true → IsRow n
+  change_row is = plain_row (isnt is_change 95 is refl) (isnt is_change 220 is refl) (isnt is_change 221 is refl)
+
+  pub output_row : is_output n ≡ true → IsRow n
+  output_row is = plain_row (isnt is_output 95 is refl) (isnt is_output 220 is refl) (isnt is_output 221 is refl)
+
+  pub number_row : (m : ℕ) → n ≡ m → (m == 95) ≡ false → (m == 220) ≡ false → (m == 221) ≡ false → IsRow n
+  number_row m is n95 n220 n221 = record { exits = goes; n95 = ap (λ x. x == 95) is ∙ n95; n220 = ap (λ x. x == 220) is ∙ n220; n221 = ap (λ x. x == 221) is ∙ n221 }
 
 -- ---- room in the log
 
 served_when : (w : World) (a : Ask) (r : Reply) (bytes : Bytes) → has_room w.notes (weight_of a.sent r.got) ≡ true →
     served w a r bytes
     ≡ went (noted (call_note (entry_of a r.value r.got)) (counted (with_space (record w { rest = r.rest }) a.process (replied a.process.regs r.value) (record r.space { bytes = bytes }))))
-    (record { space = a.process.space; events = 1; items = item_of (entry_of a r.value r.got) bytes ∷ []; over = r.over })
+    (record { space = a.process.space; events = 1; items = item_of (entry_of a r.value r.got) bytes ∷ []; begins = None; over = r.over })
 unfolding served
 served_when w a r bytes room = rw room refl
 
@@ -103,7 +144,7 @@ served_full w a r bytes room = rw room refl
 exited_when : (w : World) (a : Ask) → has_room w.notes (weight_of a.sent []) ≡ true →
     exited w a
     ≡ went (ended (noted (call_note (entry_of a 0 [])) (counted w)) a.process (Exit (exit_code a)))
-    (record { space = a.process.space; events = 1; items = record { entry = entry_of a 0 []; brought = [] } ∷ []; over = true })
+    (record { space = a.process.space; events = 1; items = record { entry = entry_of a 0 []; brought = [] } ∷ []; begins = None; over = true })
 unfolding exited
 exited_when w a room = rw room refl
 
@@ -121,10 +162,10 @@ room_in a k bytes got b room = room
 it_went : (a : About) (o : Outcome) (w : World) (t : Trace) (old new : Kept) (pid : ℕ) (s : Served) → o ≡ went w t → world_of (later 1 a) new ≡ w → Went t new pid s → Answered a o old new pid s
 it_went a o w t old new pid s is now done = subst (λ (x : Outcome). Answered a x old new pid s) (sym is) (sym now, done)
 
-went_by : (f : Effect) (ask : Ask) (t : Trace) (new : Kept) (pid : ℕ) → t.over ≡ (reply_of ask f).over → Lives new.procs pid → Went t new pid (served_by f)
-went_by (Answer value) ask t new pid over lives = (over, lives)
-went_by Yield ask t new pid over lives = (over, lives)
-went_by (Break to) ask t new pid over lives = (over, lives)
+went_by : (f : Effect) (ask : Ask) (t : Trace) (new : Kept) (pid : ℕ) → t.over ≡ (reply_of ask f).over → t.events ≡ 1 → Lives new.procs pid → Went t new pid (served_by f)
+went_by (Answer value) ask t new pid over events lives = (over, events, lives)
+went_by Yield ask t new pid over events lives = (over, events, lives)
+went_by (Break to) ask t new pid over events lives = (over, events, lives)
 
 same_entry : (p q n m : ℕ) (xs ys : List ℕ) (bytes : List ℕ) (value : ℕ) (got : List Written) → p ≡ q → n ≡ m → xs ≡ ys →
     call_note (record { pid = p; call = n; args = xs; sent = bytes; reply = value; got = got }) ≡ call_note (record { pid = q; call = m; args = ys; sent = bytes; reply = value; got = got })
@@ -184,14 +225,14 @@ module _ (a : About) (k : Kept) (e : Entry Task) (h : Held) (call : Call) (runs 
           ∙ (λ i. record (then_state (sym stays i)) { notes = note_is value got i ∷ k.notes; events = a.events + 1 })
 
       pub reply_serves : OthersSame k e.value.space mem → has_room k.notes (weight_of call.sent.items got) ≡ true →
-          (s : Served) → ((t : Trace) (new : Kept) → t.over ≡ over → Lives new.procs call.pid → Went t new call.pid s) →
+          (s : Served) → ((t : Trace) (new : Kept) → t.over ≡ over → t.events ≡ 1 → Lives new.procs call.pid → Went t new call.pid s) →
           Answered a (answered (world_of a k) ask (replies reply)) k then_kept call.pid s
       reply_serves others room s goes =
-          let t : Trace = record { space = e.value.space; events = 1; items = item_of (entry_of ask value got) then_space.bytes ∷ []; over = over } in
+          let t : Trace = record { space = e.value.space; events = 1; items = item_of (entry_of ask value got) then_space.bytes ∷ []; begins = None; over = over } in
           it_went a (answered (world_of a k) ask (replies reply)) (noted (call_note (entry_of ask value got)) (counted (then_state then_space))) t k then_kept call.pid s
           (answered_is (Ok then_space.bytes) puts ∙ served_when (world_of a k) ask reply then_space.bytes (room_in a k call.sent.items got true room))
           (after_world others)
-          (goes t then_kept refl (moved_lives k call.pid e h runs (replied e.value.regs value) h k.mem))
+          (goes t then_kept refl refl (moved_lives k call.pid e h runs (replied e.value.regs value) h k.mem))
 
     pub reply_full : (bytes : Bytes) → put_got space.bytes (writable_in space.maps) got ≡ Ok bytes → has_room k.notes (weight_of call.sent.items got) ≡ false →
         Answered a (answered (world_of a k) ask (replies reply)) k k call.pid LogFull
@@ -251,7 +292,7 @@ module _ (a : About) (k : Kept) (e : Entry Task) (h : Held) (call : Call) (runs 
       (λ i. record { value = r.value; got = c.got i; rest = c.rest i; space = r.space; over = c.over i }) in
       let served = reply_serves r.value [] r.rest.tree r.rest.files r.rest.console r.space false new.mem new.regions c.pages
       (ap (λ (s : Space). Ok s.bytes) c.space) (ap (λ (s : Space). record s { bytes = private_bytes new.mem g }) c.space) c.others
-      (weighs call.sent.items true room) Replied (λ t n over lives. (over, lives)) in
+      (weighs call.sent.items true room) Replied (λ t n over events lives. (over, events, lives)) in
       let by_reply = subst (λ (x : Reply). Answered a (answered (world_of a k) ask (replies x)) k (record (after_reply k e h call x new.mem) { regions = new.regions }) call.pid Replied) (sym shape) served in
       let by_new = subst (λ (x : Kept). Answered a (answered (world_of a k) ask (replies r)) k x call.pid Replied) (sym c.after) by_reply in
       subst (λ (x : Row). Answered a (answered (world_of a k) ask x) k new call.pid Replied) (sym c.replies) by_new
@@ -266,14 +307,11 @@ module _ (a : About) (k : Kept) (e : Entry Task) (h : Held) (call : Call) (runs 
           is_full r got =
               ap (λ (gots : List Written). put (world_of a k) ask r (put_got r.space.bytes (writable_in r.space.maps) gots)) got
               ∙ served_full (world_of a k) ask r r.space.bytes (ap (λ (gots : List Written). has_room (world_of a k).notes (weight_of call.sent.items gots)) got ∙ room_in a k call.sent.items [] false (weighs call.sent.items false room))
-      by_row waits quiet = absurd quiet
+      by_row (waits who) quiet = absurd quiet
 
   -- ---- by an output
 
-  module _ (o : Output) (gives : row ask ≡ replies (given ask o)) where
-    by_given : (new : Kept) (s : Served) → Answered a (answered (world_of a k) ask (replies (given ask o))) k new call.pid s → Answered a (answered (world_of a k) ask (row ask)) k new call.pid s
-    by_given new s = subst (λ (x : Row). Answered a (answered (world_of a k) ask x) k new call.pid s) (sym gives)
-
+  module _ (o : Output) where
     abbrev files_then : OpenFiles
     files_then = after o.then e.value.table k.files
 
@@ -285,33 +323,36 @@ module _ (a : About) (k : Kept) (e : Entry Task) (h : Held) (call : Call) (runs 
     private_is mem = refl
 
     pub output_serves : (new : Kept) → Gave a k e h call o new → has_room k.notes (weight_of call.sent.items (written_of o)) ≡ true →
-        Answered a (answered (world_of a k) ask (row ask)) k new call.pid Replied
+        Answered a (answered (world_of a k) ask (replies (given ask o))) k new call.pid Replied
     output_serves new c room =
-        let served = reply_serves o.value (written_of o) k.tree files_then k.console (private_of k.mem h) false new.mem k.regions refl c.put (private_is new.mem) c.others room Replied (λ t n over lives. (over, lives)) in
+        let served = reply_serves o.value (written_of o) k.tree files_then k.console (private_of k.mem h) false new.mem k.regions refl c.put (private_is new.mem) c.others room Replied (λ t n over events lives. (over, events, lives)) in
         let by_reply = subst (λ (x : Reply). Answered a (answered (world_of a k) ask (replies x)) k (after_reply k e h call x new.mem) call.pid Replied) (sym given_shape) served in
-        by_given new Replied (subst (λ (x : Kept). Answered a (answered (world_of a k) ask (replies (given ask o))) k x call.pid Replied) (sym c.after) by_reply)
+        subst (λ (x : Kept). Answered a (answered (world_of a k) ask (replies (given ask o))) k x call.pid Replied) (sym c.after) by_reply
 
     pub output_full : first_stray (writable_in h.maps) (written_of o) ≡ None → has_room k.notes (weight_of call.sent.items (written_of o)) ≡ false →
-        Answered a (answered (world_of a k) ask (row ask)) k k call.pid LogFull
+        Answered a (answered (world_of a k) ask (replies (given ask o))) k k call.pid LogFull
     output_full fits room =
         let all = put_all (private_bytes k.mem h) (writable_in h.maps) (written_of o) fits in
-        by_given k LogFull
-        (subst (λ (x : Reply). Answered a (answered (world_of a k) ask (replies x)) k k call.pid LogFull) (sym given_shape)
-        (reply_full o.value (written_of o) k.tree files_then k.console (private_of k.mem h) false all.0 all.1 room))
+        subst (λ (x : Reply). Answered a (answered (world_of a k) ask (replies x)) k k call.pid LogFull) (sym given_shape)
+        (reply_full o.value (written_of o) k.tree files_then k.console (private_of k.mem h) false all.0 all.1 room)
 
     pub output_strays : (access : Access) → Some access ≡ option_map (access_at e.value.regs.pc) (first_stray (writable_in h.maps) (written_of o)) →
-        Answered a (answered (world_of a k) ask (row ask)) k k call.pid (Stray access)
+        Answered a (answered (world_of a k) ask (replies (given ask o))) k k call.pid (Stray access)
     output_strays access is = by_span (first_stray (writable_in h.maps) (written_of o)) refl is
       where
         by_span : (found : Option Span) → first_stray (writable_in h.maps) (written_of o) ≡ found → Some access ≡ option_map (access_at e.value.regs.pc) found →
-            Answered a (answered (world_of a k) ask (row ask)) k k call.pid (Stray access)
+            Answered a (answered (world_of a k) ask (replies (given ask o))) k k call.pid (Stray access)
         by_span None there is = absurd cc
         by_span (Some span) there is =
             let seen : access_at e.value.regs.pc span ≡ access = same_Some _ _ (sym is) in
-            subst (λ (x : Access). Answered a (answered (world_of a k) ask (row ask)) k k call.pid (Stray x)) seen
-            (by_given k (Stray (access_at e.value.regs.pc span))
+            subst (λ (x : Access). Answered a (answered (world_of a k) ask (replies (given ask o))) k k call.pid (Stray x)) seen
             (subst (λ (x : Reply). Answered a (answered (world_of a k) ask (replies x)) k k call.pid (Stray (access_at e.value.regs.pc span))) (sym given_shape)
-            (reply_strays o.value (written_of o) k.tree files_then k.console (private_of k.mem h) false span (put_strays (private_bytes k.mem h) (writable_in h.maps) (written_of o) span there))))
+            (reply_strays o.value (written_of o) k.tree files_then k.console (private_of k.mem h) false span (put_strays (private_bytes k.mem h) (writable_in h.maps) (written_of o) span there)))
+
+    -- it is the row of the call
+    pub output_answers : (result : Result Served AllocError) (new : Kept) → row ask ≡ replies (given ask o) →
+        Serves a (answered (world_of a k) ask (replies (given ask o))) k new call.pid result → Serves a (answered (world_of a k) ask (row ask)) k new call.pid result
+    output_answers result new gives = subst (λ (x : Row). Serves a (answered (world_of a k) ask x) k new call.pid result) (sym gives)
 
   -- ---- an exit
 
@@ -326,19 +367,19 @@ module _ (a : About) (k : Kept) (e : Entry Task) (h : Held) (call : Call) (runs 
       ≡ ended (noted (call_note (entry_of (ask_in a k e h call) 0 [])) (counted (world_of a k))) (process_of e) (Exit (exit_code (ask_in a k e h call)))
   unfolding world_of ended
   after_exit_world =
-      gone_world k call.pid e h runs a 1 (end_note call.pid exit_how ∷ noted_call call 0 [] ∷ k.notes)
-      ∙ ap (λ (note : Note). record (departed (world_of a k) (process_of e)) { notes = end_note call.pid exit_how ∷ note ∷ k.notes; events = a.events + 1 }) (note_is 0 [])
-      ∙ ap (λ (pid : ℕ). record (departed (world_of a k) (process_of e)) { notes = end_note pid exit_how ∷ call_note (entry_of (ask_in a k e h call) 0 []) ∷ k.notes; events = a.events + 1 }) is.pid
-      ∙ ap (λ (how : How). record (departed (world_of a k) (process_of e)) { notes = end_note e.pid how ∷ call_note (entry_of (ask_in a k e h call) 0 []) ∷ k.notes; events = a.events + 1 }) exit_how_is
+      gone_world k call.pid e h runs exit_how a 1 (end_note call.pid exit_how ∷ noted_call call 0 [] ∷ k.notes)
+      ∙ ap (λ (note : Note). record (departed (world_of a k) (process_of e) exit_how) { notes = end_note call.pid exit_how ∷ note ∷ k.notes; events = a.events + 1 }) (note_is 0 [])
+      ∙ ap (λ (pid : ℕ). record (departed (world_of a k) (process_of e) exit_how) { notes = end_note pid exit_how ∷ call_note (entry_of (ask_in a k e h call) 0 []) ∷ k.notes; events = a.events + 1 }) is.pid
+      ∙ ap (λ (how : How). record (departed (world_of a k) (process_of e) how) { notes = end_note e.pid how ∷ call_note (entry_of (ask_in a k e h call) 0 []) ∷ k.notes; events = a.events + 1 }) exit_how_is
 
   pub exit_serves : has_room k.notes (length call.sent.items) ≡ true → Answered a (exited (world_of a k) (ask_in a k e h call)) k (after_exit k e h call) call.pid Ended
   exit_serves room =
       it_went a (exited (world_of a k) (ask_in a k e h call)) _
-      (record { space = e.value.space; events = 1; items = record { entry = entry_of (ask_in a k e h call) 0 []; brought = [] } ∷ []; over = true })
+      (record { space = e.value.space; events = 1; items = record { entry = entry_of (ask_in a k e h call) 0 []; brought = [] } ∷ []; begins = None; over = true })
       k (after_exit k e h call) call.pid Ended
       (exited_when (world_of a k) (ask_in a k e h call) (room_in a k call.sent.items [] true (weighs call.sent.items true room)))
       after_exit_world
-      (refl, gone_dead k call.pid e h runs)
+      (refl, refl, gone_dead k call.pid e h runs exit_how)
 
   pub exit_full : has_room k.notes (length call.sent.items) ≡ false → Answered a (exited (world_of a k) (ask_in a k e h call)) k k call.pid LogFull
   exit_full room = subst (λ (o : Outcome). Answered a o k k call.pid LogFull) (sym (exited_full (world_of a k) (ask_in a k e h call) (room_in a k call.sent.items [] false (weighs call.sent.items false room)))) refl
@@ -355,13 +396,22 @@ module _ (a : About) (k : Kept) (e : Entry Task) (h : Held) (call : Call) (runs 
     pub exit_classed : is_exit call.number ≡ true → Serves a (exited (world_of a k) (ask_in a k e h call)) k new call.pid result → Serves a (classed (world_of a k) (ask_in a k e h call)) k new call.pid result
     exit_classed exits = by_outcome (exited (world_of a k) (ask_in a k e h call)) (class_exit (world_of a k) (ask_in a k e h call) (ap is_exit (sym is.number) ∙ exits))
 
-    pub row_classed : is_exit call.number ≡ false → Serves a (answered (world_of a k) ask (row ask)) k new call.pid result → Serves a (classed (world_of a k) (ask_in a k e h call)) k new call.pid result
-    row_classed goes = by_outcome (answered (world_of a k) ask (row ask)) (class_row (world_of a k) ask (row ask) (ap is_exit (sym is.number) ∙ goes) refl)
+    pub row_classed : IsRow call.number → Serves a (answered (world_of a k) ask (row ask)) k new call.pid result → Serves a (classed (world_of a k) (ask_in a k e h call)) k new call.pid result
+    row_classed goes = by_outcome (answered (world_of a k) ask (row ask)) (class_row (world_of a k) ask (row ask) (subst IsRow is.number goes) refl)
 
-    pub effect_classed : (f : Effect) → is_exit call.number ≡ false → row ask ≡ replies (reply_of ask f) →
+    pub effect_classed : (f : Effect) → IsRow call.number → row ask ≡ replies (reply_of ask f) →
         Serves a (answered (world_of a k) (ask_in a k e h call) (replies (reply_of (ask_in a k e h call) f))) k new call.pid result → Serves a (classed (world_of a k) (ask_in a k e h call)) k new call.pid result
     effect_classed f goes rows = by_outcome (answered (world_of a k) (ask_in a k e h call) (replies (reply_of (ask_in a k e h call) f)))
-        (class_row (world_of a k) (ask_in a k e h call) (replies (reply_of (ask_in a k e h call) f)) (ap is_exit (sym is.number) ∙ goes) rows)
+        (class_row (world_of a k) (ask_in a k e h call) (replies (reply_of (ask_in a k e h call) f)) (subst IsRow is.number goes) rows)
+
+    pub waitid_classed : call.number ≡ 95 → Serves a (waitid (world_of a k) (ask_in a k e h call)) k new call.pid result → Serves a (classed (world_of a k) (ask_in a k e h call)) k new call.pid result
+    waitid_classed same = by_outcome (waitid (world_of a k) (ask_in a k e h call)) (class_waitid (world_of a k) (ask_in a k e h call) (sym is.number ∙ same))
+
+    pub clone_classed : call.number ≡ 220 → Serves a (cloned (world_of a k) (ask_in a k e h call)) k new call.pid result → Serves a (classed (world_of a k) (ask_in a k e h call)) k new call.pid result
+    clone_classed same = by_outcome (cloned (world_of a k) (ask_in a k e h call)) (class_clone (world_of a k) (ask_in a k e h call) (sym is.number ∙ same))
+
+    pub exec_classed : call.number ≡ 221 → Serves a (exec (world_of a k) (ask_in a k e h call)) k new call.pid result → Serves a (classed (world_of a k) (ask_in a k e h call)) k new call.pid result
+    exec_classed same = by_outcome (exec (world_of a k) (ask_in a k e h call)) (class_exec (world_of a k) (ask_in a k e h call) (sym is.number ∙ same))
 
 -- ---- the whole call
 
@@ -394,30 +444,36 @@ module _ (a : About) (k : Kept) (pid : ℕ) (regular : Regular k) (lives : Lives
 
 module _ (a : About) (k : Kept) (pid : ℕ) (e : Entry Task) (h : Held) (runs : RunsIn k pid e h) (signal : ℕ) where
   abbrev after_end : Kept
-  after_end = record (gone k pid e h) { notes = end_note pid (Signal signal) ∷ k.notes }
+  after_end = record (gone k e h (Signal signal)) { notes = end_note pid (Signal signal) ∷ k.notes }
 
   after_end_world : world_of (later 1 a) after_end ≡ counted (ended (world_of a k) (process_of e) (Signal signal))
   unfolding world_of ended
   after_end_world =
-      gone_world k pid e h runs a 1 (end_note pid (Signal signal) ∷ k.notes)
-      ∙ ap (λ (n : ℕ). record (departed (world_of a k) (process_of e)) { notes = end_note n (Signal signal) ∷ k.notes; events = a.events + 1 }) (pid_found k.procs pid e runs.lives)
+      gone_world k pid e h runs (Signal signal) a 1 (end_note pid (Signal signal) ∷ k.notes)
+      ∙ ap (λ (n : ℕ). record (departed (world_of a k) (process_of e) (Signal signal)) { notes = end_note n (Signal signal) ∷ k.notes; events = a.events + 1 }) (pid_found k.procs pid e runs.lives)
 
-  trapped_is : trapped (world_of a k) (process_of e) signal ≡ went (counted (ended (world_of a k) (process_of e) (Signal signal))) (record { space = e.value.space; events = 1; items = []; over = true })
+  trapped_is : trapped (world_of a k) (process_of e) signal ≡ went (counted (ended (world_of a k) (process_of e) (Signal signal))) (record { space = e.value.space; events = 1; items = []; begins = None; over = true })
   unfolding trapped
   trapped_is = refl
 
   pub end_serves : Died a (died (world_of a k) pid signal) after_end pid
-  end_serves = subst (λ (o : Outcome). Died a o after_end pid) (sym (died_is a k pid e h runs signal ∙ trapped_is)) (sym after_end_world, refl, gone_dead k pid e h runs)
+  end_serves = subst (λ (o : Outcome). Died a o after_end pid) (sym (died_is a k pid e h runs signal ∙ trapped_is)) (sym after_end_world, refl, gone_dead k pid e h runs (Signal signal))
+
+-- what an exit leaves, where it was noted before the process went
+pub exit_done : (k : Kept) (call : Call) (e : Entry Task) (h : Held) (new : Kept) (notes : List Note) → notes ≡ end_note call.pid (exit_of call) ∷ noted_call call 0 [] ∷ k.notes →
+    new ≡ gone (record k { notes = notes }) e h (exit_of call) → new ≡ after_exit k e h call
+exit_done k call e h new notes is_noted departs =
+    departs ∙ gone_noted k e h (exit_of call) notes ∙ ap (λ (ns : List Note). record (gone k e h (exit_of call)) { notes = ns }) is_noted
 
 -- the same of the parts that are left, where the end was noted before the process went
 pub end_done : (a : About) (k : Kept) (pid signal : ℕ) → Regular k → Lives k.procs pid → (new : Kept) (notes : List Note) → notes ≡ end_note pid (Signal signal) ∷ k.notes →
-    ((e : Entry Task) → (h : Held) → RunsIn (record k { notes = notes }) pid e h → new ≡ gone (record k { notes = notes }) pid e h) → Died a (died (world_of a k) pid signal) new pid
+    ((e : Entry Task) → (h : Held) → RunsIn (record k { notes = notes }) pid e h → new ≡ gone (record k { notes = notes }) e h (Signal signal)) → Died a (died (world_of a k) pid signal) new pid
 end_done a k pid signal regular lives new notes is_noted departs =
     let r = runs_in k pid regular lives in
     let e : Entry Task = r.0 in
     let h : Held = r.1.0 in
     let runs : RunsIn k pid e h = r.1.1 in
-    let is = departs e h (record { lives = runs.lives; home = runs.home }) ∙ ap (λ (ns : List Note). record (gone k pid e h) { notes = ns }) is_noted in
+    let is = departs e h (record { lives = runs.lives; home = runs.home }) ∙ gone_noted k e h (Signal signal) notes ∙ ap (λ (ns : List Note). record (gone k e h (Signal signal)) { notes = ns }) is_noted in
     subst (λ (now : Kept). Died a (died (world_of a k) pid signal) now pid) (sym is) (end_serves a k pid e h runs signal)
 
 -- ---- a note alone

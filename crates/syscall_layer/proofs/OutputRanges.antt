@@ -16,6 +16,7 @@ use Rattle.fd_tables.specs.declared.view.View.{View}
 use Rattle.fd_tables.specs.declared.view.Target.{Target}
 use Rattle.fd_tables.specs.declared.view.Target.TheVariants.{Console, Node as a_node}
 use Rattle.fd_tables.specs.Files.{OpenFiles}
+use Rattle.vfork_exec.specs.declared.family.State.TheVariants.{Ready}
 use Rattle.machine_world.specs.Asks.{Ask, arg, Row, replies, waits, refuses, view_of, with_view}
 use Rattle.machine_world.specs.Descriptors.{position_from, base_of, sought, seek_row, llseek_row, listing, written_at, is_short, listed, list_row, folder_row, dents_row, getdents_row}
 use Rattle.machine_world.specs.Transfers.{scattered, moved_bytes, node_read, target_read, read_into, read_row, readv_row}
@@ -32,7 +33,7 @@ use Rattle.syscall_layer.proofs.Counts.{decide, eqb_is}
 -- every range of a reply
 abbrev pub Ranged : Row → Type 0
 Ranged (replies r) = All IsRange r.got
-Ranged waits = ⊥
+Ranged (waits who) = ⊥
 
 none_ranged : All IsRange []
 none_ranged = All-nil IsRange
@@ -187,7 +188,7 @@ module _ (a : Ask) where
 -- the call as any world with these files has it
 abbrev asked_of : Call → Inodes → OpenFiles → Ask
 asked_of call tree files = record {
-  process = record { pid = call.pid; parent = call.parent; regs = record { pc = 0; x = [] }; space = 0; table = call.table };
+  process = record { pid = call.pid; parent = call.parent; regs = record { pc = 0; x = [] }; space = 0; table = call.table; state = Ready };
   space = record { maps = []; brk = 0; brk_low = 0; brk_high = 0; bytes = λ at. None };
   spaces = [];
   rest = record { pages = 0; kind = First; programs = []; tree = tree; files = files; console = [] };

@@ -22,7 +22,7 @@ use Rattle.syscall_layer.proofs.Counts.{decide, eqb_is}
 -- a reply without bytes
 abbrev pub Quiet : Row → Type 0
 Quiet (replies r) = r.got ≡ []
-Quiet waits = ⊥
+Quiet (waits who) = ⊥
 
 module _ (a : Ask) where
   quiet_ok : {A : Type 0} (r : Result A Errno) (rows : A → Row) → ((x : A) → Quiet (rows x)) → Quiet (with_ok a r rows)

@@ -1,5 +1,5 @@
 -- Copies hold their file after a call that is noted, and after an end.
-use Rattle.std.proofs.Common.{◌≡◌, ℕ, ◌+◌, true, List, [], ◌∷◌, length, None, arith, sym, ap, ◌∙◌}
+use Rattle.std.proofs.Common.{◌≡◌, ℕ, ◌+◌, true, List, [], ◌∷◌, length, None, arith, sym, ap, subst, ◌∙◌}
 use Rattle.page_runs.specs.declared.place.Kind.TheVariants.{First}
 use Rattle.nommu_regions.specs.declared.region.Region.{Region}
 use Rattle.mmap_rules.specs.declared.mapping.Mapping.{Mapping}
@@ -8,6 +8,7 @@ use Rattle.call_log.specs.Notes.{Written, Note, has_room}
 use Rattle.mem_files.specs.Inodes.{Inodes}
 use Rattle.fd_tables.specs.Files.{OpenFiles}
 use Rattle.fd_tables.specs.Changes.{Storage, storage, without_table}
+use Rattle.vfork_exec.specs.declared.family.State.TheVariants.{Ready}
 use Rattle.machine_world.specs.Asks.{Ask, gives}
 use Rattle.machine_world.specs.Rows.{row}
 use Rattle.machine_world.proofs.Aging.{rows_age, table_ages}
@@ -33,7 +34,7 @@ copies_called k copies notes counted = copies_noted k.regions k.mem k.tree k.not
 -- the call over the files of the parts, whoever makes it
 abbrev pub plain_ask : Kept → Call → Ask
 plain_ask k call = record {
-  process = record { pid = call.pid; parent = call.parent; regs = record { pc = 0; x = [] }; space = 0; table = call.table };
+  process = record { pid = call.pid; parent = call.parent; regs = record { pc = 0; x = [] }; space = 0; table = call.table; state = Ready };
   space = record { maps = []; brk = 0; brk_low = 0; brk_high = 0; bytes = λ at. None };
   spaces = [];
   rest = record { pages = 0; kind = First; programs = []; tree = k.tree; files = k.files; console = k.console };
@@ -52,12 +53,14 @@ copies_changed k copies call value tree files console notes room is counted =
     let ages = rows_age (plain_ask k call) _ (most_at_boot + kept_calls k.notes) is copies.changes (omega (arith, few)) in
     copies_aged k.regions k.mem k.tree tree k.notes notes copies ages.0 (λ id n there. omega (arith, ages.1 id n there, counted)) (omega (arith, counted))
 
--- a process went, with its mappings and its table
-pub copies_departed : (k : Kept) → CopiesHold k.regions k.mem k.tree k.notes → (maps : List Mapping) (rs : List Region) (nodes : Inodes) (files : OpenFiles) (table : ℕ) →
-    rs ≡ released k.regions maps → storage nodes files ≡ without_table (storage k.tree k.files) table → CopiesHold rs k.mem nodes k.notes
-copies_departed k copies maps rs nodes files table regions closed =
+-- a space went, with its mappings
+pub copies_without : (k : Kept) → CopiesHold k.regions k.mem k.tree k.notes → (maps : List Mapping) (rs : List Region) → rs ≡ released k.regions maps → CopiesHold rs k.mem k.tree k.notes
+copies_without k copies maps rs is = subst (λ (x : List Region). CopiesHold x k.mem k.tree k.notes) (sym is) (copies_released k.regions k.mem k.tree k.notes maps copies)
+
+-- a process went, with its table
+pub copies_ended : (k : Kept) → CopiesHold k.regions k.mem k.tree k.notes → (nodes : Inodes) (files : OpenFiles) (table : ℕ) →
+    storage nodes files ≡ without_table (storage k.tree k.files) table → CopiesHold k.regions k.mem nodes k.notes
+copies_ended k copies nodes files table closed =
     let ages = table_ages (storage k.tree k.files) table (most_at_boot + kept_calls k.notes) copies.changes in
-    let left = copies_aged (released k.regions maps) k.mem k.tree (without_table (storage k.tree k.files) table).nodes k.notes k.notes
-    (copies_released k.regions k.mem k.tree k.notes maps copies) ages.0 ages.1 (omega arith) in
-    let nodes_are : (without_table (storage k.tree k.files) table).nodes ≡ nodes = ap (λ (s : Storage). s.nodes) (sym closed) in
-    rw (regions, ← nodes_are) left
+    subst (λ (x : Inodes). CopiesHold k.regions k.mem x k.notes) (ap (λ (s : Storage). s.nodes) (sym closed))
+    (copies_aged k.regions k.mem k.tree (without_table (storage k.tree k.files) table).nodes k.notes k.notes copies ages.0 ages.1 (omega arith))

@@ -1,5 +1,5 @@
 -- The parts with one program more are regular.
-use Rattle.std.proofs.Common.{◌≡◌, ◌≢◌, ℕ, zero, suc, ◌+◌, ◌*◌, ◌<◌, ◌≤◌, ◌⊎◌, inl, inr, true, false, List, [], ◌∷◌, ◌++◌, length, get_or, arith, refl, sym, ap, ◌∙◌, length-set}
+use Rattle.std.proofs.Common.{◌≡◌, ◌≢◌, ℕ, zero, suc, ◌+◌, ◌*◌, ◌<◌, ◌≤◌, ◌⊎◌, inl, inr, true, false, List, [], ◌∷◌, ◌++◌, length, map, get_or, arith, refl, sym, ap, subst, ◌∙◌, length-set, length-append}
 use Rattle.std.specs.Prelude.{Some, slice_get, slice_set, ◌==◌}
 use Rattle.std.proofs.lemmas.Option.{same_Some, none-some, slice_get_within, slice_get-get_or}
 use Rattle.std.proofs.lemmas.Bool.{cases_lt, false≢true}
@@ -12,13 +12,19 @@ use Rattle.nommu_regions.proofs.Held.{regions_fresh, was_gone}
 use Rattle.mmap_rules.specs.declared.mapping.Mapping.{Mapping}
 use Rattle.mmap_rules.specs.Held.{Held, page_address}
 use Rattle.vfork_exec.specs.declared.entry.Entry.{Entry}
-use Rattle.vfork_exec.specs.Procs.{process, pid_of, with_start, most_entries}
+use Rattle.vfork_exec.specs.declared.family.State.TheVariants.{Ready}
+use Rattle.vfork_exec.specs.Procs.{process, pid_of, count, with_start, most_entries}
 use Rattle.vfork_exec.proofs.Keyed.{find_head}
 use Rattle.call_log.specs.Notes.{Note}
 use Rattle.syscall_layer.specs.declared.task.Task.{Task}
 use Rattle.fd_tables.specs.Files.{OpenFiles}
 use Rattle.syscall_layer.specs.Kept.{Kept}
-use Rattle.syscall_layer.specs.Regular.{Names, HasSpace, Regular, named_in, uses_in}
+use Rattle.syscall_layer.specs.Regular.{Names, HasSpace, Regular, named_in, uses_in, most_first}
+use Rattle.syscall_layer.specs.Stands.{process_of}
+use Rattle.machine_world.specs.World.{Process}
+use Rattle.machine_world.specs.Families.{IsChain, AreChains}
+use Rattle.machine_world.proofs.Chains.{sharing_head}
+use Rattle.syscall_layer.proofs.Families.{nobody_in}
 use Rattle.syscall_layer.proofs.Counts.{decide, eqb_is, get_set, get_other, after_set, get_pushed, get_before, pushed_cases, named_yes, named_no, uses_pushed}
 use Rattle.syscall_layer.proofs.Apart.{is_used}
 
@@ -126,7 +132,7 @@ module _ (k : Kept) (v : Region) (h : Held) (regs : Regs) (table : ℕ) (mem : L
   runner : (pid : ℕ) (e : Entry Task) → process (with_start k.procs (record { regs = regs; space = length k.spaces; table = table })) pid ≡ Some e →
       ((pid ≡ k.procs.next_pid) × (e.value.space ≡ length k.spaces)) ⊎ (process k.procs pid ≡ Some e)
   runner pid e is =
-      let new : Entry Task = record { pid = k.procs.next_pid; parent = 0; value = record { regs = regs; space = length k.spaces; table = table } } in
+      let new : Entry Task = record { pid = k.procs.next_pid; parent = 0; state = Ready; value = record { regs = regs; space = length k.spaces; table = table } } in
       elim (decide (k.procs.next_pid == pid)) [
         | inl same ↦
             let found : new ≡ e = same_Some _ _ (sym (find_head pid_of pid new k.procs.entries true same) ∙ is) in
@@ -144,18 +150,17 @@ module _ (k : Kept) (v : Region) (h : Held) (regs : Regs) (table : ℕ) (mem : L
     | inr old ↦ let had = regular.runs pid e old in record { held = had.held; there = get_before k.spaces (Some h) e.value.space (Some had.held) had.there }
   ]
 
-  alone_now : (p q : ℕ) (e f : Entry Task) → process (with_start k.procs (record { regs = regs; space = length k.spaces; table = table })) p ≡ Some e
-      → process (with_start k.procs (record { regs = regs; space = length k.spaces; table = table })) q ≡ Some f → e.value.space ≡ f.value.space → p ≡ q
-  alone_now p q e f is it same = elim (runner p e is) [
-    | inl new ↦ elim (runner q f it) [
-      | inl too ↦ new.0 ∙ sym too.0
-      | inr old ↦ absurd (omega (arith, new.1, same, below q f old))
-    ]
-    | inr old ↦ elim (runner q f it) [
-      | inl new ↦ absurd (omega (arith, new.1, same, below p e old))
-      | inr too ↦ regular.alone p q e f old too same
-    ]
-  ]
+  -- it is alone in its space
+  chains_now : AreChains (map process_of (with_start k.procs (record { regs = regs; space = length k.spaces; table = table })).entries)
+  chains_now i =
+      let new : Process = record { pid = k.procs.next_pid; parent = 0; regs = regs; space = length k.spaces; table = table; state = Ready } in
+      let procs : List Process = map process_of k.procs.entries in
+      elim (decide (length k.spaces == i)) [
+        | inl here ↦
+            let none = nobody_in k.procs k.procs.next_pid i regular.falls (λ pid e is same. omega (arith, below pid e is, same, eqb_is (length k.spaces) i here)) in
+            subst IsChain (sym (sharing_head i new procs true here ∙ ap (λ (qs : List Process). new ∷ qs) none)) (refl, tt)
+        | inr other ↦ subst IsChain (sym (sharing_head i new procs false other)) (regular.chains i)
+      ]
 
   pages_now : (i : ℕ) (g : Held) → slice_get (k.spaces ++ Some h ∷ []) i ≡ Some (Some g) → g.pages ≡ length k.regions
   pages_now i g is = elim (pushed_cases k.spaces (Some h) i (Some g) is) [
@@ -169,8 +174,8 @@ module _ (k : Kept) (v : Region) (h : Held) (regs : Regs) (table : ℕ) (mem : L
     | inr other ↦ regular.one_use id r other.1 own
   ]
 
-  pub regular_with : length mem ≡ length k.mem → length k.procs.entries < most_entries → Regular (with_one k v h regs table mem files notes)
-  regular_with same few =
+  pub regular_with : length mem ≡ length k.mem → count k.procs < most_entries → k.procs.next_pid < most_first → length k.spaces < most_first → Regular (with_one k v h regs table mem files notes)
+  regular_with same few pids spaces =
       let len = length-set k.regions v.first v in
       record {
         memory = same ∙ regular.memory ∙ ap (λ (n : ℕ). 4096 * n) (sym len);
@@ -182,7 +187,9 @@ module _ (k : Kept) (v : Region) (h : Held) (regs : Regs) (table : ℕ) (mem : L
         names = names_now;
         pages = λ i g is. pages_now i g is ∙ sym len;
         runs = space_of;
-        alone = alone_now;
+        chains = chains_now;
         falls = (omega arith, regular.falls);
         few = omega (arith, few);
+        pids = omega (arith, pids);
+        loads = omega (arith, spaces, length-append k.spaces (Some h ∷ []));
       }

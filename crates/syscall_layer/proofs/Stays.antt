@@ -2,7 +2,7 @@
 use Rattle.std.proofs.Common.{◌≡◌, ◌≢◌, ℕ, zero, suc, ◌+◌, false, inl, inr, List, [], ◌∷◌, length, set, Option, Some, None, refl, sym, ap, subst, ◌∙◌, arith}
 use Rattle.std.specs.Prelude.{◌==◌, ◌≤◌, slice_get, slice_set, option_map}
 use Rattle.std.proofs.lemmas.Bool.Decides.{nat_tests}
-use Rattle.std.proofs.lemmas.List.{set-get_or}
+use Rattle.std.proofs.lemmas.List.{set-get_or, length-set}
 use Rattle.std.proofs.lemmas.Option.{same_Some, get_or_from_slice_get}
 use Rattle.rv32im_step.specs.declared.regs.Regs.{Regs}
 use Rattle.mmap_rules.specs.declared.mapping.Mapping.{Mapping}
@@ -16,7 +16,9 @@ use Rattle.mem_files.specs.Inodes.{Inodes}
 use Rattle.fd_tables.specs.Files.{OpenFiles}
 use Rattle.syscall_layer.specs.Kept.{Kept}
 use Rattle.syscall_layer.specs.Regular.{Regular, HasSpace, named_in, uses_in}
+use Rattle.machine_world.specs.Ages.{kept_calls}
 use Rattle.syscall_layer.proofs.Counts.{decide, eqb_is}
+use Rattle.syscall_layer.proofs.Families.{chains_moved}
 
 eqb_not : (n k : ℕ) → (n == k) ≡ false → n ≢ k
 eqb_not n k h = grind (arith, nat_tests)
@@ -94,7 +96,7 @@ ran s pid e value lives same q x there = elim (decide (q == pid)) [
 -- ---- both
 
 pub regular_stays : (k : Kept) (pid : ℕ) (e : Entry Task) (h : Held) → Regular k → process k.procs pid ≡ Some e → slice_get k.spaces e.value.space ≡ Some (Some h) →
-    (regs : Regs) (brk : ℕ) (mem : List ℕ) → length mem ≡ length k.mem → (notes : List Note) (tree : Inodes) (files : OpenFiles) (console : List ℕ) →
+    (regs : Regs) (brk : ℕ) (mem : List ℕ) → length mem ≡ length k.mem → (notes : List Note) → kept_calls k.notes ≤ kept_calls notes → (tree : Inodes) (files : OpenFiles) (console : List ℕ) →
     Regular (record k {
       mem = mem;
       tree = tree;
@@ -104,7 +106,7 @@ pub regular_stays : (k : Kept) (pid : ℕ) (e : Entry Task) (h : Held) → Regul
       notes = notes;
       console = console;
     })
-regular_stays k pid e h regular lives home regs brk mem same notes tree files console =
+regular_stays k pid e h regular lives home regs brk mem same notes more tree files console =
     let value : Task = record e.value { regs = regs } in
     let number : ℕ = e.value.space in
     record {
@@ -123,17 +125,16 @@ regular_stays k pid e h regular lives home regs brk mem same notes tree files co
       runs = λ q x there.
           let r = ran k.procs pid e value lives refl q x there in
           subst (HasSpace (slice_set k.spaces number (Some (record h { brk = brk })))) r.space (lives_on h brk k.spaces number r.old.value.space home (regular.runs q r.old r.there));
-      alone = λ p q x y at there is.
-          let r = ran k.procs pid e value lives refl p x at in
-          let s = ran k.procs pid e value lives refl q y there in
-          regular.alone p q r.old s.old r.there s.there (r.space ∙ is ∙ sym s.space);
+      chains = chains_moved k.procs pid e lives regs regular.chains;
       falls = falls_change pid_of pid (λ (y : Entry Task). with_value y value) (λ y. refl) k.procs.next_pid k.procs.entries regular.falls;
-      few = subst (λ n. n ≤ most_entries) (sym (length_change pid_of pid (λ (y : Entry Task). with_value y value) k.procs.entries)) regular.few;
+      few = subst (λ n. n + length k.procs.ended ≤ most_entries) (sym (length_change pid_of pid (λ (y : Entry Task). with_value y value) k.procs.entries)) regular.few;
+      pids = omega (arith, regular.pids, more);
+      loads = omega (arith, regular.loads, more, length-set k.spaces number (Some (record h { brk = brk })));
     }
 
 -- other notes and another console
-pub regular_noted : (k : Kept) → Regular k → (notes : List Note) (console : List ℕ) → Regular (record k { notes = notes; console = console })
-regular_noted k regular notes console = record {
+pub regular_noted : (k : Kept) → Regular k → (notes : List Note) → kept_calls k.notes ≤ kept_calls notes → (console : List ℕ) → Regular (record k { notes = notes; console = console })
+regular_noted k regular notes more console = record {
   memory = regular.memory;
   some = regular.some;
   most = regular.most;
@@ -143,7 +144,9 @@ regular_noted k regular notes console = record {
   names = regular.names;
   pages = regular.pages;
   runs = regular.runs;
-  alone = regular.alone;
+  chains = regular.chains;
   falls = regular.falls;
   few = regular.few;
+  pids = omega (arith, regular.pids, more);
+  loads = omega (arith, regular.loads, more);
 }

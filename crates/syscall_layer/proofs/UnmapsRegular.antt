@@ -1,5 +1,5 @@
 -- The parts after a munmap are regular, and copies hold their file.
-use Rattle.std.proofs.Common.{◌≡◌, ◌≢◌, ℕ, ◌+◌, ◌-◌, ◌*◌, ◌<◌, ◌≤◌, inl, inr, List, [], ◌∷◌, Some, refl, sym, ap, subst, ◌∙◌, arith}
+use Rattle.std.proofs.Common.{◌≡◌, ◌≢◌, ℕ, ◌+◌, ◌-◌, ◌*◌, ◌<◌, ◌≤◌, inl, inr, List, [], ◌∷◌, Some, refl, sym, ap, subst, ◌∙◌, arith, length-set}
 use Rattle.std.specs.Prelude.{slice_get, slice_set}
 use Rattle.std.specs.List.{remove}
 use Rattle.std.proofs.lemmas.Bool.{cases_eq}
@@ -169,9 +169,11 @@ unmap_regular k regular number h home shaped addr len f is =
         | inr other ↦ regular.pages i g other.1 ∙ sym pages.1
       ];
       runs = λ pid e lives. lives_on k number h f.held home e.value.space (regular.runs pid e lives);
-      alone = regular.alone;
+      chains = regular.chains;
       falls = regular.falls;
       few = regular.few;
+      pids = regular.pids;
+      loads = omega (arith, regular.loads, length-set k.spaces number (Some f.held));
     }
 
 -- ---- copies

@@ -1,54 +1,8 @@
--- The bytes stray, find no room, or are given.
-use Rattle.std.proofs.Common.{List, true, false, refl, sym, ap, ◌∙◌}
-use Rattle.std.specs.Prelude.{map, option_map}
-use Rattle.std.proofs.lemmas.Result.{err_from_is_err_and}
-use Rattle.call_log.specs.declared.note.Got.{Got}
-use Rattle.call_log.specs.Notes.{weight_of, has_room}
-use Rattle.call_log.specs.Values.{written_value}
-use Rattle.mmap_rules.specs.Space.{writable_in}
-use Rattle.file_calls.specs.Calls.{written_of}
-use Rattle.syscall_layer.specs.Inside.{kept_of}
-use Rattle.syscall_layer.specs.Puts.{first_stray, access_at}
+-- What is given is the row of the call.
+use Rattle.std.proofs.Common.{refl}
 use Rattle.syscall_layer.specs.Calls.{ask_in}
-use Rattle.syscall_layer.proofs.Settled.{room_is}
-use Rattle.syscall_layer.proofs.Puts.{none_strays}
-use Rattle.syscall_layer.proofs.Outcomes.{made_by, files_in, tree_in, output_serves, output_full, output_strays}
+use Rattle.syscall_layer.proofs.Outcomes.{made_by, files_in, tree_in, output_answers}
 use Rattle.syscall_layer.proofs.answer.answer_output.Goals as goal
-
-pub returns-in-Some : goal.returns-in-Some
-returns-in-Some c = λ a e h runs is.
-    let k = c.args.parts.now in
-    let call = c.args.call in
-    let o = c.in_ok-outcome.outcome in
-    let gives = c.in_ok-outcome.ensures.gives (ask_in a k e h call) (made_by a k e h call runs is)
-    (tree_in a k e h call refl) (files_in a k e h call refl) in
-    let found = sym c.in-Some.is ∙ c.stray_of.ensures e h runs
-    ∙ ap (λ (xs : List Got). option_map (access_at e.value.regs.pc) (first_stray (writable_in h.maps) (map written_value xs))) c.deref.ensures.value in
-    output_strays a k e h call runs is o gives c.in-Some.access found
-
-pub returns-then-not-has_room_with : goal.returns-then-not-has_room_with
-returns-then-not-has_room_with c = λ a e h runs is.
-    let k = c.args.parts.now in
-    let call = c.args.call in
-    let o = c.in_ok-outcome.outcome in
-    let gives = c.in_ok-outcome.ensures.gives (ask_in a k e h call) (made_by a k e h call runs is)
-    (tree_in a k e h call refl) (files_in a k e h call refl) in
-    let found = c.stray_of.ensures e h runs
-    ∙ ap (λ (xs : List Got). option_map (access_at e.value.regs.pc) (first_stray (writable_in h.maps) (map written_value xs))) c.deref.ensures.value in
-    let asked = c.has_room_with.ensures ∙ ap (λ (xs : List Got). has_room c.parts.inside.log.notes (weight_of call.sent.items (map written_value xs))) c.deref-2.ensures.value in
-    let room = room_is (kept_of c.parts.inside) k c.parts.view_is (weight_of call.sent.items (written_of o)) c.has_room_with.result false asked c.if-not-has_room_with.true in
-    output_full a k e h call runs is o gives (none_strays e.value.regs.pc _ _ found c.in_default.is) room
-
-pub give-requires-clause-own : goal.give-requires-clause-own
-give-requires-clause-own c = λ e h runs.
-    let found = c.stray_of.ensures e h runs
-    ∙ ap (λ (xs : List Got). option_map (access_at e.value.regs.pc) (first_stray (writable_in h.maps) (map written_value xs))) c.deref.ensures.value in
-    none_strays e.value.regs.pc _ _ found c.in_default.is
-
-pub returns-in_err-give : goal.returns-in_err-give
-returns-in_err-give c = λ a e h runs is.
-    let p = err_from_is_err_and c.from_residual-in_err-give.result c.from_residual-in_err-give.ensures.1 in
-    rw p.1 (c.in_err-give.ensures a e h runs is)
 
 pub returns : goal.returns
 returns c = λ a e h runs is.
@@ -57,6 +11,4 @@ returns c = λ a e h runs is.
     let o = c.in_ok-outcome.outcome in
     let gives = c.in_ok-outcome.ensures.gives (ask_in a k e h call) (made_by a k e h call runs is)
     (tree_in a k e h call refl) (files_in a k e h call refl) in
-    let asked = c.has_room_with.ensures ∙ ap (λ (xs : List Got). has_room c.parts.inside.log.notes (weight_of call.sent.items (map written_value xs))) c.deref-2.ensures.value in
-    let room = room_is (kept_of c.parts.inside) k c.parts.view_is (weight_of call.sent.items (written_of o)) c.has_room_with.result true asked c.if-not-has_room_with.false in
-    output_serves a k e h call runs is o gives c.give.new.self (c.in_ok-give.ensures a e h runs is) room
+    output_answers a k e h call runs is o c.answer_given.result c.answer_given.new.parts gives (c.answer_given.ensures a e h runs is)

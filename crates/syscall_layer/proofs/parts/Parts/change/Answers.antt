@@ -1,5 +1,5 @@
 -- The files are changed, and the call has its reply.
-use Rattle.std.proofs.Common.{◌≡◌, true, List, ◌∷◌, length, refl, sym, ap, subst, ◌∙◌}
+use Rattle.std.proofs.Common.{◌≡◌, arith, true, List, ◌∷◌, length, refl, sym, ap, subst, ◌∙◌}
 use Rattle.std.specs.Prelude.{map}
 use Rattle.std.proofs.lemmas.Result.{err_from_is_err_and}
 use Rattle.call_log.specs.Notes.{Note, has_room}
@@ -53,11 +53,12 @@ invariant_of-self-2 c =
     let call = c.args.call in
     let room = subst (λ (s : Kept). has_room s.notes (length call.sent.items) ≡ true) (sym c.self.view_is) c.requires.room in
     let made : MadeBy call (plain_ask k call) = record { pid = refl; parent = refl; table = refl; number = refl; args = refl; sent = refl } in
-    let noted = c.finish.ensures.notes ∙ ap (λ (ns : List Note). noted_call call c.in_ok-value.value (map written_value c.new-got.result.items) ∷ ns) c.reserve.ensures.same in (
+    let noted = c.finish.ensures.notes ∙ ap (λ (ns : List Note). noted_call call c.in_ok-value.value (map written_value c.new-got.result.items) ∷ ns) c.reserve.ensures.same in
+    let counted = counts call c.in_ok-value.value _ k.notes _ noted in (
       regular_finished k call.pid c.self.invariant.0 lives c.in_ok-value.value k.mem c.change.new.tree c.change.new.files.open_files c.finish.new.procs c.finish.new.log.notes c.change.new.console.items
-          refl c.finish.ensures.procs,
+          refl c.finish.ensures.procs (omega (arith, counted)),
       copies_changed k c.self.invariant.1 call c.in_ok-value.value c.change.new.tree c.change.new.files.open_files c.change.new.console.items c.finish.new.log.notes room
-          (c.in_ok-value.ensures (plain_ask k call) made (record { tree = refl; files = refl; console = refl })) (counts call c.in_ok-value.value _ k.notes _ noted),
+          (c.in_ok-value.ensures (plain_ask k call) made (record { tree = refl; files = refl; console = refl })) counted,
     )
 
 pub returns : goal.returns

@@ -2,12 +2,13 @@
 use Rattle.std.proofs.Common.{List, ◌∷◌, sym, ap, subst, ◌∙◌}
 use Rattle.call_log.specs.declared.how.How.TheVariants.{Signal}
 use Rattle.call_log.specs.Notes.{Note, end_note}
-use Rattle.vfork_exec.specs.Procs.{Lives}
+use Rattle.vfork_exec.specs.Procs.{CanRun}
 use Rattle.machine_world.specs.Event.{died}
 use Rattle.syscall_layer.specs.Kept.{Kept}
 use Rattle.syscall_layer.specs.Inside.{kept_of}
 use Rattle.syscall_layer.specs.Stands.{world_of}
 use Rattle.syscall_layer.specs.Serves.{Died}
+use Rattle.syscall_layer.proofs.Families.{can_run_lives}
 use Rattle.syscall_layer.proofs.Outcomes.{end_done}
 use Rattle.syscall_layer.proofs.parts.Parts.end_by_signal.Goals as goal
 
@@ -16,7 +17,7 @@ returns c = λ a.
     let pid = c.args.pid in
     let signal = c.args.signal in
     let k = kept_of c.self.inside in
-    let lives = subst (λ (s : Kept). Lives s.procs pid) (sym c.self.view_is) c.requires in
+    let lives = can_run_lives k.procs pid (subst (λ (s : Kept). CanRun s.procs pid) (sym c.self.view_is) c.requires) in
     let noted = c.keep.ensures.notes ∙ ap (λ (ns : List Note). end_note pid (Signal signal) ∷ ns) c.reserve.ensures.same in
     subst (λ (old : Kept). Died a (died (world_of a old) pid signal) c.depart.new.self pid) c.self.view_is
     (end_done a k pid signal c.self.invariant.0 lives c.depart.new.self c.keep.new.log.notes noted c.depart.ensures)

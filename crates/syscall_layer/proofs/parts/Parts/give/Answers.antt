@@ -1,5 +1,5 @@
 -- The bytes are given, and the call has its reply.
-use Rattle.std.proofs.Common.{◌≡◌, List, Option, ◌∷◌, sym, ap, subst, ◌∙◌}
+use Rattle.std.proofs.Common.{◌≡◌, arith, List, Option, ◌∷◌, sym, ap, subst, ◌∙◌}
 use Rattle.std.specs.Prelude.{ℕ, Bool, not, map, slice_get}
 use Rattle.region_watch.specs.Private.{only, physical}
 use Rattle.mmap_rules.specs.Held.{Held}
@@ -33,12 +33,13 @@ invariant_of-self-2 c =
     let lives = subst (λ (s : Kept). Lives s.procs c.args.call.pid) (sym c.self.view_is) c.requires.lives in
     let home = sym (ap (λ (ss : List (Option Held)). slice_get ss c.get.result.now.space) c.deref.ensures.value) ∙ c.home.ensures in
     let frozen = subst (λ (w : ℕ → Bool). only (λ at. not (w at)) (physical c.put.new.mem) ≡ only (λ at. not (w at)) (physical k.mem)) c.owners-owners.ensures.writable c.put.ensures.frozen in
-    let noted = c.finish.ensures.notes ∙ ap (λ (ns : List Note). noted_call c.args.call c.args.outcome.value (written_of c.args.outcome) ∷ ns) c.reserve.ensures.same in (
+    let noted = c.finish.ensures.notes ∙ ap (λ (ns : List Note). noted_call c.args.call c.args.outcome.value (written_of c.args.outcome) ∷ ns) c.reserve.ensures.same in
+    let counted = counts c.args.call c.args.outcome.value _ k.notes _ noted in (
       regular_finished k c.args.call.pid c.self.invariant.0 lives c.args.outcome.value c.put.new.mem k.tree c.follow.new.files.open_files c.finish.new.procs c.finish.new.log.notes k.console
-          c.put.ensures.len c.finish.ensures.procs,
+          c.put.ensures.len c.finish.ensures.procs (omega (arith, counted)),
       copies_called (record k { mem = c.put.new.mem })
           (copies_frozen k c.self.invariant.0 c.self.invariant.1 c.get.result.now.space c.home.result.now home c.put.new.mem c.put.ensures.len frozen)
-          c.finish.new.log.notes (counts c.args.call c.args.outcome.value _ k.notes _ noted),
+          c.finish.new.log.notes counted,
     )
 
 pub returns : goal.returns

@@ -115,7 +115,7 @@ invariant_of-self-2 g c =
     (new_parts g c).spaces c.map_in-mapped.new.regions.regions c.map_in-mapped.new.mem c.map_in-mapped.result is in
     let now = with_maps k c.map_in-mapped.new.mem c.map_in-mapped.new.regions.regions (new_parts g c).spaces in
     let counted = counts c.args.call c.in_ok-value.value [] k.notes c.finish.new.log.notes (noted g c) in (
-      regular_finished now c.args.call.pid keeps.0 lives c.in_ok-value.value now.mem k.tree k.files c.finish.new.procs c.finish.new.log.notes k.console refl c.finish.ensures.procs,
+      regular_finished now c.args.call.pid keeps.0 lives c.in_ok-value.value now.mem k.tree k.files c.finish.new.procs c.finish.new.log.notes k.console refl c.finish.ensures.procs (omega (arith, counted)),
       keeps.1 c.finish.new.log.notes (omega (arith, counted)),
     )
 

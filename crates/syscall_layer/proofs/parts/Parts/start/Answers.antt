@@ -49,7 +49,7 @@ begun g c =
 
 pub invariant_of-self-2 : goal.invariant_of-self-2
 invariant_of-self-2 g c = (
-  regular_by c.args.self.now (kept_of c.self.inside) (new_parts g c) (search rules) c.requires.few c.self.invariant.0 _ _ _ _ (begun g c),
+  regular_by c.args.self.now (kept_of c.self.inside) (new_parts g c) (search rules) c.requires.few c.requires.pids c.requires.spaces c.self.invariant.0 _ _ _ _ (begun g c),
   copies_by (kept_of c.self.inside) (new_parts g c) c.self.invariant.0 c.self.invariant.1 _ _ _ _ (begun g c),
 )
 

@@ -62,7 +62,7 @@ invariant_of-self-2 c =
     (new_parts c).spaces c.unmap_in-unmapped.new.regions.regions c.unmap_in-unmapped.result is in
     let now = with_maps k k.mem c.unmap_in-unmapped.new.regions.regions (new_parts c).spaces in
     let counted = counts c.args.call c.status-value.result [] k.notes c.finish.new.log.notes (noted c) in (
-      regular_finished now c.args.call.pid keeps.0 lives c.status-value.result k.mem k.tree k.files c.finish.new.procs c.finish.new.log.notes k.console refl c.finish.ensures.procs,
+      regular_finished now c.args.call.pid keeps.0 lives c.status-value.result k.mem k.tree k.files c.finish.new.procs c.finish.new.log.notes k.console refl c.finish.ensures.procs (omega (arith, counted)),
       keeps.1 c.finish.new.log.notes (omega (arith, counted)),
     )
 
