@@ -56,11 +56,15 @@ fn len_of(call: &[u32; 7]) -> u32 {
     if call[6] >= TRAP { 4 } else { 60 }
 }
 
-/// How far a skip goes.
-fn skipped(calls: &[[u32; 7]], at: usize) -> u32 {
+/// How far a skip at this place goes, over so many calls.
+fn skipped(calls: &[[u32; 7]], at: usize, count: u32) -> u32 {
     let mut bytes = 4u32;
-    for call in calls.iter().skip(at + 1).take(calls[at][0] as usize) {
-        bytes = bytes.wrapping_add(len_of(call));
+    let mut left = count;
+    for (place, call) in calls.iter().enumerate() {
+        if place > at && left > 0 {
+            bytes = bytes.wrapping_add(len_of(call));
+            left -= 1;
+        }
     }
     bytes
 }
@@ -79,13 +83,13 @@ fn add_call(body: &mut Vec<u8>, call: &[u32; 7]) -> Result<(), AllocError> {
 fn caller_file(alloc: Global, caller: &Caller) -> Result<Vec<u8>, AllocError> {
     let mut body = Vec::from_slice(alloc, caller.bytes.as_slice())?;
     for (at, call) in caller.calls.iter().enumerate() {
-        match call[6] {
-            SKIP => {
-                let far = skipped(caller.calls, at);
-                body.extend_from_slice(&skip_bytes(far).to_le_bytes())?;
-            }
-            TRAP => body.extend_from_slice(&u32::to_le_bytes(0x0010_0073))?,
-            _ => add_call(&mut body, call)?,
+        if call[6] == SKIP {
+            let far = skipped(caller.calls, at, call[0]);
+            body.extend_from_slice(&skip_bytes(far).to_le_bytes())?;
+        } else if call[6] == TRAP {
+            body.extend_from_slice(&u32::to_le_bytes(0x0010_0073))?;
+        } else {
+            add_call(&mut body, call)?;
         }
     }
     let program = Program {
