@@ -1,11 +1,10 @@
 -- The parts after instructions of one process.
-use Rattle.std.proofs.Common.{get_or, ◌*◌, ◌<◌, [], ◌≡◌, ℕ, ◌≤◌, true, false, not, List, length, map, Option, Some, None, refl, sym, ap, subst, ◌∙◌, arith}
-use Rattle.std.specs.Prelude.{slice_get, option_map, IsSome}
+use Rattle.std.proofs.Common.{get_or, ◌*◌, ◌<◌, ◌≡◌, ℕ, ◌≤◌, true, false, not, List, length, map, Option, Some, None, refl, sym, ap, subst, ◌∙◌, arith}
+use Rattle.std.specs.Prelude.{slice_get, option_map}
 use Rattle.rv32im_step.specs.declared.regs.Regs.{Regs}
 use Rattle.rv32im_step.specs.declared.stop.Stop.{Stop}
 use Rattle.rv32im_step.specs.declared.stop.Stop.TheVariants.{Next, Call, Trap, Refused}
 use Rattle.std.proofs.lemmas.Option.{get_or_from_slice_get, slice_get_within}
-use Rattle.page_runs.specs.declared.place.Kind.TheVariants.{First}
 use Rattle.mmap_rules.specs.declared.owners.PageOwner.{PageOwner}
 use Rattle.mmap_rules.specs.Owners.{owns}
 use Rattle.mmap_rules.specs.Space.{own_in, writable_in}
@@ -13,8 +12,9 @@ use Rattle.mmap_rules.specs.Held.{Held}
 use Rattle.region_watch.specs.Private.{only, physical, own_bytes, frozen}
 use Rattle.region_watch.specs.Instructions.{Ran, ran, instructions}
 use Rattle.vfork_exec.specs.declared.entry.Entry.{Entry}
+use Rattle.vfork_exec.specs.declared.family.State.TheVariants.{Ready}
 use Rattle.vfork_exec.specs.Keyed.{find, change}
-use Rattle.vfork_exec.specs.Procs.{Listed, process, value_at, Lives, with_value, with_value_at}
+use Rattle.vfork_exec.specs.Procs.{Listed, process, value_at, CanRun, with_value, with_value_at}
 use Rattle.vfork_exec.specs.Procs.{pid_of as entry_pid}
 use Rattle.vfork_exec.proofs.Keyed.{find_changed}
 use Rattle.machine_world.specs.World.{World, pid_of, id_of}
@@ -30,6 +30,7 @@ use Rattle.syscall_layer.proofs.Worlds.{find_space, change_space, find_process, 
 use Rattle.syscall_layer.proofs.Apart.{others_keep}
 use Rattle.syscall_layer.proofs.Stays.{regular_stays, set_kept}
 use Rattle.syscall_layer.proofs.CopiesKept.{copies_frozen}
+use Rattle.flat_machine.proofs.Abouts.{some_about}
 
 -- a process with what is kept of it
 pub record Entered (s : Listed Task) (pid : ℕ) (task : Task) : Type 0 where
@@ -64,13 +65,15 @@ module _ (k : Kept) (pid count : ℕ) (e : Entry Task) (h : Held) (table : List 
   pub after_regular : Regular (after k pid e.value regs now)
   after_regular =
       let P : List (Option Held) → Type 0 = λ spaces. Regular (record (after k pid e.value regs now) { spaces = spaces }) in
-      subst P (set_kept k.spaces e.value.space (Some h) r.home) (regular_stays k pid e h r.regular r.lives r.home regs h.brk now r.length k.notes k.tree k.files k.console)
+      subst P (set_kept k.spaces e.value.space (Some h) r.home) (regular_stays k pid e h r.regular r.lives r.home regs h.brk now r.length k.notes (omega arith) k.tree k.files k.console)
 
-  pub after_lives : Lives (after k pid e.value regs now).procs pid
-  after_lives =
+  -- it has the state that it had
+  pub after_ready : CanRun k.procs pid → CanRun (after k pid e.value regs now).procs pid
+  after_ready ready =
       let value : Task = record e.value { regs = regs } in
       let is = find_changed entry_pid pid (λ (x : Entry Task). with_value x value) (λ x. refl) k.procs.entries ∙ ap (option_map (λ (x : Entry Task). with_value x value)) r.lives in
-      subst IsSome (sym is) refl
+      let state : Some e.state ≡ Some Ready = ap (option_map (λ (x : Entry Task). x.state)) (sym r.lives) ∙ ready in
+      ap (option_map (λ (x : Entry Task). x.state)) is ∙ state
 
   frozen_in : only (λ a. not (writable_in h.maps a)) (physical now) ≡ only (λ a. not (writable_in h.maps a)) (physical k.mem)
   frozen_in = subst (λ (w : ℕ → _). only (λ a. not (w a)) (physical now) ≡ only (λ a. not (w a)) (physical k.mem)) r.writable r.frozen
@@ -154,20 +157,16 @@ has_space k pid task regular is =
 -- up to so many instructions of a process
 pub record Advances (k now : Kept) (pid count done : ℕ) (stop : Stop) : Type 0 where
   pub regular : IsRegular now
-  pub lives : Lives now.procs pid
+  pub ready : CanRun now.procs pid
   pub within : done ≤ count
   pub leads : (a : About) → Leads pid (world_of a k) done (world_of (later done a) now)
   pub halts : (a : About) → Halts (world_of (later done a) now) pid count done stop
 
--- any run, to read what holds of its world whatever it is
-pub some_about : About
-some_about = record { kind = First; programs = []; events = 0 }
-
 advances_in : (k : Kept) (pid count : ℕ) (e : Entry Task) (h : Held) (table : List PageOwner) (now : List ℕ) (regs : Regs) (done : ℕ) (stop : Stop)
-    → Ranged k pid count e h table now regs done stop → Advances k (after k pid e.value regs now) pid count done stop
-advances_in k pid count e h table now regs done stop r = record {
+    → Ranged k pid count e h table now regs done stop → CanRun k.procs pid → Advances k (after k pid e.value regs now) pid count done stop
+advances_in k pid count e h table now regs done stop r ready = record {
   regular = (after_regular k pid count e h table now regs done stop r, after_copies k pid count e h table now regs done stop r);
-  lives = after_lives k pid count e h table now regs done stop r;
+  ready = after_ready k pid count e h table now regs done stop r ready;
   within = halts_within (world_of (later done some_about) (after k pid e.value regs now)) pid count done stop
       (after_halts k pid count e h table now regs done stop r some_about);
   leads = after_leads k pid count e h table now regs done stop r;
@@ -175,11 +174,11 @@ advances_in k pid count e h table now regs done stop r = record {
 }
 
 pub advances : (k : Kept) (pid count : ℕ) (task : Task) (x : Option Held) (h : Held) (table seen : List PageOwner) (was now : List ℕ) (regs : Regs) (done : ℕ) (stop : Stop)
-    → IsRegular k → value_at k.procs pid ≡ Some task → x ≡ get_or k.spaces task.space x → x ≡ Some h
+    → IsRegular k → CanRun k.procs pid → value_at k.procs pid ≡ Some task → x ≡ get_or k.spaces task.space x → x ≡ Some h
     → owns table false ≡ own_in h.maps → owns table true ≡ writable_in h.maps → seen ≡ table → was ≡ k.mem
     → ran regs (own_bytes seen now) done stop ≡ instructions count (owns seen true) task.regs (own_bytes seen was)
     → frozen seen now ≡ frozen seen was → length now ≡ length was → Advances k (after k pid task regs now) pid count done stop
-advances k pid count task x h table seen was now regs done stop regular is at space own writable sees before leaves same long =
+advances k pid count task x h table seen was now regs done stop regular ready is at space own writable sees before leaves same long =
     let e = entered k.procs pid task is in
     let home = home_of k.spaces task.space x h (has_space k pid task regular.0 is) at space in
     subst (λ (t : Task). Advances k (after k pid t regs now) pid count done stop) e.value (advances_in k pid count e.entry h table now regs done stop (record {
@@ -193,7 +192,7 @@ advances k pid count task x h table seen was now regs done stop regular is at sp
           (rw (sees, before) at leaves);
       frozen = rw (sees, before) at same;
       length = rw before at long;
-    }))
+    }) ready)
 
 -- the table has an entry for each page of memory
 pub paged : (k : Kept) (n : ℕ) (x : Option Held) (h : Held) (pages : ℕ) → Regular k → HasSpace k.spaces n → x ≡ get_or k.spaces n x → x ≡ Some h → pages ≡ h.pages → length k.mem ≡ 4096 * pages

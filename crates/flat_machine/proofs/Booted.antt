@@ -7,10 +7,11 @@ use Rattle.flat_loader.specs.Original.{block_pages}
 use Rattle.flat_loader.specs.Frame.{frame_fits}
 use Rattle.mem_files.specs.Inodes.{Inodes}
 use Rattle.fd_tables.specs.Files.{OpenFiles}
+use Rattle.vfork_exec.specs.Procs.{count}
 use Rattle.machine_world.specs.World.{World, Rest}
 use Rattle.machine_world.specs.Free.{free}
 use Rattle.machine_world.specs.Boot.{StartLine, BootFault, bad_start, args_too_big, no_run, Found, found, path_of, taken, address_of, begun, placed, fitting, located, started, then_started, all_started, empty_world, boot}
-use Rattle.machine_world.specs.Programs.{AreLoaded}
+use Rattle.machine_world.specs.Programs.{LoadsPrograms}
 use Rattle.machine_world.proofs.Loads.{boot_loads_programs}
 use Rattle.syscall_layer.specs.Kept.{Kept, nothing_yet}
 use Rattle.syscall_layer.specs.Stands.{About, process_of, live_spaces, world_of}
@@ -26,7 +27,7 @@ use Rattle.flat_machine.specs.Boots.{IsFault, Boots, Begins}
 pub record OneMore (w now : World) : Type 0 where
   pub pids : now.next_pid ≡ w.next_pid + 1
   pub loads : now.loads ≡ w.loads + 1
-  pub procs : length now.procs ≡ length w.procs + 1
+  pub procs : length now.procs + length now.ended ≡ length w.procs + length w.ended + 1
 
 abbrev booted : World → Result World BootFault
 booted w = Ok w
@@ -39,7 +40,7 @@ module _ (w now : World) (s : StartLine) where
   more_placed f None is = absurd cc
   more_placed f (Some page) is =
       let new : World = begun w f.index (record { original = f.original; block = address_of page; args = s.args; env = [] }) in
-      subst (OneMore w) (same_world new now is) (record { pids = refl; loads = refl; procs = let one : suc (length w.procs) ≡ length w.procs + 1 = omega arith in one })
+      subst (OneMore w) (same_world new now is) (record { pids = refl; loads = refl; procs = let one : suc (length w.procs) + length w.ended ≡ length w.procs + length w.ended + 1 = omega arith in one })
 
   more_fitting : (f : Found) (fits : Bool) → fitting w s f fits ≡ Ok now → OneMore w now
   more_fitting f true is = more_placed f (taken w (block_pages f.original) (free w)) is
@@ -71,9 +72,9 @@ module _ (a : About) (old new : Kept) (s : StartLine) where
     unfolding world_of
     more_spaces = counts.loads
 
-    pub more_entries : length new.procs.entries ≡ length old.procs.entries + 1
+    pub more_processes : count new.procs ≡ count old.procs + 1
     unfolding world_of
-    more_entries = let c = counts.procs in omega (arith, c, length-map new.procs.entries process_of, length-map old.procs.entries process_of)
+    more_processes = let c = counts.procs in omega (arith, c, length-map new.procs.entries process_of, length-map old.procs.entries process_of)
 
     lines_on : (more : List StartLine) → all_started (world_of a old) (s ∷ more) ≡ all_started (world_of a new) more
     unfolding all_started
@@ -121,8 +122,7 @@ all_done w all is = is
 pub machine_boots : (w : World) (s : State) (all : Result World BootFault) → Ok w ≡ all → world s ≡ w → Boots all (Ok s)
 machine_boots w s all is same = subst (λ (r : Result World BootFault). Boots r (Ok s)) is same
 
-pub machine_loads : (rest : Rest) (starts : List StartLine) (a : About) (k : Kept) → Ok (world_of a k) ≡ boot rest starts → AreLoaded (length rest.programs) k.notes
-unfolding world_of
+pub machine_loads : (rest : Rest) (starts : List StartLine) (a : About) (k : Kept) → Ok (world_of a k) ≡ boot rest starts → LoadsPrograms (length rest.programs) (world_of a k)
 machine_loads rest starts a k is = boot_loads_programs rest starts (world_of a k) (sym is)
 
 boot_is : (rest : Rest) (starts : List StartLine) → all_started (empty_world rest) starts ≡ boot rest starts

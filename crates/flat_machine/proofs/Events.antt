@@ -7,21 +7,25 @@ use Rattle.rv32im_step.specs.declared.stop.Stop.{Stop}
 use Rattle.rv32im_step.specs.declared.stop.Stop.TheVariants.{Call, Trap, Refused}
 use Rattle.mmap_rules.specs.Space.{writable_in}
 use Rattle.call_log.specs.Notes.{stray_note}
+use Rattle.vfork_exec.specs.Procs.{CanRun}
 use Rattle.machine_world.specs.World.{World}
+use Rattle.machine_world.specs.Families.{MayRun}
 use Rattle.machine_world.specs.Event.{Outcome, went, strays, full, idle, noted, event, called, died}
 use Rattle.machine_world.specs.Turns.{seen_of}
 use Rattle.machine_world.specs.Courses.{StandsAt}
 use Rattle.machine_world.proofs.States.{is_called, is_died, is_stray}
+use Rattle.machine_world.proofs.Chains.{may_run_still}
 use Rattle.machine_world.proofs.Signals.{trap_small}
 use Rattle.syscall_layer.specs.declared.answer.Served.{Served}
 use Rattle.syscall_layer.specs.declared.answer.Served.TheVariants as served
 use Rattle.syscall_layer.specs.Kept.{Kept}
-use Rattle.syscall_layer.specs.Stands.{About, world_of}
+use Rattle.syscall_layer.specs.Stands.{About, later, world_of}
 use Rattle.syscall_layer.specs.Serves.{Answered, Died}
 use Rattle.flat_machine.specs.declared.run.End.TheVariants as told
 use Rattle.flat_machine.specs.declared.turn.After.{After}
 use Rattle.flat_machine.specs.declared.turn.After.TheVariants as after
 use Rattle.flat_machine.specs.Leaves.{Carried, TellsStray}
+use Rattle.flat_machine.proofs.Picks.{can_run, may_run}
 
 -- ---- what the event is
 
@@ -40,17 +44,27 @@ signal_small w pid signal s = trap_small s.process.regs s.space.space.bytes (wri
 -- ---- what it leaves
 
 module _ (a : About) (old new : Kept) (pid : ℕ) where
-  replied : (o : Outcome) → Answered a o old new pid served.Replied → Carried a o old new pid (Ok after.GoesOn)
-  replied (went now t) x = let b = x.1 in (x.0, b.0, b.1)
-  replied (strays access) x = absurd x
-  replied full x = absurd x
-  replied idle x = absurd x
+  -- a process that may run may run still, as its turn isn't over
+  replied : CanRun old.procs pid → (o : Outcome) → event (world_of a old) pid ≡ o → Answered a o old new pid served.Replied → Carried a o old new pid (Ok after.GoesOn)
+  replied can (went now t) is x =
+      let b = x.1 in
+      let still : MayRun now pid = may_run_still (world_of a old) pid now t (may_run a old pid can) is b.0 in
+      (x.0, b.0, can_run (later 1 a) new pid (subst (λ (w : World). MayRun w pid) x.0 still))
+  replied can (strays access) is x = absurd x
+  replied can full is x = absurd x
+  replied can idle is x = absurd x
 
   turn_ends : (o : Outcome) → Answered a o old new pid served.TurnEnds → Carried a o old new pid (Ok after.TurnEnds)
   turn_ends (went now t) x = let b = x.1 in (x.0, b.0)
   turn_ends (strays access) x = absurd x
   turn_ends full x = absurd x
   turn_ends idle x = absurd x
+
+  waits : (o : Outcome) → Answered a o old new pid served.Waits → Carried a o old new pid (Ok after.TurnEnds)
+  waits (went now t) x = let b = x.1 in (x.0, b.0)
+  waits (strays access) x = absurd x
+  waits full x = absurd x
+  waits idle x = absurd x
 
   ended : (o : Outcome) → Answered a o old new pid served.Ended → Carried a o old new pid (Ok after.TurnEnds)
   ended (went now t) x = let b = x.1 in (x.0, b.0)
@@ -103,13 +117,14 @@ module _ (a : About) (old new : Kept) (pid : ℕ) where
         → s ≡ t → Answered a (called (world_of a old) pid) old new pid s → Carried a (event (world_of a old) pid) old new pid r
     call_answered s t r goes same x = carried_by (called (world_of a old) pid) r is (goes (subst (Answered a (called (world_of a old) pid) old new pid) same x))
 
-    pub call_replied : (s : Served) → s ≡ served.Replied → Answered a (called (world_of a old) pid) old new pid s → Carried a (event (world_of a old) pid) old new pid (Ok after.GoesOn)
-    call_replied s same x = call_answered s served.Replied (Ok after.GoesOn) (replied (called (world_of a old) pid)) same x
+    pub call_replied : CanRun old.procs pid → (s : Served) → s ≡ served.Replied → Answered a (called (world_of a old) pid) old new pid s → Carried a (event (world_of a old) pid) old new pid (Ok after.GoesOn)
+    call_replied can s same x = call_answered s served.Replied (Ok after.GoesOn) (replied can (called (world_of a old) pid) is) same x
 
-    pub call_turn_ends : (s : Served) → (s ≡ served.TurnEnds) ⊎ (s ≡ served.Ended) → Answered a (called (world_of a old) pid) old new pid s
+    pub call_turn_ends : (s : Served) → (s ≡ served.TurnEnds) ⊎ (s ≡ served.Waits) ⊎ (s ≡ served.Ended) → Answered a (called (world_of a old) pid) old new pid s
         → Carried a (event (world_of a old) pid) old new pid (Ok after.TurnEnds)
     call_turn_ends s (inl same) x = call_answered s served.TurnEnds (Ok after.TurnEnds) (turn_ends (called (world_of a old) pid)) same x
-    call_turn_ends s (inr same) x = call_answered s served.Ended (Ok after.TurnEnds) (ended (called (world_of a old) pid)) same x
+    call_turn_ends s (inr (inl same)) x = call_answered s served.Waits (Ok after.TurnEnds) (waits (called (world_of a old) pid)) same x
+    call_turn_ends s (inr (inr same)) x = call_answered s served.Ended (Ok after.TurnEnds) (ended (called (world_of a old) pid)) same x
 
     pub call_full : (s : Served) → s ≡ served.LogFull → Answered a (called (world_of a old) pid) old new pid s → Carried a (event (world_of a old) pid) old new pid (Ok (after.RunEnds told.LogFull))
     call_full s same x = call_answered s served.LogFull (Ok (after.RunEnds told.LogFull)) (log_full (called (world_of a old) pid)) same x

@@ -1,4 +1,5 @@
--- Readers: what the fields of a machine say of its world.
+-- What is proved of a machine.
+-- Abouts    runs of which little is known
 -- Advanced  the parts after instructions of one process
 -- Windows   the block's own range may be used whole
 -- Events    the next event of a process, by the step at which it stands
@@ -9,6 +10,7 @@
 -- Copies    the own bytes of a process, in the one memory
 -- Found     the program of a path, and the start of a start line
 -- Booted    the start lines one after the other
+pub mod Abouts
 pub mod Readers
 pub mod Advanced
 pub mod Windows

@@ -1,74 +1,64 @@
--- The process of a turn lives, and is that of the world.
-use Rattle.std.proofs.Common.{◌≡◌, ◌≢◌, ℕ, zero, suc, ◌-◌, ◌%◌, get_or, ◌<◌, Bool, true, false, ◌⊎◌, inl, inr, List, [], ◌∷◌, map, length, Option, Some, None, refl, sym, ap, subst, ◌∙◌, arith}
-use Rattle.std.specs.Prelude.{◌==◌, reverse, slice_get, IsSome, IfSome}
-use Rattle.std.proofs.lemmas.Option.{slice_get_within, slice_get-get_or, get_or_from_slice_get}
-use Rattle.std.proofs.lemmas.List.{get_or-reverse, length-reverse, length-map}
+-- The process of a turn may run, and is that of the world.
+use Rattle.std.proofs.Common.{◌≡◌, ◌≢◌, ℕ, true, false, [], map, length, Option, Some, None, refl, sym, ap, ◌∙◌, arith}
+use Rattle.std.specs.Prelude.{◌==◌, option_map, IfSome}
+use Rattle.std.proofs.lemmas.List.{length-map}
 use Rattle.std.proofs.lemmas.Bool.Decides.{nat_tests}
 use Rattle.vfork_exec.specs.declared.entry.Entry.{Entry}
-use Rattle.vfork_exec.specs.Keyed.{find}
-use Rattle.vfork_exec.specs.Procs.{Lives, pids}
-use Rattle.vfork_exec.specs.Procs.{pid_of as entry_pid}
-use Rattle.vfork_exec.proofs.Keyed.{find_head}
+use Rattle.vfork_exec.specs.Keyed.{Falls}
+use Rattle.vfork_exec.specs.Procs.{CanRun, process, state_at}
+use Rattle.vfork_exec.specs.Procs.{pid_of as entry_pid, ready_pids as ready_entries}
 use Rattle.quantum_sched.specs.Picked.{picked}
 use Rattle.machine_world.specs.World.{Process, pid_of}
+use Rattle.machine_world.specs.Families.{MayRun, ready_pids}
+use Rattle.machine_world.specs.Families.{state_at as state_in}
 use Rattle.machine_world.specs.Turns.{all_ended, out_of_quanta, Walk, turns}
+use Rattle.machine_world.proofs.Chains.{ready_found}
 use Rattle.machine_world.proofs.RunLaws.{none_left}
 use Rattle.syscall_layer.specs.declared.task.Task.{Task}
 use Rattle.syscall_layer.specs.Kept.{Kept}
 use Rattle.syscall_layer.specs.Stands.{About, process_of, world_of}
+use Rattle.syscall_layer.proofs.Families.{ready_is, falls_is}
+use Rattle.syscall_layer.proofs.Worlds.{find_process}
+use Rattle.flat_machine.proofs.Abouts.{some_about}
 
-decide : (b : Bool) → (b ≡ true) ⊎ (b ≡ false)
-decide true = inl refl
-decide false = inr refl
+-- ---- who may run
 
-eqb_not : (n k : ℕ) → (n == k) ≡ false → n ≡ k → ⊥
-eqb_not n k h e = grind (arith, nat_tests)
-
--- what stands at a place of a list's back is in the list
-record Placed (xs : List ℕ) (x : ℕ) : Type 0 where
-  at : ℕ
-  there : slice_get xs at ≡ Some x
-
-there : (es : List (Entry Task)) (pid at : ℕ) → slice_get (map entry_pid es) at ≡ Some pid → IsSome (find entry_pid pid es)
-unfolding find
-there [] pid at h = absurd cc
-there (e ∷ es) pid zero h = elim (decide (e.pid == pid)) [
-  | inl is ↦ subst IsSome (sym (find_head entry_pid pid e es true is)) refl
-  | inr is ↦ absurd (eqb_not e.pid pid is (let same : Some e.pid ≡ Some pid = h in cc))
-]
-there (e ∷ es) pid (suc at) h = elim (decide (e.pid == pid)) [
-  | inl is ↦ subst IsSome (sym (find_head entry_pid pid e es true is)) refl
-  | inr is ↦ subst IsSome (sym (find_head entry_pid pid e es false is)) (there es pid at h)
-]
-
-same_pids : (es : List (Entry Task)) → map pid_of (map process_of es) ≡ map entry_pid es
-same_pids [] = refl
-same_pids (e ∷ es) = ap (λ ns. e.pid ∷ ns) (same_pids es)
-
-pub world_pids : (a : About) (k : Kept) → map pid_of (world_of a k).procs ≡ pids k.procs
+-- a process of the world has the state of its entry
+state_is : (a : About) (k : Kept) (pid : ℕ) → state_in (world_of a k) pid ≡ state_at k.procs pid
 unfolding world_of
-world_pids a k = same_pids k.procs.entries
+state_is a k pid = ap (option_map (λ (p : Process). p.state)) (find_process pid k.procs.entries) ∙ same (process k.procs pid)
+  where
+    same : (o : Option (Entry Task)) → option_map (λ (p : Process). p.state) (option_map process_of o) ≡ option_map (λ (e : Entry Task). e.state) o
+    same None = refl
+    same (Some e) = refl
 
-placed_back : (xs : List ℕ) (k x : ℕ) → slice_get (reverse xs) k ≡ Some x → Placed xs x
-placed_back xs k x h =
-    let within : k < length xs = omega (arith, slice_get_within (reverse xs) k x h, length-reverse xs) in
-    let is : get_or (reverse xs) k x ≡ x = get_or_from_slice_get (reverse xs) k x x h in
-    record {
-      at = length xs - 1 - k;
-      there = slice_get-get_or xs (length xs - 1 - k) x (omega arith) ∙ ap Some (sym (get_or-reverse xs k x within) ∙ is);
-    }
+pub can_run : (a : About) (k : Kept) (pid : ℕ) → MayRun (world_of a k) pid → CanRun k.procs pid
+can_run a k pid may = sym (state_is a k pid) ∙ may
 
-pub picked_lives : (k : Kept) (pick : ℕ) (o : Option ℕ) → o ≡ picked pick (pids k.procs) → IfSome o (λ pid. Lives k.procs pid)
-unfolding picked
-picked_lives k pick None h = tt
-picked_lives k pick (Some pid) h =
-    let p = placed_back (pids k.procs) (pick % length (pids k.procs)) pid (sym h) in
-    there k.procs.entries pid p.at p.there
+pub may_run : (a : About) (k : Kept) (pid : ℕ) → CanRun k.procs pid → MayRun (world_of a k) pid
+may_run a k pid can = state_is a k pid ∙ can
 
-pub picked_world : (a : About) (k : Kept) (pick : ℕ) (o : Option ℕ) → o ≡ picked pick (pids k.procs) → o ≡ picked pick (map pid_of (world_of a k).procs)
-picked_world a k pick o h = h ∙ ap (picked pick) (sym (world_pids a k))
+-- ---- the process of a turn
 
--- behind the last quantum
+world_ready : (a : About) (k : Kept) → ready_pids (world_of a k).procs ≡ ready_entries k.procs
+unfolding world_of
+world_ready a k = ready_is k.procs
+
+pub picked_world : (a : About) (k : Kept) (pick : ℕ) (o : Option ℕ) → o ≡ picked pick (ready_entries k.procs) → o ≡ picked pick (ready_pids (world_of a k).procs)
+picked_world a k pick o h = h ∙ ap (picked pick) (sym (world_ready a k))
+
+world_falls : (a : About) (k : Kept) (next : ℕ) → Falls entry_pid next k.procs.entries → Falls pid_of next (world_of a k).procs
+unfolding world_of
+world_falls a k next falls = falls_is k.procs next falls
+
+pub picked_can_run : (k : Kept) (next : ℕ) → Falls entry_pid next k.procs.entries → (pick : ℕ) (o : Option ℕ) → o ≡ picked pick (ready_entries k.procs) → IfSome o (λ pid. CanRun k.procs pid)
+picked_can_run k next falls pick None h = tt
+picked_can_run k next falls pick (Some pid) h =
+    can_run some_about k pid
+    (ready_found (world_of some_about k).procs next pick pid (sym (picked_world some_about k pick (Some pid) h)) (world_falls some_about k next falls))
+
+-- ---- behind the last quantum
+
 pub none_at_all : (a : About) (k : Kept) → length k.procs.entries ≡ 0 → (turns [] (world_of a k)).end ≡ Some all_ended
 unfolding world_of
 none_at_all a k none =

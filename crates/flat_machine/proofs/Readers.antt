@@ -1,9 +1,12 @@
 -- What the fields of a machine say of its world.
 use Rattle.std.proofs.Common.{◌≡◌, ℕ, suc, List, [], ◌∷◌, length, map, refl, sym, ap, subst, arith}
 use Rattle.bflt_format.specs.Values.{Values}
-use Rattle.syscall_layer.specs.Stands.{world_of}
+use Rattle.flat_loader.specs.Original.{Original, flat_original}
+use Rattle.syscall_layer.specs.Flats.{AreFlats}
+use Rattle.syscall_layer.specs.Stands.{About, world_of}
+use Rattle.syscall_layer.specs.Kept.{Kept}
 use Rattle.machine_world.specs.World.{program_path}
-use Rattle.machine_world.specs.Programs.{AreLoaded}
+use Rattle.machine_world.specs.Programs.{AreLoaded, LoadsPrograms}
 use Rattle.flat_machine.specs.State.{State, programs_of, world}
 
 -- as many paths as programs
@@ -19,6 +22,13 @@ programs_count (path ∷ paths) (flat ∷ flats) same = ap suc (programs_count p
 programs_count [] (flat ∷ flats) same = absurd (grind arith)
 programs_count (path ∷ paths) [] same = absurd (grind arith)
 
+-- each program is its flat file
+pub are_flats : (paths : List (List ℕ)) (flats : List Values) → length paths ≡ length flats → AreFlats (programs_of paths flats) flats
+are_flats [] [] same = refl
+are_flats (path ∷ paths) (flat ∷ flats) same = ap (λ (rest : List Original). flat_original flat ∷ rest) (are_flats paths flats (grind arith))
+are_flats [] (flat ∷ flats) same = absurd (grind arith)
+are_flats (path ∷ paths) [] same = absurd (grind arith)
+
 pub paths_of_world : (s : State) → length s.paths ≡ length s.programs → map program_path (world s).rest.programs ≡ s.paths
 unfolding world_of
 paths_of_world s same = paths_are s.paths s.programs same
@@ -26,3 +36,12 @@ paths_of_world s same = paths_are s.paths s.programs same
 pub loads_of_world : (s : State) → length s.paths ≡ length s.programs → AreLoaded (length s.programs) s.kept.notes → AreLoaded (length (world s).rest.programs) (world s).notes
 unfolding world_of
 loads_of_world s same are = subst (λ (n : ℕ). AreLoaded n s.kept.notes) (sym (programs_count s.paths s.programs same)) are
+
+-- the programs that are there, and the load notes that name them
+pub loads_programs : (a : About) (k : Kept) (n : ℕ) → length a.programs ≡ n → AreLoaded n k.notes → LoadsPrograms n (world_of a k)
+unfolding world_of
+loads_programs a k n same are = record { count = same; loaded = are }
+
+pub loaded_notes : (a : About) (k : Kept) (n : ℕ) → LoadsPrograms n (world_of a k) → AreLoaded n k.notes
+unfolding world_of
+loaded_notes a k n loads = loads.loaded

@@ -1,5 +1,5 @@
 -- Runs by quanta.
-use Rattle.std.proofs.Common.{◌≡◌, ℕ, zero, suc, ◌+◌, ◌-◌, ◌*◌, ◌<◌, ◌≤◌, List, [], ◌∷◌, ◌++◌, map, length, Option, Some, None, Result, Ok, Err, refl, sym, ap, subst, ◌∙◌, arith, append_assoc, append-nil, take, drop, get_or}
+use Rattle.std.proofs.Common.{◌≡◌, ℕ, zero, suc, ◌+◌, ◌-◌, ◌*◌, ◌<◌, ◌≤◌, List, [], ◌∷◌, ◌++◌, length, Option, Some, None, Result, Ok, Err, refl, sym, ap, subst, ◌∙◌, arith, append_assoc, append-nil, take, drop, get_or}
 use Rattle.std.specs.Result.{IsErr}
 use Rattle.std.proofs.Math.Nat.{mul-le-mul_left}
 use Rattle.std.proofs.Math.Seq.{take-suc}
@@ -8,10 +8,12 @@ use Rattle.std.specs.Prelude.{alloc_error}
 use Rattle.std.specs.declared.alloc.AllocError.{AllocError}
 use Rattle.quantum_sched.specs.declared.Quantum.{Quantum}
 use Rattle.quantum_sched.specs.Picked.{picked}
-use Rattle.machine_world.specs.World.{World, pid_of}
+use Rattle.vfork_exec.specs.Procs.{CanRun}
+use Rattle.machine_world.specs.World.{World}
+use Rattle.machine_world.specs.Families.{ready_pids}
 use Rattle.machine_world.specs.Turns.{End, Walk, turn, turns, walked}
-use Rattle.machine_world.specs.Programs.{AreLoaded}
-use Rattle.machine_world.proofs.Loads.{turn_loads_nothing}
+use Rattle.machine_world.specs.Programs.{AreLoaded, LoadsPrograms}
+use Rattle.machine_world.proofs.Loads.{turn_loads_programs}
 use Rattle.machine_world.specs.Courses.{Comes}
 use Rattle.machine_world.proofs.RunLaws.{comes_on, none_chosen, turn_stops, turn_comes, none_left}
 use Rattle.flat_machine.specs.declared.run.End.{End as Told}
@@ -25,6 +27,8 @@ use Rattle.flat_machine.specs.State.{State, about_of, world}
 use Rattle.syscall_layer.specs.Kept.{Kept}
 use Rattle.syscall_layer.specs.Stands.{About, later, world_of}
 use Rattle.flat_machine.specs.Leaves.{TurnLeaves, Leaves}
+use Rattle.flat_machine.proofs.Picks.{may_run}
+use Rattle.flat_machine.proofs.Readers.{loads_programs, loaded_notes}
 
 -- an end that is told is there
 ends_is : (o : Option End) (end : Told) → Ends o end → (e : End) × (o ≡ Some e)
@@ -37,10 +41,10 @@ ends_is None told.LogFull x = absurd x
 -- ---- one quantum
 
 module _ (q : Quantum) (w : World) where
-  pub quantum_none : picked q.pick (map pid_of w.procs) ≡ None → Leaves (q ∷ []) w w (Ok (Some told.AllEnded))
+  pub quantum_none : picked q.pick (ready_pids w.procs) ≡ None → Leaves (q ∷ []) w w (Ok (Some told.AllEnded))
   quantum_none none back = rw (none_chosen q w none back) (refl, tt)
 
-  module _ (pid : ℕ) (chosen : picked q.pick (map pid_of w.procs) ≡ Some pid) (done : ℕ) (new : World) where
+  module _ (pid : ℕ) (chosen : picked q.pick (ready_pids w.procs) ≡ Some pid) (done : ℕ) (new : World) where
     pub quantum_leaves : (r : Result (Option Told) AllocError) → TurnLeaves pid q.count w done new r → Leaves (q ∷ []) w new r
     quantum_leaves (Ok None) x = subst (Comes (q ∷ []) w) x.0 (turn_comes q w pid chosen (turn q.count pid w) refl x.1)
     quantum_leaves (Ok (Some end)) x = λ back.
@@ -63,25 +67,30 @@ module _ (q : Quantum) (w : World) where
     }
 
 -- a machine whose process has its turn
-pub machine_leaves : (s : State) (q : Quantum) (pid done events : ℕ) (k : Kept) (r : Result (Option Told) AllocError) → Some pid ≡ picked q.pick (map pid_of (world s).procs)
+pub machine_leaves : (s : State) (q : Quantum) (pid done events : ℕ) (k : Kept) (r : Result (Option Told) AllocError) → Some pid ≡ picked q.pick (ready_pids (world s).procs)
     → TurnLeaves pid q.count (world s) done (world_of (later done (about_of s)) k) r → events ≡ done → Leaves (q ∷ []) (world s) (world (record s { kept = k; events = s.events + events })) r
 machine_leaves s q pid done events k r chosen leaves all =
     rw all (quantum_leaves q (world s) pid (sym chosen) done (world_of (later done (about_of s)) k) r leaves)
 
--- no turn loads a program
-pub turn_loads : (a b : About) (n pid count done : ℕ) (old new : Kept) (r : Result (Option Told) AllocError) → TurnLeaves pid count (world_of a old) done (world_of b new) r
-    → AreLoaded n old.notes → AreLoaded n new.notes
-unfolding world_of
-turn_loads a b n pid count done old new (Ok None) x are = subst (λ (w : World). AreLoaded n w.notes) x.0 (turn_loads_nothing n count pid (world_of a old) are)
-turn_loads a b n pid count done old new (Ok (Some end)) x are = subst (λ (w : World). AreLoaded n w.notes) x.0 (turn_loads_nothing n count pid (world_of a old) are)
-turn_loads a b n pid count done old new (Err error) x are = subst (λ (w : World). AreLoaded n w.notes) x.walked (turn_loads_nothing n done pid (world_of a old) are)
+-- the world that a turn leaves
+turn_has : (P : World → Type 0) (pid count : ℕ) (old : World) (done : ℕ) (new : World) (r : Result (Option Told) AllocError) → TurnLeaves pid count old done new r
+    → ((n : ℕ) → P (turn n pid old).world) → P new
+turn_has P pid count old done new (Ok None) x each = subst P x.0 (each count)
+turn_has P pid count old done new (Ok (Some end)) x each = subst P x.0 (each count)
+turn_has P pid count old done new (Err error) x each = subst P x.walked (each done)
 
--- every turn leaves a sound world
+-- every turn loads programs that are there
+pub turn_loads : (a b : About) (n pid count done : ℕ) (old new : Kept) (r : Result (Option Told) AllocError) → TurnLeaves pid count (world_of a old) done (world_of b new) r
+    → length a.programs ≡ n → AreLoaded n old.notes → AreLoaded n new.notes
+turn_loads a b n pid count done old new r x same are =
+    loaded_notes b new n (turn_has (LoadsPrograms n) pid count (world_of a old) done (world_of b new) r x
+    (λ m. turn_loads_programs n m pid (world_of a old) (loads_programs a old n same are)))
+
+-- and leaves a sound world
 pub turn_sound : (a b : About) (pid count done : ℕ) (old new : Kept) (r : Result (Option Told) AllocError) → TurnLeaves pid count (world_of a old) done (world_of b new) r
-    → IsSound (world_of a old) → IsSound (world_of b new)
-turn_sound a b pid count done old new (Ok None) x sound = subst IsSound x.0 (turns_keep_sound count pid (world_of a old) sound)
-turn_sound a b pid count done old new (Ok (Some end)) x sound = subst IsSound x.0 (turns_keep_sound count pid (world_of a old) sound)
-turn_sound a b pid count done old new (Err error) x sound = subst IsSound x.walked (turns_keep_sound done pid (world_of a old) sound)
+    → CanRun old.procs pid → IsSound (world_of a old) → IsSound (world_of b new)
+turn_sound a b pid count done old new r x can sound =
+    turn_has IsSound pid count (world_of a old) done (world_of b new) r x (λ m. turns_keep_sound m pid (world_of a old) sound (may_run a old pid can))
 
 -- and every run what is right of the stays
 pub run_keeps_stays : (qs : List Quantum) (old new : State) (r : Result Told AllocError) → IsSound (world old) → Runs qs old new r → KeepsStays qs old new r

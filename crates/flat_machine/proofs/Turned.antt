@@ -1,16 +1,18 @@
 -- A turn, by its events.
-use Rattle.std.proofs.Common.{◌≡◌, ◌≢◌, ℕ, ◌+◌, ◌<◌, [], ◌∷◌, Some, None, Ok, Err, refl, sym, ap, subst, ◌∙◌, arith}
+use Rattle.std.proofs.Common.{◌≡◌, ◌≢◌, ℕ, ◌+◌, ◌<◌, List, [], ◌∷◌, Some, None, Ok, Err, refl, sym, ap, subst, ◌∙◌, arith}
 use Rattle.std.specs.declared.alloc.AllocError.{AllocError}
 use Rattle.rv32im_step.specs.declared.stop.Stop.{Stop}
 use Rattle.rv32im_step.specs.declared.stop.Stop.TheVariants.{Next, Call, Trap, Refused}
 use Rattle.page_runs.specs.declared.place.Kind.{Kind}
+use Rattle.bflt_format.specs.Values.{Values}
 use Rattle.call_log.specs.Notes.{stray_note}
-use Rattle.vfork_exec.specs.Procs.{Lives}
+use Rattle.vfork_exec.specs.Procs.{CanRun}
 use Rattle.machine_world.specs.World.{World}
 use Rattle.machine_world.specs.Event.{Outcome, went, strays, full, idle, noted, event}
 use Rattle.machine_world.specs.Turns.{stray_at, log_full, Walk, seen_of, stays_at, turn, walked}
 use Rattle.machine_world.specs.Courses.{Leads, StandsAt, Halts}
 use Rattle.machine_world.proofs.TurnLaws.{leads_none, leads_on, leads_event, turn_over, turn_strays, turn_full, turn_used, turn_from}
+use Rattle.syscall_layer.specs.Flats.{AreFlats}
 use Rattle.syscall_layer.specs.Kept.{Kept}
 use Rattle.syscall_layer.specs.Stands.{About, later, world_of}
 use Rattle.flat_machine.specs.declared.run.End.{End as Told}
@@ -18,15 +20,11 @@ use Rattle.flat_machine.specs.declared.run.End.TheVariants as told
 use Rattle.flat_machine.specs.declared.turn.After.TheVariants as after
 use Rattle.flat_machine.specs.Runs.{StandsStill}
 use Rattle.flat_machine.specs.Leaves.{Carried, TurnStops, TurnLeaves}
-use Rattle.flat_machine.proofs.Advanced.{some_about}
-
--- any run whose free runs are chosen so
-abbrev pub about_with : Kind → About
-about_with kind = record { kind = kind; programs = []; events = 0 }
+use Rattle.flat_machine.proofs.Abouts.{some_about, about_with, some_are_flats}
 
 -- behind so many events of a process the parts are others
-abbrev pub Reached : Kind → ℕ → Kept → ℕ → Kept → Type 0
-Reached kind pid old n now = (a : About) → a.kind ≡ kind → Leads pid (world_of a old) n (world_of (later n a) now)
+abbrev pub Reached : Kind → List Values → ℕ → Kept → ℕ → Kept → Type 0
+Reached kind flats pid old n now = (a : About) → a.kind ≡ kind → AreFlats a.programs flats → Leads pid (world_of a old) n (world_of (later n a) now)
 
 later_none : (a : About) → later 0 a ≡ a
 later_none a = let sum : a.events + 0 ≡ a.events = omega arith in rw sum refl
@@ -34,13 +32,13 @@ later_none a = let sum : a.events + 0 ≡ a.events = omega arith in rw sum refl
 later_on : (i j : ℕ) (a : About) → later j (later i a) ≡ later (i + j) a
 later_on i j a = let sum : a.events + i + j ≡ a.events + (i + j) = omega arith in rw sum refl
 
-pub reached_none : (kind : Kind) (pid : ℕ) (k : Kept) → Reached kind pid k 0 k
-reached_none kind pid k a so = subst (λ (b : About). Leads pid (world_of a k) 0 (world_of b k)) (sym (later_none a)) (leads_none pid (world_of a k))
+pub reached_none : (kind : Kind) (flats : List Values) (pid : ℕ) (k : Kept) → Reached kind flats pid k 0 k
+reached_none kind flats pid k a so are = subst (λ (b : About). Leads pid (world_of a k) 0 (world_of b k)) (sym (later_none a)) (leads_none pid (world_of a k))
 
-pub reached_on : (kind : Kind) (pid : ℕ) (old mid now : Kept) (i j : ℕ) → Reached kind pid old i mid → Reached kind pid mid j now → Reached kind pid old (i + j) now
-reached_on kind pid old mid now i j x y a so =
+pub reached_on : (kind : Kind) (flats : List Values) (pid : ℕ) (old mid now : Kept) (i j : ℕ) → Reached kind flats pid old i mid → Reached kind flats pid mid j now → Reached kind flats pid old (i + j) now
+reached_on kind flats pid old mid now i j x y a so are =
     subst (λ (b : About). Leads pid (world_of a old) (i + j) (world_of b now)) (later_on i j a)
-    (leads_on pid (world_of a old) (world_of (later i a) mid) (world_of (later j (later i a)) now) i j (x a so) (y (later i a) so))
+    (leads_on pid (world_of a old) (world_of (later i a) mid) (world_of (later j (later i a)) now) i j (x a so are) (y (later i a) so are))
 
 -- ---- where a process stands
 
@@ -83,77 +81,77 @@ module _ (now new : Kept) (pid : ℕ) where
   one_on a full is x = absurd x
   one_on a idle is x = absurd x
 
-  lives_on : (a : About) (o : Outcome) → Carried a o now new pid (Ok after.GoesOn) → Lives new.procs pid
-  lives_on a (went v t) x = x.2
-  lives_on a (strays access) x = absurd x
-  lives_on a full x = absurd x
-  lives_on a idle x = absurd x
+  ready_on : (a : About) (o : Outcome) → Carried a o now new pid (Ok after.GoesOn) → CanRun new.procs pid
+  ready_on a (went v t) x = x.2
+  ready_on a (strays access) x = absurd x
+  ready_on a full x = absurd x
+  ready_on a idle x = absurd x
 
-  module _ (kind : Kind) (x : (a : About) → a.kind ≡ kind → Carried a (event (world_of a now) pid) now new pid (Ok after.GoesOn)) where
-    pub event_on : Reached kind pid now 1 new
-    event_on a so = one_on a (event (world_of a now) pid) refl (x a so)
+  module _ (kind : Kind) (flats : List Values) (x : (a : About) → a.kind ≡ kind → AreFlats a.programs flats → Carried a (event (world_of a now) pid) now new pid (Ok after.GoesOn)) where
+    pub event_on : Reached kind flats pid now 1 new
+    event_on a so are = one_on a (event (world_of a now) pid) refl (x a so are)
 
-    pub event_lives : Lives new.procs pid
-    event_lives = lives_on (about_with kind) (event (world_of (about_with kind) now) pid) (x (about_with kind) refl)
+    pub event_ready : CanRun new.procs pid
+    event_ready = ready_on (about_with kind flats) (event (world_of (about_with kind flats) now) pid) (x (about_with kind flats) refl (some_are_flats flats))
 
 -- ---- the end of a turn
 
-module _ (kind : Kind) (pid count : ℕ) (old now : Kept) (n : ℕ) (reached : Reached kind pid old n now) where
-  pub turn_all : n ≡ count → (a : About) → a.kind ≡ kind → TurnLeaves pid count (world_of a old) n (world_of (later n a) now) (Ok None)
-  turn_all all a so =
-      let used = turn_used pid (world_of a old) (world_of (later n a) now) n (reached a so) in
+module _ (kind : Kind) (flats : List Values) (pid count : ℕ) (old now : Kept) (n : ℕ) (reached : Reached kind flats pid old n now) where
+  pub turn_all : n ≡ count → (a : About) → a.kind ≡ kind → AreFlats a.programs flats → TurnLeaves pid count (world_of a old) n (world_of (later n a) now) (Ok None)
+  turn_all all a so are =
+      let used = turn_used pid (world_of a old) (world_of (later n a) now) n (reached a so are) in
       let P : ℕ → Type 0 = λ m. TurnLeaves pid m (world_of a old) n (world_of (later n a) now) (Ok None) in
       subst P all (ap (λ (v : Walk). v.world) used, ap (λ (v : Walk). v.end) used)
 
   module _ (less : n < count) (new : Kept) where
-    whole : (a : About) (so : a.kind ≡ kind) (walk : Walk) → ((m : ℕ) → 0 < m → turn m pid (world_of (later n a) now) ≡ walk) → turn count pid (world_of a old) ≡ walked (reached a so).traces walk
-    whole a so walk is = turn_from pid (world_of a old) (world_of (later n a) now) n (reached a so) count walk less is
+    whole : (a : About) (so : a.kind ≡ kind) (are : AreFlats a.programs flats) (walk : Walk) → ((m : ℕ) → 0 < m → turn m pid (world_of (later n a) now) ≡ walk) → turn count pid (world_of a old) ≡ walked (reached a so are).traces walk
+    whole a so are walk is = turn_from pid (world_of a old) (world_of (later n a) now) n (reached a so are) count walk less is
 
-    ends_with : (a : About) → a.kind ≡ kind → (o : Outcome) → event (world_of (later n a) now) pid ≡ o → Carried (later n a) o now new pid (Ok after.TurnEnds)
+    ends_with : (a : About) → a.kind ≡ kind → AreFlats a.programs flats → (o : Outcome) → event (world_of (later n a) now) pid ≡ o → Carried (later n a) o now new pid (Ok after.TurnEnds)
         → TurnLeaves pid count (world_of a old) (n + 1) (world_of (later (n + 1) a) new) (Ok None)
-    ends_with a so (went v t) is x =
-        let same = whole a so (record { world = v; traces = t ∷ []; end = None }) (turn_over pid (world_of (later n a) now) v t is x.1) in
+    ends_with a so are (went v t) is x =
+        let same = whole a so are (record { world = v; traces = t ∷ []; end = None }) (turn_over pid (world_of (later n a) now) v t is x.1) in
         (ap (λ (z : Walk). z.world) same ∙ x.0 ∙ ap (λ (b : About). world_of b new) (later_on n 1 a), ap (λ (z : Walk). z.end) same)
-    ends_with a so (strays access) is x = absurd x
-    ends_with a so full is x = absurd x
-    ends_with a so idle is x = absurd x
+    ends_with a so are (strays access) is x = absurd x
+    ends_with a so are full is x = absurd x
+    ends_with a so are idle is x = absurd x
 
-    pub turn_ends : ((a : About) → a.kind ≡ kind → Carried a (event (world_of a now) pid) now new pid (Ok after.TurnEnds))
-        → (a : About) → a.kind ≡ kind → TurnLeaves pid count (world_of a old) (n + 1) (world_of (later (n + 1) a) new) (Ok None)
-    turn_ends x a so = ends_with a so (event (world_of (later n a) now) pid) refl (x (later n a) so)
+    pub turn_ends : ((a : About) → a.kind ≡ kind → AreFlats a.programs flats → Carried a (event (world_of a now) pid) now new pid (Ok after.TurnEnds))
+        → (a : About) → a.kind ≡ kind → AreFlats a.programs flats → TurnLeaves pid count (world_of a old) (n + 1) (world_of (later (n + 1) a) new) (Ok None)
+    turn_ends x a so are = ends_with a so are (event (world_of (later n a) now) pid) refl (x (later n a) so are)
 
-    stops_with : (a : About) → a.kind ≡ kind → (o : Outcome) (end : Told) → event (world_of (later n a) now) pid ≡ o → Carried (later n a) o now new pid (Ok (after.RunEnds end))
+    stops_with : (a : About) → a.kind ≡ kind → AreFlats a.programs flats → (o : Outcome) (end : Told) → event (world_of (later n a) now) pid ≡ o → Carried (later n a) o now new pid (Ok (after.RunEnds end))
         → TurnLeaves pid count (world_of a old) n (world_of (later n a) new) (Ok (Some end))
-    stops_with a so (strays access) (told.Stray seen) is x =
+    stops_with a so are (strays access) (told.Stray seen) is x =
         let w : World = noted (stray_note pid (seen_of access)) (world_of (later n a) now) in
-        let same = whole a so (stays_at w (Some (stray_at pid access))) (turn_strays pid (world_of (later n a) now) access is) in
+        let same = whole a so are (stays_at w (Some (stray_at pid access))) (turn_strays pid (world_of (later n a) now) access is) in
         (ap (λ (z : Walk). z.world) same ∙ sym x.1, rw same x.0)
-    stops_with a so full told.LogFull is x =
-        let same = whole a so (stays_at (world_of (later n a) now) (Some log_full)) (turn_full pid (world_of (later n a) now) is) in
+    stops_with a so are full told.LogFull is x =
+        let same = whole a so are (stays_at (world_of (later n a) now) (Some log_full)) (turn_full pid (world_of (later n a) now) is) in
         (ap (λ (z : Walk). z.world) same ∙ ap (world_of (later n a)) (sym x), rw same tt)
-    stops_with a so (went v t) told.AllEnded is x = absurd x
-    stops_with a so (went v t) (told.Stray seen) is x = absurd x
-    stops_with a so (went v t) told.OutOfQuanta is x = absurd x
-    stops_with a so (went v t) told.LogFull is x = absurd x
-    stops_with a so (strays access) told.AllEnded is x = absurd x
-    stops_with a so (strays access) told.OutOfQuanta is x = absurd x
-    stops_with a so (strays access) told.LogFull is x = absurd x
-    stops_with a so full told.AllEnded is x = absurd x
-    stops_with a so full (told.Stray seen) is x = absurd x
-    stops_with a so full told.OutOfQuanta is x = absurd x
-    stops_with a so idle told.AllEnded is x = absurd x
-    stops_with a so idle (told.Stray seen) is x = absurd x
-    stops_with a so idle told.OutOfQuanta is x = absurd x
-    stops_with a so idle told.LogFull is x = absurd x
+    stops_with a so are (went v t) told.AllEnded is x = absurd x
+    stops_with a so are (went v t) (told.Stray seen) is x = absurd x
+    stops_with a so are (went v t) told.OutOfQuanta is x = absurd x
+    stops_with a so are (went v t) told.LogFull is x = absurd x
+    stops_with a so are (strays access) told.AllEnded is x = absurd x
+    stops_with a so are (strays access) told.OutOfQuanta is x = absurd x
+    stops_with a so are (strays access) told.LogFull is x = absurd x
+    stops_with a so are full told.AllEnded is x = absurd x
+    stops_with a so are full (told.Stray seen) is x = absurd x
+    stops_with a so are full told.OutOfQuanta is x = absurd x
+    stops_with a so are idle told.AllEnded is x = absurd x
+    stops_with a so are idle (told.Stray seen) is x = absurd x
+    stops_with a so are idle told.OutOfQuanta is x = absurd x
+    stops_with a so are idle told.LogFull is x = absurd x
 
-    pub turn_stops : (end : Told) → ((a : About) → a.kind ≡ kind → Carried a (event (world_of a now) pid) now new pid (Ok (after.RunEnds end)))
-        → (a : About) → a.kind ≡ kind → TurnLeaves pid count (world_of a old) n (world_of (later n a) new) (Ok (Some end))
-    turn_stops end x a so = stops_with a so (event (world_of (later n a) now) pid) end refl (x (later n a) so)
+    pub turn_stops : (end : Told) → ((a : About) → a.kind ≡ kind → AreFlats a.programs flats → Carried a (event (world_of a now) pid) now new pid (Ok (after.RunEnds end)))
+        → (a : About) → a.kind ≡ kind → AreFlats a.programs flats → TurnLeaves pid count (world_of a old) n (world_of (later n a) new) (Ok (Some end))
+    turn_stops end x a so are = stops_with a so are (event (world_of (later n a) now) pid) end refl (x (later n a) so are)
 
     pub turn_fails : (stop : Stop) → ((a : About) → StandsAt (world_of a now) pid stop) → new ≡ now → (error : AllocError)
-        → (a : About) → a.kind ≡ kind → TurnLeaves pid count (world_of a old) n (world_of (later n a) new) (Err error)
-    turn_fails stop stands same error a so =
-        let used = turn_used pid (world_of a old) (world_of (later n a) now) n (reached a so) in
+        → (a : About) → a.kind ≡ kind → AreFlats a.programs flats → TurnLeaves pid count (world_of a old) n (world_of (later n a) new) (Err error)
+    turn_fails stop stands same error a so are =
+        let used = turn_used pid (world_of a old) (world_of (later n a) now) n (reached a so are) in
         let P : Kept → Type 0 = λ k. TurnStops pid count (world_of a old) n (world_of (later n a) k) in
         subst P (sym same) (record {
           less = less;

@@ -1,18 +1,20 @@
 -- Each start line in order.
-use Rattle.std.proofs.Common.{refl, sym, ap, ◌∙◌, ◌≡◌, ◌+◌, length, subst}
+use Rattle.std.proofs.Common.{refl, sym, ap, ◌∙◌, ◌≡◌, ◌+◌, ◌≤◌, List, length, subst, arith}
 use Rattle.std.proofs.lemmas.List.{length-map}
 use Rattle.call_log.specs.Programs.{paths_of}
 use Rattle.machine_world.specs.Programs.{AreLoaded}
-use Rattle.flat_machine.proofs.Readers.{programs_count}
+use Rattle.flat_machine.proofs.Readers.{programs_count, loaded_notes}
+use Rattle.manifest_text.specs.declared.manifest.Start.{Start as StartItem}
 use Rattle.page_runs.specs.Choosers.{kind_of}
 use Rattle.machine_world.specs.Boot.{all_started, boot}
+use Rattle.vfork_exec.specs.Procs.{count, most_entries}
 use Rattle.fd_tables.specs.Files.{OpenFiles}
 use Rattle.syscall_layer.specs.Kept.{Kept}
 use Rattle.syscall_layer.specs.Stands.{world_of}
 use Rattle.stays_laws.proofs.SoundRuns.{boots_are_sound}
 use Rattle.stays_laws.proofs.StaysRuns.{boots_begin_stays}
 use Rattle.flat_machine.specs.State.{about_boot, line_of, lines_of, rest_of}
-use Rattle.flat_machine.proofs.Booted.{more_pids, more_spaces, more_entries, left_on, left_fails, left_none, fails_as, boots_from, machine_boots, machine_loads}
+use Rattle.flat_machine.proofs.Booted.{more_pids, more_spaces, more_processes, left_on, left_fails, left_none, fails_as, boots_from, machine_boots, machine_loads}
 use Rattle.flat_machine.proofs.machine.Machine.boot.Goals as goal
 
 pub loop-start-init : goal.loop-start-init
@@ -22,7 +24,7 @@ loop-start-init g c =
       left = refl;
       pids = ap (λ (k : Kept). k.procs.next_pid) is;
       spaces = ap (λ (k : Kept). length k.spaces) is;
-      entries = ap (λ (k : Kept). length k.procs.entries) is;
+      processes = ap (λ (k : Kept). count k.procs) is;
     }
 
 pub loop-start-preserved : goal.loop-start-preserved
@@ -36,7 +38,7 @@ loop-start-preserved g c =
       left = left_on c.deref-start-items.result.now c.loop-start.start-index c.start-item.result c.loop-start-test.true c.start-item.is a c.loop-start.parts c.begin.new.parts (all_started (world_of a c.in_ok-parts.parts) (lines_of c.deref-start-items.result.now)) c.loop-start.invariant.left c.in_ok-begin.field-0 begins;
       pids = more_pids a c.loop-start.parts c.begin.new.parts s c.in_ok-begin.field-0 begins ∙ ap (λ n. n + 1) c.loop-start.invariant.pids;
       spaces = more_spaces a c.loop-start.parts c.begin.new.parts s c.in_ok-begin.field-0 begins ∙ ap (λ n. n + 1) c.loop-start.invariant.spaces;
-      entries = more_entries a c.loop-start.parts c.begin.new.parts s c.in_ok-begin.field-0 begins ∙ ap (λ n. n + 1) c.loop-start.invariant.entries;
+      processes = more_processes a c.loop-start.parts c.begin.new.parts s c.in_ok-begin.field-0 begins ∙ ap (λ n. n + 1) c.loop-start.invariant.processes;
     }
 
 pub returns-in_err-begin-clause-world : goal.returns-in_err-begin-clause-world
@@ -58,11 +60,12 @@ invariant_of-result g c =
     let all = left_none c.deref-start-items.result.now c.loop-start.start-index (world_of a c.loop-start.parts) (all_started (world_of a c.in_ok-parts.parts) (lines_of c.deref-start-items.result.now))
     c.loop-start-test.false c.loop-start.invariant.left in
     let same : length (paths_of c.args.setup.paths.items) ≡ length c.args.setup.programs.items = length-map c.args.setup.paths.items (λ p. p.items) ∙ c.requires.paths in
+    let few : length (lines_of c.deref-start-items.result.now) ≤ most_entries = let items = c.deref-start-items.ensures.value in omega (arith, c.requires.starts, length-map c.deref-start-items.result.now line_of, ap (λ (starts : List StartItem). length starts) items) in
     let loads = machine_loads rest (lines_of c.deref-start-items.result.now) a c.loop-start.parts (all ∙ first_is) in
     record {
       paths = c.requires.paths;
-      loads = subst (λ n. AreLoaded n c.loop-start.parts.notes) (programs_count (paths_of c.args.setup.paths.items) c.args.setup.programs.items same) loads;
-      sound = rw (c.kind.ensures) (boots_are_sound rest (lines_of c.deref-start-items.result.now) (world_of a c.loop-start.parts) (record { some = c.requires.some; most = c.requires.most; changes = c.requires.changes }) (sym (all ∙ first_is)));
+      loads = subst (λ n. AreLoaded n c.loop-start.parts.notes) (programs_count (paths_of c.args.setup.paths.items) c.args.setup.programs.items same) (loaded_notes a c.loop-start.parts (length rest.programs) loads);
+      sound = rw (c.kind.ensures) (boots_are_sound rest (lines_of c.deref-start-items.result.now) (world_of a c.loop-start.parts) (record { some = c.requires.some; most = c.requires.most; changes = c.requires.changes }) few (sym (all ∙ first_is)));
     }
 
 pub returns-clause-world : goal.returns-clause-world

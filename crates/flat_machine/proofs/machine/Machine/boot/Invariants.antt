@@ -1,6 +1,7 @@
 -- The start lines that are left give what all give.
 use Rattle.std.proofs.Common.{◌≡◌, ◌+◌, length, drop}
 use Rattle.page_runs.specs.Choosers.{kind_of}
+use Rattle.vfork_exec.specs.Procs.{count}
 use Rattle.machine_world.specs.Boot.{all_started}
 use Rattle.syscall_layer.specs.Stands.{world_of}
 use Rattle.flat_machine.specs.State.{about_boot, lines_of}
@@ -12,5 +13,5 @@ invariant-loop-start g l = record {
       ≡ all_started (world_of (about_boot (kind_of l.chooser) l.paths.items l.programs.items) l.initial.parts) (lines_of l.start-items);
   pids : l.parts.procs.next_pid ≡ l.start-index + 1;
   spaces : length l.parts.spaces ≡ l.start-index;
-  entries : length l.parts.procs.entries ≡ l.start-index;
+  processes : count l.parts.procs ≡ l.start-index;
 }
