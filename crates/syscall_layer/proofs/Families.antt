@@ -1,9 +1,10 @@
 -- The list of processes, as the world has it: what changes in the one changes in the other.
 use Rattle.std.proofs.Common.{◌≡◌, ◌≢◌, ℕ, ◌+◌, ◌<◌, ◌≤◌, Bool, true, false, cond, inl, inr, List, [], ◌∷◌, ◌++◌, map, length, Option, Some, None, refl, sym, ap, subst, ◌∙◌, arith, length-append}
-use Rattle.std.specs.Prelude.{◌==◌, ◌||◌, not, filter, IsSome, option_map}
+use Rattle.std.specs.Prelude.{◌==◌, ◌||◌, not, filter, reverse, slice_get, IsSome, option_map}
 use Rattle.std.specs.List.{list_any}
-use Rattle.std.proofs.lemmas.Option.{same_Some, none-some}
-use Rattle.std.proofs.lemmas.List.{length-map}
+use Rattle.std.proofs.lemmas.Option.{same_Some, none-some, slice_get_within}
+use Rattle.std.proofs.Math.Nat.{mod-eq_of_lt}
+use Rattle.std.proofs.lemmas.List.{length-map, length-reverse}
 use Rattle.std.proofs.lemmas.List.Sums.{length-filter, count_by-le-length}
 use Rattle.rv32im_step.specs.declared.regs.Regs.{Regs}
 use Rattle.call_log.specs.declared.how.How.{How}
@@ -17,9 +18,10 @@ use Rattle.vfork_exec.specs.Families.{is_ready, is_child, is_lent_to, ended_behi
 use Rattle.vfork_exec.specs.Procs.{Listed, process, Lives, CanRun, count, with_value, with_state, with_value_at, with_state_at, with_child, with_exec, with_end, behind, ready}
 use Rattle.vfork_exec.specs.Procs.{pid_of as entry_pid, borrows as entry_borrows, has_child as entry_has_child, ready_pids as entry_ready_pids}
 use Rattle.vfork_exec.proofs.Keyed.{decide, eqb_is, eqb_same, any_map, any_found, find_head, change_head, find_key, find_gone, find_beside_without, find_map, change_map, without_map, falls_map, falls_without, length_gone}
+use Rattle.quantum_sched.specs.Picked.{picked}
 use Rattle.machine_world.specs.World.{Process, pid_of}
 use Rattle.machine_world.specs.Families.{ready_pids, borrows, let_go, left_by, all_left_by, has_child, sharing, AreChains}
-use Rattle.machine_world.proofs.Chains.{sharing_head, find_sharing, owner_alone, chains_same, chains_left}
+use Rattle.machine_world.proofs.Chains.{sharing_head, find_sharing, owner_alone, chains_same, chains_left, ready_found}
 use Rattle.syscall_layer.specs.declared.task.Task.{Task}
 use Rattle.syscall_layer.specs.Stands.{process_of}
 
@@ -104,6 +106,21 @@ module _ (s : Listed Task) where
       by_found : (o : Option (Entry Task)) → option_map (λ e. e.state) o ≡ Some Ready → IsSome o
       by_found (Some e) is = refl
       by_found None is = absurd cc
+
+  -- one of the pids of those that may run, from either end
+  pub can_run_ready : (b k pid : ℕ) → Falls entry_pid b s.entries → slice_get (reverse (entry_ready_pids s)) k ≡ Some pid → CanRun s pid
+  unfolding picked
+  can_run_ready b k pid falls is =
+      let pids : List ℕ = ready_pids (map process_of s.entries) in
+      let there : slice_get (reverse pids) k ≡ Some pid = ap (λ ns. slice_get (reverse ns) k) ready_is ∙ is in
+      let inside : k < length pids = omega (arith, slice_get_within (reverse pids) k pid there, length-reverse pids) in
+      let found = ready_found (map process_of s.entries) b k pid (ap (slice_get (reverse pids)) (mod-eq_of_lt inside) ∙ there) (falls_is b falls) in
+      through (process s pid) (find_map entry_pid pid_of pid process_of (λ _. refl) s.entries) found
+    where
+      through : (o : Option (Entry Task)) → find pid_of pid (map process_of s.entries) ≡ option_map process_of o
+          → option_map (λ (q : Process). q.state) (find pid_of pid (map process_of s.entries)) ≡ Some Ready → option_map (λ (e : Entry Task). e.state) o ≡ Some Ready
+      through None same is = absurd (none-some Ready (sym (ap (option_map (λ (q : Process). q.state)) same) ∙ is))
+      through (Some e) same is = sym (ap (option_map (λ (q : Process). q.state)) same) ∙ is
 
   -- ---- of one process
 

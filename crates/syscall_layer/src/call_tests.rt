@@ -64,13 +64,14 @@ fn call(
         return Ok((None, None));
     }
     set_call(parts, 1, number, args);
-    if !parts.procs.lives(1) {
+    if parts.procs.runnable() == 0 {
         return Ok((None, None));
     }
+    let pid = parts.procs.runnable_at(0);
     let chooser = Chooser::new(Kind::First, |runs: &[Run], need: u32| {
         first_fit(runs, need)
     });
-    let served = serve(parts, 1, &chooser)?;
+    let served = serve(parts, pid, &[], &chooser)?;
     if !parts.procs.lives(1) {
         return Ok((Some(served), None));
     }
@@ -181,8 +182,9 @@ fn a_signal_ends_a_process(rt: HostRuntime) -> Result<(), Fail> {
         kind: AccessKind::Load,
     };
     parts.note_stray(1, stray)?;
-    if parts.procs.lives(1) {
-        parts.end_by_signal(1, 4)?;
+    if parts.procs.runnable() > 0 {
+        let pid = parts.procs.runnable_at(0);
+        parts.end_by_signal(pid, 4)?;
     }
     assert_eq!(rt; parts.procs.live(), 0);
     assert_eq!(rt; parts.log.notes().len(), 3);
