@@ -37,6 +37,7 @@
 -- FreePages  the free pages of the world are those of the regions
 -- Started    the parts after the start of a program are regular
 -- Boots      they stand for the world that starts it
+-- Forks      the parts after a process had a child, and what comes of a clone
 mod Begins
 pub mod Worlds
 pub mod Families
@@ -76,3 +77,4 @@ pub mod ReadRanges
 pub mod ReadPath
 pub mod ReadStrings
 pub mod StringLists
+pub mod Forks

@@ -17,8 +17,8 @@ use rv32im_step::Regs;
 use std::alloc::AllocError;
 
 /// The parent's registers behind its call, but for a0, which is 0, and sp, if one is given.
+#[tactic(auto, unfolding(rv32im_step::specs::Registers::with_register))]
 fn child_regs(parent: &Regs, sp: u32) -> Regs
-    requires { sp < 2 ^ 32 }
     ensures { result ≡ child_regs parent.now sp }
 {
     let mut regs = *parent;
