@@ -263,7 +263,7 @@ module _ (w : World) (a : Ask) where
   unfolding forked
   fork_full room = rw room refl
 
-module _ (a : About) (k : Kept) (e : Entry Task) (h : Held) (call : Call) (regular : Regular k) (runs : RunsIn k call.pid e h) (is : IsCall k.mem e h call) where
+module _ (a : About) (k : Kept) (e : Entry Task) (h : Held) (call : Call) (is : IsCall k.mem e h call) where
   abbrev ask : Ask
   ask = ask_in a k e h call
 
@@ -274,56 +274,61 @@ module _ (a : About) (k : Kept) (e : Entry Task) (h : Held) (call : Call) (regul
   unfolding world_of is_full
   full_is b same = ap (λ (n : ℕ). nat_le most_entries (n + length k.procs.ended)) (length-map k.procs.entries process_of) ∙ same
 
-  room_in : (b : Bool) → has_room k.notes (length call.sent.items) ≡ b → has_room (world_of a k).notes (weight_of call.sent.items []) ≡ b
-  unfolding world_of
-  room_in b room = ap (has_room k.notes) (add-zero (length call.sent.items)) ∙ room
-
-  forked_world : world_of (later 1 a) (after_fork k e call) ≡ noted (call_note (entry_of ask (world_of a k).next_pid [])) (counted (event.with_child (world_of a k) ask))
-  unfolding world_of
-  forked_world = λ i. record (counted (event.with_child (world_of a k) ask)) {
-    procs = procs_forked k e call regular runs.lives a h (args_of e.value.regs) is.args i;
-    notes = call_note (record { pid = is.pid i; call = is.number i; args = is.args i; sent = call.sent.items; reply = k.procs.next_pid; got = [] }) ∷ k.notes;
-  }
-
-  module _ (new : Kept) (s : Served) where
-    by_outcome : (o : Outcome) → event.cloned (world_of a k) ask ≡ o → Answered a o k new call.pid s → Answered a (event.cloned (world_of a k) ask) k new call.pid s
-    by_outcome o same = subst (λ (x : Outcome). Answered a x k new call.pid s) (sym same)
-
   refused_serves : (errno : Errno) (value : ℕ) → value ≡ refusal errno → (new : Kept) (result : Result Served AllocError) → event.cloned (world_of a k) ask ≡ answered (world_of a k) ask (refuses ask errno) →
       Serves a (answered (world_of a k) ask (replies (reply_of ask (Answer value)))) k new call.pid result → Serves a (event.cloned (world_of a k) ask) k new call.pid result
-  refused_serves errno value says new result same serves =
-      subst (λ (x : Outcome). Serves a x k new call.pid result) (sym (same ∙ ap (λ (v : ℕ). answered (world_of a k) ask (replies (reply_of ask (Answer v)))) (sym says))) serves
+  refused_serves errno value says new result same =
+      subst (λ (x : Outcome). Serves a x k new call.pid result)
+      (sym (same ∙ ap (λ (v : ℕ). answered (world_of a k) ask (replies (reply_of ask (Answer v)))) (sym says)))
 
-  pub flags_serve : (slice_index call.args 0 == vfork_flags) ≡ false → (value : ℕ) → value ≡ refusal Einval → (new : Kept) (result : Result Served AllocError) →
+  pub flags_serve : slice_index call.args 0 ≢ vfork_flags → (value : ℕ) → value ≡ refusal Einval → (new : Kept) (result : Result Served AllocError) →
       Serves a (answered (world_of a k) ask (replies (reply_of ask (Answer value)))) k new call.pid result → Serves a (event.cloned (world_of a k) ask) k new call.pid result
-  flags_serve other value says new result = refused_serves Einval value says new result (clone_flags (world_of a k) ask (flags_are false other))
+  flags_serve other value says new result =
+      refused_serves Einval value says new result (clone_flags (world_of a k) ask (flags_are false (eqb_other (slice_index call.args 0) vfork_flags other)))
 
-  module _ (flags : (slice_index call.args 0 == vfork_flags) ≡ true) where
+  module _ (flags : slice_index call.args 0 ≡ vfork_flags) where
+    are_flags : (arg ask 0 == vfork_flags) ≡ true
+    are_flags = flags_are true (eqb_same (slice_index call.args 0) vfork_flags flags)
+
     pub full_serves : nat_le most_entries (count k.procs) ≡ true → (value : ℕ) → value ≡ refusal Eagain → (new : Kept) (result : Result Served AllocError) →
         Serves a (answered (world_of a k) ask (replies (reply_of ask (Answer value)))) k new call.pid result → Serves a (event.cloned (world_of a k) ask) k new call.pid result
-    full_serves many value says new result = refused_serves Eagain value says new result (clone_full (world_of a k) ask (flags_are true flags) (full_is true many))
+    full_serves many value says new result = refused_serves Eagain value says new result (clone_full (world_of a k) ask are_flags (full_is true many))
+
+    -- ---- a child more, where the log has room for the call
 
     module _ (few : nat_le most_entries (count k.procs) ≡ false) where
       forks : event.cloned (world_of a k) ask ≡ event.forked (world_of a k) ask
-      forks = clone_forks (world_of a k) ask (flags_are true flags) (full_is false few)
+      forks = clone_forks (world_of a k) ask are_flags (full_is false few)
+
+      room_in : (b : Bool) → has_room k.notes (length call.sent.items) ≡ b → has_room (world_of a k).notes (weight_of call.sent.items []) ≡ b
+      unfolding world_of
+      room_in b room = ap (has_room k.notes) (add-zero (length call.sent.items)) ∙ room
+
+      by_outcome : (new : Kept) (s : Served) (o : Outcome) → event.forked (world_of a k) ask ≡ o → Answered a o k new call.pid s → Answered a (event.cloned (world_of a k) ask) k new call.pid s
+      by_outcome new s o same = subst (λ (x : Outcome). Answered a x k new call.pid s) (sym (forks ∙ same))
 
       pub fork_has_no_room : has_room k.notes (length call.sent.items) ≡ false → Answered a (event.cloned (world_of a k) ask) k k call.pid LogFull
-      fork_has_no_room room = by_outcome k LogFull full (forks ∙ fork_full (world_of a k) ask (room_in false room)) refl
+      fork_has_no_room room = by_outcome k LogFull full (fork_full (world_of a k) ask (room_in false room)) refl
 
-      pub fork_serves : has_room k.notes (length call.sent.items) ≡ true → (new : Kept) → new ≡ after_fork k e call → Answered a (event.cloned (world_of a k) ask) k new call.pid TurnEnds
-      fork_serves room new same =
-          subst (λ (x : Kept). Answered a (event.cloned (world_of a k) ask) k x call.pid TurnEnds) (sym same)
-          (by_outcome (after_fork k e call) TurnEnds _ (forks ∙ fork_when (world_of a k) ask (room_in true room))
-          (sym forked_world, (refl, refl, still_lives)))
-        where
-          some_mapped : (f : Entry Task → Entry Task) (o : Option (Entry Task)) (x : Entry Task) → o ≡ Some x → IsSome (option_map f o)
-          some_mapped f (Some y) x is = refl
-          some_mapped f None x is = absurd cc
+      module _ (regular : Regular k) (lives : process k.procs call.pid ≡ Some e) where
+        forked_world : world_of (later 1 a) (after_fork k e call) ≡ noted (call_note (entry_of ask (world_of a k).next_pid [])) (counted (event.with_child (world_of a k) ask))
+        unfolding world_of
+        forked_world = λ i. record (counted (event.with_child (world_of a k) ask)) {
+          procs = procs_forked k e call regular lives a h (args_of e.value.regs) is.args i;
+          notes = call_note (record { pid = is.pid i; call = is.number i; args = is.args i; sent = call.sent.items; reply = k.procs.next_pid; got = [] }) ∷ k.notes;
+        }
 
-          answers : Task
-          answers = parent k e call regular runs.lives
+        some_mapped : (f : Entry Task → Entry Task) (o : Option (Entry Task)) (x : Entry Task) → o ≡ Some x → IsSome (option_map f o)
+        some_mapped f (Some y) x there = refl
+        some_mapped f None x there = absurd cc
 
-          still_lives : Lives (after_fork k e call).procs call.pid
-          still_lives =
-              subst IsSome (sym (find_changed entry_pid call.pid (λ (x : Entry Task). with_value x answers) (λ x. refl) (with_child k.procs call.pid (child_task k e call)).entries))
-              (some_mapped (λ (x : Entry Task). with_value x answers) _ _ (parent_there k.procs call.pid e runs.lives regular.falls (child_task k e call)))
+        -- the parent lives on
+        parent_stays : Lives (after_fork k e call).procs call.pid
+        parent_stays =
+            let replies : Entry Task → Entry Task = λ x. with_value x (parent k e call regular lives) in
+            subst IsSome (sym (find_changed entry_pid call.pid replies (λ x. refl) (with_child k.procs call.pid (child_task k e call)).entries))
+            (some_mapped replies _ _ (parent_there k.procs call.pid e lives regular.falls (child_task k e call)))
+
+        pub fork_serves : has_room k.notes (length call.sent.items) ≡ true → (new : Kept) → new ≡ after_fork k e call → Answered a (event.cloned (world_of a k) ask) k new call.pid TurnEnds
+        fork_serves room new same =
+            subst (λ (x : Kept). Answered a (event.cloned (world_of a k) ask) k x call.pid TurnEnds) (sym same)
+            (by_outcome (after_fork k e call) TurnEnds _ (fork_when (world_of a k) ask (room_in true room)) (sym forked_world, (refl, refl, parent_stays)))

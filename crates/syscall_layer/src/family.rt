@@ -1,6 +1,7 @@
 //! waitid, clone and execve (Linux, wait(2), vfork(2), execve(2), in this project's profile).
 
-ghost use Rattle.std.specs.Prelude.{◌≡◌, false, IfOk, Ok};
+ghost use Rattle.std.specs.Prelude.{◌≡◌, false, IfOk, Ok, flat_map};
+ghost use Rattle.byteorder.specs.Endian.{little_bytes};
 ghost use Rattle.page_runs.specs.Choosers.{IsChooser, kind_of};
 ghost use Rattle.mmap_rules.specs.Held.{Held};
 ghost use Rattle.vfork_exec.specs.declared.entry.Entry.{Entry};
@@ -64,12 +65,12 @@ fn meant(args: &[u32; 6]) -> Who
     }
 }
 
-/// What is told of a child.
-fn info_of(alloc: Global, told: Waited) -> Result<Vec<u8>, AllocError>
-    ensures { IfOk result (λ info. info.items ≡ info_of told) }
+/// What is told of a child, as words. They are zero where none has ended.
+#[tactic(auto, unfolding(machine_world::specs::FamilyCalls::child_info))]
+fn words_of(told: Waited) -> [u32; 6]
+    ensures { flat_map (little_bytes 4) result ≡ info_of told }
 {
-    let mut info = Vec::with_capacity(alloc, INFO_LEN)?;
-    let words = match told {
+    match told {
         Waited::Child { pid, how } => {
             let (code, status) = match how {
                 How::Exit(code) => (CLD_EXITED, code),
@@ -77,9 +78,16 @@ fn info_of(alloc: Global, told: Waited) -> Result<Vec<u8>, AllocError>
             };
             [SIGCHLD, 0, code, pid, 0, u32::from(status)]
         }
-        _ => [0; 6],
-    };
-    for word in words {
+        Waited::NoneYet | Waited::Waits => [0; 6],
+    }
+}
+
+/// What is told of a child.
+fn info_of(alloc: Global, told: Waited) -> Result<Vec<u8>, AllocError>
+    ensures { IfOk result (λ info. info.items ≡ info_of told) }
+{
+    let mut info = Vec::with_capacity(alloc, INFO_LEN)?;
+    for word in words_of(told) {
         info.extend_from_slice(&word.to_le_bytes())?;
     }
     Ok(info)
