@@ -38,6 +38,10 @@
 -- Started    the parts after the start of a program are regular
 -- Boots      they stand for the world that starts it
 -- Forks      the parts after a process had a child, and what comes of a clone
+-- Loaded     the space of a program that was loaded, and the others
+-- ExecRegular  the parts are regular where a program stands in the place of another one
+-- Execs      they stand for the world in which it does
+-- ExecSteps  the same by what the steps of an execve leave
 mod Begins
 pub mod Worlds
 pub mod Families
@@ -46,6 +50,10 @@ pub mod Apart
 pub mod Gone
 pub mod FreePages
 mod Started
+mod Loaded
+mod ExecRegular
+mod Execs
+mod ExecSteps
 mod Boots
 pub mod QuietRows
 pub mod OutputRanges

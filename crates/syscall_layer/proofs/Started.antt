@@ -72,13 +72,13 @@ module _ (k : Kept) (v : Region) (h : Held) (regs : Regs) (table : ℕ) (mem : L
     | inr gone ↦ omega arith
   ]
 
-  there_before : slice_get k.regions v.first ≡ Some (get_or k.regions v.first v)
+  pub there_before : slice_get k.regions v.first ≡ Some (get_or k.regions v.first v)
   there_before = slice_get-get_or k.regions v.first v (omega (arith, fits.free.inside, fits.some))
 
   there_now : slice_get (slice_set k.regions v.first v) v.first ≡ Some v
   there_now = get_set k.regions v.first v (omega (arith, fits.free.inside, fits.some))
 
-  uses_now : (id : ℕ) (r : Region) → slice_get (slice_set k.regions v.first v) id ≡ Some r → r.uses ≡ uses_in id (k.spaces ++ Some h ∷ [])
+  pub uses_now : (id : ℕ) (r : Region) → slice_get (slice_set k.regions v.first v) id ≡ Some r → r.uses ≡ uses_in id (k.spaces ++ Some h ∷ [])
   uses_now id r is = elim (after_set k.regions v.first id v r is) [
     | inl here ↦
         let old = unused (get_or k.regions v.first v) there_before in
@@ -120,7 +120,7 @@ module _ (k : Kept) (v : Region) (h : Held) (regs : Regs) (table : ℕ) (mem : L
     own = λ writes. fits.own;
   })
 
-  names_now : (i j : ℕ) (g : Held) (m : Mapping) → slice_get (k.spaces ++ Some h ∷ []) i ≡ Some (Some g) → slice_get g.maps j ≡ Some m → Names (slice_set k.regions v.first v) m
+  pub names_now : (i j : ℕ) (g : Held) (m : Mapping) → slice_get (k.spaces ++ Some h ∷ []) i ≡ Some (Some g) → slice_get g.maps j ≡ Some m → Names (slice_set k.regions v.first v) m
   names_now i j g m is there = elim (pushed_cases k.spaces (Some h) i (Some g) is) [
     | inl last ↦ named_now j m (ap (λ (maps : List Mapping). slice_get maps j) (sym fits.maps ∙ ap (λ (x : Held). x.maps) (sym (same_Some _ _ last.1))) ∙ there)
     | inr before ↦ named_before i j g m before there
@@ -140,7 +140,7 @@ module _ (k : Kept) (v : Region) (h : Held) (regs : Regs) (table : ℕ) (mem : L
         | inr other ↦ inr (sym (find_head pid_of pid new k.procs.entries false other) ∙ is)
       ]
 
-  below : (pid : ℕ) (e : Entry Task) → process k.procs pid ≡ Some e → e.value.space < length k.spaces
+  pub below : (pid : ℕ) (e : Entry Task) → process k.procs pid ≡ Some e → e.value.space < length k.spaces
   below pid e is = let space = regular.runs pid e is in slice_get_within k.spaces e.value.space (Some space.held) space.there
 
   space_of : (pid : ℕ) (e : Entry Task) → process (with_start k.procs (record { regs = regs; space = length k.spaces; table = table })) pid ≡ Some e →
@@ -162,13 +162,13 @@ module _ (k : Kept) (v : Region) (h : Held) (regs : Regs) (table : ℕ) (mem : L
         | inr other ↦ subst IsChain (sym (sharing_head i new procs false other)) (regular.chains i)
       ]
 
-  pages_now : (i : ℕ) (g : Held) → slice_get (k.spaces ++ Some h ∷ []) i ≡ Some (Some g) → g.pages ≡ length k.regions
+  pub pages_now : (i : ℕ) (g : Held) → slice_get (k.spaces ++ Some h ∷ []) i ≡ Some (Some g) → g.pages ≡ length k.regions
   pages_now i g is = elim (pushed_cases k.spaces (Some h) i (Some g) is) [
     | inl last ↦ ap (λ (x : Held). x.pages) (same_Some _ _ last.1) ∙ fits.pages
     | inr before ↦ regular.pages i g before
   ]
 
-  one_now : (id : ℕ) (r : Region) → slice_get (slice_set k.regions v.first v) id ≡ Some r → r.source ≡ Own → r.uses ≤ 1
+  pub one_now : (id : ℕ) (r : Region) → slice_get (slice_set k.regions v.first v) id ≡ Some r → r.source ≡ Own → r.uses ≤ 1
   one_now id r is own = elim (after_set k.regions v.first id v r is) [
     | inl here ↦ omega (arith, fits.one, ap (λ (q : Region). q.uses) here.1)
     | inr other ↦ regular.one_use id r other.1 own
