@@ -34,13 +34,17 @@ use vfork_exec::{Waited, Who};
 
 /// CLONE_VM, CLONE_VFORK and SIGCHLD.
 const VFORK_FLAGS: u32 = 0x4111;
-/// WNOHANG and WEXITED.
+/// WNOHANG.
 const NO_HANG: u32 = 1;
+/// WEXITED.
 const EXITED: u32 = 4;
 /// The bytes that are told of a child: signo, errno, code, pid, uid and status of siginfo_t.
 const INFO_LEN: usize = 24;
+/// The signo of a child that ended.
 const SIGCHLD: u32 = 17;
+/// The code of a child that exited.
 const CLD_EXITED: u32 = 1;
+/// The code of a child that a signal ended.
 const CLD_KILLED: u32 = 2;
 
 /// Why a waitid is refused before it looks for children.
@@ -124,7 +128,7 @@ fn answer_told(parts: &mut Parts, call: Call, who: Who, told: Waited) -> Result<
     let pid = call.pid;
     let outcome = told_outcome(alloc, call.args[2], told)?;
     let served = answer_given(parts, call, outcome)?;
-    if served == Served::Replied {
+    if let Served::Replied = served {
         let _ = parts.procs.wait(pid, who, false);
     }
     Ok(served)
@@ -141,14 +145,15 @@ pub(crate) fn answer_waitid(parts: &mut Parts, call: Call) -> Result<Served, All
     }
     let who = meant(&call.args);
     let may_wait = call.args[3] == EXITED;
-    match parts.procs.wait_look(call.pid, who, may_wait) {
-        Err(errno) => answer_effect(parts, call, Effect::Answer(errno.refusal())),
-        Ok(Waited::Waits) => {
-            let _ = parts.procs.wait(call.pid, who, may_wait);
-            Ok(Served::Waits)
-        }
-        Ok(told) => answer_told(parts, call, who, told),
+    let told = match parts.procs.wait_look(call.pid, who, may_wait) {
+        Ok(told) => told,
+        Err(errno) => return answer_effect(parts, call, Effect::Answer(errno.refusal())),
+    };
+    if let Waited::Waits = told {
+        let _ = parts.procs.wait(call.pid, who, may_wait);
+        return Ok(Served::Waits);
     }
+    answer_told(parts, call, who, told)
 }
 
 /// Carries out clone, where the log has room for it.
