@@ -1,5 +1,5 @@
 -- The list of processes, as the world has it: what changes in the one changes in the other.
-use Rattle.std.proofs.Common.{◌≡◌, ◌≢◌, ℕ, ◌+◌, ◌<◌, ◌≤◌, Bool, true, false, cond, inl, inr, List, [], ◌∷◌, ◌++◌, map, length, Option, Some, None, refl, sym, ap, subst, ◌∙◌, arith, length-append}
+use Rattle.std.proofs.Common.{◌≡◌, ◌≢◌, ℕ, ◌+◌, ◌<◌, ◌≤◌, Bool, true, false, cond, inl, inr, List, [], ◌∷◌, map, length, Option, Some, None, refl, sym, ap, subst, ◌∙◌, arith, length-append}
 use Rattle.std.specs.Prelude.{◌==◌, ◌||◌, not, filter, reverse, slice_get, IsSome, option_map}
 use Rattle.std.specs.List.{list_any}
 use Rattle.std.proofs.lemmas.Option.{same_Some, none-some, slice_get_within}
@@ -17,7 +17,7 @@ use Rattle.vfork_exec.specs.Keyed.{find, change, without, Falls}
 use Rattle.vfork_exec.specs.Families.{is_ready, is_child, is_lent_to, ended_behind}
 use Rattle.vfork_exec.specs.Procs.{Listed, process, Lives, CanRun, count, with_value, with_state, with_value_at, with_state_at, with_child, with_exec, with_end, behind, ready}
 use Rattle.vfork_exec.specs.Procs.{pid_of as entry_pid, borrows as entry_borrows, has_child as entry_has_child, ready_pids as entry_ready_pids}
-use Rattle.vfork_exec.proofs.Keyed.{decide, eqb_is, eqb_same, any_map, any_found, find_head, change_head, find_key, find_gone, find_beside_without, find_map, change_map, without_map, falls_map, falls_without, length_gone}
+use Rattle.vfork_exec.proofs.Keyed.{decide, eqb_is, any_map, any_found, find_head, change_head, find_key, find_gone, find_beside_without, find_map, change_map, without_map, falls_map, falls_without, length_gone}
 use Rattle.quantum_sched.specs.Picked.{picked}
 use Rattle.machine_world.specs.World.{Process, pid_of}
 use Rattle.machine_world.specs.Families.{ready_pids, borrows, let_go, left_by, all_left_by, has_child, sharing, AreChains}

@@ -1,16 +1,15 @@
 -- The world after one process went on, and after one is gone.
-use Rattle.std.proofs.Common.{◌≡◌, ℕ, ◌+◌, Bool, true, false, inl, inr, List, [], ◌∷◌, map, length, Option, Some, None, refl, sym, ap, ◌∙◌}
-use Rattle.std.specs.Prelude.{◌==◌, cond, IsSome, if◌then◌else◌, slice_set, option_map}
-use Rattle.std.proofs.lemmas.Option.{same_Some}
+use Rattle.std.proofs.Common.{◌≡◌, ℕ, ◌+◌, Bool, true, false, List, map, length, Option, Some, None, refl, sym, ap, ◌∙◌}
+use Rattle.std.specs.Prelude.{IsSome, if◌then◌else◌, slice_set, option_map}
 use Rattle.std.proofs.lemmas.List.{length-set}
 use Rattle.nommu_regions.specs.declared.region.Region.{Region}
 use Rattle.mmap_rules.specs.Held.{Held}
 use Rattle.rv32im_step.specs.declared.regs.Regs.{Regs}
 use Rattle.call_log.specs.Notes.{Note}
 use Rattle.vfork_exec.specs.declared.entry.Entry.{Entry}
-use Rattle.vfork_exec.specs.Keyed.{find, change, without}
+use Rattle.vfork_exec.specs.Keyed.{change, without}
 use Rattle.call_log.specs.declared.how.How.{How}
-use Rattle.vfork_exec.specs.Procs.{Listed, process, Lives, with_value, with_value_at, with_end}
+use Rattle.vfork_exec.specs.Procs.{Listed, process, Lives, with_value, with_value_at}
 use Rattle.vfork_exec.specs.Procs.{pid_of as entry_pid, borrows as entry_borrows}
 use Rattle.vfork_exec.proofs.Keyed.{find_changed}
 use Rattle.mem_files.specs.Inodes.{Inodes}

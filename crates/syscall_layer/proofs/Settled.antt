@@ -7,7 +7,7 @@ use Rattle.call_log.specs.Notes.{Note, has_room}
 use Rattle.mmap_rules.specs.Held.{Held}
 use Rattle.mem_files.specs.Inodes.{Inodes}
 use Rattle.fd_tables.specs.Files.{OpenFiles}
-use Rattle.fd_tables.specs.Changes.{Storage, storage, without_table}
+use Rattle.fd_tables.specs.Changes.{storage, without_table}
 use Rattle.nommu_regions.specs.declared.region.Region.{Region}
 use Rattle.mmap_rules.specs.Held.{released}
 use Rattle.rv32im_step.specs.declared.regs.Regs.{Regs}
@@ -108,8 +108,7 @@ module _ (k : Kept) (pid : ℕ) (how : How) (t : Task) (runs : CanRun k.procs pi
   pub kept_ended : IsRegular k → IsRegular then_kept
   kept_ended regular =
       let r = runs_in k pid regular.0 (can_run_lives k.procs pid runs) in
-      let e : Entry Task = r.0 in
-      (
+      let e : Entry Task = r.0 in (
         subst Regular (sym (ended_is e r.1.1.lives)) (regular_ended k pid e how regular.0 r.1.1.lives (state_ready k.procs pid e r.1.1.lives runs)),
         copies_ended k regular.1 nodes files t.table closed,
       )

@@ -94,7 +94,11 @@ fn answer_exit(parts: &mut Parts, call: Call) -> Result<Served, AllocError>
 }
 
 /// Carries out a call with this effect, where the log has room for it.
-pub(crate) fn answer_effect(parts: &mut Parts, call: Call, effect: Effect) -> Result<Served, AllocError>
+pub(crate) fn answer_effect(
+    parts: &mut Parts,
+    call: Call,
+    effect: Effect,
+) -> Result<Served, AllocError>
     requires { Lives parts.old.procs call.pid }
     ensures { (a : About) → (e : Entry Task) → (h : Held) → RunsIn parts.old call.pid e h → IsCall parts.old.mem e h call →
         Serves a (answered (world_of a parts.old) (ask_in a parts.old e h call) (replies (reply_of (ask_in a parts.old e h call) effect))) parts.old parts.new call.pid result }
@@ -145,7 +149,11 @@ fn outcome_of(parts: &Parts, call: &Call) -> Result<Outcome, AllocError>
 }
 
 /// A call that gives these bytes, where they may be written and the log has room for them.
-pub(crate) fn answer_given(parts: &mut Parts, call: Call, outcome: Outcome) -> Result<Served, AllocError>
+pub(crate) fn answer_given(
+    parts: &mut Parts,
+    call: Call,
+    outcome: Outcome,
+) -> Result<Served, AllocError>
     requires lives { Lives parts.old.procs call.pid }
     requires fits { CanTake parts.old.files outcome.then }
     requires ranges { All IsRange (written_of outcome) }

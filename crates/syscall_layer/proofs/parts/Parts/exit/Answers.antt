@@ -1,5 +1,5 @@
 -- The call and the end are noted, and the process is gone.
-use Rattle.std.proofs.Common.{◌≡◌, List, ◌∷◌, sym, ap, subst, ◌∙◌}
+use Rattle.std.proofs.Common.{◌≡◌, List, ◌∷◌, ap, subst, ◌∙◌}
 use Rattle.std.specs.Prelude.{map}
 use Rattle.call_log.specs.Notes.{Note, end_note}
 use Rattle.call_log.specs.Values.{written_value}
