@@ -42,6 +42,7 @@
 -- ExecRegular  the parts are regular where a program stands in the place of another one
 -- Execs      they stand for the world in which it does
 -- ExecSteps  the same by what the steps of an execve leave
+-- ExecCalls  which way an execve goes
 mod Begins
 pub mod Worlds
 pub mod Families
@@ -54,6 +55,7 @@ mod Loaded
 mod ExecRegular
 mod Execs
 mod ExecSteps
+mod ExecCalls
 mod Boots
 pub mod QuietRows
 pub mod OutputRanges
