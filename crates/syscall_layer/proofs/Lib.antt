@@ -43,6 +43,7 @@
 -- Execs      they stand for the world in which it does
 -- ExecSteps  the same by what the steps of an execve leave
 -- ExecCalls  which way an execve goes
+-- Waits      what a process is told of its children, in the world and in the parts
 mod Begins
 pub mod Worlds
 pub mod Families
@@ -88,3 +89,4 @@ pub mod ReadPath
 pub mod ReadStrings
 pub mod StringLists
 pub mod Forks
+pub mod Waits

@@ -157,8 +157,9 @@ pub(crate) fn answer_given(
     requires lives { Lives parts.old.procs call.pid }
     requires fits { CanTake parts.old.files outcome.then }
     requires ranges { All IsRange (written_of outcome) }
-    ensures { (a : About) → (e : Entry Task) → (h : Held) → RunsIn parts.old call.pid e h → IsCall parts.old.mem e h call →
+    ensures serves { (a : About) → (e : Entry Task) → (h : Held) → RunsIn parts.old call.pid e h → IsCall parts.old.mem e h call →
         Serves a (answered (world_of a parts.old) (ask_in a parts.old e h call) (replies (given (ask_in a parts.old e h call) outcome))) parts.old parts.new call.pid result }
+    ensures lives { Lives parts.new.procs call.pid }
 {
     if let Some(access) = stray_of(parts, call.pid, &outcome.got) {
         return Ok(Served::Stray(access));

@@ -130,7 +130,8 @@ impl Parts {
         requires fits { CanTake self.old.files outcome.then }
         requires ranges { All IsRange (written_of outcome) }
         requires own { (e : Listed Task) → (h : Held) → RunsIn self.old call.pid e h → first_stray (writable_in h.maps) (written_of outcome) ≡ None }
-        ensures { (a : About) → (e : Listed Task) → (h : Held) → RunsIn self.old call.pid e h → IsCall self.old.mem e h call → Gives a self.old e h call outcome self.new result }
+        ensures gives { (a : About) → (e : Listed Task) → (h : Held) → RunsIn self.old call.pid e h → IsCall self.old.mem e h call → Gives a self.old e h call outcome self.new result }
+        ensures lives { Lives self.new.procs call.pid }
     {
         self.log.reserve(1)?;
         let number = self.procs.get(call.pid).space;

@@ -14,8 +14,8 @@ use Rattle.syscall_layer.proofs.Puts.{none_strays}
 use Rattle.syscall_layer.proofs.Outcomes.{output_serves, output_full, output_strays}
 use Rattle.syscall_layer.proofs.answer.answer_given.Goals as goal
 
-pub returns-in-Some : goal.returns-in-Some
-returns-in-Some c = λ a e h runs is.
+pub returns-in-Some-clause-serves : goal.returns-in-Some-clause-serves
+returns-in-Some-clause-serves c = λ a e h runs is.
     let k = c.args.parts.now in
     let call = c.args.call in
     let o = c.args.outcome in
@@ -23,8 +23,8 @@ returns-in-Some c = λ a e h runs is.
     ∙ ap (λ (xs : List Got). option_map (access_at e.value.regs.pc) (first_stray (writable_in h.maps) (map written_value xs))) c.deref.ensures.value in
     output_strays a k e h call runs is o c.in-Some.access found
 
-pub returns-then-not-has_room_with : goal.returns-then-not-has_room_with
-returns-then-not-has_room_with c = λ a e h runs is.
+pub returns-then-not-has_room_with-clause-serves : goal.returns-then-not-has_room_with-clause-serves
+returns-then-not-has_room_with-clause-serves c = λ a e h runs is.
     let k = c.args.parts.now in
     let call = c.args.call in
     let o = c.args.outcome in
@@ -40,16 +40,16 @@ give-requires-clause-own c = λ e h runs.
     ∙ ap (λ (xs : List Got). option_map (access_at e.value.regs.pc) (first_stray (writable_in h.maps) (map written_value xs))) c.deref.ensures.value in
     none_strays e.value.regs.pc _ _ found c.in_default.is
 
-pub returns-in_err-give : goal.returns-in_err-give
-returns-in_err-give c = λ a e h runs is.
+pub returns-in_err-give-clause-serves : goal.returns-in_err-give-clause-serves
+returns-in_err-give-clause-serves c = λ a e h runs is.
     let p = err_from_is_err_and c.from_residual.result c.from_residual.ensures.1 in
-    rw p.1 (c.in_err-give.ensures a e h runs is)
+    rw p.1 (c.in_err-give.ensures.gives a e h runs is)
 
-pub returns : goal.returns
-returns c = λ a e h runs is.
+pub returns-clause-serves : goal.returns-clause-serves
+returns-clause-serves c = λ a e h runs is.
     let k = c.args.parts.now in
     let call = c.args.call in
     let o = c.args.outcome in
     let asked = c.has_room_with.ensures ∙ ap (λ (xs : List Got). has_room c.parts.inside.log.notes (weight_of call.sent.items (map written_value xs))) c.deref-2.ensures.value in
     let room = room_is (kept_of c.parts.inside) k c.parts.view_is (weight_of call.sent.items (written_of o)) c.has_room_with.result true asked c.if-not-has_room_with.false in
-    output_serves a k e h call runs is o c.give.new.self (c.in_ok-give.ensures a e h runs is) room
+    output_serves a k e h call runs is o c.give.new.self (c.in_ok-give.ensures.gives a e h runs is) room

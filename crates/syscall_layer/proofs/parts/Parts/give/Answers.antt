@@ -16,6 +16,7 @@ use Rattle.syscall_layer.specs.Calls.{RunsIn, IsCall, noted_call, Gave}
 use Rattle.syscall_layer.proofs.Runs.{home_is}
 use Rattle.syscall_layer.proofs.CopiesKept.{copies_frozen}
 use Rattle.syscall_layer.proofs.Sound.{counts, copies_called}
+use Rattle.syscall_layer.proofs.Waits.{replied_lives}
 use Rattle.syscall_layer.proofs.Finishes.{regular_finished, gave_by}
 use Rattle.syscall_layer.proofs.parts.Parts.give.Goals as goal
 
@@ -42,8 +43,8 @@ invariant_of-self-2 c =
           c.finish.new.log.notes counted,
     )
 
-pub returns : goal.returns
-returns c = λ a e h.
+pub returns-clause-gives : goal.returns-clause-gives
+returns-clause-gives c = λ a e h.
     let k = kept_of c.self.inside in
     let call = c.args.call in
     let o = c.args.outcome in
@@ -57,3 +58,8 @@ returns c = λ a e h.
     let writes = c.owners-owners.ensures.writable ∙ ap (λ (x : Held). writable_in x.maps) same in
     gave_by a k e h call runs is c.self.invariant.0 o c.owners-owners.result.now c.put.new.mem c.follow.new.files.open_files c.finish.new.procs c.finish.new.log.notes
     own writes puts c.follow.ensures c.finish.ensures.procs noted)
+
+pub returns-clause-lives : goal.returns-clause-lives
+returns-clause-lives c =
+    let lives = subst (λ (s : Kept). Lives s.procs c.args.call.pid) (sym c.self.view_is) c.requires.lives in
+    replied_lives (kept_of c.self.inside).procs c.args.call.pid lives c.args.outcome.value c.finish.new.procs c.finish.ensures.procs
