@@ -1,5 +1,5 @@
 -- The parts after a process had a child.
-use Rattle.std.proofs.Common.{◌≡◌, ◌≢◌, ℕ, ◌+◌, ◌<◌, ◌≤◌, ◌^◌, Bool, true, false, inl, inr, List, [], ◌∷◌, map, length, Option, Some, None, refl, sym, ap, subst, ◌∙◌, arith, add-zero}
+use Rattle.std.proofs.Common.{◌≡◌, ◌≢◌, ℕ, ◌+◌, ◌<◌, ◌^◌, Bool, true, false, inl, inr, List, [], ◌∷◌, map, length, Option, Some, None, refl, sym, ap, subst, ◌∙◌, arith, add-zero}
 use Rattle.std.specs.Prelude.{◌==◌, nat_le, IsSome, option_map, slice_index, Result}
 use Rattle.std.specs.declared.alloc.AllocError.{AllocError}
 use Rattle.std.proofs.lemmas.Option.{same_Some}
@@ -13,7 +13,6 @@ use Rattle.call_log.specs.Notes.{Note, call_note, has_room, weight_of}
 use Rattle.mmap_rules.specs.Held.{Held}
 use Rattle.fd_tables.specs.Files.{OpenFiles, free_number}
 use Rattle.rv32im_step.specs.declared.regs.Regs.{Regs}
-use Rattle.vfork_exec.specs.declared.family.State.{State}
 use Rattle.vfork_exec.specs.declared.family.State.TheVariants.{Ready, Lent}
 use Rattle.vfork_exec.specs.declared.entry.Entry.{Entry}
 use Rattle.vfork_exec.specs.Keyed.{find, change, Falls}
@@ -38,7 +37,7 @@ use Rattle.syscall_layer.specs.declared.answer.Served.TheVariants.{TurnEnds, Log
 use Rattle.syscall_layer.specs.Regular.{Regular, HasSpace}
 use Rattle.syscall_layer.specs.Stands.{About, later, process_of, world_of}
 use Rattle.syscall_layer.specs.Serves.{Serves, Answered}
-use Rattle.syscall_layer.specs.Calls.{RunsIn, IsCall, child_task, after_fork, ask_in, reply_of}
+use Rattle.syscall_layer.specs.Calls.{IsCall, child_task, after_fork, ask_in, reply_of}
 use Rattle.syscall_layer.proofs.CopiesStay.{room_counts}
 use Rattle.syscall_layer.proofs.Runs.{value_found}
 use Rattle.syscall_layer.proofs.Families.{same_change, child_is, value_is, falls_is, found_is, found_own, own_pid, state_ready}
