@@ -1,6 +1,6 @@
 -- Which way an execve goes, by its path and its strings.
 use Rattle.std.proofs.Common.{◌≡◌, ℕ, zero, suc, Bool, true, false, List, [], ◌∷◌, map, length, Option, Some, None, refl, sym, ap, subst, ◌∙◌, add-zero}
-use Rattle.std.specs.Prelude.{option_map, if◌then◌else◌, slice_get, slice_index, Result, Ok, Err}
+use Rattle.std.specs.Prelude.{option_map, slice_get, slice_index, Result, Ok, Err}
 use Rattle.std.specs.declared.alloc.AllocError.{AllocError}
 use Rattle.bflt_format.specs.Values.{Values}
 use Rattle.call_log.specs.declared.errno.Errno.{Errno}
@@ -24,7 +24,7 @@ use Rattle.machine_world.specs.Asks.{Ask, answers, refuses}
 use Rattle.machine_world.specs.PathCalls.{path_of}
 use Rattle.machine_world.specs.FamilyCalls.{runs_node}
 use Rattle.machine_world.specs.FamilyCalls.{or_eacces as or_eacces_found}
-use Rattle.machine_world.specs.Event.{Outcome, full, answered, executed, exec_at, exec_fitting, exec_program, exec_strings, exec}
+use Rattle.machine_world.specs.Event.{Outcome, answered, executed, exec_at, exec_fitting, exec_program, exec_strings, exec}
 use Rattle.syscall_layer.specs.declared.task.Task.{Task}
 use Rattle.syscall_layer.specs.declared.effect.Effect.TheVariants.{Answer}
 use Rattle.syscall_layer.specs.declared.answer.Served.{Served}

@@ -1,5 +1,5 @@
 -- The parts are regular where a program stands in the place of another one, and copies hold their file.
-use Rattle.std.proofs.Common.{◌≡◌, ◌≢◌, ℕ, ◌+◌, ◌<◌, ◌≤◌, ◌⊎◌, inl, inr, true, false, List, [], ◌∷◌, ◌++◌, map, length, get_or, Option, Some, None, arith, refl, sym, ap, subst, ◌∙◌, length-set, length-append}
+use Rattle.std.proofs.Common.{◌≡◌, ◌≢◌, ℕ, ◌+◌, ◌<◌, ◌⊎◌, inl, inr, false, List, [], ◌∷◌, ◌++◌, map, length, get_or, Option, Some, None, arith, refl, sym, ap, subst, ◌∙◌, length-set, length-append}
 use Rattle.std.specs.Prelude.{◌==◌, ◌*◌, option_map, IsSome, slice_get, slice_set}
 use Rattle.std.proofs.lemmas.Option.{same_Some, none-some, slice_get_within}
 use Rattle.std.proofs.lemmas.List.{length-map}
@@ -20,10 +20,10 @@ use Rattle.vfork_exec.specs.declared.entry.Entry.{Entry}
 use Rattle.vfork_exec.specs.declared.family.State.TheVariants.{Ready}
 use Rattle.vfork_exec.specs.Keyed.{find, change, Falls}
 use Rattle.vfork_exec.specs.Families.{resumed}
-use Rattle.vfork_exec.specs.Procs.{Listed, process, Lives, value_at, count, with_value, with_state, with_value_at, with_exec}
+use Rattle.vfork_exec.specs.Procs.{Listed, process, Lives, value_at, with_value, with_state, with_value_at, with_exec}
 use Rattle.vfork_exec.specs.Procs.{pid_of as entry_pid, borrows as entry_borrows}
 use Rattle.vfork_exec.proofs.Keyed.{decide, eqb_is, find_map, find_changed, find_beside_change, falls_map, falls_change, length_change}
-use Rattle.machine_world.specs.World.{Process, World, pid_of}
+use Rattle.machine_world.specs.World.{Process, pid_of}
 use Rattle.machine_world.specs.Families.{let_go, sharing, AreChains}
 use Rattle.machine_world.specs.Event.{with_exec as world_exec}
 use Rattle.machine_world.specs.Ages.{kept_calls, most_at_boot}
@@ -36,7 +36,7 @@ use Rattle.syscall_layer.specs.Copies.{CopiesHold}
 use Rattle.syscall_layer.specs.Stands.{About, process_of, world_of}
 use Rattle.syscall_layer.proofs.Counts.{get_pushed, get_before}
 use Rattle.syscall_layer.proofs.Families.{same_change, value_is, exec_is, falls_is, found_is, own_pid, found_own, borrows_is, nobody_in}
-use Rattle.syscall_layer.proofs.Started.{Fits, there_before, uses_now, names_now, one_now, pages_now, below}
+use Rattle.syscall_layer.proofs.Started.{Fits, there_before, uses_now, names_now, one_now, pages_now}
 use Rattle.syscall_layer.proofs.CopiesStay.{copies_loaded, copies_aged}
 
 -- ---- the list of processes
@@ -109,8 +109,8 @@ module _ (k : Kept) (regular : Regular k) (pid : ℕ) (e : Entry Task) (lives : 
     | inr other ↦
         let ne : p ≢ pid = grind (arith, nat_tests) in
         inr (before (process k.procs p) refl (
-          sym (found_freed k.procs pid p)
-          ∙ sym (find_beside_change entry_pid pid p ne (λ (x : Entry Task). with_value x then_value) (λ x. refl) (with_exec k.procs pid).entries) ∙ is
+        sym (found_freed k.procs pid p)
+        ∙ sym (find_beside_change entry_pid pid p ne (λ (x : Entry Task). with_value x then_value) (λ x. refl) (with_exec k.procs pid).entries) ∙ is
         ))
   ]
     where

@@ -1,25 +1,22 @@
 -- What the steps of an execve leave: the parts are regular, and stand for the world that it gives.
-use Rattle.std.proofs.Common.{◌≡◌, ◌≢◌, ℕ, ◌+◌, ◌<◌, ◌^◌, Bool, true, false, List, [], ◌∷◌, ◌++◌, length, Option, Some, None, Ok, refl, sym, ap, subst, ◌∙◌, arith}
+use Rattle.std.proofs.Common.{◌≡◌, ◌≢◌, ℕ, ◌+◌, ◌<◌, ◌^◌, Bool, true, false, List, [], ◌∷◌, ◌++◌, length, Some, refl, sym, ap, subst, ◌∙◌, arith}
 use Rattle.std.specs.Prelude.{slice_get, Result, Err}
 use Rattle.std.specs.declared.alloc.AllocError.{AllocError}
-use Rattle.std.proofs.lemmas.Option.{same_Some}
 use Rattle.page_runs.specs.declared.place.Kind.{Kind}
 use Rattle.mmap_rules.specs.Held.{Held, page_address}
 use Rattle.bflt_format.specs.Values.{Values}
 use Rattle.call_log.specs.declared.errno.Errno.{Errno}
 use Rattle.call_log.specs.declared.errno.Errno.TheVariants.{E2big, Enomem}
-use Rattle.call_log.specs.Notes.{Note, load_note, has_room}
+use Rattle.call_log.specs.Notes.{load_note, has_room}
 use Rattle.fd_tables.specs.Changes.{Storage, storage, exec_closed}
 use Rattle.flat_loader.specs.Original.{flat_original, block_pages}
 use Rattle.flat_loader.specs.Frame.{frame_fits}
 use Rattle.flat_loader.specs.Begin.{block_end}
-use Rattle.flat_loader.specs.Loads.{block_page, block_region, held_begin, page_loading, IsLoaded, Loads}
+use Rattle.flat_loader.specs.Loads.{block_region, held_begin, page_loading, IsLoaded, Loads}
 use Rattle.flat_loader.specs.declared.loading.Loaded.{Loaded}
-use Rattle.flat_loader.specs.declared.loading.LoadRefusal.{LoadRefusal}
 use Rattle.flat_loader.specs.declared.loading.LoadRefusal.TheVariants as load_refusal
 use Rattle.vfork_exec.specs.declared.entry.Entry.{Entry}
-use Rattle.vfork_exec.specs.declared.family.State.TheVariants.{Ready}
-use Rattle.vfork_exec.specs.Procs.{Listed, process, CanRun, Lives, value_at, with_value_at, with_exec}
+use Rattle.vfork_exec.specs.Procs.{process, CanRun, Lives, value_at, with_value_at, with_exec}
 use Rattle.vfork_exec.specs.Procs.{borrows as entry_borrows}
 use Rattle.file_calls.specs.declared.call.Call.{Call}
 use Rattle.machine_world.specs.Ages.{kept_calls}
@@ -41,7 +38,7 @@ use Rattle.syscall_layer.proofs.Families.{can_run_lives, own_pid, state_ready}
 use Rattle.syscall_layer.proofs.CopiesStay.{call_counts, load_counts, room_counts}
 use Rattle.syscall_layer.proofs.Boots.{same_parts}
 use Rattle.syscall_layer.proofs.Loaded.{fits, placed_by}
-use Rattle.syscall_layer.proofs.ExecRegular.{files_closed, switched, regular_switched, copies_switched, nobody_stays}
+use Rattle.syscall_layer.proofs.ExecRegular.{regular_switched, copies_switched, nobody_stays}
 use Rattle.syscall_layer.proofs.Execs.{too_big, no_run, notes_behind, running, old_home, exec_serves}
 
 -- the parts in which a program stands in the place of the one that made the call

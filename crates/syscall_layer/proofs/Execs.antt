@@ -1,12 +1,8 @@
 -- The parts with a program in the place of another one stand for the world in which it is.
-use Rattle.std.proofs.Common.{◌≡◌, ◌≢◌, ℕ, ◌+◌, Bool, true, false, List, [], ◌∷◌, ◌++◌, map, length, Option, Some, None, refl, sym, ap, subst, ◌∙◌, arith, add-zero, length-set, length-append}
-use Rattle.std.specs.Prelude.{◌==◌, option_map, if◌then◌else◌, IsSome, slice_get, slice_set, Result, Ok, Err}
-use Rattle.std.specs.declared.alloc.AllocError.{AllocError}
+use Rattle.std.proofs.Common.{◌≡◌, ℕ, ◌+◌, Bool, true, false, List, [], ◌∷◌, ◌++◌, map, length, Option, Some, None, refl, sym, ap, subst, ◌∙◌, arith, add-zero, length-set, length-append}
+use Rattle.std.specs.Prelude.{if◌then◌else◌, IsSome, slice_get, slice_set}
 use Rattle.std.proofs.lemmas.Option.{slice_get_within}
 use Rattle.page_runs.specs.declared.place.Kind.{Kind}
-use Rattle.page_runs.specs.declared.run.Run.{Run}
-use Rattle.page_runs.specs.Place.{place, first_of}
-use Rattle.nommu_regions.specs.Regions.{free_of}
 use Rattle.mmap_rules.specs.Held.{Held, page_address}
 use Rattle.bflt_format.specs.Values.{Values}
 use Rattle.call_log.specs.declared.errno.Errno.TheVariants.{E2big, Enomem}
@@ -21,15 +17,13 @@ use Rattle.vfork_exec.specs.Procs.{Lives, process}
 use Rattle.vfork_exec.specs.Procs.{borrows as entry_borrows}
 use Rattle.vfork_exec.proofs.Keyed.{eqb_other, without_head}
 use Rattle.file_calls.specs.declared.call.Call.{Call}
-use Rattle.machine_world.specs.World.{Process, LiveSpace, World, id_of}
+use Rattle.machine_world.specs.World.{LiveSpace, World, id_of}
 use Rattle.machine_world.specs.Families.{borrows, spaces_left}
-use Rattle.machine_world.specs.Free.{free}
-use Rattle.machine_world.specs.Found.{Found, taken}
+use Rattle.machine_world.specs.Found.{Found}
 use Rattle.machine_world.specs.Asks.{Ask, refuses}
-use Rattle.machine_world.specs.Event.{Trace, Outcome, went, full, counted, noted, number_of, args_of, entry_of, plain_item, answered, with_exec, load_of, executed, exec_at, exec_fitting}
+use Rattle.machine_world.specs.Event.{Outcome, went, counted, noted, number_of, args_of, entry_of, plain_item, answered, with_exec, load_of, executed, exec_at, exec_fitting}
 use Rattle.syscall_layer.specs.declared.task.Task.{Task}
-use Rattle.syscall_layer.specs.declared.answer.Served.{Served}
-use Rattle.syscall_layer.specs.declared.answer.Served.TheVariants.{Replied, LogFull}
+use Rattle.syscall_layer.specs.declared.answer.Served.TheVariants.{Replied}
 use Rattle.syscall_layer.specs.Kept.{Kept}
 use Rattle.syscall_layer.specs.Regular.{Regular}
 use Rattle.syscall_layer.specs.Stands.{About, later, live_spaces, process_of, world_of}
@@ -39,26 +33,19 @@ use Rattle.syscall_layer.specs.Calls.{RunsIn, IsCall, ask_in, noted_call}
 use Rattle.syscall_layer.proofs.Counts.{get_before}
 use Rattle.syscall_layer.proofs.Worlds
 use Rattle.syscall_layer.proofs.Families.{borrows_is}
-use Rattle.syscall_layer.proofs.FreePages.{free_is}
 use Rattle.syscall_layer.proofs.Gone.{length_released}
-use Rattle.syscall_layer.proofs.Loaded.{Placed, spaces_begin}
-use Rattle.syscall_layer.proofs.ExecRegular.{procs_switched, switched, own_switched, procs_are}
+use Rattle.syscall_layer.proofs.Loaded.{taken_is, Placed, spaces_begin}
+use Rattle.syscall_layer.proofs.ExecRegular.{switched, own_switched, procs_are}
 
 -- ---- the run that is taken, while the old space is held
 
 module _ (a : About) (k : Kept) (regular : Regular k) (kind : Kind) (same : a.kind ≡ kind) where
-  taken_is : (need : ℕ) → taken (world_of a k) need (free (world_of a k)) ≡ block_page kind k.regions need
-  unfolding world_of
-  taken_is need =
-      ap (λ (runs : List Run). first_of runs (place a.kind runs need)) (free_is a k regular)
-      ∙ ap (λ (of : Kind). first_of (free_of k.regions).runs (place of (free_of k.regions).runs need)) same
-
   module _ (ask : Ask) (f : Found) (s : ProgramStrings) (fits : Bool) where
     pub too_big : fits ≡ false → exec_fitting (world_of a k) ask f s fits ≡ answered (world_of a k) ask (refuses ask E2big)
     too_big big = ap (exec_fitting (world_of a k) ask f s) big
 
     exec_is_at : (o : Option ℕ) → fits ≡ true → block_page kind k.regions (block_pages f.original) ≡ o → exec_fitting (world_of a k) ask f s fits ≡ exec_at (world_of a k) ask f s o
-    exec_is_at o fit is = ap (exec_fitting (world_of a k) ask f s) fit ∙ ap (exec_at (world_of a k) ask f s) (taken_is (block_pages f.original) ∙ is)
+    exec_is_at o fit is = ap (exec_fitting (world_of a k) ask f s) fit ∙ ap (exec_at (world_of a k) ask f s) (taken_is a k regular kind same (block_pages f.original) ∙ is)
 
     pub no_run : fits ≡ true → block_page kind k.regions (block_pages f.original) ≡ None → exec_fitting (world_of a k) ask f s fits ≡ answered (world_of a k) ask (refuses ask Enomem)
     no_run fit none = exec_is_at None fit none

@@ -36,13 +36,13 @@
 -- Gone       the parts without a process and its space
 -- FreePages  the free pages of the world are those of the regions
 -- Started    the parts after the start of a program are regular
+-- Loaded     a program that is loaded beside the live spaces
 -- Boots      they stand for the world that starts it
--- Forks      the parts after a process had a child, and what comes of a clone
--- Loaded     the space of a program that was loaded, and the others
 -- ExecRegular  the parts are regular where a program stands in the place of another one
 -- Execs      they stand for the world in which it does
 -- ExecSteps  the same by what the steps of an execve leave
--- ExecCalls  which way an execve goes
+-- ExecCalls  which way an execve goes, by its path and its strings
+-- Forks      the parts after a process had a child, and what comes of a clone
 -- Waits      what a process is told of its children, in the world and in the parts
 mod Begins
 pub mod Worlds
@@ -53,11 +53,11 @@ pub mod Gone
 pub mod FreePages
 mod Started
 mod Loaded
+mod Boots
 mod ExecRegular
 mod Execs
 mod ExecSteps
 mod ExecCalls
-mod Boots
 pub mod QuietRows
 pub mod OutputRanges
 pub mod Puts

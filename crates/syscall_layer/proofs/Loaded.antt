@@ -1,14 +1,16 @@
--- A program that was loaded beside the live spaces: its space is the one with which it begins, and the others have the bytes that they had.
+-- A program that is loaded beside the live spaces: the run that is taken, the space with which it begins, and the bytes of the others, which stay.
 use Rattle.std.proofs.Common.{◌≡◌, ℕ, suc, ◌+◌, ◌-◌, ◌*◌, ◌/◌, ◌^◌, ◌<◌, ◌≤◌, Bool, true, false, List, [], ◌∷◌, ◌++◌, length, arith, refl, sym, ap, ◌∙◌}
 use Rattle.std.specs.Prelude.{Option, Some, None, slice_get, if◌then◌else◌, ◌||◌}
 use Rattle.std.proofs.lemmas.Bool.{false≢true}
 use Rattle.std.proofs.lemmas.Bool.Decides.{nat_tests}
 use Rattle.byte_words.specs.ByteMap.{byte_of}
 use Rattle.page_runs.specs.declared.place.Kind.{Kind}
+use Rattle.page_runs.specs.declared.run.Run.{Run}
 use Rattle.page_runs.specs.Pages.{in_run}
+use Rattle.page_runs.specs.Place.{place, first_of}
 use Rattle.nommu_regions.specs.declared.region.Region.{Region}
 use Rattle.nommu_regions.specs.declared.region.Source.TheVariants.{Own}
-use Rattle.nommu_regions.specs.Regions.{AreFree}
+use Rattle.nommu_regions.specs.Regions.{AreFree, free_of}
 use Rattle.nommu_regions.proofs.Held.{held_by}
 use Rattle.mmap_rules.specs.declared.mapping.Mapping.{Mapping}
 use Rattle.mmap_rules.specs.Space.{Space, memory_base, in_range, own_in}
@@ -17,16 +19,29 @@ use Rattle.region_watch.specs.Private.{only, physical}
 use Rattle.bflt_format.specs.Values.{Values}
 use Rattle.flat_loader.specs.Original.{Original, flat_original, block_pages}
 use Rattle.flat_loader.specs.Begin.{Loading, own_range, in_block, begin_byte, begin_bytes, begin_space}
-use Rattle.flat_loader.specs.Loads.{block_region, held_begin, page_loading, IsLoaded}
+use Rattle.flat_loader.specs.Loads.{block_page, block_region, held_begin, page_loading, IsLoaded}
 use Rattle.flat_loader.specs.declared.loading.Loaded.{Loaded}
 use Rattle.machine_world.specs.World.{LiveSpace}
+use Rattle.machine_world.specs.Free.{free}
+use Rattle.machine_world.specs.Found.{taken}
 use Rattle.syscall_layer.specs.Kept.{Kept}
 use Rattle.syscall_layer.specs.Regular.{Regular}
-use Rattle.syscall_layer.specs.Stands.{private_bytes, private_of, live_at, live_from, live_spaces}
+use Rattle.syscall_layer.specs.Stands.{About, private_bytes, private_of, live_at, live_from, live_spaces, world_of}
 use Rattle.syscall_layer.proofs.Counts.{is_false, any_at}
 use Rattle.syscall_layer.proofs.Apart.{page_of, page_there, has_held}
+use Rattle.syscall_layer.proofs.FreePages.{free_is}
 use Rattle.syscall_layer.proofs.Worlds.{others_same}
 use Rattle.syscall_layer.proofs.Started.{Fits}
+
+-- ---- the run that is taken
+
+pub taken_is : (a : About) (k : Kept) → Regular k → (kind : Kind) → a.kind ≡ kind → (need : ℕ) → taken (world_of a k) need (free (world_of a k)) ≡ block_page kind k.regions need
+unfolding world_of
+taken_is a k regular kind same need =
+    ap (λ (runs : List Run). first_of runs (place a.kind runs need)) (free_is a k regular)
+    ∙ ap (λ (of : Kind). first_of (free_of k.regions).runs (place of (free_of k.regions).runs need)) same
+
+-- ---- the spaces
 
 -- a space more
 live_more : (mem : List ℕ) (i : ℕ) (spaces : List (Option Held)) (h : Held)

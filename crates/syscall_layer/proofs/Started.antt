@@ -140,7 +140,7 @@ module _ (k : Kept) (v : Region) (h : Held) (regs : Regs) (table : ℕ) (mem : L
         | inr other ↦ inr (sym (find_head pid_of pid new k.procs.entries false other) ∙ is)
       ]
 
-  pub below : (pid : ℕ) (e : Entry Task) → process k.procs pid ≡ Some e → e.value.space < length k.spaces
+  below : (pid : ℕ) (e : Entry Task) → process k.procs pid ≡ Some e → e.value.space < length k.spaces
   below pid e is = let space = regular.runs pid e is in slice_get_within k.spaces e.value.space (Some space.held) space.there
 
   space_of : (pid : ℕ) (e : Entry Task) → process (with_start k.procs (record { regs = regs; space = length k.spaces; table = table })) pid ≡ Some e →

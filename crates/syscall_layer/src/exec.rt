@@ -95,7 +95,7 @@ impl Parts {
         ensures { (a : About) → a.kind ≡ kind_of chooser.now → (e : Listed Task) → (h : Held) → RunsIn self.old call.pid e h → IsCall self.old.mem e h call →
             Serves a
             (exec_fitting (world_of a self.old) (ask_in a self.old e h call) (record { index = index; original = flat_original flat.now }) (record { args = texts strings.now.args.items; env = texts strings.now.env.items })
-                (frame_fits (flat_original flat.now) (texts strings.now.args.items) (texts strings.now.env.items)))
+            (frame_fits (flat_original flat.now) (texts strings.now.args.items) (texts strings.now.env.items)))
             self.old self.new call.pid result }
     {
         self.spaces.reserve(1)?;
@@ -110,14 +110,18 @@ impl Parts {
             &strings.env,
             chooser,
         ) {
-            Ok(Loaded {
-                space,
-                regs,
-                base,
-                pages,
-            }) => {
+            Ok(
+                Loaded {
+                    space,
+                    regs,
+                    base,
+                    pages,
+                },
+            ) => {
                 let Task {
-                    space: old, table, ..
+                    space: old,
+                    table,
+                    ..
                 } = *self.procs.get(call.pid);
                 let lent = self.procs.borrows(call.pid);
                 let number = self.spaces.len() as u32;

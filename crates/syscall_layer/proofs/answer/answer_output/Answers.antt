@@ -11,4 +11,4 @@ returns c = λ a e h runs is.
     let o = c.in_ok-outcome.outcome in
     let gives = c.in_ok-outcome.ensures.gives (ask_in a k e h call) (made_by a k e h call runs is)
     (tree_in a k e h call refl) (files_in a k e h call refl) in
-    output_answers a k e h call runs is o c.answer_given.result c.answer_given.new.parts gives (c.answer_given.ensures a e h runs is)
+    output_answers a k e h call runs is o c.answer_given.result c.answer_given.new.parts gives (c.answer_given.ensures.serves a e h runs is)

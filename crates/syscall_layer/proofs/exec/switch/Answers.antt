@@ -1,7 +1,7 @@
 -- The process still lives, with what was kept of it.
 use Rattle.std.proofs.Common.{◌≡◌, Some, sym, ap, subst, ◌∙◌}
 use Rattle.std.proofs.lemmas.Option.{same_Some}
-use Rattle.vfork_exec.specs.Procs.{Listed, Lives, value_at, with_exec, with_value_at}
+use Rattle.vfork_exec.specs.Procs.{Listed, Lives, value_at, with_value_at}
 use Rattle.syscall_layer.specs.declared.task.Task.{Task}
 use Rattle.syscall_layer.proofs.ExecRegular.{value_freed, lives_freed}
 use Rattle.syscall_layer.proofs.exec.switch.Goals as goal

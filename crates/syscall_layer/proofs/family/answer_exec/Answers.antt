@@ -1,6 +1,6 @@
 -- Which way the call goes, and what comes of it.
-use Rattle.std.proofs.Common.{rules, ◌≡◌, ℕ, ◌<◌, ◌≤◌, arith, true, false, List, [], ◌∷◌, length, Option, Some, None, Ok, Err, refl, sym, ap, subst, ◌∙◌}
-use Rattle.std.specs.Prelude.{slice_get, slice_index}
+use Rattle.std.proofs.Common.{rules, ◌≡◌, ◌<◌, ◌≤◌, arith, true, false, length, Some, None, refl, sym, ap, ◌∙◌}
+use Rattle.std.specs.Prelude.{slice_index}
 use Rattle.std.proofs.lemmas.Option.{slice_get_past, slice_get_read}
 use Rattle.std.proofs.lemmas.Bool.Decides.{nat_tests}
 use Rattle.mem_files.specs.Paths.{lookup}
@@ -11,7 +11,6 @@ use Rattle.flat_loader.specs.Frame.{texts}
 use Rattle.syscall_layer.specs.Kept.{Kept}
 use Rattle.syscall_layer.specs.Inside.{kept_of}
 use Rattle.syscall_layer.specs.Families.{mark_at}
-use Rattle.syscall_layer.specs.StringsOf.{program_value}
 use Rattle.syscall_layer.proofs.Settled.{room_is}
 use Rattle.syscall_layer.proofs.ExecCalls.{no_path, no_strings, no_program, no_flat, runs_flat, by_outcome, by_refusal, exec_full}
 use Rattle.syscall_layer.proofs.family.answer_exec.Given.{Over}

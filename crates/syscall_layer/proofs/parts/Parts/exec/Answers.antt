@@ -1,12 +1,10 @@
 -- The program stands in the place of the one that made the call, or the call is refused.
-use Rattle.std.proofs.Common.{rules, ◌≡◌, true, false, Ok, List, ◌∷◌, [], ◌++◌, length, Some, refl, sym, ap, subst, ◌∙◌, arith}
-use Rattle.std.specs.Prelude.{ℕ}
+use Rattle.std.proofs.Common.{rules, ◌≡◌, true, Ok, ◌∷◌, [], ◌++◌, length, Some, refl, sym, subst, ◌∙◌, arith}
 use Rattle.page_runs.specs.Choosers.{kind_of}
-use Rattle.mmap_rules.specs.Held.{Held}
-use Rattle.call_log.specs.Notes.{Note, load_note, has_room}
+use Rattle.call_log.specs.Notes.{load_note, has_room}
 use Rattle.flat_loader.specs.Frame.{texts}
 use Rattle.flat_loader.specs.Loads.{IsLoaded}
-use Rattle.vfork_exec.specs.Procs.{CanRun, borrows}
+use Rattle.vfork_exec.specs.Procs.{CanRun}
 use Rattle.syscall_layer.specs.declared.answer.Served.TheVariants.{Replied}
 use Rattle.syscall_layer.specs.Kept.{Kept}
 use Rattle.syscall_layer.specs.Inside.{kept_of}
