@@ -81,7 +81,7 @@ has-append (x ∷ xs) ys q = ap (λ b. nat_eq x q || b) (has-append xs ys q) ∙
     or_turn true b c = refl
     or_turn false b c = refl
 
-begins_all : (l : Layout) (q : ℕ) (es : List (List Span)) → list_any (begins l q) (all_of es) ≡ has (flat_map (recorded_places l) es) q
+pub begins_all : (l : Layout) (q : ℕ) (es : List (List Span)) → list_any (begins l q) (all_of es) ≡ has (flat_map (recorded_places l) es) q
 begins_all l q [] = refl
 begins_all l q (ss ∷ es) =
     list_any-append (begins l q) ss (all_of es)

@@ -46,7 +46,7 @@ each-both : {X : Type 0} (P Q : X → Type 0) (xs : List X) → Each P xs → Ea
 each-both P Q [] a b = tt
 each-both P Q (x ∷ xs) a b = ((a.0, b.0), each-both P Q xs a.1 b.1)
 
-each_passes : {X : Type 0} (test : X → Bool) (xs : List X) → list_all test xs ≡ true → Each (λ x. test x ≡ true) xs
+pub each_passes : {X : Type 0} (test : X → Bool) (xs : List X) → list_all test xs ≡ true → Each (λ x. test x ≡ true) xs
 each_passes test [] is = tt
 each_passes test (x ∷ xs) is = let parts = and_parts (test x) (list_all test xs) is in (parts.0, each_passes test xs parts.1)
 
@@ -65,11 +65,11 @@ held_bytes s a n is =
     record { stored = inner.0; from = leb-true _ _ inner.1; to = leb-true _ _ outer.1 }
 
 -- a word in a stored section of the image
-record StandsAt (e : List ℕ) (s : Section) (a : ℕ) : Type 0 where
-  inside : off (layout e) a + 4 ≤ stored_end e
-  word : word_of (bare e) (off (layout e) a) ≡ word_in e s a
+pub record StandsAt (e : List ℕ) (s : Section) (a : ℕ) : Type 0 where
+  pub inside : off (layout e) a + 4 ≤ stored_end e
+  pub word : word_of (bare e) (off (layout e) a) ≡ word_in e s a
 
-stands_at : (e : List ℕ) (i a : ℕ) → elf_fault e ≡ None → IsLaid e → i < count_of e → is_allocated (section e i) ≡ true
+pub stands_at : (e : List ℕ) (i a : ℕ) → elf_fault e ≡ None → IsLaid e → i < count_of e → is_allocated (section e i) ≡ true
     → is_stored (section e i) ≡ true → (section e i).addr ≤ a → a + 4 ≤ end_of (section e i) → StandsAt e (section e i) a
 stands_at e i a clear laid below allocated stored from to =
     let bytes : has_bytes (section e i) ≡ true = and_from _ _ (and_from _ _ allocated (lt-ltb 0 (section e i).size (omega arith))) stored in
@@ -118,13 +118,13 @@ own_held e i r f t place stands value =
     record { inside = at.inside; value = ap (λ w. has_value f.shape w f.value) at.word ∙ value; pointer = stands.pointer }
 
 -- what the last two rows say of the bytes at P and of the slot
-record IsRight (e : List ℕ) (i : ℕ) (r : Reloc) (o : Ends) : Type 0 where
-  place : holds (target_section e i) r.place (field_len r.row) ≡ true
-  slot : (is_got_hi20 r.row && is_slot_outside e (slot_of e i r.place)) ≡ false
-  values : list_all (holds_value e (target_section e i)) (own_fields r.row 0 r o) ≡ true
-  word : is_slot_wrong e r o.value ≡ false
+pub record IsRight (e : List ℕ) (i : ℕ) (r : Reloc) (o : Ends) : Type 0 where
+  pub place : holds (target_section e i) r.place (field_len r.row) ≡ true
+  pub slot : (is_got_hi20 r.row && is_slot_outside e (slot_of e i r.place)) ≡ false
+  pub values : list_all (holds_value e (target_section e i)) (own_fields r.row 0 r o) ≡ true
+  pub word : is_slot_wrong e r o.value ≡ false
 
-is_right : (e : List ℕ) (i : ℕ) (r : Reloc) (o : Ends) → IsSound e i r → ends_of e i r ≡ Some o → IsRight e i r o
+pub is_right : (e : List ℕ) (i : ℕ) (r : Reloc) (o : Ends) → IsSound e i r → ends_of e i r ≡ Some o → IsRight e i r o
 unfolding is_place_outside is_mismatch
 is_right e i r o sound from =
     let place = or_parts (not (holds (target_section e i) r.place (field_len r.row))) (is_got_hi20 r.row && is_slot_outside e (slot_of e i r.place)) sound.place in

@@ -1,5 +1,5 @@
 -- Members, Laid, Bare, Putting, Raised, Sound, Held, Stills, Recorded, Apart, Listed, Ascending, Spelled, ImageLaw: the laws over definitions.
--- Twins: two files that say the same.
+-- Twins, Slots, Agreed: two files that say the same, or agree on their relocations. Exchanged: two that agree and differ.
 -- Samples: the worked examples, computed.
 -- Lowest, Meeting, Kept: the least word that meets another relocation, by what the test for overlaps keeps.
 -- Shapes, Walked, Entries: what the walk over the relocations finds.
@@ -20,7 +20,10 @@ pub mod Ascending
 pub mod Spelled
 pub mod ImageLaw
 pub mod Twins
+pub mod Slots
+pub mod Agreed
 pub mod Samples
+pub mod Exchanged
 pub mod Lowest
 pub mod Meeting
 pub mod Kept

@@ -92,6 +92,11 @@ number-raised_lone_add = refl
 other_order : List ℕ
 other_order = slice_set (slice_set (slice_set (take 208 one_word ++ (take 40 (drop 248 one_word) ++ (take 40 (drop 208 one_word) ++ drop 288 one_word))) 396 1) 90 2) 116 120
 
+-- the entry is as it was
+reloc-other_order : reloc other_order 5 0 ≡ reloc one_word 5 0
+unfolding entry_offset addend_word rela table_of count_of byte_at number_at section symbol symbol_offset is_allocated name_of class value_of reloc row_of other_order
+reloc-other_order = refl
+
 fault-other_order : fault other_order ≡ None
 unfolding has_magic is_current has_table header_fault passes_end is_nameless has_symbol_shape is_bad_symtab is_symbolless has_rela_shape is_bad_rela section_fault elf_fault entry_of table_of count_of byte_at number_at is_static_relocation is_kept rela_count entry_offset addend_word rela any_below section is_allocated is_stored has_content content is_of_kind is_symtab symbol_count symbol_offset symbol name_of least_below greatest_below has_sections some_ends_too_high is_too_large meets_below has_overlap has_dynamic has_tls is_entry_outside layout_fault off stored_end written_from text_of layout lowest highest raised_start distance start_of spans patched bytes_below from_base big_word little_word records spell class value_of number_patch body_of converted flat fault fields fields_of section_patch bare word_patch reloc row_of first_below is_high_at high_of names low_of slot_by slot_of holds_slot slot_section sum_below high_ends ends_of absolute relative is_place_outside is_lone_low is_unpaired holds_value slot_word is_slot_wrong is_mismatch first_fault reloc_fault effects.spans first_some entry_fault faults.section_fault relocs_fault target_fault overlap_fault fields_in spans_in spans_of numbered words target_outside word_overlap other_order
 fault-other_order = refl

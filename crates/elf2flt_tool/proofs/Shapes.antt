@@ -63,16 +63,16 @@ mark_len : (row : Row) → is_mark row ≡ true → field_len row ≡ 0
 mark_len Mark is = refl
 mark_len _ is = absurd (cc)
 
-got_plain : (row : Row) → is_got_hi20 row ≡ true → is_mark row ≡ false
+pub got_plain : (row : Row) → is_got_hi20 row ≡ true → is_mark row ≡ false
 got_plain Mark is = absurd (cc)
 got_plain _ is = refl
 
 -- what the test for places says of an entry that passes it
-record IsPlaced (e : List ℕ) (i : ℕ) (r : Reloc) : Type 0 where
-  own : holds (target_section e i) r.place (field_len r.row) ≡ true
-  slot : (is_got_hi20 r.row && is_slot_outside e (slot_of e i r.place)) ≡ false
+pub record IsPlaced (e : List ℕ) (i : ℕ) (r : Reloc) : Type 0 where
+  pub own : holds (target_section e i) r.place (field_len r.row) ≡ true
+  pub slot : (is_got_hi20 r.row && is_slot_outside e (slot_of e i r.place)) ≡ false
 
-is_placed : (e : List ℕ) (i j : ℕ) → reloc_fault e i j ≡ None → is_mark (reloc e i j).row ≡ false → IsPlaced e i (reloc e i j)
+pub is_placed : (e : List ℕ) (i j : ℕ) → reloc_fault e i j ≡ None → is_mark (reloc e i j).row ≡ false → IsPlaced e i (reloc e i j)
 unfolding is_place_outside
 is_placed e i j none plain =
     let r = reloc e i j in

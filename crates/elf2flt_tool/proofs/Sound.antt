@@ -30,6 +30,8 @@ pub record IsSound (e : List ℕ) (i : ℕ) (r : Reloc) : Type 0 where
   pub absolute : (is_absolute r.row && is_moving r.class) ≡ false
   pub weak : (is_relative r.row && is_weak r.class) ≡ false
   pub fixed : (is_relative r.row && is_fixed r.class) ≡ false
+  pub lone : is_lone_low e i r ≡ false
+  pub unpaired : is_unpaired e i r ≡ false
   pub mismatch : is_mismatch e i r ≡ false
 
 -- the rows of the fault table
@@ -67,6 +69,8 @@ is_sound e i r none =
       absolute = place.1.0;
       weak = place.1.1.0;
       fixed = fixed.0;
+      lone = fixed.1.0;
+      unpaired = fixed.1.1.0;
       mismatch = fixed.1.1.1.0;
     }
 

@@ -19,8 +19,8 @@ use Rattle.flat_layout.proofs.Bounds.{greatest_at, greatest_le, least_le_none, l
 use Rattle.elf2flt_tool.specs.Image.{section_patch, bare, word_of}
 use Rattle.elf2flt_tool.specs.Word.{records}
 use Rattle.elf2flt_tool.specs.Converted.{converted, flat}
-use Rattle.elf2flt_tool.specs.Same.{IsTwin, HasSections, SaysSame}
-use Rattle.elf2flt_tool.specs.Laws.{NothingElseLaw}
+use Rattle.elf2flt_tool.specs.Same.{IsTwin, HasSections, HaveSameSections, SaysSame}
+use Rattle.elf2flt_tool.specs.Laws.{SameWordsLaw}
 use Rattle.elf2flt_tool.proofs.Laid.{IsLaid, is_laid}
 use Rattle.elf2flt_tool.proofs.Bare.{IsOf, is_of, bare_of, bare_none}
 use Rattle.elf2flt_tool.proofs.Recorded.{IsClear, is_clear}
@@ -103,36 +103,36 @@ written_parts e g f h sections same k lt on =
     let x = sections k lt (and_parts _ _ on).0 in
     record { index = x.index; below = x.is.below; taken = written_same e f k x.index x.is on; value = same k x.index x.is }
 
-lowest_same : (e f : List ℕ) → SaysSame e f → lowest e ≡ lowest f
+lowest_same : (e f : List ℕ) → HaveSameSections e f → lowest e ≡ lowest f
 unfolding lowest
 lowest_same e f s = least_same _ _ _ _ (2 ^ 32) (count_of e) (count_of f) (laid_parts e _ f _ s.there (λ i j twin. twin.addr)) (laid_parts f _ e _ s.back (λ i j twin. twin.addr))
 
 end_same : (e f : List ℕ) (i j : ℕ) → IsTwin e i f j → end_of (section f j) ≡ end_of (section e i)
 end_same e f i j twin = let addr = twin.addr in let size = twin.size in omega arith
 
-highest_same : (e f : List ℕ) → SaysSame e f → highest e ≡ highest f
+highest_same : (e f : List ℕ) → HaveSameSections e f → highest e ≡ highest f
 unfolding highest
 highest_same e f s = greatest_same _ _ _ _ (count_of e) (count_of f) (laid_parts e _ f _ s.there (end_same e f)) (laid_parts f _ e _ s.back (end_same f e))
 
-raised_same : (e f : List ℕ) → SaysSame e f → raised_start e ≡ raised_start f
+raised_same : (e f : List ℕ) → HaveSameSections e f → raised_start e ≡ raised_start f
 unfolding raised_start
 raised_same e f s = ap (λ low. (low + 63) / 64 * 64) (lowest_same e f s)
 
-distance_same : (e f : List ℕ) (a b : ℕ) → SaysSame e f → a ≡ b → distance e a ≡ distance f b
+distance_same : (e f : List ℕ) (a b : ℕ) → HaveSameSections e f → a ≡ b → distance e a ≡ distance f b
 unfolding distance
 distance_same e f a b s same = let raised = raised_same e f s in omega arith
 
-turned : (e f : List ℕ) → SaysSame e f → SaysSame f e
-turned e f s = record { entry = sym s.entry; there = s.back; back = s.there; words = λ n. sym (s.words n) }
+pub turned : (e f : List ℕ) → HaveSameSections e f → HaveSameSections f e
+turned e f s = record { entry = sym s.entry; there = s.back; back = s.there }
 
-stored_same : (e f : List ℕ) → SaysSame e f → stored_end e ≡ stored_end f
+stored_same : (e f : List ℕ) → HaveSameSections e f → stored_end e ≡ stored_end f
 unfolding stored_end
 stored_same e f s =
     greatest_same _ _ _ _ (count_of e) (count_of f)
     (bytes_parts e _ f _ s.there (λ i j twin. distance_same f e _ _ (turned e f s) (end_same e f i j twin)))
     (bytes_parts f _ e _ s.back (λ i j twin. distance_same e f _ _ s (end_same f e i j twin)))
 
-written_from_same : (e f : List ℕ) → SaysSame e f → written_from e ≡ written_from f
+written_from_same : (e f : List ℕ) → HaveSameSections e f → written_from e ≡ written_from f
 unfolding written_from
 written_from_same e f s =
     least_same _ _ _ _ (stored_end e) (count_of e) (count_of f)
@@ -140,7 +140,7 @@ written_from_same e f s =
     (written_parts f _ e _ s.back (λ i j twin. distance_same e f _ _ s twin.addr))
     ∙ ap (λ end. least_below (λ i. is_written (section f i)) (λ i. distance f (section f i).addr) end (count_of f)) (stored_same e f s)
 
-layout_same : (e f : List ℕ) → SaysSame e f → layout e ≡ layout f
+pub layout_same : (e f : List ℕ) → HaveSameSections e f → layout e ≡ layout f
 unfolding layout text_of start_of
 layout_same e f s =
     let raised = raised_same e f s in
@@ -188,7 +188,7 @@ byte_of_twin e f i j n e_clear f_clear e_laid f_laid laid below twin here =
     ∙ (λ k. slice_index (sym (twin.content (and_parts _ _ here.bytes).1) k) (n - off (laid k) (sym twin.addr k)))
     ∙ sym (bare_of f j n f_clear f_laid twin.below (twin_of e f i j n laid twin here))
 
-bare_at : (e f : List ℕ) (n : ℕ) → IsClear e → IsClear f → SaysSame e f → bare e n ≡ bare f n
+pub bare_at : (e f : List ℕ) (n : ℕ) → IsClear e → IsClear f → HaveSameSections e f → bare e n ≡ bare f n
 bare_at e f n e_clear f_clear s =
     let laid = layout_same e f s in
     let e_laid = is_laid e e_clear.laid in
@@ -215,7 +215,7 @@ members e f s x = sym (begins_has e x) ∙ s.words x ∙ begins_has f x
 records_same : (e f : List ℕ) → SaysSame e f → records e ≡ records f
 unfolding records
 records_same e f s =
-    let laid = layout_same e f s in
+    let laid = layout_same e f s.sections in
     λ i. filter (λ n. s.words n i) (range_with_len 0 ((laid i).text + (laid i).data_len))
 
 stored_values : (e : List ℕ) (stack : ℕ) → stored (converted e stack) ≡ (layout e).text + (layout e).data_len
@@ -224,8 +224,8 @@ stored_values e stack = refl
 
 body_same : (e f : List ℕ) (stack : ℕ) → IsBytes e → IsBytes f → IsClear e → IsClear f → SaysSame e f → (converted e stack).body ≡ (converted f stack).body
 body_same e f stack e_bytes f_bytes e_clear f_clear s =
-    let laid = layout_same e f s in
-    let bytes : bare e ≡ bare f = (λ k n. bare_at e f n e_clear f_clear s k) in
+    let laid = layout_same e f s.sections in
+    let bytes : bare e ≡ bare f = (λ k n. bare_at e f n e_clear f_clear s.sections k) in
     let end : stored (converted e stack) ≡ stored (converted f stack) = stored_values e stack ∙ ap (λ l. l.text + l.data_len) laid ∙ sym (stored_values f stack) in
     body_is e stack e_bytes e_clear
     ∙ (λ k. links.body_of (λ p. off (laid k) (word_of (bytes k) p)) (places_of e) (bytes k) (end k))
@@ -238,10 +238,10 @@ same_values v w e t d b s l y r = λ i. record { entry = e i; text = t i; data_l
 converted_same : (e f : List ℕ) (stack : ℕ) → IsBytes e → IsBytes f → IsClear e → IsClear f → SaysSame e f → converted e stack ≡ converted f stack
 unfolding converted
 converted_same e f stack e_bytes f_bytes e_clear f_clear s =
-    let laid = layout_same e f s in
+    let laid = layout_same e f s.sections in
     same_values (converted e stack) (converted f stack) (ap (λ l. 64 + l.entry) laid) (ap (λ l. l.text) laid) (ap (λ l. l.data_len) laid) (ap (λ l. l.bss) laid) refl refl
     (body_same e f stack e_bytes f_bytes e_clear f_clear s) (records_same e f s)
 
-pub nothing_else_law : NothingElseLaw
+pub same_words_law : SameWordsLaw
 unfolding flat
-nothing_else_law e f stack e_bytes f_bytes e_none f_none s = ap spell (converted_same e f stack e_bytes f_bytes (is_clear e e_none) (is_clear f f_none) s)
+same_words_law e f stack e_bytes f_bytes e_none f_none s = ap spell (converted_same e f stack e_bytes f_bytes (is_clear e e_none) (is_clear f f_none) s)

@@ -1,6 +1,6 @@
 //! Laws over the definitions. They hold for all files, and no code runs.
 
-ghost use Rattle.elf2flt_tool.specs.Laws.{FlatLaw, ImageLaw, NothingElseLaw};
+ghost use Rattle.elf2flt_tool.specs.Laws.{DifferThoughAgreed, FlatLaw, ImageLaw, NothingElseLaw, SameRecordersLaw, SameWordsLaw};
 
 /// The flat file of an accepted ELF file has, loaded at any base, the image of the ELF file there.
 pub fn image_law()
@@ -12,8 +12,13 @@ pub fn flat_law()
     ensures { FlatLaw }
 {}
 
-/// The flat file goes by the entry, the laid-out sections and the places of the recorded words, and by nothing else: not
-/// by the order of sections and entries, by names, symbols, or what isn't loaded.
+/// The flat file goes by the entry, the laid-out sections and the kept relocations, and by nothing else: not by the order of
+/// sections and entries, by names, symbols' numbers, or what isn't loaded. In one of two such files no two sections of
+/// relocations may have high parts at one place (`relocs`); without that it doesn't hold (`needed`). Of the relocations it goes
+/// only by what those that record a word need (`recorders`), and so by the places of the words (`words`).
 pub fn nothing_else_law()
-    ensures { NothingElseLaw }
+    ensures relocs { NothingElseLaw }
+    ensures needed { DifferThoughAgreed }
+    ensures recorders { SameRecordersLaw }
+    ensures words { SameWordsLaw }
 {}
