@@ -1,5 +1,6 @@
 -- By the laws of stays, since what the lines bring in has pages as the manifest says, and no file that was changed.
-use Rattle.std.proofs.Common.{ℕ, ◌≤◌, map, arith}
+use Rattle.std.proofs.Common.{◌≡◌, ℕ, ◌≤◌, length, map, arith}
+use Rattle.std.proofs.lemmas.List.{length-map}
 use Rattle.machine_world.specs.Ages.{AreChanged, most_at_boot}
 use Rattle.machine_world.specs.Boot.{empty_world}
 use Rattle.manifest_text.proofs.Bounds.{manifests_are_reasonable}
@@ -24,5 +25,6 @@ returns c t name kind o =
       most = reasonable.most_pages;
       changes = λ id n is. omega (arith, unchanged id n is);
     } in
+    let few : length starts ≤ 64 = omega (arith, length-map o.manifest.starts start_line, reasonable.starts) in
     runs_keep_stays (first_stays (empty_world rest) starts) (repeated o.manifest.repeat o.manifest.quanta) o.world
-    (boots_are_sound rest starts o.world can o.boots) (boots_begin_stays rest starts o.world can o.boots)
+    (boots_are_sound rest starts o.world can few o.boots) (boots_begin_stays rest starts o.world can o.boots)
