@@ -144,7 +144,8 @@ fn files_are_written_and_read(rt: HostRuntime) -> Result<(), Fail> {
     Ok(())
 }
 
-/// An execve with the path, the arguments and the environment that the process has on its own stack: they are read.
+/// An execve with the path, the arguments and the environment that the process has on its own stack: they are read, and no file is
+/// at the path.
 #[test]
 fn an_execve_reads_strings(rt: HostRuntime) -> Result<(), Fail> {
     let mut parts = begun(rt)?;
@@ -156,7 +157,7 @@ fn an_execve_reads_strings(rt: HostRuntime) -> Result<(), Fail> {
     let args = sp.wrapping_add(4);
     let env = sp.wrapping_add(12);
     let answer = call(&mut parts, 221, [path, args, env])?;
-    assert_eq!(rt; answer, (Some(Served::Replied), Some(0xffff_ffda)));
+    assert_eq!(rt; answer, (Some(Served::Replied), Some(0xffff_fffe)));
     let Some(Note::Call(entry)) = parts.log.notes().last() else {
         return Err(Fail::from("no call is noted"));
     };
