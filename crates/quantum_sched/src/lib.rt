@@ -16,12 +16,11 @@ pub struct Quantum {
     pub count: u32,
 }
 
-/// The pid of the process whose turn it is. None exactly where none may run, which is where none lives.
+/// The pid of the process whose turn it is. None exactly where none may run.
 #[tactic(auto, unfolding(crate::specs::Picked::picked))]
 pub fn pick<P>(procs: &Procs<P>, q: Quantum) -> Option<u32>
     ensures picked { result ≡ picked q.pick (ready_pids procs.now) }
     ensures none { IsNone result ↔ (ready_pids procs.now ≡ []) }
-    ensures empty { IsNone result ↔ (procs.now.entries ≡ []) }
 {
     let count = procs.runnable();
     if count == 0 {

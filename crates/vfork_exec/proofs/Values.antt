@@ -1,15 +1,18 @@
 -- Which process lives, and what is kept of it, behind each call.
-use Rattle.std.proofs.Common.{◌≡◌, ◌≢◌, ℕ, true, cond, inl, inr, Option, Some, None, refl, sym, ap, ◌∙◌}
+use Rattle.std.proofs.Common.{◌≡◌, ◌≢◌, ℕ, true, false, cond, List, inl, inr, Option, Some, None, refl, sym, ap, subst, ◌∙◌}
 use Rattle.std.specs.Prelude.{◌==◌, is_some, option_map}
 use Rattle.call_log.specs.declared.how.How.{How}
 use Rattle.vfork_exec.specs.declared.family.State.{State}
-use Rattle.vfork_exec.specs.declared.family.State.TheVariants.{Ready, Lent}
+use Rattle.vfork_exec.specs.declared.family.State.TheVariants.{Ready, OnPipe, Lent}
 use Rattle.vfork_exec.specs.declared.entry.Entry.{Entry}
-use Rattle.vfork_exec.specs.Keyed.{without}
-use Rattle.vfork_exec.specs.Families.{resumed}
-use Rattle.vfork_exec.specs.Procs.{Listed, process, value_at, pid_of, behind, with_state, with_entry, with_child, with_exec, with_end, with_state_at}
-use Rattle.vfork_exec.proofs.Keyed.{decide, eqb_same, find_head, find_later, find_map, find_gone, find_beside_without}
-use Rattle.vfork_exec.proofs.WaitsWell.{found_change}
+use Rattle.vfork_exec.specs.Keyed.{find, change, without}
+use Rattle.vfork_exec.specs.Families.{resumed, roused}
+use Rattle.vfork_exec.specs.Procs.{Listed, process, value_at, pid_of, behind, with_state, with_entry, with_child, with_exec, with_end, with_state_at, with_wait_on, with_wake}
+use Rattle.vfork_exec.proofs.Keyed.{decide, eqb_same, eqb_is, find_head, find_later, find_changed, find_map, find_gone, find_beside_change, find_beside_without}
+
+option_map_id : {A : Type 0} (o : Option A) → option_map (λ x. x) o ≡ o
+option_map_id (Some x) = refl
+option_map_id None = refl
 
 module _ {P : Type 0} where
   value_kept : (g : Entry P → Entry P) → ((e : Entry P) → (g e).value ≡ e.value) → (o : Option (Entry P)) → option_map (λ (e : Entry P). e.value) (option_map g o) ≡ option_map (λ (e : Entry P). e.value) o
@@ -33,6 +36,14 @@ module _ {P : Type 0} where
       ap (option_map (λ (e : Entry P). e.value)) (find_head pid_of s.next_pid (record { pid = s.next_pid; parent = parent; state = Ready; value = value }) (with_state_at s parent (Lent s.next_pid)).entries true (eqb_same s.next_pid s.next_pid refl))
 
   -- ---- another state
+
+  -- what is found behind a change at one number
+  found_change : (f : Entry P → Entry P) → ((e : Entry P) → (f e).pid ≡ e.pid) → (at pid : ℕ) (es : List (Entry P))
+      → find pid_of pid (change pid_of at f es) ≡ option_map (λ e. cond (pid == at) (f e) e) (find pid_of pid es)
+  found_change f same at pid es = elim (decide (pid == at)) [
+    | inl is ↦ rw is (subst (λ k. find pid_of k (change pid_of at f es) ≡ option_map f (find pid_of k es)) (sym (eqb_is pid at is)) (find_changed pid_of at f same es))
+    | inr is ↦ rw is (find_beside_change pid_of at pid (λ e. let wrong : true ≡ false = sym (eqb_same pid at e) ∙ is in absurd cc) f same es ∙ sym (option_map_id (find pid_of pid es)))
+  ]
 
   process_state : (s : Listed P) (at : ℕ) (state : State) (pid : ℕ) → process (with_state_at s at state) pid ≡ option_map (λ e. cond (pid == at) (with_state e state) e) (process s pid)
   process_state s at state pid = found_change (λ e. with_state e state) (λ e. refl) at pid s.entries
@@ -86,3 +97,20 @@ module _ {P : Type 0} where
   pub gone_end : (s : Listed P) (gone : Entry P) (how : How) → process (with_end s gone how) gone.pid ≡ None
   gone_end s gone how =
       find_map pid_of pid_of gone.pid (behind gone.pid gone.parent) (λ e. refl) (without pid_of gone.pid s.entries) ∙ ap (option_map (behind gone.pid gone.parent)) (find_gone pid_of gone.pid s.entries)
+
+  -- ---- pipes
+
+  pub value_wait_on : (s : Listed P) (at pipe pid : ℕ) → value_at (with_wait_on s at pipe) pid ≡ value_at s pid
+  value_wait_on s at pipe pid = value_state s at (OnPipe pipe) pid
+
+  pub lives_wait_on : (s : Listed P) (at pipe pid : ℕ) → is_some (process (with_wait_on s at pipe) pid) ≡ is_some (process s pid)
+  lives_wait_on s at pipe pid = lives_state s at (OnPipe pipe) pid
+
+  pub process_wake : (s : Listed P) (pipe pid : ℕ) → process (with_wake s pipe) pid ≡ option_map (λ e. with_state e (roused pipe e.state)) (process s pid)
+  process_wake s pipe pid = find_map pid_of pid_of pid (λ (e : Entry P). with_state e (roused pipe e.state)) (λ e. refl) s.entries
+
+  pub value_wake : (s : Listed P) (pipe pid : ℕ) → value_at (with_wake s pipe) pid ≡ value_at s pid
+  value_wake s pipe pid = ap (option_map (λ (e : Entry P). e.value)) (process_wake s pipe pid) ∙ value_kept (λ e. with_state e (roused pipe e.state)) (λ e. refl) (process s pid)
+
+  pub lives_wake : (s : Listed P) (pipe pid : ℕ) → is_some (process (with_wake s pipe) pid) ≡ is_some (process s pid)
+  lives_wake s pipe pid = ap is_some (process_wake s pipe pid) ∙ lives_kept (λ e. with_state e (roused pipe e.state)) (process s pid)

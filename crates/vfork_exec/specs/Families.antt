@@ -5,7 +5,7 @@ use Rattle.call_log.specs.declared.errno.Errno.TheVariants.{Echild}
 use Rattle.vfork_exec.specs.declared.family.Who.{Who}
 use Rattle.vfork_exec.specs.declared.family.Who.TheVariants.{All, Pid}
 use Rattle.vfork_exec.specs.declared.family.State.{State}
-use Rattle.vfork_exec.specs.declared.family.State.TheVariants.{Ready, Waiting, Lent}
+use Rattle.vfork_exec.specs.declared.family.State.TheVariants.{Ready, Waiting, OnPipe, Lent}
 use Rattle.vfork_exec.specs.declared.family.Ended.{Ended}
 use Rattle.vfork_exec.specs.declared.family.Waited.{Waited}
 use Rattle.vfork_exec.specs.declared.family.Waited.TheVariants.{Child, NoneYet, Waits}
@@ -29,12 +29,14 @@ parent_behind gone parent = if parent == gone then 0 else parent
 abbrev pub is_ready : State → Bool
 is_ready Ready = true
 is_ready (Waiting who) = false
+is_ready (OnPipe pipe) = false
 is_ready (Lent child) = false
 
 -- it stands still for this child
 abbrev pub is_lent_to : (child : ℕ) → State → Bool
 is_lent_to child Ready = false
 is_lent_to child (Waiting who) = false
+is_lent_to child (OnPipe pipe) = false
 is_lent_to child (Lent pid) = pid == child
 
 -- who stands still for a child goes on when that leaves its space
@@ -45,11 +47,19 @@ resumed child state = if is_lent_to child state then Ready else state
 abbrev pub woken : (own pid parent : ℕ) → State → State
 woken own pid parent Ready = Ready
 woken own pid parent (Waiting who) = if is_child own who pid parent then Ready else Waiting who
+woken own pid parent (OnPipe pipe) = OnPipe pipe
 woken own pid parent (Lent child) = Lent child
 
 -- process `own` behind the end of a process with this pid and this parent
 unfoldable pub state_behind : (own pid parent : ℕ) → State → State
 state_behind own pid parent state = resumed pid (woken own pid parent state)
+
+-- the bytes of a pipe change, or one of its ends closes: who waits on it makes its call anew
+unfoldable pub roused : (pipe : ℕ) → State → State
+roused pipe Ready = Ready
+roused pipe (Waiting who) = Waiting who
+roused pipe (OnPipe id) = if id == pipe then Ready else OnPipe id
+roused pipe (Lent child) = Lent child
 
 -- ---- those that have ended, in the order in which they ended
 

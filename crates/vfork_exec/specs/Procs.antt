@@ -1,18 +1,18 @@
 -- The processes of a machine, and what each call does with them.
-use Rattle.std.specs.Prelude.{◌≡◌, ℕ, ◌+◌, ◌<◌, Bool, true, List, [], ◌∷◌, map, filter, length, Option, Some, None, option_map, IsSome, Result, Ok, Err}
+use Rattle.std.specs.Prelude.{◌≡◌, ℕ, ◌+◌, ◌<◌, Bool, List, [], ◌∷◌, map, filter, length, Option, Some, None, option_map, IsSome, Result, Ok, Err}
 use Rattle.std.specs.List.{list_any}
 use Rattle.call_log.specs.declared.errno.Errno.{Errno}
 use Rattle.call_log.specs.declared.errno.Errno.TheVariants.{Eagain}
 use Rattle.call_log.specs.declared.how.How.{How}
 use Rattle.vfork_exec.specs.declared.family.Who.{Who}
 use Rattle.vfork_exec.specs.declared.family.State.{State}
-use Rattle.vfork_exec.specs.declared.family.State.TheVariants.{Ready, Waiting, Lent}
+use Rattle.vfork_exec.specs.declared.family.State.TheVariants.{Ready, Waiting, OnPipe, Lent}
 use Rattle.vfork_exec.specs.declared.family.Ended.{Ended}
 use Rattle.vfork_exec.specs.declared.family.Waited.{Waited}
 use Rattle.vfork_exec.specs.declared.family.Waited.TheVariants.{Child, NoneYet, Waits}
 use Rattle.vfork_exec.specs.declared.entry.Entry.{Entry}
 use Rattle.vfork_exec.specs.Keyed.{find, change, without}
-use Rattle.vfork_exec.specs.Families.{is_child, parent_behind, is_ready, is_lent_to, resumed, state_behind, ended_behind, first_ended, without_first, told}
+use Rattle.vfork_exec.specs.Families.{is_child, parent_behind, is_ready, is_lent_to, resumed, state_behind, roused, ended_behind, first_ended, without_first, told}
 
 -- the most processes at a time, those that have ended among them
 abbrev pub most_entries : ℕ
@@ -142,12 +142,12 @@ module _ {P : Type 0} where
   with_wait s pid who (Ok Waits) = with_state_at s pid (Waiting who)
   with_wait s pid who (Err errno) = s
 
-  -- ---- what holds at every moment
+  -- ---- pipes
 
-  -- who stands still or waits does so for a younger process that lives, and none that it waits for has ended. So one process may run
-  -- while one lives: the newest
-  pub record WaitsWell (s : Listed P) : Type 0 where
-    pub parents : (pid : ℕ) (e : Entry P) → process s pid ≡ Some e → e.parent < pid
-    pub lenders : (pid child : ℕ) (e : Entry P) → process s pid ≡ Some e → e.state ≡ Lent child → parent_at s child ≡ Some pid
-    pub waiters : (pid : ℕ) (who : Who) (e : Entry P) → process s pid ≡ Some e → e.state ≡ Waiting who →
-        (has_child s pid who ≡ true) × (first_ended pid who s.ended ≡ None)
+  -- it waits on a pipe
+  abbrev pub with_wait_on : Listed P → ℕ → (pipe : ℕ) → Listed P
+  with_wait_on s pid pipe = with_state_at s pid (OnPipe pipe)
+
+  -- those that wait on a pipe make their calls anew
+  abbrev pub with_wake : Listed P → (pipe : ℕ) → Listed P
+  with_wake s pipe = record s { entries = map (λ e. with_state e (roused pipe e.state)) s.entries }

@@ -2,7 +2,7 @@
 
 ghost use Rattle.std.specs.Prelude.{◌≡◌, ◌<◌, map, filter, length, reverse, slice_get, Some};
 ghost use Rattle.std.specs.List.{list_any};
-ghost use Rattle.vfork_exec.specs.Families.{is_child, is_ready, is_lent_to, resumed};
+ghost use Rattle.vfork_exec.specs.Families.{is_child, is_ready, is_lent_to, resumed, roused};
 ghost use Rattle.vfork_exec.specs.Procs.{pid_of, with_state, behind};
 
 use crate::entry::Entry;
@@ -14,6 +14,15 @@ pub fn resume<P>(entries: &mut [Entry<P>], child: u32)
 {
     for entry in entries.iter_mut() {
         entry.state = entry.state.resumed(child);
+    }
+}
+
+/// Those that wait on this pipe go on.
+pub fn rouse<P>(entries: &mut [Entry<P>], pipe: u32)
+    ensures { entries.new ≡ map (λ e. with_state e (roused pipe e.state)) entries.old }
+{
+    for entry in entries.iter_mut() {
+        entry.state = entry.state.roused(pipe);
     }
 }
 

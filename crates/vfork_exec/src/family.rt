@@ -1,7 +1,7 @@
 //! How processes stand to each other.
 
 ghost use Rattle.std.specs.Prelude.{◌≡◌};
-ghost use Rattle.vfork_exec.specs.Families.{is_child, is_ready, is_lent_to, resumed, state_behind};
+ghost use Rattle.vfork_exec.specs.Families.{is_child, is_ready, is_lent_to, resumed, state_behind, roused};
 
 use call_log::How;
 
@@ -33,6 +33,8 @@ pub enum State {
     Ready,
     /// It waits until one of these children has ended.
     Waiting(Who),
+    /// It waits until the bytes of the pipe with this number change, or one of its ends closes.
+    OnPipe(u32),
     /// It stands still while the child with this pid runs in its space: from vfork until the child's exec or end.
     Lent(u32),
 }
@@ -43,7 +45,7 @@ impl State {
     {
         match self {
             State::Ready => true,
-            State::Waiting(_) | State::Lent(_) => false,
+            State::Waiting(_) | State::OnPipe(_) | State::Lent(_) => false,
         }
     }
 
@@ -52,7 +54,7 @@ impl State {
         ensures { result ≡ is_lent_to child self }
     {
         match self {
-            State::Ready | State::Waiting(_) => false,
+            State::Ready | State::Waiting(_) | State::OnPipe(_) => false,
             State::Lent(pid) => pid == child,
         }
     }
@@ -79,6 +81,17 @@ impl State {
             return State::Ready;
         }
         self.resumed(pid)
+    }
+
+    /// Once this pipe has changed: who waits on it makes its call anew.
+    #[tactic(auto, unfolding(crate::specs::Families::roused))]
+    pub fn roused(self, pipe: u32) -> State
+        ensures { result ≡ roused pipe self }
+    {
+        match self {
+            State::OnPipe(id) if id == pipe => State::Ready,
+            state => state,
+        }
     }
 }
 

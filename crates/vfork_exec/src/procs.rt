@@ -1,13 +1,13 @@
 //! The list of processes.
 
-ghost use Rattle.std.specs.Prelude.{◌≡◌, ℕ, ◌<◌, ◌≤◌, ◌^◌, ◌⊎◌, length, map, reverse, slice_get, is_some, nat_le, Some, IfOk};
+ghost use Rattle.std.specs.Prelude.{◌≡◌, ℕ, ◌<◌, ◌≤◌, ◌^◌, length, map, reverse, slice_get, is_some, nat_le, Some, IfOk};
 ghost use Rattle.std.specs.Borrow.{sem};
 ghost use Rattle.vfork_exec.specs.declared.entry.Entry.{Entry as Process};
-ghost use Rattle.vfork_exec.specs.Procs.{most_entries, none_yet, count, Starts, Forks, with_exec, with_end, looked, with_wait, Lives, process, value_at, parent_at, pid_of, ready, ready_pids, borrows, with_entry};
+ghost use Rattle.vfork_exec.specs.Procs.{most_entries, none_yet, count, Starts, Forks, with_exec, with_end, looked, with_wait, with_wait_on, with_wake, Lives, CanRun, process, value_at, parent_at, pid_of, ready, ready_pids, borrows, with_entry};
 ghost use Rattle.vfork_exec.specs.Keyed.{place_of, Falls};
 
 use crate::ended::{add_ended, first_ended, forget_first};
-use crate::entries::{has_child, is_lent, leave, ready_at, ready_count, resume};
+use crate::entries::{has_child, is_lent, leave, ready_at, ready_count, resume, rouse};
 use crate::entry::Entry;
 use crate::family::{Ended, State, Waited, Who};
 use call_log::{Errno, How};
@@ -31,7 +31,7 @@ pub struct Procs<P> {
 
 impl<P> Model for Procs<P> {
     ghost use Rattle.std.specs.Prelude.{◌+◌, ◌≤◌, vec_capacity, length};
-    ghost use Rattle.vfork_exec.specs.Procs.{Listed, WaitsWell, pid_of, most_entries};
+    ghost use Rattle.vfork_exec.specs.Procs.{Listed, pid_of, most_entries};
     ghost use Rattle.vfork_exec.specs.Keyed.{Falls};
 
     ghost Value = { Listed P };
@@ -42,8 +42,7 @@ impl<P> Model for Procs<P> {
         Falls pid_of (s.given + 1) s.entries.items
         × (length s.entries.items + length s.ended.items ≤ most_entries)
         × (most_entries ≤ vec_capacity s.entries)
-        × (most_entries ≤ vec_capacity s.ended)
-        × WaitsWell (record { entries = s.entries.items; ended = s.ended.items; next_pid = s.given + 1 }) };
+        × (most_entries ≤ vec_capacity s.ended) };
 }
 
 impl<P> Procs<P> {
@@ -161,6 +160,22 @@ impl<P> Procs<P> {
         Ok(told)
     }
 
+    /// A process waits on the pipe with this number, any number: it can't run until `wake` is called of it.
+    pub fn wait_on(&mut self, pid: u32, pipe: u32)
+        requires { CanRun self.old pid }
+        ensures { self.new ≡ with_wait_on self.old pid pipe }
+    {
+        let at = self.place(pid);
+        self.entries[at].state = State::OnPipe(pipe);
+    }
+
+    /// The processes that wait on this pipe, which may be gone, may run, and make their calls anew.
+    pub fn wake(&mut self, pipe: u32)
+        ensures { self.new ≡ with_wake self.old pipe }
+    {
+        rouse(&mut self.entries, pipe);
+    }
+
     /// Whether a process runs in the space of another one, which stands still for it.
     #[tactic(auto, unfolding(crate::specs::Procs::borrows))]
     pub fn borrows(&self, pid: u32) -> bool
@@ -212,10 +227,9 @@ impl<P> Procs<P> {
         first_place(&self.entries, pid) < self.entries.len()
     }
 
-    /// How many processes may run. While one lives, one may.
+    /// How many processes may run.
     pub fn runnable(&self) -> u32
-        ensures count { result ≡ length (ready self.now) }
-        ensures one { 1 ≤ length self.now.entries → 1 ≤ result }
+        ensures { result ≡ length (ready self.now) }
     {
         ready_count(&self.entries) as u32
     }
@@ -233,7 +247,6 @@ impl<P> Procs<P> {
         P: Drop,
         requires room { count self.old < most_entries }
         requires pids { self.old.next_pid < 2 ^ 32 }
-        requires parent { (parent ≡ 0) ⊎ Lives self.old parent }
         ensures pid { result ≡ self.old.next_pid }
         ensures after { self.new ≡ with_entry self.old parent value }
     {

@@ -1,6 +1,7 @@
-//! Families call by call, and the list at its limit.
+//! Families and pipes call by call, and the list at its limit.
 
-ghost use Rattle.std.specs.Prelude.{◌≡◌, ◌+◌, ◌<◌, ◌≤◌, ◌^◌};
+ghost use Rattle.std.specs.Prelude.{◌≡◌, ◌+◌, ◌<◌, ◌≤◌, ◌^◌, true};
+ghost use Rattle.vfork_exec.specs.Procs.{CanRun};
 
 use super::*;
 use call_log::{Errno, How};
@@ -35,6 +36,8 @@ enum Call {
     End(u32),
     Wait(u32, Who),
     WaitNoHang(u32, Who),
+    WaitOn(u32, u32),
+    Wake(u32),
 }
 
 #[derive(Clone, Copy, Debug, PartialEq, Eq)]
@@ -44,10 +47,11 @@ enum Answer {
     Told(Waited),
     Refused(Errno),
     Dead,
+    Still,
 }
 
-use Answer::{Dead, Done, Pid, Refused, Told};
-use Call::{End, ExecDone, Start, Vfork, Wait, WaitNoHang};
+use Answer::{Dead, Done, Pid, Refused, Still, Told};
+use Call::{End, ExecDone, Start, Vfork, Wait, WaitNoHang, WaitOn, Wake};
 
 fn reply(given: Result<Waited, Errno>) -> Answer {
     match given {
@@ -61,6 +65,19 @@ fn how(pid: u32) -> How {
     How::Exit((pid % 256) as u8)
 }
 
+/// Whether a process is one of those that may run.
+fn can_run(procs: &Procs<u8>, pid: u32) -> bool
+    ensures { result ≡ true → CanRun procs.now pid }
+{
+    let _falls = procs.live();
+    for k in 0..procs.runnable() {
+        if procs.runnable_at(k) == pid {
+            return true;
+        }
+    }
+    false
+}
+
 fn serve(procs: &mut Procs<u8>, call: Call) -> Answer
     requires { procs.old.next_pid < 2 ^ 32 }
     ensures { procs.new.next_pid ≤ procs.old.next_pid + 1 }
@@ -72,13 +89,22 @@ fn serve(procs: &mut Procs<u8>, call: Call) -> Answer
                 None => Refused(Errno::Eagain),
             };
         }
-        Vfork(pid) | ExecDone(pid) | End(pid) | Wait(pid, _) | WaitNoHang(pid, _) => pid,
+        Wake(pipe) => {
+            procs.wake(pipe);
+            return Done;
+        }
+        Vfork(pid)
+        | ExecDone(pid)
+        | End(pid)
+        | Wait(pid, _)
+        | WaitNoHang(pid, _)
+        | WaitOn(pid, _) => pid,
     };
     if !procs.lives(pid) {
         return Dead;
     }
     match call {
-        Start => Dead,
+        Start | Wake(_) => Dead,
         Vfork(_) => match procs.vfork(pid, 0) {
             Ok(child) => Pid(child),
             Err(errno) => Refused(errno),
@@ -93,6 +119,13 @@ fn serve(procs: &mut Procs<u8>, call: Call) -> Answer
         }
         Wait(_, who) => reply(procs.wait(pid, who, true)),
         WaitNoHang(_, who) => reply(procs.wait(pid, who, false)),
+        WaitOn(_, pipe) => {
+            if !can_run(procs, pid) {
+                return Still;
+            }
+            procs.wait_on(pid, pipe);
+            Done
+        }
     }
 }
 
@@ -152,6 +185,46 @@ fn families(rt: HostRuntime) -> Result<(), Fail> {
         (End(8), Done, &[1]),
         (Wait(8, Who::All), Dead, &[1]),
         (End(1), Done, &[]),
+    ];
+    for (call, wanted, pids) in calls {
+        assert_eq!(rt; serve(&mut procs, call), wanted);
+        assert!(rt; run(&procs, pids));
+    }
+    Ok(())
+}
+
+#[test]
+fn pipes(rt: HostRuntime) -> Result<(), Fail> {
+    let mut procs: Procs<u8> = Procs::new(rt.alloc())?;
+    let calls: [(Call, Answer, &[u32]); 24] = [
+        (Start, Pid(1), &[1]),
+        (Start, Pid(2), &[1, 2]),
+        (Vfork(2), Pid(3), &[1, 3]),
+        (ExecDone(3), Done, &[1, 2, 3]),
+        // Where all wait none may run, and a pipe that none waits on changes nothing.
+        (WaitOn(1, 5), Done, &[2, 3]),
+        (WaitOn(2, 6), Done, &[3]),
+        (WaitOn(3, 5), Done, &[]),
+        (Wake(7), Done, &[]),
+        (Wake(4), Done, &[]),
+        // A pipe wakes all that wait on it, and no other.
+        (Wake(6), Done, &[2]),
+        (Wake(6), Done, &[2]),
+        (Wake(5), Done, &[1, 2, 3]),
+        // The end of a child doesn't wake who waits on a pipe.
+        (WaitOn(2, 5), Done, &[1, 3]),
+        (WaitOn(2, 6), Still, &[1, 3]),
+        (End(3), Done, &[1]),
+        (Wake(5), Done, &[1, 2]),
+        (Wait(2, Who::All), child(3), &[1, 2]),
+        // A pipe with a child's number wakes none that stands still or waits for the child.
+        (Vfork(1), Pid(4), &[2, 4]),
+        (Wake(4), Done, &[2, 4]),
+        (ExecDone(4), Done, &[1, 2, 4]),
+        (Wait(1, Who::Pid(4)), Told(Waited::Waits), &[2, 4]),
+        (WaitOn(2, 4), Done, &[4]),
+        (Wake(4), Done, &[2, 4]),
+        (End(4), Done, &[1, 2]),
     ];
     for (call, wanted, pids) in calls {
         assert_eq!(rt; serve(&mut procs, call), wanted);

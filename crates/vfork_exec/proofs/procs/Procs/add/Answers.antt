@@ -1,7 +1,7 @@
 -- One more, that may run.
-use Rattle.std.proofs.Common.{◌≡◌, ◌+◌, ◌<◌, ◌⊎◌, cond, List, sym, ap, subst, ◌∙◌, arith}
+use Rattle.std.proofs.Common.{◌≡◌, ◌+◌, ◌<◌, cond, List, sym, ap, subst, ◌∙◌, arith}
 use Rattle.vfork_exec.specs.declared.entry.Entry.{Entry}
-use Rattle.vfork_exec.specs.Procs.{Listed, Lives, with_entry, count, most_entries}
+use Rattle.vfork_exec.specs.Procs.{Listed, with_entry, count, most_entries}
 use Rattle.vfork_exec.proofs.Holds.{Holds, holds_entry}
 use Rattle.vfork_exec.proofs.procs.Procs.add.Goals as goal
 
@@ -11,8 +11,7 @@ invariant_of-self g c =
     let s : Listed g.row.P.Denot = record { entries = c.self.inside.entries.items; ended = c.self.inside.ended.items; next_pid = c.self.inside.given + 1 } in
     let v : s ≡ c.args.self.now = c.self.view_is in
     let room : count s < most_entries = subst (λ (x : Listed g.row.P.Denot). count x < most_entries) (sym v) c.requires.room in
-    let parent : (c.args.parent ≡ 0) ⊎ Lives s c.args.parent = subst (λ (x : Listed g.row.P.Denot). (c.args.parent ≡ 0) ⊎ Lives x c.args.parent) (sym v) c.requires.parent in
-    let more : Holds (with_entry s c.args.parent c.args.value) = holds_entry s c.args.parent c.args.value (inv.0, inv.1, inv.4) room (omega arith) parent in
+    let more : Holds (with_entry s c.args.parent c.args.value) = holds_entry s c.args.parent c.args.value (inv.0, inv.1) room in
     let is : c.insert.new.self.items ≡ (with_entry s c.args.parent c.args.value).entries = c.insert.ensures.items ∙ ap (λ b. cond b (with_entry s c.args.parent c.args.value).entries c.self.inside.entries.items) c.if-is_err.ensures.negation in
     let h = subst (λ (es : List (Entry g.row.P.Denot)). Holds (record { entries = es; ended = c.self.inside.ended.items; next_pid = c.self.inside.given + 1 + 1 })) (sym is) more in
-    (h.0, h.1, omega (arith, inv.2, c.insert.ensures.capacity), inv.3, h.2)
+    (h.0, h.1, omega (arith, inv.2, c.insert.ensures.capacity), inv.3)

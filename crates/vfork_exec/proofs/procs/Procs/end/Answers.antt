@@ -51,10 +51,10 @@ invariant_of-self g c =
     let left = left_is c.args.pid c.place-at.result s.next_pid s.entries c.args.self.now.entries c.remove-parent.new.self c.deref_mut.result.now c.leave.new.entries e same c.self.invariant.0
     c.place-at.ensures.place found c.remove-parent.ensures.items c.deref_mut.ensures.value c.leave.ensures in
     let ended : c.add_ended.new.ended.items ≡ (with_end s e c.args.how).ended = c.add_ended.ensures.items ∙ ap (λ n. ended_behind (record { pid = n; parent = e.parent; how = c.args.how }) s.ended) (sym key) in
-    let after : Holds (with_end s e c.args.how) = holds_end s e c.args.how (ap (λ n. find pid_of n s.entries) key ∙ found) (inv.0, inv.1, inv.4) in
+    let after : Holds (with_end s e c.args.how) = holds_end s e c.args.how (ap (λ n. find pid_of n s.entries) key ∙ found) (inv.0, inv.1) in
     let one = subst (λ (es : List (Entry g.row.P.Denot)). Holds (record { entries = es; ended = (with_end s e c.args.how).ended; next_pid = s.next_pid })) (sym left) after in
     let h = subst (λ (ds : List Ended). Holds (record { entries = (with_items c.remove-parent.new.self c.leave.new.entries).items; ended = ds; next_pid = s.next_pid })) (sym ended) one in
-    (h.0, h.1, omega (arith, inv.2, c.remove-parent.ensures.capacity), omega (arith, inv.3, c.add_ended.ensures.capacity), h.2)
+    (h.0, h.1, omega (arith, inv.2, c.remove-parent.ensures.capacity), omega (arith, inv.3, c.add_ended.ensures.capacity))
 
 pub returns : goal.returns
 returns g c one is =

@@ -12,8 +12,8 @@ invariant_of-self-lent g c w =
     let inv = c.self.invariant in
     let s : Listed g.row.P.Denot = record { entries = c.self.inside.entries.items; ended = c.self.inside.ended.items; next_pid = c.self.inside.given + 1 } in
     let is = written (λ (e : Entry g.row.P.Denot). with_value e w) c.args.pid s.entries s.entries c.place-at.result c.index_mut.result.now refl c.place-at.ensures.place c.place-at.ensures.within c.index_mut.ensures.value in
-    let h = subst (λ (es : List (Entry g.row.P.Denot)). Holds (record { entries = es; ended = s.ended; next_pid = s.next_pid })) (sym is) (holds_value s c.args.pid w (inv.0, inv.1, inv.4)) in
-    (h.0, h.1, inv.2, inv.3, h.2)
+    let h = subst (λ (es : List (Entry g.row.P.Denot)). Holds (record { entries = es; ended = s.ended; next_pid = s.next_pid })) (sym is) (holds_value s c.args.pid w (inv.0, inv.1)) in
+    (h.0, h.1, inv.2, inv.3)
 
 pub returns : goal.returns
 returns g c =

@@ -1,12 +1,12 @@
 -- The child is added, and its parent stands still for it.
-use Rattle.std.proofs.Common.{◌≡◌, ◌+◌, ◌<◌, List, Some, sym, ap, subst, ◌∙◌, arith}
+use Rattle.std.proofs.Common.{◌≡◌, ◌+◌, ◌<◌, List, sym, ap, subst, ◌∙◌, arith}
 use Rattle.std.proofs.lemmas.Bool.Decides.{nat_tests}
 use Rattle.vfork_exec.specs.declared.entry.Entry.{Entry}
 use Rattle.vfork_exec.specs.declared.family.State.TheVariants.{Lent}
 use Rattle.vfork_exec.specs.Keyed.{Falls}
-use Rattle.vfork_exec.specs.Procs.{Listed, Lives, pid_of, parent_at, with_state, with_state_at, count, most_entries}
+use Rattle.vfork_exec.specs.Procs.{Listed, Lives, pid_of, with_state, with_state_at, count, most_entries}
 use Rattle.vfork_exec.proofs.Keyed.{lives_later}
-use Rattle.vfork_exec.proofs.Holds.{Holds, holds_lent, entry_parent, child_added, written}
+use Rattle.vfork_exec.proofs.Holds.{Holds, holds_state, child_added, written}
 use Rattle.vfork_exec.proofs.procs.Procs.vfork.Goals as goal
 
 pub place-at-requires : goal.place-at-requires
@@ -22,10 +22,9 @@ invariant_of-self g c =
     let v : s ≡ c.add-child.new.self = c.self.view_is in
     let is = written (λ (e : Entry g.row.P.Denot). with_state e (Lent child)) pid s.entries c.add-child.new.self.entries c.place-at.result c.index_mut.result.now (ap (λ (x : Listed g.row.P.Denot). x.entries) v)
     c.place-at.ensures.place c.place-at.ensures.within c.index_mut.ensures.value in
-    let parent : parent_at s child ≡ Some pid = ap (λ (x : Listed g.row.P.Denot). parent_at x child) (v ∙ c.add-child.ensures.after) ∙ entry_parent c.args.self.now pid c.args.child child c.add-child.ensures.pid in
-    let after : Holds (with_state_at s pid (Lent child)) = holds_lent s pid child parent (inv.0, inv.1, inv.4) in
+    let after : Holds (with_state_at s pid (Lent child)) = holds_state s pid (Lent child) (inv.0, inv.1) in
     let h = subst (λ (es : List (Entry g.row.P.Denot)). Holds (record { entries = es; ended = s.ended; next_pid = s.next_pid })) (sym is) after in
-    (h.0, h.1, inv.2, inv.3, h.2)
+    (h.0, h.1, inv.2, inv.3)
 
 pub returns : goal.returns
 returns g c =
