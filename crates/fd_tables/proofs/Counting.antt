@@ -1,5 +1,5 @@
 -- Descriptors open, are duplicated and close, and the counts stay exact.
-use Rattle.std.proofs.Common.{◌≡◌, ℕ, ◌+◌, ◌<◌, ◌≤◌, ◌^◌, Bool, true, List, Option, Some, None, refl, sym, ap, ◌∙◌, subst, ◌⊎◌, inl, inr, arith}
+use Rattle.std.proofs.Common.{◌≡◌, ℕ, ◌+◌, ◌<◌, ◌≤◌, ◌^◌, Bool, true, false, List, Option, Some, None, refl, sym, ap, ◌∙◌, subst, ◌⊎◌, inl, inr, arith}
 use Rattle.std.specs.Prelude.{is_some, slice_set, sum_by}
 use Rattle.std.proofs.lemmas.Bool.{cases_eq}
 use Rattle.mem_files.specs.Inodes.{inode_at}
@@ -16,10 +16,23 @@ use Rattle.fd_tables.proofs.NextNumbers.{first_there, next_there, next_other, fr
 use Rattle.fd_tables.proofs.TablesThere.{tables-shared, tables-dropped}
 use Rattle.fd_tables.proofs.Sharing.{one, places_in, IsWhole, shares-place, few_shares, descriptor_counts}
 use Rattle.fd_tables.proofs.Uses.{uses_at, itself, another, uses-shared, uses-dropped}
+use Rattle.fd_tables.proofs.EndCounts.{view_read, view_write}
 use Rattle.fd_tables.proofs.Sound.{Sound, sound, sound-place, sound-shared, sound-dropped, sound-opened}
 
 pub counted : (s : Storage) → Sound s → ((n : ℕ) → uses_at s.files n ≡ shares_of s.files n) → Counted s
-counted s b uses = record { uses = uses; used = b.used; holds = b.holds; stays = b.stays; whole = b.whole; few_files = b.few_files; few_tables = b.few_tables }
+counted s b uses = record {
+  uses = uses;
+  used = b.used;
+  holds = b.holds;
+  stays = b.stays;
+  whole = b.whole;
+  read_ends = λ id. b.ends.ends id false ∙ sym (ap one (view_read s.files id));
+  write_ends = λ id. b.ends.ends id true ∙ sym (ap one (view_write s.files id));
+  open_pipes = b.ends.open_pipes;
+  pipe_numbers = b.ends.numbers;
+  few_files = b.few_files;
+  few_tables = b.few_tables;
+}
 
 -- no open file counts near its type's end
 pub few_uses : (s : Storage) (n : ℕ) → Counted s → uses_at s.files n < 2 ^ 40
@@ -110,7 +123,7 @@ free_there : (o : Option Table) (fd : ℕ) → free_in o ≡ Some fd → (fd < p
 free_there None fd is = let no : ⊥ = cc in absurd no
 free_there (Some table) fd is = first_there table fd is
 
-uses-opened : (fs : OpenFiles) (f : OpenFile) (n : ℕ) → f.uses ≡ 1 → uses_at (with_open_file fs f) n ≡ uses_at fs n + one (leads_to n (Open (free_number fs.files)))
+pub uses-opened : (fs : OpenFiles) (f : OpenFile) (n : ℕ) → f.uses ≡ 1 → uses_at (with_open_file fs f) n ≡ uses_at fs n + one (leads_to n (Open (free_number fs.files)))
 uses-opened fs f n once = by (cases_eq n (free_number fs.files))
   where
     by : (n ≡ free_number fs.files) ⊎ (n ≡ free_number fs.files → ⊥) → uses_at (with_open_file fs f) n ≡ uses_at fs n + one (leads_to n (Open (free_number fs.files)))
@@ -127,7 +140,7 @@ counted-opened s t fd node way c lowest there room =
     let place : (fd < places_in (table_at s.files t)) × (descriptor s.files t fd ≡ None) = free_there (table_at s.files t) fd lowest in
     let d : Descriptor = record { handle = Open (free_number s.files.files); cloexec = way.cloexec } in
     let now : Storage = storage (held s.nodes node) (with_open_file s.files (new_file node way)) in
-    counted (storage now.nodes (with_descriptor now.files t fd (Some d))) (sound-place now t fd (Some d) (sound-opened s (new_file node way) (omega arith) there room (sound s c)))
+    counted (storage now.nodes (with_descriptor now.files t fd (Some d))) (sound-place now t fd (Some d) (sound-opened s (new_file node way) node refl (omega arith) there room (sound s c)))
     (λ n.
     let more : shares_of (with_descriptor now.files t fd (Some d)) n ≡ shares_of s.files n + one (leads_to n d.handle) =
     omega (arith, shares-place now.files t fd (Some d) n (λ past. absurd (omega (arith, place.0))), ap (λ o. one (stands_for n o)) place.1) in

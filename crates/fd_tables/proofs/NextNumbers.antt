@@ -1,6 +1,9 @@
 -- What stands at a number when something takes the lowest one that is free.
-use Rattle.std.proofs.Common.{◌≡◌, ◌≢◌, ℕ, zero, suc, ◌<◌, ◌≤◌, true, List, [], ◌∷◌, ◌++◌, length, get_or, Option, Some, None, refl, ap, ◌∙◌, arith, length-append}
-use Rattle.std.specs.Prelude.{not, is_some, slice_set}
+use Rattle.std.proofs.Common.{◌≡◌, ◌≢◌, ℕ, zero, suc, ◌+◌, ◌<◌, ◌≤◌, Bool, true, false, cond, List, [], ◌∷◌, ◌++◌, length, get_or, Option, Some, None, refl, ap, ◌∙◌, arith, length-append}
+use Rattle.std.specs.Prelude.{not, nat_lt, is_some, count_by, slice_set}
+use Rattle.std.specs.List.{position_or_len}
+use Rattle.std.proofs.lemmas.Bool.{ltb-false}
+use Rattle.std.proofs.lemmas.List.Sums.{sum_by-cons}
 use Rattle.std.proofs.lemmas.List.{length-set}
 use Rattle.std.proofs.lemmas.List.Quantifiers.{position-Some}
 use Rattle.fd_tables.specs.Files.{at_number, first_free, free_number, with_next}
@@ -31,7 +34,7 @@ module _ {A : Type 0} where
   next_keeps x y (Some z ∷ xs) zero there = there
   next_keeps x y (Some z ∷ xs) (suc k) there = next_keeps x y xs k there
 
-  set_other : (x : Option A) (xs : List (Option A)) (i k : ℕ) → k ≢ i → at_number (slice_set xs i x) k ≡ at_number xs k
+  pub set_other : (x : Option A) (xs : List (Option A)) (i k : ℕ) → k ≢ i → at_number (slice_set xs i x) k ≡ at_number xs k
   set_other x [] i k other = refl
   set_other x (y ∷ xs) zero zero other = absurd (other refl)
   set_other x (y ∷ xs) zero (suc k) other = refl
@@ -76,6 +79,25 @@ module _ {A : Type 0} where
   -- nothing stands at a number that is free
   pub free_nothing : (xs : List (Option A)) → at_number xs (free_number xs) ≡ None
   free_nothing xs = nothing_by xs _ refl
+
+  place_most : (xs : List (Option A)) → position_or_len (λ (y : Option A). not (is_some y)) xs ≤ count_by is_some xs
+  place_most [] = omega arith
+  place_most (None ∷ xs) = omega arith
+  place_most (Some x ∷ xs) = omega (arith, sum_by-cons (λ (o : Option A). cond (is_some o) 1 0) (Some x) xs, place_most xs)
+
+  free_by_place : (xs : List (Option A)) (b : Bool) → nat_lt (position_or_len (λ (y : Option A). not (is_some y)) xs) (length xs) ≡ b → free_number xs ≤ position_or_len (λ (y : Option A). not (is_some y)) xs
+  free_by_place xs true is = rw is (omega arith)
+  free_by_place xs false is = let past : length xs ≤ position_or_len (λ (y : Option A). not (is_some y)) xs = ltb-false _ (length xs) is in rw is past
+
+  -- the lowest number that is free isn't above the count of those that are taken
+  pub free_most : (xs : List (Option A)) → free_number xs ≤ count_by is_some xs
+  free_most xs = omega (arith, free_by_place xs _ refl, place_most xs)
+
+  pub count-next : (x : A) (xs : List (Option A)) → count_by is_some (with_next x xs) ≡ count_by is_some xs + 1
+  count-next x [] = refl
+  count-next x (None ∷ xs) = omega (arith, sum_by-cons (λ (o : Option A). cond (is_some o) 1 0) (Some x) xs, sum_by-cons (λ (o : Option A). cond (is_some o) 1 0) None xs)
+  count-next x (Some y ∷ xs) =
+      omega (arith, sum_by-cons (λ (o : Option A). cond (is_some o) 1 0) (Some y) (with_next x xs), sum_by-cons (λ (o : Option A). cond (is_some o) 1 0) (Some y) xs, count-next x xs)
 
   room_by : (x : A) (xs : List (Option A)) (most : ℕ) (o : Option ℕ) → first_free xs ≡ o → length xs ≤ most → free_number xs < most → length (with_next x xs) ≤ most
   room_by x xs most (Some i) e few room = rw (next_inside x xs i e, length-set xs i (Some x)) few

@@ -1,5 +1,5 @@
 -- Positions move and the console's input is taken, and the counts stay as they are.
-use Rattle.std.proofs.Common.{◌≡◌, ℕ, Bool, Option, Some, None, refl, sym, ap, ◌∙◌, subst, ◌⊎◌, inl, inr}
+use Rattle.std.proofs.Common.{◌≡◌, ℕ, Bool, Option, Some, None, refl, sym, ap, ◌∙◌, subst, ◌⊎◌, inl, inr, drop}
 use Rattle.std.proofs.lemmas.Bool.{cases_eq}
 use Rattle.fd_tables.specs.declared.open_file.OpenFile.{OpenFile}
 use Rattle.fd_tables.specs.declared.open_file.Handle.{Handle}
@@ -14,7 +14,7 @@ use Rattle.fd_tables.proofs.Sound.{IsUsed, sound, sound-file}
 use Rattle.fd_tables.proofs.Counting.{counted}
 
 moving : (s : Storage) (n at : ℕ) → Counted s → Counted (storage s.nodes (with_file (λ f. Some (record f { at = at })) s.files n))
-moving s n at c = counted _ (sound-file (λ f. record f { at = at }) (λ f. refl) s n (λ f there. subst IsUsed there (c.used n)) (sound s c)) (λ k. same k ∙ c.uses k)
+moving s n at c = counted _ (sound-file (λ f. record f { at = at }) (λ f. (refl, refl)) s n (λ f there. subst IsUsed there (c.used n)) (sound s c)) (λ k. same k ∙ c.uses k)
   where
     made_uses : (o : Option OpenFile) → uses_in (made (λ f. Some (record f { at = at })) o) ≡ uses_in o
     made_uses None = refl
@@ -42,4 +42,4 @@ counted-moved s t fd at c = by_descriptor s at (descriptor s.files t fd) c
 
 pub counted-taken : (s : Storage) (n : ℕ) → Counted s → Counted (storage s.nodes (taken s.files n))
 unfolding taken
-counted-taken s n c = record { uses = c.uses; used = c.used; holds = c.holds; stays = c.stays; whole = c.whole; few_files = c.few_files; few_tables = c.few_tables }
+counted-taken s n c = let b = sound s c in counted (storage s.nodes (record s.files { stdin = drop n s.files.stdin })) (record { used = b.used; holds = b.holds; stays = b.stays; whole = b.whole; ends = b.ends; few_files = b.few_files; few_tables = b.few_tables }) c.uses

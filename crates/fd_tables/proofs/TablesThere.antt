@@ -1,8 +1,9 @@
 -- Which tables are there: none comes or goes but by the calls that say so.
-use Rattle.std.proofs.Common.{◌≡◌, ◌≢◌, ℕ, Bool, true, false, List, [], ◌∷◌, Option, Some, None, Result, Ok, Err, refl, ap, ◌∙◌}
-use Rattle.std.specs.Prelude.{⊤, is_some, nat_le, slice_set}
+use Rattle.std.proofs.Common.{◌≡◌, ◌≢◌, ℕ, Bool, true, false, cond, List, [], ◌∷◌, ◌++◌, length, drop, Option, Some, None, Result, Ok, Err, refl, ap, ◌∙◌}
+use Rattle.std.specs.Prelude.{⊤, ◌==◌, is_some, nat_le, slice_set}
 use Rattle.call_log.specs.declared.errno.Errno as log
 use Rattle.fd_tables.specs.declared.view.Way.{Way}
+use Rattle.fd_tables.specs.declared.pipe_view.Ends.{Ends}
 use Rattle.fd_tables.specs.declared.fault.FdFault.{FdFault}
 use Rattle.fd_tables.specs.declared.fault.FdFault.TheVariants.{Errno, Memory}
 use Rattle.fd_tables.specs.declared.open_file.OpenFile.{OpenFile}
@@ -10,10 +11,13 @@ use Rattle.fd_tables.specs.declared.open_file.Handle.{Handle}
 use Rattle.fd_tables.specs.declared.open_file.Handle.TheVariants.{Input, Output, Open}
 use Rattle.fd_tables.specs.declared.open_file.Descriptor.{Descriptor}
 use Rattle.fd_tables.specs.Files.{Table, OpenFiles, at_number, free_number, with_next, table_at, descriptor}
-use Rattle.fd_tables.specs.Changes.{Storage, with_descriptor, shared, dropped, dropped_file, closed, closed_descriptor, opened, copied_descriptor, with_cloexec, duplicated, replaced, moved, moved_handle, taken, first_table, with_table, all_shared, with_copy, all_closed, all_descriptors, exec_closed, without_table}
+use Rattle.fd_tables.specs.Pipes.{pipe_at, pipe_taken, pipe_put}
+use Rattle.fd_tables.specs.Changes.{Storage, with_descriptor, with_file, shared, dropped, dropped_file, closed, closed_descriptor, opened, copied_descriptor, with_cloexec, piped, duplicated, replaced, moved, moved_handle, taken, first_table, with_table, all_shared, with_copy, all_closed, all_descriptors, exec_closed, without_table}
 use Rattle.fd_tables.specs.Calls.{Opens, Duplicates, Does}
-use Rattle.fd_tables.proofs.AtNumbers.{item_there, gone_there, others_there}
+use Rattle.fd_tables.proofs.AtNumbers.{item_there, item_other, gone_there, others_there}
 use Rattle.fd_tables.proofs.NextNumbers.{next_there, next_keeps}
+use Rattle.fd_tables.proofs.Items.{length-item}
+use Rattle.fd_tables.proofs.EndCounts.{untouched, tables-let_go}
 
 abbrev pub has_table : OpenFiles → ℕ → Bool
 has_table fs t = is_some (table_at fs t)
@@ -25,7 +29,7 @@ tables-shared fs Input = refl
 tables-shared fs Output = refl
 
 by_last : (s : Storage) (n : ℕ) (f : OpenFile) (b : Bool) → nat_le f.uses 1 ≡ b → (dropped_file s n (Some f)).files.tables ≡ s.files.tables
-by_last s n f true e = rw e refl
+by_last s n f true e = rw e (tables-let_go (record s { files = with_file (λ f. None) s.files n }) f f.object)
 by_last s n f false e = rw e refl
 
 tables-dropped_file : (s : Storage) (n : ℕ) (o : Option OpenFile) → (dropped_file s n o).files.tables ≡ s.files.tables
@@ -36,6 +40,29 @@ pub tables-dropped : (s : Storage) (h : Handle) → (dropped s h).files.tables �
 tables-dropped s (Open n) = tables-dropped_file s n (at_number s.files.files n)
 tables-dropped s Input = refl
 tables-dropped s Output = refl
+
+-- and where bytes of a pipe come or go
+tables-unless : (fs new : OpenFiles) (b : Bool) → new.tables ≡ fs.tables → (cond b fs new).tables ≡ fs.tables
+tables-unless fs new true same = refl
+tables-unless fs new false same = same
+
+pub tables-pipe_taken : (fs : OpenFiles) (id n : ℕ) → (pipe_taken fs id n).tables ≡ fs.tables
+unfolding pipe_taken
+tables-pipe_taken fs id n = tables-unless fs _ (n == 0) (untouched (λ p. Some (record p { bytes = drop n p.bytes })) fs id (pipe_at fs id)).1
+
+pub tables-pipe_put : (fs : OpenFiles) (id : ℕ) (bytes : List ℕ) → (pipe_put fs id bytes).tables ≡ fs.tables
+unfolding pipe_put
+tables-pipe_put fs id bytes = tables-unless fs _ (length bytes == 0) (untouched (λ p. Some (record p { bytes = p.bytes ++ bytes })) fs id (pipe_at fs id)).1
+
+-- a pipe changes one table, and leaves as many
+pub other-piped : (fs : OpenFiles) (t other : ℕ) (ends : Ends) (cloexec : Bool) → other ≢ t → table_at (piped fs t ends cloexec) other ≡ table_at fs other
+unfolding piped
+other-piped fs t other ends cloexec beside =
+    item_other _ _ t other beside ∙ item_other _ fs.tables t other beside
+
+pub length-piped : (fs : OpenFiles) (t : ℕ) (ends : Ends) (cloexec : Bool) → length (piped fs t ends cloexec).tables ≡ length fs.tables
+unfolding piped
+length-piped fs t ends cloexec = length-item _ _ t ∙ length-item _ fs.tables t
 
 module _ (t : ℕ) where
   pub has-with_descriptor : (fs : OpenFiles) (u fd : ℕ) (d : Option Descriptor) → has_table (with_descriptor fs u fd d) t ≡ has_table fs t
@@ -52,6 +79,10 @@ module _ (t : ℕ) where
   pub has-opened : (s : Storage) (u fd node : ℕ) (way : Way) → has_table (opened s u fd node way).files t ≡ has_table s.files t
   unfolding opened
   has-opened s u fd node way = item_there (λ table. slice_set table fd _) s.files.tables u t
+
+  pub has-piped : (fs : OpenFiles) (u : ℕ) (ends : Ends) (cloexec : Bool) → has_table (piped fs u ends cloexec) t ≡ has_table fs t
+  unfolding piped
+  has-piped fs u ends cloexec = item_there (λ table. slice_set table ends.write _) _ u t ∙ item_there (λ table. slice_set table ends.read _) fs.tables u t
 
   pub has-Opens : (free : Option ℕ) (old : Storage) (u node : ℕ) (way : Way) (new : Storage) (r : Result ℕ FdFault) → Opens free old u node way new r → has_table new.files t ≡ has_table old.files t
   has-Opens (Some free) old u node way new (Ok fd) done = rw done.1 (has-opened old u free node way)

@@ -129,7 +129,19 @@ keeps-unnamed_at dir ns (Ok p) = by_node dir ns p.id p.folder p.name
 -- ---- and so the law
 
 over : (s : Storage) (new : Inodes) → Counted s → Same s.nodes new → Counted (storage new s.files)
-over s new c same = record { uses = c.uses; used = c.used; holds = λ id. same.holds id ∙ c.holds id; stays = same.stays c.stays; whole = c.whole; few_files = c.few_files; few_tables = c.few_tables }
+over s new c same = record {
+  uses = c.uses;
+  used = c.used;
+  holds = λ id. same.holds id ∙ c.holds id;
+  stays = same.stays c.stays;
+  whole = c.whole;
+  read_ends = c.read_ends;
+  write_ends = c.write_ends;
+  open_pipes = c.open_pipes;
+  pipe_numbers = c.pipe_numbers;
+  few_files = c.few_files;
+  few_tables = c.few_tables;
+}
 
 pub tree_keeps_counts : TreeKeepsCounts
 unfolding with_folder with_file unlinked

@@ -7,10 +7,11 @@ use Rattle.fd_tables.specs.declared.open_file.OpenFile.{OpenFile}
 use Rattle.fd_tables.specs.declared.open_file.Handle.{Handle}
 use Rattle.fd_tables.specs.declared.open_file.Handle.TheVariants.{Input, Output, Open}
 use Rattle.fd_tables.specs.Files.{OpenFiles, at_number}
-use Rattle.fd_tables.specs.Changes.{Storage, with_item, shared, dropped, dropped_file}
+use Rattle.fd_tables.specs.Changes.{Storage, with_item, with_file, shared, let_go, dropped, dropped_file}
 use Rattle.fd_tables.specs.Counts.{leads_to, uses_in}
 use Rattle.fd_tables.proofs.AtNumbers.{made, item_at, item_other}
 use Rattle.fd_tables.proofs.Sharing.{one}
+use Rattle.fd_tables.proofs.EndCounts.{files-let_go}
 
 abbrev pub uses_at : OpenFiles → ℕ → ℕ
 uses_at fs n = uses_in (at_number fs.files n)
@@ -41,7 +42,8 @@ uses-shared fs (Open k) n there few = by (cases_eq n k)
 -- ---- one fewer
 
 other_by_last : (s : Storage) (k n : ℕ) (f : OpenFile) (b : Bool) → nat_le f.uses 1 ≡ b → n ≢ k → uses_at (dropped_file s k (Some f)).files n ≡ uses_at s.files n
-other_by_last s k n f true e other = rw e (ap uses_in (item_other (λ f. None) s.files.files k n other))
+other_by_last s k n f true e other =
+    rw e (ap (λ files. uses_in (at_number files n)) (files-let_go (record s { files = with_file (λ f. None) s.files k }) f f.object) ∙ ap uses_in (item_other (λ f. None) s.files.files k n other))
 other_by_last s k n f false e other = rw e (ap uses_in (item_other (λ f. Some (record f { uses = f.uses - 1 })) s.files.files k n other))
 
 dropped_other : (s : Storage) (k n : ℕ) (o : Option OpenFile) → n ≢ k → uses_at (dropped_file s k o).files n ≡ uses_at s.files n
@@ -51,7 +53,9 @@ dropped_other s k n (Some f) other = other_by_last s k n f _ refl other
 here_by_last : (s : Storage) (k : ℕ) (f : OpenFile) (b : Bool) → nat_le f.uses 1 ≡ b → at_number s.files.files k ≡ Some f → 1 ≤ f.uses → uses_at (dropped_file s k (Some f)).files k + 1 ≡ f.uses
 here_by_last s k f true e is there =
     let gone : uses_in (at_number (with_item (λ f. None) s.files.files k) k) ≡ 0 = ap uses_in (item_at (λ f. None) s.files.files k ∙ ap (made (λ f. None)) is) in
-    rw e (omega (arith, gone, leb-true f.uses 1 e))
+    let left : uses_in (at_number (let_go (record s { files = with_file (λ f. None) s.files k }) f f.object).files.files k) ≡ 0 =
+    ap (λ files. uses_in (at_number files k)) (files-let_go (record s { files = with_file (λ f. None) s.files k }) f f.object) ∙ gone in
+    rw e (omega (arith, left, leb-true f.uses 1 e))
 here_by_last s k f false e is there =
     let less : uses_in (at_number (with_item (λ f. Some (record f { uses = f.uses - 1 })) s.files.files k) k) ≡ f.uses - 1 = ap uses_in (item_at (λ f. Some (record f { uses = f.uses - 1 })) s.files.files k ∙ ap (made (λ f. Some (record f { uses = f.uses - 1 }))) is) in
     rw e (omega (arith, less))

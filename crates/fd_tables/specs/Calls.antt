@@ -1,14 +1,15 @@
 -- What the calls of `Files` answer.
-use Rattle.std.specs.Prelude.{◌≡◌, ℕ, ◌==◌, false, not, nat_lt, [], ◌∷◌, Option, Some, None, is_some, Result, Ok, Err, ⊤}
+use Rattle.std.specs.Prelude.{◌≡◌, ℕ, ◌==◌, Bool, false, not, nat_lt, [], ◌∷◌, Option, Some, None, is_some, Result, Ok, Err, ⊤}
 use Rattle.byte_words.specs.Search.{first}
 use Rattle.call_log.specs.declared.errno.Errno as log
 use Rattle.call_log.specs.declared.errno.Errno.TheVariants.{Ebadf, Einval, Emfile}
 use Rattle.fd_tables.specs.declared.view.View.{View}
 use Rattle.fd_tables.specs.declared.view.Way.{Way}
+use Rattle.fd_tables.specs.declared.pipe_view.Ends.{Ends}
 use Rattle.fd_tables.specs.declared.fault.FdFault.{FdFault}
 use Rattle.fd_tables.specs.declared.fault.FdFault.TheVariants.{Errno, Memory}
 use Rattle.fd_tables.specs.Files.{most_descriptors, OpenFiles}
-use Rattle.fd_tables.specs.Changes.{Storage, opened, duplicated}
+use Rattle.fd_tables.specs.Changes.{Storage, opened, piped, duplicated}
 
 -- `view`: EBADF where the descriptor isn't open
 abbrev pub view_or_errno : Option View → Result View log.Errno
@@ -23,6 +24,15 @@ Opens (Some free) old t node way new (Err Memory) = new ≡ old
 Opens None old t node way new (Ok fd) = ⊥
 Opens None old t node way new (Err (Errno errno)) = (errno ≡ Emfile) × (new ≡ old)
 Opens None old t node way new (Err Memory) = new ≡ old
+
+-- `pipe`: EMFILE where fewer than two descriptors are free
+abbrev pub Pipes : Option Ends → OpenFiles → ℕ → (cloexec : Bool) → OpenFiles → Result Ends FdFault → Type 0
+Pipes (Some free) old t cloexec new (Ok ends) = (ends ≡ free) × (new ≡ piped old t free cloexec)
+Pipes (Some free) old t cloexec new (Err (Errno errno)) = ⊥
+Pipes (Some free) old t cloexec new (Err Memory) = new ≡ old
+Pipes None old t cloexec new (Ok ends) = ⊥
+Pipes None old t cloexec new (Err (Errno errno)) = (errno ≡ Emfile) × (new ≡ old)
+Pipes None old t cloexec new (Err Memory) = new ≡ old
 
 -- a fault for another cause than memory, or none
 abbrev pub IsNotMemory : Result ℕ FdFault → Type 0
@@ -56,3 +66,8 @@ Does (Some fault) old now new (Err errno) = (errno ≡ fault) × (new ≡ old)
 abbrev pub close_fault : Option View → Option log.Errno
 close_fault (Some v) = None
 close_fault None = Some Ebadf
+
+-- `next_changed`: the lowest pipe that is marked, whose mark goes
+abbrev pub Unmarks : OpenFiles → OpenFiles → Option ℕ → Type 0
+Unmarks old new None = (old.changed ≡ []) × (new ≡ old)
+Unmarks old new (Some id) = (old.changed ≡ id ∷ new.changed) × (new ≡ record old { changed = new.changed })

@@ -1,13 +1,17 @@
 -- How descriptors and open files come and go (Linux, open(2), dup(2), close(2), in this project's profile).
-use Rattle.std.specs.Prelude.{ℕ, ◌-◌, Bool, true, false, if◌then◌else◌, nat_le, List, [], ◌∷◌, drop, replicate, Option, Some, None, slice_get, slice_set}
+use Rattle.std.specs.Prelude.{ℕ, ◌-◌, Bool, true, false, not, if◌then◌else◌, nat_le, List, [], ◌∷◌, drop, replicate, Option, Some, None, slice_get, slice_set}
 use Rattle.std.specs.List.{range_with_len}
 use Rattle.mem_files.specs.Inodes.{Inodes, raised}
 use Rattle.mem_files.specs.Changes as tree
 use Rattle.fd_tables.specs.declared.view.Way.{Way}
 use Rattle.fd_tables.specs.declared.open_file.OpenFile.{OpenFile}
+use Rattle.fd_tables.specs.declared.open_file.Object.{Object}
+use Rattle.fd_tables.specs.declared.open_file.Object.TheVariants.{File, PipeEnd}
 use Rattle.fd_tables.specs.declared.open_file.Handle.{Handle}
 use Rattle.fd_tables.specs.declared.open_file.Handle.TheVariants.{Input, Output, Open}
 use Rattle.fd_tables.specs.declared.open_file.Descriptor.{Descriptor}
+use Rattle.fd_tables.specs.declared.pipe_view.Ends.{Ends}
+use Rattle.fd_tables.specs.Pipes.{with_pipe, without_end}
 use Rattle.fd_tables.specs.Files.{Table, most_descriptors, OpenFiles, at_number, free_number, with_next, table_at, descriptor}
 
 -- open files, and the nodes that they hold
@@ -42,11 +46,16 @@ shared fs (Open n) = with_file (λ f. Some (record f { uses = raised f.uses })) 
 shared fs Input = fs
 shared fs Output = fs
 
--- one fewer shares an open file; with the last one it goes, and lets its node go
+-- what an open file was of: its node is let go, or its end of the pipe closes
+abbrev pub let_go : Storage → OpenFile → Object → Storage
+let_go s f (File node) = record s { nodes = tree.let_go s.nodes node }
+let_go s f (PipeEnd id) = record s { files = without_end s.files id f.write }
+
+-- one fewer shares an open file; with the last one it goes
 abbrev pub dropped_file : Storage → ℕ → Option OpenFile → Storage
 dropped_file s n None = s
 dropped_file s n (Some f) =
-    if nat_le f.uses 1 then record { nodes = tree.let_go s.nodes f.node; files = with_file (λ f. None) s.files n }
+    if nat_le f.uses 1 then let_go (record s { files = with_file (λ f. None) s.files n }) f f.object
     else record s { files = with_file (λ f. Some (record f { uses = f.uses - 1 })) s.files n }
 
 abbrev pub dropped : Storage → Handle → Storage
@@ -65,7 +74,7 @@ unfoldable pub closed : Storage → ℕ → ℕ → Storage
 closed s t fd = closed_descriptor s t fd (descriptor s.files t fd)
 
 abbrev pub new_file : ℕ → Way → OpenFile
-new_file node way = record { node = node; read = way.read; write = way.write; append = way.append; at = 0; uses = 1 }
+new_file node way = record { object = File node; read = way.read; write = way.write; append = way.append; at = 0; uses = 1 }
 
 -- one more open file, at the lowest number that is free
 abbrev pub with_open_file : OpenFiles → OpenFile → OpenFiles
@@ -77,6 +86,19 @@ opened s t fd node way = record {
   nodes = tree.held s.nodes node;
   files = with_descriptor (with_open_file s.files (new_file node way)) t fd (Some (record { handle = Open (free_number s.files.files); cloexec = way.cloexec }));
 }
+
+-- an end of a pipe opens as a descriptor
+abbrev pub pipe_end : ℕ → (write : Bool) → OpenFile
+pipe_end id write = record { object = PipeEnd id; read = not write; write = write; append = false; at = 0; uses = 1 }
+
+abbrev pub with_end : OpenFiles → ℕ → ℕ → ℕ → (write cloexec : Bool) → OpenFiles
+with_end fs t fd id write cloexec =
+    with_descriptor (with_open_file fs (pipe_end id write)) t fd (Some (record { handle = Open (free_number fs.files); cloexec = cloexec }))
+
+-- a pipe more, with its two ends as these descriptors
+unfoldable pub piped : OpenFiles → ℕ → Ends → (cloexec : Bool) → OpenFiles
+piped fs t ends cloexec =
+    with_end (with_end (with_pipe fs) t ends.read fs.next_pipe false cloexec) t ends.write fs.next_pipe true cloexec
 
 abbrev pub copied_descriptor : OpenFiles → ℕ → ℕ → Option Descriptor → OpenFiles
 copied_descriptor fs t new None = fs

@@ -1,12 +1,15 @@
 -- Each call, and each change of the tree, keeps the counts exact.
-use Rattle.std.specs.Prelude.{ℕ, ◌≡◌, ◌<◌, ◌≤◌, ◌^◌, Bool, true, false, List, Option, Some, None, is_some, IfSome, nat_lt, Result, Ok}
+use Rattle.std.specs.Prelude.{ℕ, ◌≡◌, ◌+◌, ◌<◌, ◌≤◌, ◌^◌, ◌==◌, ◌&&◌, ◌||◌, Bool, true, false, not, List, count_by, Option, Some, None, is_some, IfSome, nat_lt, Result, Ok}
 use Rattle.call_log.specs.declared.errno.Errno.{Errno}
 use Rattle.mem_files.specs.Inodes.{Inodes, inode_at}
 use Rattle.mem_files.specs.Changes as tree
 use Rattle.fd_tables.specs.declared.view.Way.{Way}
-use Rattle.fd_tables.specs.Files.{most_descriptors, nothing_open, at_number, free_number, descriptor, lowest_free}
-use Rattle.fd_tables.specs.Changes.{Storage, storage, closed, opened, duplicated, replaced, moved, taken, with_table, with_copy, exec_closed, without_table}
-use Rattle.fd_tables.specs.Counts.{opens_of, shares_of, Counted}
+use Rattle.fd_tables.specs.declared.pipe_view.Ends.{Ends}
+use Rattle.fd_tables.specs.declared.pipe_view.PipeView.{PipeView}
+use Rattle.fd_tables.specs.Files.{OpenFiles, most_descriptors, nothing_open, at_number, free_number, descriptor, lowest_free, two_free}
+use Rattle.fd_tables.specs.Changes.{Storage, storage, closed, opened, piped, duplicated, replaced, moved, taken, with_table, with_copy, exec_closed, without_table}
+use Rattle.fd_tables.specs.Pipes.{pipe_at, pipe_view, is_marked, pipe_taken, pipe_put, none_changed}
+use Rattle.fd_tables.specs.Counts.{opens_of, shares_of, ends_of, Counted}
 
 -- ---- what the counts mean
 
@@ -21,6 +24,12 @@ StaysWhileOpen = (s : Storage) (id : ℕ) → Counted s → 1 ≤ opens_of s.fil
 -- and one that no folder names only then
 abbrev pub UnnamedWhileOpen : Type 0
 UnnamedWhileOpen = (s : Storage) (id : ℕ) → Counted s → IfSome (inode_at s.nodes id) (λ n. n.linked ≡ false → 1 ≤ opens_of s.files id)
+
+-- an end of a pipe is open exactly while an open file is it, and a pipe is there while one of its ends is open
+abbrev pub EndsStayWhileOpen : Type 0
+EndsStayWhileOpen = (s : Storage) (id : ℕ) → Counted s →
+    ((pipe_view s.files id).read_open ≡ nat_lt 0 (ends_of s.files id false)) × ((pipe_view s.files id).write_open ≡ nat_lt 0 (ends_of s.files id true))
+    × (is_some (pipe_at s.files id) ≡ ((pipe_view s.files id).read_open || (pipe_view s.files id).write_open))
 
 -- ---- the calls
 
@@ -54,6 +63,39 @@ MovingKeepsCounts = (s : Storage) (t fd at : ℕ) → Counted s → Counted (sto
 
 abbrev pub TakingKeepsCounts : Type 0
 TakingKeepsCounts = (s : Storage) (n : ℕ) → Counted s → Counted (storage s.nodes (taken s.files n))
+
+-- where two descriptors are free, and so few files are open that the numbers of two more fit their type
+abbrev pub PipingKeepsCounts : Type 0
+PipingKeepsCounts =
+    (s : Storage) (t : ℕ) (ends : Ends) (cloexec : Bool) → Counted s → two_free s.files t ≡ Some ends → count_by is_some s.files.files + 2 ≤ 2 ^ 32 →
+    Counted (storage s.nodes (piped s.files t ends cloexec))
+
+abbrev pub PipesKeepCounts : Type 0
+PipesKeepCounts =
+    (s : Storage) (id n : ℕ) (bytes : List ℕ) → Counted s →
+    Counted (storage s.nodes (pipe_taken s.files id n)) × Counted (storage s.nodes (pipe_put s.files id bytes)) × Counted (storage s.nodes (none_changed s.files))
+
+-- ---- marks
+
+abbrev pub same_flag : Bool → Bool → Bool
+same_flag true b = b
+same_flag false b = not b
+
+abbrev pub shows_same : PipeView → PipeView → Bool
+shows_same a b = a.held == b.held && same_flag a.read_open b.read_open && same_flag a.write_open b.write_open
+
+-- a pipe is marked where it was before, and where it shows something else than before
+abbrev pub MarksExactly : (old new : OpenFiles) → Type 0
+MarksExactly old new = (id : ℕ) → is_marked id new ≡ (is_marked id old || not (shows_same (pipe_view old id) (pipe_view new id)))
+
+-- so who waits on a pipe goes on exactly where it can matter
+abbrev pub MarksAreExact : Type 0
+MarksAreExact =
+    (s : Storage) (t fd id n : ℕ) (bytes : List ℕ) → Counted s →
+    MarksExactly s.files (closed s t fd).files × (n ≤ (pipe_view s.files id).held → MarksExactly s.files (pipe_taken s.files id n))
+    × MarksExactly s.files (pipe_put s.files id bytes)
+
+-- ---- tables
 
 -- where the table's number fits the answer
 abbrev pub NewTableKeepsCounts : Type 0

@@ -1,12 +1,16 @@
 -- Open files, and the tables of descriptors that share them (POSIX.1-2017, 3.258 Open File Description, 3.166 File Descriptor).
-use Rattle.std.specs.Prelude.{ℕ, true, false, not, List, [], ◌∷◌, length, position, Option, Some, None, is_some, slice_get}
-use Rattle.fd_tables.specs.declared.view.Target.TheVariants.{Console, Node}
+use Rattle.std.specs.Prelude.{ℕ, suc, Bool, true, false, not, List, [], ◌∷◌, length, position, Option, Some, None, is_some, slice_get}
+use Rattle.fd_tables.specs.declared.view.Target.{Target}
+use Rattle.fd_tables.specs.declared.view.Target.TheVariants.{Console, Node, Pipe as to_pipe}
 use Rattle.fd_tables.specs.declared.view.Way.{Way}
 use Rattle.fd_tables.specs.declared.view.View.{View}
 use Rattle.fd_tables.specs.declared.open_file.OpenFile.{OpenFile}
+use Rattle.fd_tables.specs.declared.open_file.Object.{Object}
+use Rattle.fd_tables.specs.declared.open_file.Object.TheVariants.{File, PipeEnd}
 use Rattle.fd_tables.specs.declared.open_file.Handle.{Handle}
 use Rattle.fd_tables.specs.declared.open_file.Handle.TheVariants.{Input, Output, Open}
 use Rattle.fd_tables.specs.declared.open_file.Descriptor.{Descriptor}
+use Rattle.fd_tables.specs.declared.pipe_view.Ends.{Ends}
 
 -- a table has a place for each descriptor
 abbrev pub Table : Type 0
@@ -15,15 +19,26 @@ Table = List (Option Descriptor)
 abbrev pub most_descriptors : ℕ
 most_descriptors = 32
 
+-- a pipe of which an end is open: its number, what it holds from the front, and which ends are open
+pub record Pipe : Type 0 where
+  pub id : ℕ
+  pub bytes : List ℕ
+  pub read_open : Bool
+  pub write_open : Bool
+
 -- what is left of the console's input, the open files, and the tables. An open file and a table stand at the place of their
--- number, and none where the number is free
+-- number, and none where the number is free. The pipes stand newest first; `next_pipe` is one more than the last number that was
+-- given; `changed` are the numbers of those of which the bytes changed or an end closed, ascending, until who waits on them goes on
 pub record OpenFiles : Type 0 where
   pub stdin : List ℕ
   pub files : List (Option OpenFile)
   pub tables : List (Option Table)
+  pub pipes : List Pipe
+  pub next_pipe : ℕ
+  pub changed : List ℕ
 
 abbrev pub nothing_open : List ℕ → OpenFiles
-nothing_open stdin = record { stdin = stdin; files = []; tables = [] }
+nothing_open stdin = record { stdin = stdin; files = []; tables = []; pipes = []; next_pipe = 1; changed = [] }
 
 -- ---- numbers
 
@@ -69,11 +84,20 @@ descriptor fs t fd = descriptor_in (table_at fs t) fd
 abbrev pub console_view : Way → View
 console_view way = record { target = Console; way = way; at = 0 }
 
+abbrev pub target_of : OpenFile → Object → Target
+target_of f (File node) = Node node
+target_of f (PipeEnd id) = to_pipe id f.write
+
+-- the end of a pipe has none
+abbrev pub position_of : OpenFile → Object → ℕ
+position_of f (File node) = f.at
+position_of f (PipeEnd id) = 0
+
 abbrev pub file_view : Descriptor → Option OpenFile → Option View
 file_view d (Some f) = Some (record {
-  target = Node f.node;
+  target = target_of f f.object;
   way = record { read = f.read; write = f.write; append = f.append; cloexec = d.cloexec };
-  at = f.at;
+  at = position_of f f.object;
 })
 file_view d None = None
 
@@ -96,3 +120,22 @@ free_in None = None
 -- the lowest descriptor of a table that isn't open
 unfoldable pub lowest_free : OpenFiles → ℕ → Option ℕ
 lowest_free fs t = free_in (table_at fs t)
+
+-- the numbers of the free places, from i on
+abbrev pub free_from : {A : Type 0} → ℕ → List (Option A) → List ℕ
+free_from i [] = []
+free_from i (None ∷ xs) = i ∷ free_from (suc i) xs
+free_from i (Some x ∷ xs) = free_from (suc i) xs
+
+-- the two lowest, for the ends of a pipe; none where fewer are free
+abbrev pub first_two : List ℕ → Option Ends
+first_two (read ∷ write ∷ others) = Some (record { read = read; write = write })
+first_two (read ∷ []) = None
+first_two [] = None
+
+abbrev pub two_free_in : Option Table → Option Ends
+two_free_in (Some table) = first_two (free_from 0 table)
+two_free_in None = None
+
+unfoldable pub two_free : OpenFiles → ℕ → Option Ends
+two_free fs t = two_free_in (table_at fs t)

@@ -8,8 +8,8 @@ ghost use Rattle.fd_tables.specs.Calls.{Opens, IsNotMemory, dup_number, Duplicat
 
 use crate::fault::FdFault;
 use crate::files::Files;
-use crate::open_file::{Descriptor, Handle, OpenFile};
-use crate::places::{at_number, put_next, ready_place, set_place};
+use crate::open_file::{Descriptor, Handle, Object, OpenFile};
+use crate::places::{at_number, put_next, ready_places, set_place};
 use crate::shares::new_file;
 use crate::table::MOST_DESCRIPTORS;
 use crate::view::Way;
@@ -25,8 +25,8 @@ impl Files {
         ensures spare_tables { IfOk result (λ _. 1 ≤ self.new.spare_tables) }
         ensures keeps { KeepsSpare self.old self.new }
     {
-        ready_place(&mut self.files)?;
-        ready_place(&mut self.tables)
+        ready_places(&mut self.files, 1)?;
+        ready_places(&mut self.tables, 1)
     }
 
     /// Opens a node at position 0, as the lowest descriptor that is free.
@@ -51,7 +51,7 @@ impl Files {
         Ok(fd)
     }
 
-    fn put_file(&mut self, file: OpenFile) -> Result<u32, AllocError>
+    pub(crate) fn put_file(&mut self, file: OpenFile) -> Result<u32, AllocError>
         ensures number { IfOk result (λ n. n ≡ free_number self.old.open_files.files) }
         ensures added { IfOk result (λ _. self.new.open_files ≡ with_open_file self.old.open_files file) }
         ensures same { OnErr result (self.new.open_files ≡ self.old.open_files) }
@@ -136,7 +136,7 @@ impl Files {
         }
     }
 
-    /// One fewer descriptor shares an open file. With the last one it goes, and lets its node go.
+    /// One fewer descriptor shares an open file. With the last one it goes: its node is let go, or its end of a pipe closes.
     fn drop_use(&mut self, tree: &mut Tree, handle: Handle)
         ensures storage { storage tree.new self.new.open_files ≡ dropped (storage tree.old self.old.open_files) handle }
         ensures spare { KeepsSpare self.old self.new }
@@ -149,7 +149,10 @@ impl Files {
         };
         if file.uses <= 1 {
             set_place(&mut self.files, number, None);
-            tree.let_go(file.node);
+            match file.object {
+                Object::File(node) => tree.let_go(node),
+                Object::PipeEnd(id) => self.close_end(id, file.write),
+            }
         } else {
             let uses = file.uses - 1;
             set_place(&mut self.files, number, Some(OpenFile { uses, ..file }));

@@ -7,6 +7,7 @@ ghost use Rattle.fd_tables.specs.Changes.{moved, taken, with_descriptor};
 ghost use Rattle.fd_tables.specs.Calls.{view_or_errno};
 
 use crate::open_file::{Descriptor, Handle, OpenFile};
+use crate::pipe::Pipe;
 use crate::places::at_number;
 use crate::shares;
 use crate::shows::{console_view, file_view};
@@ -25,6 +26,12 @@ pub struct Files {
     // by number; None where the number is free
     pub(crate) files: Vec<Option<OpenFile>>,
     pub(crate) tables: Vec<Option<Table>>,
+    // newest first
+    pub(crate) pipes: Vec<Pipe>,
+    // how many pipes were made
+    pub(crate) made: u32,
+    // the numbers of those that changed, ascending, with room for all
+    pub(crate) changed: Vec<u32>,
 }
 
 impl Model for Files {
@@ -32,11 +39,11 @@ impl Model for Files {
 
     ghost Value = { Kept };
 
-    ghost use Rattle.fd_tables.specs.Inside.{kept, NotPastInput};
+    ghost use Rattle.fd_tables.specs.Inside.{kept, IsRight};
 
     ghost view = { kept };
 
-    ghost invariant = { NotPastInput };
+    ghost invariant = { IsRight };
 }
 
 impl Files {
@@ -49,6 +56,9 @@ impl Files {
             taken: 0,
             files: Vec::new(alloc),
             tables: Vec::new(alloc),
+            pipes: Vec::new(alloc),
+            made: 0,
+            changed: Vec::new(alloc),
         })
     }
 
@@ -123,7 +133,7 @@ impl Files {
         table::lowest_free(&self.tables, table)
     }
 
-    /// Moves the position of an open file, in bytes or entries; the console has none.
+    /// Moves the position of an open file, in bytes or entries; neither the console nor a pipe has one.
     #[tactic(auto, unfolding(crate::specs::Changes::moved))]
     pub fn move_to(&mut self, table: u32, fd: u32, at: u64)
         ensures moved { self.new.open_files ≡ moved self.old.open_files table fd at }

@@ -1,15 +1,21 @@
 //! Laws over the definitions. They hold for all tables and nodes, and no code runs.
 
-ghost use Rattle.fd_tables.specs.CountLaws.{StaysWhileShared, StaysWhileOpen, UnnamedWhileOpen, BeginsCounted, OpeningKeepsCounts, ClosingKeepsCounts, DuplicatingKeepsCounts, ReplacingKeepsCounts, MovingKeepsCounts, TakingKeepsCounts, NewTableKeepsCounts, CopyKeepsCounts, ExecKeepsCounts, DroppingKeepsCounts, TreeKeepsCounts};
+ghost use Rattle.fd_tables.specs.CountLaws.{StaysWhileShared, StaysWhileOpen, UnnamedWhileOpen, EndsStayWhileOpen, BeginsCounted, OpeningKeepsCounts, PipingKeepsCounts, PipesKeepCounts, MarksAreExact, ClosingKeepsCounts, DuplicatingKeepsCounts, ReplacingKeepsCounts, MovingKeepsCounts, TakingKeepsCounts, NewTableKeepsCounts, CopyKeepsCounts, ExecKeepsCounts, DroppingKeepsCounts, TreeKeepsCounts};
 
-/// An open file counts the descriptors that share it, and a node the open files that hold it. So an open file goes exactly when
-/// its last descriptor closes, and a file without a name at its last close.
+/// An open file counts the descriptors that share it, a node the open files that hold it, and an end of a pipe is open while one open
+/// file is it. So an open file goes exactly when its last descriptor closes, a file without a name at its last close, and an end
+/// of a pipe closes with its last descriptor. A close, and
+/// bytes that are taken or put, mark exactly the pipe that shows something else than before.
 pub fn counts_law()
     ensures shared { StaysWhileShared }
     ensures held { StaysWhileOpen }
     ensures unnamed { UnnamedWhileOpen }
+    ensures ends { EndsStayWhileOpen }
     ensures begins { BeginsCounted }
     ensures opens { OpeningKeepsCounts }
+    ensures pipes { PipingKeepsCounts }
+    ensures moves_bytes { PipesKeepCounts }
+    ensures marks { MarksAreExact }
     ensures closes { ClosingKeepsCounts }
     ensures duplicates { DuplicatingKeepsCounts }
     ensures replaces { ReplacingKeepsCounts }

@@ -1,4 +1,4 @@
-//! Who has which file open: tables of descriptors, the open files that they share, and the console's input.
+//! Who has which file open: tables of descriptors, the open files that they share, pipes, and the console's input.
 //!
 //! What may stand here: descriptors, open files with their positions, and how they come and go. What may not: paths, the bytes
 //! of files, and the processes that the tables belong to.
@@ -9,6 +9,9 @@ mod fault;
 mod files;
 mod laws;
 mod open_file;
+mod pipe;
+mod pipe_view;
+mod pipes;
 mod places;
 mod shares;
 mod shows;
@@ -19,6 +22,7 @@ mod view;
 pub use fault::FdFault;
 pub use files::Files;
 pub use laws::counts_law;
+pub use pipe_view::{Ends, PipeView};
 pub use view::{Target, View, Way};
 
 #[cfg(test)]

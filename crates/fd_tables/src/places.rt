@@ -33,16 +33,17 @@ pub(crate) fn first_free<T>(places: &[Option<T>]) -> Option<usize>
     places.iter().position(|place| place.is_none())
 }
 
-/// Takes the memory of one place more.
-pub(crate) fn ready_place<T>(places: &mut Vec<Option<T>>) -> Result<(), AllocError>
+/// Takes the memory of one place more, or of two.
+pub(crate) fn ready_places<T>(places: &mut Vec<Option<T>>, count: usize) -> Result<(), AllocError>
+    requires { count ≤ 2 }
     ensures same { places.new.items ≡ places.old.items }
-    ensures spare { IfOk result (λ _. 1 ≤ spare_places places.new) }
+    ensures spare { IfOk result (λ _. count ≤ spare_places places.new) }
     ensures keeps { spare_places places.old ≤ spare_places places.new }
 {
-    if places.len() > u32::MAX as usize {
+    if places.len() + count > u32::MAX as usize + 1 {
         return Err(AllocError);
     }
-    places.reserve(1)
+    places.reserve(count)
 }
 
 /// The lowest number that is free.

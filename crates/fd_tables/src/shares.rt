@@ -2,9 +2,9 @@
 
 ghost use Rattle.std.specs.Prelude.{◌≡◌, Some};
 ghost use Rattle.mem_files.specs.Inodes.{raised};
-ghost use Rattle.fd_tables.specs.Changes.{new_file, with_item};
+ghost use Rattle.fd_tables.specs.Changes.{new_file, pipe_end, with_item};
 
-use crate::open_file::OpenFile;
+use crate::open_file::{Object, OpenFile};
 use crate::places::{at_number, set_place};
 use crate::view::Way;
 
@@ -13,10 +13,24 @@ pub(crate) fn new_file(node: u32, way: Way) -> OpenFile
     ensures { result ≡ new_file node way }
 {
     OpenFile {
-        node,
+        object: Object::File(node),
         read: way.read,
         write: way.write,
         append: way.append,
+        at: 0,
+        uses: 1,
+    }
+}
+
+/// An end of a pipe that one descriptor opens.
+pub(crate) fn pipe_end(id: u32, write: bool) -> OpenFile
+    ensures { result ≡ pipe_end id write }
+{
+    OpenFile {
+        object: Object::PipeEnd(id),
+        read: !write,
+        write,
+        append: false,
         at: 0,
         uses: 1,
     }

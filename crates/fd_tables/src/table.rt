@@ -1,10 +1,11 @@
 //! Tables of descriptors.
 
 ghost use Rattle.std.specs.Prelude.{◌≡◌, false, Some, slice_set};
-ghost use Rattle.fd_tables.specs.Files.{at_number, descriptor_in, free_in};
+ghost use Rattle.fd_tables.specs.Files.{at_number, descriptor_in, free_in, two_free_in};
 ghost use Rattle.fd_tables.specs.Changes.{first_table, with_item};
 
 use crate::open_file::{Descriptor, Handle};
+use crate::pipe_view::Ends;
 use crate::places::{at_number, first_free, set_place};
 
 /// How many descriptors a table has: 0 and up.
@@ -58,6 +59,31 @@ fn free_place(places: &Table) -> Option<u32>
 {
     let place = first_free(places)?;
     Some(place as u32)
+}
+
+/// The two lowest descriptors of a table that aren't open.
+pub(crate) fn two_free(tables: &[Option<Table>], table: u32) -> Option<Ends>
+    ensures { result ≡ two_free_in (at_number tables.now table) }
+{
+    match tables.get(table as usize) {
+        Some(Some(places)) => two_free_places(places),
+        _ => None,
+    }
+}
+
+fn two_free_places(places: &Table) -> Option<Ends>
+    ensures { result ≡ two_free_in (Some places.now) }
+{
+    let mut lowest = None;
+    for fd in 0..MOST_DESCRIPTORS {
+        if places[fd as usize].is_none() {
+            match lowest {
+                None => lowest = Some(fd),
+                Some(read) => return Some(Ends { read, write: fd }),
+            }
+        }
+    }
+    None
 }
 
 /// Opens or closes a descriptor of a table, if that is there.

@@ -1,4 +1,4 @@
-//! Descriptors of one table and of two, at their limits too, and the console's input.
+//! Descriptors of one table and of two, at their limits too, the console's input, and pipes.
 
 use super::*;
 use call_log::Errno;
@@ -202,5 +202,137 @@ fn input_is_taken_from_the_front(rt: HostRuntime) -> Result<(), Fail> {
         files.take_stdin(2);
     }
     assert_eq!(rt; files.stdin_left(), b"put".as_slice());
+    Ok(())
+}
+
+fn put(files: &mut Files, id: u32, bytes: &[u8]) {
+    if bytes.len() <= 65_536 - files.pipe_view(id).held as usize {
+        files.pipe_put(id, bytes);
+    }
+}
+
+fn take(files: &mut Files, id: u32, n: u32) {
+    if n <= files.pipe_view(id).held {
+        files.pipe_take(id, n);
+    }
+}
+
+const fn holds(held: u32) -> PipeView {
+    PipeView {
+        held,
+        read_open: true,
+        write_open: true,
+    }
+}
+
+#[test]
+fn bytes_come_out_as_they_went_in(rt: HostRuntime) -> Result<(), Fail> {
+    let mut files = nothing_open(rt.alloc())?;
+    let table = files.new_table()?;
+    assert_eq!(rt; files.pipe(table, true), Ok(Ends { read: 3, write: 4 }));
+    // put, and then taken; what the pipe holds then, and its first five bytes
+    let calls: [(&[u8], u32, u32, &[u8]); 5] = [
+        (b"abc", 0, 3, b"abc"),
+        (b"", 1, 2, b"bc"),
+        (b"defg", 0, 6, b"bcdef"),
+        (b"", 5, 1, b"g"),
+        (b"h", 2, 0, b""),
+    ];
+    for (bytes, n, held, front) in calls {
+        put(&mut files, 1, bytes);
+        take(&mut files, 1, n);
+        assert_eq!(rt; files.pipe_view(1), holds(held));
+        assert_eq!(rt; files.pipe_front(rt.alloc(), 1, 5)?.as_slice(), front);
+    }
+    let many = vec![in rt.alloc(); 7; 65_536]?;
+    put(&mut files, 1, &many);
+    assert_eq!(rt; files.pipe_view(1), holds(65_536));
+    take(&mut files, 1, 65_532);
+    put(&mut files, 1, b"over the edge");
+    assert_eq!(rt;
+        files.pipe_front(rt.alloc(), 1, 65_536)?.as_slice(),
+        b"\x07\x07\x07\x07over the edge".as_slice()
+    );
+    Ok(())
+}
+
+#[test]
+fn ends_are_open_while_descriptors_are(rt: HostRuntime) -> Result<(), Fail> {
+    let mut tree = Tree::new(rt.alloc())?;
+    let mut files = nothing_open(rt.alloc())?;
+    let table = files.new_table()?;
+    assert_eq!(rt; files.pipe(table, false), Ok(Ends { read: 3, write: 4 }));
+    assert_eq!(rt;
+        files.view(table, 4),
+        Ok(View {
+            target: Target::Pipe { id: 1, write: true },
+            way: Way {
+                read: false,
+                write: true,
+                ..READ
+            },
+            at: 0,
+        })
+    );
+    assert_eq!(rt; files.dup(table, 4), Ok(5));
+    assert_eq!(rt; files.close(&mut tree, table, 4), Ok(()));
+    assert_eq!(rt; files.pipe_view(1), holds(0));
+    assert_eq!(rt; files.next_changed(), None);
+    assert_eq!(rt; files.close(&mut tree, table, 5), Ok(()));
+    assert_eq!(rt;
+        files.pipe_view(1),
+        PipeView {
+            write_open: false,
+            ..holds(0)
+        }
+    );
+    assert_eq!(rt; files.next_changed(), Some(1));
+    assert_eq!(rt; files.next_changed(), None);
+    files.drop_table(&mut tree, table);
+    assert_eq!(rt;
+        files.pipe_view(1),
+        PipeView {
+            held: 0,
+            read_open: false,
+            write_open: false,
+        }
+    );
+    assert_eq!(rt; files.next_changed(), Some(1));
+    Ok(())
+}
+
+#[test]
+fn the_lowest_marked_pipe_comes_first(rt: HostRuntime) -> Result<(), Fail> {
+    let mut files = nothing_open(rt.alloc())?;
+    let table = files.new_table()?;
+    for _ in 0..3 {
+        files.pipe(table, false)?;
+    }
+    for id in [3, 1, 3] {
+        put(&mut files, id, b"x");
+    }
+    assert_eq!(rt; files.next_changed(), Some(1));
+    assert_eq!(rt; files.next_changed(), Some(3));
+    assert_eq!(rt; files.next_changed(), None);
+    take(&mut files, 3, 2);
+    assert_eq!(rt; files.next_changed(), Some(3));
+    Ok(())
+}
+
+#[test]
+fn a_pipe_needs_two_descriptors(rt: HostRuntime) -> Result<(), Fail> {
+    let mut tree = Tree::new(rt.alloc())?;
+    let mut files = nothing_open(rt.alloc())?;
+    let table = files.new_table()?;
+    for fd in 3..31 {
+        assert_eq!(rt; files.open(&mut tree, table, 7, READ), Ok(fd));
+    }
+    assert_eq!(rt; files.two_free(table), None);
+    assert_eq!(rt;
+        files.pipe(table, false),
+        Err(FdFault::Errno(Errno::Emfile))
+    );
+    assert_eq!(rt; files.close(&mut tree, table, 9), Ok(()));
+    assert_eq!(rt; files.pipe(table, false), Ok(Ends { read: 9, write: 31 }));
     Ok(())
 }

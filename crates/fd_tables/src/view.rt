@@ -7,6 +7,8 @@ pub enum Target {
     Console,
     /// The node of this number.
     Node(u32),
+    /// The reading end of the pipe of this number, or its writing end.
+    Pipe { id: u32, write: bool },
 }
 
 /// What may be done through a descriptor.
@@ -25,6 +27,6 @@ pub struct Way {
 pub struct View {
     pub target: Target,
     pub way: Way,
-    /// The position, in bytes, and of a folder in entries; 0 for the console.
+    /// The position, in bytes, and of a folder in entries; 0 for the console and for a pipe.
     pub at: u64,
 }

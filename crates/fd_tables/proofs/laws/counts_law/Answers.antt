@@ -1,9 +1,11 @@
 -- By the changes, one after the other.
-use Rattle.fd_tables.proofs.CountsMean.{stays_while_shared, stays_while_open, unnamed_while_open, counted-nothing_open}
+use Rattle.fd_tables.proofs.CountsMean.{stays_while_shared, stays_while_open, unnamed_while_open, ends_stay_while_open, counted-nothing_open}
 use Rattle.fd_tables.proofs.Counting.{counted-closed, counted-duplicated, counted-replaced, counted-opened}
 use Rattle.fd_tables.proofs.TablesCounted.{counted-with_table, counted-with_copy}
 use Rattle.fd_tables.proofs.ManyClosed.{counted-exec_closed, counted-without_table}
 use Rattle.fd_tables.proofs.PositionsCounted.{counted-moved, counted-taken}
+use Rattle.fd_tables.proofs.PipesCounted.{counted-piped, pipes_keep_counts}
+use Rattle.fd_tables.proofs.MarksExact.{marks_are_exact}
 use Rattle.fd_tables.proofs.TreeCounted.{tree_keeps_counts}
 use Rattle.fd_tables.proofs.laws.counts_law.Goals as goal
 
@@ -51,3 +53,15 @@ returns-clause-drops_table c = counted-without_table
 
 pub returns-clause-tree_changes : goal.returns-clause-tree_changes
 returns-clause-tree_changes c = tree_keeps_counts
+
+pub returns-clause-ends : goal.returns-clause-ends
+returns-clause-ends c = ends_stay_while_open
+
+pub returns-clause-pipes : goal.returns-clause-pipes
+returns-clause-pipes c = counted-piped
+
+pub returns-clause-moves_bytes : goal.returns-clause-moves_bytes
+returns-clause-moves_bytes c = pipes_keep_counts
+
+pub returns-clause-marks : goal.returns-clause-marks
+returns-clause-marks c = marks_are_exact
