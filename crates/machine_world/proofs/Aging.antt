@@ -5,11 +5,13 @@ use Rattle.mmap_rules.specs.Space.{Space}
 use Rattle.mem_files.specs.Inodes.{Inodes}
 use Rattle.mem_files.specs.Changes.{held, let_go, truncated, with_folder, with_file}
 use Rattle.fd_tables.specs.declared.open_file.OpenFile.{OpenFile}
+use Rattle.fd_tables.specs.declared.open_file.Object.{Object}
+use Rattle.fd_tables.specs.declared.open_file.Object.TheVariants.{File, PipeEnd}
 use Rattle.fd_tables.specs.declared.open_file.Handle.{Handle}
 use Rattle.fd_tables.specs.declared.open_file.Handle.TheVariants.{Input, Output, Open}
 use Rattle.fd_tables.specs.declared.open_file.Descriptor.{Descriptor}
 use Rattle.fd_tables.specs.Files.{at_number, descriptor}
-use Rattle.fd_tables.specs.Changes.{Storage, with_descriptor, dropped, dropped_file, closed, closed_descriptor, opened, replaced, all_closed, all_descriptors, exec_closed, without_table}
+use Rattle.fd_tables.specs.Changes.{Storage, with_descriptor, with_file as with_opened, let_go as let_go_object, dropped, dropped_file, closed, closed_descriptor, opened, replaced, all_closed, all_descriptors, exec_closed, without_table}
 use Rattle.machine_world.specs.World.{Process, Rest, World}
 use Rattle.machine_world.specs.Asks.{Ask, arg, Reply, replies, storage_of}
 use Rattle.machine_world.specs.Descriptors.{table_of, close_on_exec}
@@ -35,8 +37,12 @@ file_unchanged ns new path bytes program most is low = (file_ages most ns new pa
 -- ---- descriptors close: P holds of the nodes as long as it does where one is let go
 
 module _ (P : Inodes → Type 0) (lets : (ns : Inodes) (id : ℕ) → P ns → P (let_go ns id)) where
+  by_object : (s : Storage) (f : OpenFile) (o : Object) → P s.nodes → P (let_go_object s f o).nodes
+  by_object s f (File node) h = lets s.nodes node h
+  by_object s f (PipeEnd id) h = h
+
   by_last : (s : Storage) (k : ℕ) (f : OpenFile) (b : Bool) → nat_le f.uses 1 ≡ b → P s.nodes → P (dropped_file s k (Some f)).nodes
-  by_last s k f true e h = rw e (lets s.nodes f.node h)
+  by_last s k f true e h = rw e (by_object (record s { files = with_opened (λ f. None) s.files k }) f f.object h)
   by_last s k f false e h = rw e h
 
   by_dropped_file : (s : Storage) (k : ℕ) (o : Option OpenFile) → P s.nodes → P (dropped_file s k o).nodes
@@ -129,6 +135,9 @@ module _ (a : Ask) (most : ℕ) (low : AreChanged most a.rest.tree) (few : most 
     take = λ v spans shows reads. unchanged;
     write = λ v node bytes nodes shows may some is. written_ages a.rest.tree nodes node (write_position a v node) bytes most is few low;
     print = λ v bytes shows may. unchanged;
+    pipe = λ ends free. unchanged;
+    drain = λ v id end spans shows reads. unchanged;
+    fill = λ v id end bytes shows may. unchanged;
     make = λ nodes is. since_more a.rest.tree nodes most (folder_ages most a.rest.tree nodes (path_of a) is low);
     remove = λ nodes is. since_more a.rest.tree nodes most (unlinked_ages most a.rest.tree nodes (path_of a) (arg a 2 == remove_folder) is low);
     open_old = λ fd node free found none.
@@ -165,7 +174,7 @@ module _ (w : World) (most : ℕ) (low : AreChanged most w.rest.tree) (few : mos
   unfolding ended
   call_ages a = record {
     reply = λ ended r m later room. later;
-    wait = λ who. same_tree;
+    wait = λ state. same_tree;
     exit = λ room. table_gone a.process.table;
     fork = λ few room. same_tree;
     load = λ f s page is fits room. table_closes a.process.table;
@@ -181,7 +190,7 @@ module _ (w : World) (most : ℕ) (low : AreChanged most w.rest.tree) (few : mos
 
   event_ages : (pid : ℕ) → Went (λ now t. LaterIn now.rest) (event w pid)
   event_ages pid =
-      by_event (λ now t. LaterIn now.rest) LaterIn w same_tree pid (λ p s lives has. act_ages p s.space) (λ p s bytes. all_rows (ask_of w p s bytes) most low few)
+      by_event (λ now t. LaterIn now.rest) LaterIn (λ now t later. later) w same_tree pid (λ p s lives has. act_ages p s.space) (λ p s bytes. all_rows (ask_of w p s bytes) most low few)
 
 pub events_age_files : EventsAgeFiles
 events_age_files w pid now t most low few is = subst (Went (λ v u. LaterIn w most low few v.rest)) is (event_ages w most low few pid)

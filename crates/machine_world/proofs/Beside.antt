@@ -4,7 +4,7 @@ use Rattle.std.specs.Prelude.{if◌then◌else◌, option_map}
 use Rattle.rv32im_step.specs.Meaning.{meaning}
 use Rattle.mmap_rules.specs.Space.{Space, writable_in}
 use Rattle.flat_loader.specs.Begin.{begin_regs}
-use Rattle.vfork_exec.specs.declared.family.State.TheVariants.{Waiting, Lent}
+use Rattle.vfork_exec.specs.declared.family.State.TheVariants.{Lent}
 use Rattle.vfork_exec.specs.Keyed.{find, change, without}
 use Rattle.vfork_exec.proofs.Keyed.{eqb_other, find_head, find_map, find_beside_change, find_beside_without}
 use Rattle.machine_world.specs.World.{Process, LiveSpace, World, pid_of, id_of}
@@ -12,9 +12,10 @@ use Rattle.fd_tables.specs.Files.{table_at}
 use Rattle.machine_world.specs.Families.{borrows, spaces_left, let_go, left_by, all_left_by}
 use Rattle.machine_world.specs.Asks.{Ask, storage_of}
 use Rattle.machine_world.specs.Rows.{row}
-use Rattle.machine_world.specs.Event.{Outcome, went, strays, full, idle, ended, replied, ask_of, with_child, with_exec, effect, in_space, by_process, at_process, event}
+use Rattle.machine_world.specs.Event.{Trace, Outcome, went, awake, strays, full, idle, ended, replied, ask_of, with_child, with_exec, effect, in_space, by_process, at_process, event}
 use Rattle.machine_world.specs.Others.{KeepsOwn, IsKept, LeavesOthers, EventsLeaveOthers}
 use Rattle.machine_world.proofs.States.{find_has}
+use Rattle.machine_world.proofs.Awake.{woke, find_roused}
 use Rattle.machine_world.proofs.Kept.{Answers}
 use Rattle.machine_world.proofs.ByRows.{by_rows}
 use Rattle.machine_world.proofs.ByEvents.{Went, Answered, Happened, loading_of, by_effect}
@@ -29,6 +30,15 @@ same_own (Some p) = record { regs = refl; space = refl; table = refl }
 mapped_own : (f : Process → Process) → ((p : Process) → KeepsOwn p (f p)) → (o : Option Process) → IsKept o (option_map f o)
 mapped_own f each None = tt
 mapped_own f each (Some p) = each p
+
+own_on : (a b c : Option Process) → IsKept a b → IsKept b c → IsKept a c
+own_on None None None first second = tt
+own_on None None (Some c) first second = second
+own_on None (Some b) c first second = absurd first
+own_on (Some a) None c first second = absurd first
+own_on (Some a) (Some b) None first second = absurd second
+own_on (Some a) (Some b) (Some c) first second =
+    record { regs = second.regs ∙ first.regs; space = second.space ∙ first.space; table = second.table ∙ first.table }
 
 -- the same process, or what is made of it
 own_as : (old new : Option Process) → new ≡ old → IsKept old new
@@ -111,10 +121,10 @@ module _ (w : World) (p : Process) where
           tables = λ other ne there. tables other ne;
         },
       );
-      wait = λ who. (
+      wait = λ state. (
         refl,
         record {
-          procs = λ other ne new. beside_changed (λ q. record q { state = Waiting who }) (λ q. refl) other ne;
+          procs = λ other ne new. beside_changed (λ q. record q { state = state }) (λ q. refl) other ne;
           spaces = λ other ne new. refl;
           tables = λ other ne there. refl;
         },
@@ -144,6 +154,20 @@ module _ (w : World) (p : Process) where
     beside_rows : Answers (OthersAsIn p.table w.rest.files) (row a)
     beside_rows = by_rows (OthersAsIn p.table w.rest.files) a (other_tables a) (λ other ne. refl)
 
+  -- and where those go on who wait on pipes
+  beside_awake : (now : World) (t : Trace) → (t.space ≡ p.space) × LeavesOthers p.pid p.space p.table w now → (t.space ≡ p.space) × LeavesOthers p.pid p.space p.table w (awake now)
+  beside_awake now t h = (
+    h.0,
+    record {
+      procs = λ other ne new.
+          own_on (find pid_of other w.procs) (find pid_of other now.procs) (find pid_of other (awake now).procs) (h.1.procs other ne new)
+          (own_by (woke now.rest.files.changed) (λ q. record { regs = refl; space = refl; table = refl }) (find pid_of other now.procs) (find pid_of other (awake now).procs)
+          (find_roused now.rest.files.changed now.procs other));
+      spaces = h.1.spaces;
+      tables = h.1.tables;
+    },
+  )
+
   beside_act : (s : Space) → Happened (λ now t. (t.space ≡ p.space) × LeavesOthers p.pid p.space p.table w now) (OthersAsIn p.table w.rest.files) w p s
   unfolding ended
   beside_act s = record {
@@ -162,7 +186,7 @@ module _ (w : World) (p : Process) where
   beside_in : (found : Option LiveSpace) → Beside w p (in_space (λ q s. effect w q s (meaning q.regs s.bytes (writable_in s.maps))) p found)
   beside_in None = tt
   beside_in (Some s) =
-      by_effect (λ now t. (t.space ≡ p.space) × LeavesOthers p.pid p.space p.table w now) (OthersAsIn p.table w.rest.files) w (λ other ne. refl)
+      by_effect (λ now t. (t.space ≡ p.space) × LeavesOthers p.pid p.space p.table w now) (OthersAsIn p.table w.rest.files) beside_awake w (λ other ne. refl)
       p s.space (beside_act s.space) (beside_rows s.space) (meaning p.regs s.space.bytes (writable_in s.space.maps))
 
 -- ---- an outcome of the process with a number, if it is there

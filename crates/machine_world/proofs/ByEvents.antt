@@ -19,6 +19,7 @@ use Rattle.flat_loader.specs.Begin.{Loading}
 use Rattle.quantum_sched.specs.declared.Quantum.{Quantum}
 use Rattle.quantum_sched.specs.Picked.{picked}
 use Rattle.vfork_exec.specs.declared.family.Who.{Who}
+use Rattle.vfork_exec.specs.declared.family.State.{State}
 use Rattle.vfork_exec.specs.declared.family.State.TheVariants.{Waiting}
 use Rattle.vfork_exec.specs.declared.family.Ended.{Ended}
 use Rattle.vfork_exec.specs.declared.family.Waited.{Waited}
@@ -33,7 +34,7 @@ use Rattle.machine_world.specs.Asks.{Ask, Reply, Row, replies, waits, arg, gives
 use Rattle.machine_world.specs.PathCalls.{path_of}
 use Rattle.machine_world.specs.FamilyCalls.{who_of, waitid_fault, child_info, no_info, info_at, vfork_flags, runs}
 use Rattle.machine_world.specs.Rows.{row}
-use Rattle.machine_world.specs.Event.{Trace, Outcome, went, strays, full, idle, with_space, with_state, counted, noted, ended, stepped, trapped, number_of, args_of, replied, put_got, ask_of, entry_of, item_of, plain_item, served, put, waited, answered, exit_code, exited, is_exit, reaped, told_in, waitid_behind, waitid, with_child, forked, cloned, with_exec, load_of, executed, exec_at, exec_program, exec_strings, exec, classed, asked, answer, effect, in_space, by_process, at_process, event}
+use Rattle.machine_world.specs.Event.{Trace, Outcome, went, strays, full, idle, with_space, with_state, counted, noted, ended, stepped, trapped, number_of, args_of, replied, put_got, ask_of, entry_of, item_of, plain_item, served, put, waited, answered, exit_code, exited, is_exit, reaped, told_in, waitid_behind, waitid, with_child, forked, cloned, with_exec, load_of, executed, exec_at, exec_program, exec_strings, exec, classed, asked, answer, awake, settled, effect, in_space, by_process, at_process, event}
 use Rattle.machine_world.specs.Turns.{Walk, End, seen_of, stays_at, traced, turned, turn, going_on, quantum_turn, turns}
 use Rattle.machine_world.proofs.Kept.{Answers}
 
@@ -67,7 +68,7 @@ pub record Answered (P : World → Trace → Type 0) (Q : Rest → Type 0) (w : 
   pub reply : (ended : List Ended) (r : Reply) (m : Bytes) → Q r.rest → has_room w.notes (weight_of a.sent r.got) ≡ true
       → P (noted (call_note (entry_of a r.value r.got)) (counted (with_space (record w { ended = ended; rest = r.rest }) a.process (replied a.process.regs r.value) (record r.space { bytes = m }))))
       (record { space = a.process.space; events = 1; items = item_of (entry_of a r.value r.got) m ∷ []; begins = None; over = r.over })
-  pub wait : (who : Who) → P (counted (with_state w a.process.pid (Waiting who))) (record { space = a.process.space; events = 0; items = []; begins = None; over = true })
+  pub wait : (state : State) → P (counted (with_state w a.process.pid state)) (record { space = a.process.space; events = 0; items = []; begins = None; over = true })
   pub exit : has_room w.notes (weight_of a.sent []) ≡ true
       → P (ended (noted (call_note (entry_of a 0 [])) (counted w)) a.process (Exit (exit_code a))) (call_trace a 0 true)
   pub fork : is_full w ≡ false → has_room w.notes (weight_of a.sent []) ≡ true
@@ -93,13 +94,13 @@ module _ (P : World → Trace → Type 0) (Q : Rest → Type 0) (w : World) (a :
   by_refuses : (errno : Errno) → Went P (answered w a (refuses a errno))
   by_refuses errno = by_gives w.ended (refusal errno) []
 
-  by_waited : (who : Who) → Went P (waited w a who)
+  by_waited : (state : State) → Went P (waited w a.process state)
   unfolding waited
-  by_waited who = each.wait who
+  by_waited state = each.wait state
 
   pub by_answered : (r : Row) → Answers Q r → Went P (answered w a r)
   by_answered (replies r) holds = by_put w.ended r (put_got r.space.bytes (writable_in r.space.maps) r.got) holds
-  by_answered (waits who) holds = by_waited who
+  by_answered (waits state) holds = by_waited state
 
   by_exited : Went P (exited w a)
   unfolding exited
@@ -108,7 +109,7 @@ module _ (P : World → Trace → Type 0) (Q : Rest → Type 0) (w : World) (a :
   by_reaped : (who : Who) (o : Result Waited Errno) → Went P (reaped w a who o)
   by_reaped who (Ok (Child pid how)) = by_gives (without_first a.process.pid who w.ended) 0 (info_at (arg a 2) (child_info pid how))
   by_reaped who (Ok NoneYet) = by_gives w.ended 0 (info_at (arg a 2) no_info)
-  by_reaped who (Ok Waits) = by_waited who
+  by_reaped who (Ok Waits) = by_waited (Waiting who)
   by_reaped who (Err errno) = by_refuses errno
 
   by_fault : (o : Option Errno) → Went P (waitid_behind w a o)
@@ -165,7 +166,15 @@ pub record Happened (P : World → Trace → Type 0) (Q : Rest → Type 0) (w : 
   pub trap : (signal : ℕ) → P (counted (ended w p (Signal signal))) (record (own_trace p) { over = true })
   pub calls : (bytes : List ℕ) → Answered P Q w (ask_of w p s bytes)
 
-module _ (P : World → Trace → Type 0) (Q : Rest → Type 0) (w : World) (same : Q w.rest) where
+pub by_settled : (P : World → Trace → Type 0) → ((now : World) (t : Trace) → P now t → P (awake now) t) → (o : Outcome) → Went P o → Went P (settled o)
+unfolding settled
+by_settled P wakes (went now t) h = wakes now t h
+by_settled P wakes (strays access) h = tt
+by_settled P wakes full h = tt
+by_settled P wakes idle h = tt
+
+-- `wakes`: it stays where those go on who wait on pipes
+module _ (P : World → Trace → Type 0) (Q : Rest → Type 0) (wakes : (now : World) (t : Trace) → P now t → P (awake now) t) (w : World) (same : Q w.rest) where
   module _ (p : Process) (s : Space) (each : Happened P Q w p s) (rows : (bytes : List ℕ) → Answers Q (row (ask_of w p s bytes))) where
     by_asked : (o : Result (List ℕ) Span) → Went P (asked w p s o)
     by_asked (Ok bytes) = by_classed P Q w (ask_of w p s bytes) (each.calls bytes) same (rows bytes)
@@ -174,9 +183,9 @@ module _ (P : World → Trace → Type 0) (Q : Rest → Type 0) (w : World) (sam
     pub by_effect : (m : Meaning) → Went P (effect w p s m)
     unfolding stepped trapped answer
     by_effect (next regs bytes) = each.step regs bytes
-    by_effect (trap signal) = each.trap signal
+    by_effect (trap signal) = by_settled P wakes (trapped w p signal) (each.trap signal)
     by_effect (refused access) = tt
-    by_effect call = by_asked (sent (number_of p.regs) (args_of p.regs) s.bytes)
+    by_effect call = by_settled P wakes (answer w p s) (by_asked (sent (number_of p.regs) (args_of p.regs) s.bytes))
 
   module _ (pid : ℕ) (each : (p : Process) (s : LiveSpace) → find pid_of pid w.procs ≡ Some p → find id_of p.space w.spaces ≡ Some s → Happened P Q w p s.space)
       (rows : (p : Process) (s : Space) (bytes : List ℕ) → Answers Q (row (ask_of w p s bytes))) where

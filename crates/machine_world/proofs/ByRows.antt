@@ -1,9 +1,9 @@
 -- What holds of all that is outside of the space, as it is and after each change of `Kept`, holds of it after every row.
-use Rattle.std.proofs.Common.{◌≡◌, ℕ, ◌+◌, ◌*◌, Bool, true, false, not, List, [], ◌∷◌, length, map, drop, Option, Some, None, Result, Ok, refl, subst}
+use Rattle.std.proofs.Common.{◌≡◌, ℕ, ◌+◌, ◌*◌, Bool, true, false, not, List, [], ◌∷◌, length, map, take, drop, Option, Some, None, Result, Ok, refl, subst}
 use Rattle.std.specs.Prelude.{◌==◌, ◌||◌, ◌&&◌, ◌^◌, nat_lt, if◌then◌else◌}
 use Rattle.std.specs.List.{range_with_len}
 use Rattle.call_log.specs.declared.errno.Errno.{Errno}
-use Rattle.call_log.specs.declared.errno.Errno.TheVariants.{Enoent, Ebadf, Enosys, Einval}
+use Rattle.call_log.specs.declared.errno.Errno.TheVariants.{Enoent, Ebadf, Enosys, Einval, Epipe}
 use Rattle.call_log.specs.Sent.{Span, most_pieces, piece_at}
 use Rattle.mmap_rules.specs.declared.mapping.Mapping.{Mapping}
 use Rattle.mmap_rules.specs.declared.want.Want.{Want}
@@ -16,12 +16,16 @@ use Rattle.mem_files.specs.Paths.{lookup}
 use Rattle.mem_files.specs.Changes.{with_folder, with_file, unlinked, written}
 use Rattle.fd_tables.specs.declared.view.View.{View}
 use Rattle.fd_tables.specs.declared.view.Target.{Target}
-use Rattle.fd_tables.specs.declared.view.Target.TheVariants.{Console, Node as a_node}
+use Rattle.fd_tables.specs.declared.view.Target.TheVariants.{Console, Node as a_node, Pipe}
+use Rattle.fd_tables.specs.declared.pipe_view.Ends.{Ends}
+use Rattle.fd_tables.specs.Files.{two_free}
+use Rattle.fd_tables.specs.Pipes.{pipe_view, pipe_bytes}
 use Rattle.fd_tables.specs.Calls.{dup_number, dup3_fault, close_fault}
+use Rattle.vfork_exec.specs.declared.family.State.TheVariants.{OnPipe}
 use Rattle.machine_world.specs.World.{Rest}
-use Rattle.machine_world.specs.Asks.{Ask, arg, answers, refuses, with_ok, view_of, free_of}
-use Rattle.machine_world.specs.Descriptors.{close_on_exec, dup_row, dup3_row, ioctl_row, close_row, position_from, base_of, sought, seek_row, llseek_row, is_short, folder_row, dents_row, getdents_row}
-use Rattle.machine_world.specs.Transfers.{node_read, target_read, read_into, read_row, readv_row, write_position, after_write, target_write, write_row, writev_row}
+use Rattle.machine_world.specs.Asks.{Ask, arg, waits, answers, refuses, with_ok, view_of, free_of}
+use Rattle.machine_world.specs.Descriptors.{table_of, close_on_exec, dup_row, dup3_row, ioctl_row, close_row, opens_pipe, pipe2_row, position_from, base_of, sought, seek_row, llseek_row, is_short, folder_row, dents_row, getdents_row}
+use Rattle.machine_world.specs.Transfers.{node_read, moved_bytes, read_waits, taken_read, target_read, read_into, read_row, readv_row, write_position, after_write, pipe_room, write_waits, put_write, target_write, write_row, writev_row}
 use Rattle.machine_world.specs.PathCalls.{path_of, changes_tree, remove_folder, creates, asks_folder, access, opens, open_fault, opens_found, mkdirat_row, unlinkat_row, openat_row}
 use Rattle.machine_world.specs.Free.{free_runs_in}
 use Rattle.machine_world.specs.MapCalls.{in_copy, in_free_run, maps, or_own, mapped, file_side, mmap2_row, unmaps, munmap_row}
@@ -46,6 +50,14 @@ module _ (P : Rest → Type 0) (a : Ask) (kept : Kept P a) (same : P a.rest) whe
   by_close : Answers P (close_row a)
   unfolding close_row
   by_close = by_fault P a same (close_fault (view_of a (arg a 0))) _ kept.close
+
+  by_ends : (o : Option Ends) → two_free a.rest.files (table_of a) ≡ o → Answers P (opens_pipe a (arg a 1 == close_on_exec) o)
+  by_ends None is = same
+  by_ends (Some ends) is = kept.pipe ends is
+
+  by_pipe2 : Answers P (pipe2_row a)
+  unfolding pipe2_row
+  by_pipe2 = by_if P (not (arg a 1 == 0 || arg a 1 == close_on_exec)) (refuses a Einval) _ same (by_ends (two_free a.rest.files (table_of a)) refl)
 
   by_mkdirat : Answers P (mkdirat_row a)
   unfolding mkdirat_row
@@ -87,6 +99,7 @@ module _ (P : Rest → Type 0) (a : Ask) (kept : Kept P a) (same : P a.rest) whe
 
     by_seek : (t : Target) → v.target ≡ t → Answers P (seek_row a v t)
     by_seek Console leads = same
+    by_seek (Pipe id end) leads = same
     by_seek (a_node node) leads = by_if P (nat_lt 2 (arg a 4)) (refuses a Einval) _ same (by_sought node leads _ refl)
 
     by_folder : (node : ℕ) → v.target ≡ a_node node → (kind : Node) → kind_of a.rest.tree node ≡ kind → Answers P (folder_row a v node kind)
@@ -96,6 +109,7 @@ module _ (P : Rest → Type 0) (a : Ask) (kept : Kept P a) (same : P a.rest) whe
 
     by_dents : (t : Target) → v.target ≡ t → Answers P (dents_row a v t)
     by_dents Console leads = same
+    by_dents (Pipe id end) leads = same
     by_dents (a_node node) leads = by_folder node leads _ refl
 
     module _ (reads : v.way.read ≡ true) (spans : List Span) where
@@ -106,6 +120,9 @@ module _ (P : Rest → Type 0) (a : Ask) (kept : Kept P a) (same : P a.rest) whe
       by_target_read : (t : Target) → v.target ≡ t → Answers P (target_read a v spans t)
       by_target_read Console leads = kept.take v spans (shown, leads) reads
       by_target_read (a_node node) leads = by_node_read node leads _ refl
+      by_target_read (Pipe id end) leads =
+          by_if P (read_waits spans (pipe_view a.rest.files id)) (waits (OnPipe id)) (taken_read a id spans (moved_bytes spans (pipe_bytes a.rest.files id))) tt
+          (kept.drain v id end spans (shown, leads) reads)
 
     module _ (writes : v.way.write ≡ true) (bytes : List ℕ) where
       -- a write of no bytes changes nothing
@@ -123,6 +140,11 @@ module _ (P : Rest → Type 0) (a : Ask) (kept : Kept P a) (same : P a.rest) whe
       by_target_write Console leads = kept.print v bytes (shown, leads) writes
       by_target_write (a_node node) leads =
           by_ok P a same (written a.rest.tree node (write_position a v node) bytes) _ (λ nodes is. by_written node nodes leads is)
+      by_target_write (Pipe id end) leads =
+          by_if P (length bytes == 0) (answers a 0) _ same
+          (by_if P (not (pipe_view a.rest.files id).read_open) (refuses a Epipe) _ same
+          (by_if P (write_waits (length bytes) (pipe_view a.rest.files id)) (waits (OnPipe id)) (put_write a id (take (pipe_room (pipe_view a.rest.files id)) bytes)) tt
+          (kept.fill v id end bytes (shown, leads) writes)))
 
   by_llseek : Answers P (llseek_row a)
   unfolding llseek_row
@@ -200,9 +222,10 @@ module _ (P : Rest → Type 0) (a : Ask) (kept : Kept P a) (same : P a.rest) whe
       (by_if P (a.number == 35) (unlinkat_row a) _ by_unlinkat
       (by_if P (a.number == 56) (openat_row a) _ by_openat
       (by_if P (a.number == 57) (close_row a) _ by_close
+      (by_if P (a.number == 59) (pipe2_row a) _ by_pipe2
       (by_if P (a.number == 61) (getdents_row a) _ by_getdents
       (by_if P (a.number == 62) (llseek_row a) _ by_llseek
       (by_if P (a.number == 63) (read_row a) _ by_read
       (by_if P (a.number == 64) (write_row a a.sent) _ (by_write a.sent)
       (by_if P (a.number == 65) (readv_row a) _ by_readv
-      (by_if P (a.number == 66) (writev_row a) _ by_writev by_quiet))))))))))))
+      (by_if P (a.number == 66) (writev_row a) _ by_writev by_quiet)))))))))))))

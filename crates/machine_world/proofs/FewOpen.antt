@@ -90,11 +90,17 @@ used_by : (o : Option OpenFile) → IfSome o (λ f. 1 ≤ f.uses) → one (is_so
 used_by None used = omega arith
 used_by (Some f) used = used
 
-pub free_below : (s : Storage) → Counted s → length s.files.tables < 2 ^ 27 → free_number s.files.files < 2 ^ 32
-free_below s c few =
+open_below : (s : Storage) → Counted s → count_by is_some s.files.files ≤ length s.files.tables * 32
+open_below s c =
     omega (
       arith,
-      free_most s.files.files,
       opens_by s.files.files (shares_of s.files) (λ k. let used = used_by (at_number s.files.files k) (c.used k) in omega (arith, used, c.uses k)),
       in_all (length s.files.files) s.files.tables c.whole,
     )
+
+pub free_below : (s : Storage) → Counted s → length s.files.tables < 2 ^ 27 → free_number s.files.files < 2 ^ 32
+free_below s c few = omega (arith, free_most s.files.files, open_below s c)
+
+-- so there are numbers for the two ends of a pipe
+pub two_below : (s : Storage) → Counted s → length s.files.tables < 2 ^ 27 → count_by is_some s.files.files + 2 ≤ 2 ^ 32
+two_below s c few = omega (arith, open_below s c)

@@ -29,11 +29,11 @@ tree =
     ∷ Some (new_inode (file []) None)
     ∷ []
 
-abbrev rest : Rest
+abbrev pub rest : Rest
 rest = record { pages = 4; kind = First; programs = []; tree = tree; files = with_table (nothing_open []); console = [] }
 
 -- a call of the process with table 0, with what it read
-abbrev ask : Rest → ℕ → List ℕ → List ℕ → Ask
+abbrev pub ask : Rest → ℕ → List ℕ → List ℕ → Ask
 ask r number args sent = record {
   process = record { pid = 1; parent = 0; regs = record { pc = 0; x = replicate 32 0 }; space = 0; table = 0; state = Ready };
   space = record { maps = []; brk = 0; brk_low = 0; brk_high = 0; bytes = λ a. None };
@@ -49,12 +49,12 @@ pub record Seen : Type 0 where
   pub value : ℕ
   pub got : List Written
 
-abbrev seen : Row → Option Seen
+abbrev pub seen : Row → Option Seen
 seen (replies r) = Some (record { value = r.value; got = r.got })
 seen (waits who) = None
 
 -- what is left behind it
-abbrev rest_after : Row → Rest
+abbrev pub rest_after : Row → Rest
 rest_after (replies r) = r.rest
 rest_after (waits who) = rest
 

@@ -12,22 +12,24 @@ use Rattle.mem_files.proofs.Lookups.{lookup_named, named_there}
 use Rattle.mem_files.proofs.TreesKept.{changes_keep_tree, new_files_are_there}
 use Rattle.fd_tables.specs.declared.view.View.{View}
 use Rattle.fd_tables.specs.Files.{Table, most_descriptors, OpenFiles, table_at, descriptor_in, descriptor, free_in, lowest_free}
-use Rattle.fd_tables.specs.Changes.{Storage, storage, opened, duplicated, taken}
+use Rattle.fd_tables.specs.Changes.{Storage, storage, opened, duplicated, taken, piped}
+use Rattle.fd_tables.specs.Pipes.{pipe_bytes, pipe_taken, pipe_put}
 use Rattle.fd_tables.specs.Calls.{dup_number, dup3_fault}
 use Rattle.fd_tables.specs.Counts.{Counted}
 use Rattle.fd_tables.proofs.NextNumbers.{first_there}
 use Rattle.fd_tables.proofs.Sharing.{IsWhole}
 use Rattle.fd_tables.proofs.Counting.{counted-closed, counted-duplicated, counted-replaced, counted-opened}
 use Rattle.fd_tables.proofs.PositionsCounted.{counted-moved, counted-taken}
+use Rattle.fd_tables.proofs.PipesCounted.{counted-piped, counted-pipe_taken, counted-pipe_put}
 use Rattle.fd_tables.proofs.TreeCounted.{tree_keeps_counts}
 use Rattle.machine_world.specs.World.{Rest}
 use Rattle.machine_world.specs.Asks.{Ask, arg, view_of, free_of, with_tree, with_files, storage_of, with_storage}
 use Rattle.machine_world.specs.Descriptors.{table_of, close_on_exec}
 use Rattle.machine_world.specs.PathCalls.{path_of, remove_folder, writes, truncates, way_of, emptied}
 use Rattle.machine_world.specs.Transfers.{moved_bytes, write_position}
-use Rattle.machine_world.proofs.Kept.{Kept, moves, opened_as}
-use Rattle.machine_world.proofs.FewOpen.{free_below}
-use Rattle.machine_world.proofs.Steady.{Steady, steady-closed, steady-opened, steady-replaced, length-moved, length-taken, length-duplicated}
+use Rattle.machine_world.proofs.Kept.{Kept, moves, opened_as, fitting}
+use Rattle.machine_world.proofs.FewOpen.{free_below, two_below}
+use Rattle.machine_world.proofs.Steady.{Steady, steady-closed, steady-opened, steady-replaced, length-moved, length-taken, length-duplicated, length-piped, length-pipe_taken, length-pipe_put}
 
 -- a tree, exact counts, and so many tables at most
 pub record IsOrderly (most : ℕ) (rest : Rest) : Type 0 where
@@ -126,6 +128,14 @@ module _ (a : Ask) (most : ℕ) (small : most < 2 ^ 27) (h : IsOrderly most a.re
           tables = omega (arith, length-moved a.rest.files t (arg a 0) (write_position a v node + length bytes), h.tables);
         };
     print = λ v bytes shows may. record { tree = h.tree; counts = h.counts; tables = h.tables };
+    pipe = λ ends free.
+        by_files (piped a.rest.files t ends (arg a 1 == close_on_exec)) (length-piped a.rest.files t ends (arg a 1 == close_on_exec))
+        (counted-piped (storage_of a.rest) t ends (arg a 1 == close_on_exec) h.counts free (two_below (storage_of a.rest) h.counts (omega (arith, h.tables, small))));
+    drain = λ v id end spans shows reads.
+        let n : ℕ = length (moved_bytes spans (pipe_bytes a.rest.files id)) in
+        by_files (pipe_taken a.rest.files id n) (length-pipe_taken a.rest.files id n) (counted-pipe_taken (storage_of a.rest) id n h.counts);
+    fill = λ v id end bytes shows may.
+        by_files (pipe_put a.rest.files id (fitting a id bytes)) (length-pipe_put a.rest.files id (fitting a id bytes)) (counted-pipe_put (storage_of a.rest) id (fitting a id bytes) h.counts);
     make = λ nodes is. by_tree nodes (changes_keep_tree.folder (path_of a) a.rest.tree nodes h.tree is) (tree_keeps_counts.folder (path_of a) (storage_of a.rest) nodes h.counts is);
     remove = λ nodes is. by_tree nodes (changes_keep_tree.unlink (path_of a) (arg a 2 == remove_folder) a.rest.tree nodes h.tree is) (tree_keeps_counts.unlink (path_of a) (arg a 2 == remove_folder) (storage_of a.rest) nodes h.counts is);
     open_old = λ fd node free found none.

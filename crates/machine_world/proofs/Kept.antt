@@ -1,5 +1,5 @@
 -- What a row may leave outside of the space: each change that rows make there, with the condition under which they make it.
-use Rattle.std.proofs.Common.{◌≡◌, ℕ, ◌+◌, ◌*◌, Bool, true, false, List, [], ◌++◌, length, drop, Option, Some, None, Result, Ok, Err, refl}
+use Rattle.std.proofs.Common.{◌≡◌, ℕ, ◌+◌, ◌*◌, Bool, true, false, List, [], ◌++◌, length, take, drop, Option, Some, None, Result, Ok, Err, refl}
 use Rattle.std.specs.Prelude.{⊤, ◌==◌, ◌^◌, if◌then◌else◌}
 use Rattle.call_log.specs.declared.errno.Errno.{Errno}
 use Rattle.call_log.specs.Sent.{Span}
@@ -9,20 +9,22 @@ use Rattle.mem_files.specs.Paths.{lookup}
 use Rattle.mem_files.specs.Changes.{with_folder, with_file, unlinked, written}
 use Rattle.fd_tables.specs.declared.view.View.{View}
 use Rattle.fd_tables.specs.declared.view.Target.{Target}
-use Rattle.fd_tables.specs.declared.view.Target.TheVariants.{Console, Node as a_node}
-use Rattle.fd_tables.specs.Files.{OpenFiles}
-use Rattle.fd_tables.specs.Changes.{closed, opened, duplicated, replaced, moved, taken}
+use Rattle.fd_tables.specs.declared.view.Target.TheVariants.{Console, Node as a_node, Pipe}
+use Rattle.fd_tables.specs.declared.pipe_view.Ends.{Ends}
+use Rattle.fd_tables.specs.Files.{OpenFiles, two_free}
+use Rattle.fd_tables.specs.Pipes.{pipe_view, pipe_bytes, pipe_taken, pipe_put}
+use Rattle.fd_tables.specs.Changes.{closed, opened, duplicated, replaced, moved, taken, piped}
 use Rattle.fd_tables.specs.Calls.{dup_number, dup3_fault, close_fault}
 use Rattle.machine_world.specs.World.{Rest}
 use Rattle.machine_world.specs.Asks.{Ask, arg, Row, replies, waits, unless, with_ok, view_of, with_view, free_of, with_free, with_tree, with_files, storage_of, with_storage}
 use Rattle.machine_world.specs.Descriptors.{table_of, close_on_exec, position_from, base_of, listing}
-use Rattle.machine_world.specs.Transfers.{moved_bytes, write_position}
+use Rattle.machine_world.specs.Transfers.{moved_bytes, write_position, pipe_room}
 use Rattle.machine_world.specs.PathCalls.{path_fault, path_of, with_path, remove_folder, creates, way_of, open_fault, emptied}
 
 -- what a row leaves outside of the space, if it replies
 abbrev pub Answers : (Rest → Type 0) → Row → Type 0
 Answers P (replies r) = P r.rest
-Answers P (waits who) = ⊤
+Answers P (waits state) = ⊤
 
 -- the call's descriptor shows v, which leads there
 abbrev pub Shows : Ask → View → Target → Type 0
@@ -36,6 +38,10 @@ moves a at = moved a.rest.files (table_of a) (arg a 0) at
 abbrev pub opened_as : Ask → ℕ → ℕ → Inodes → Rest
 opened_as a fd node nodes =
     with_storage a.rest (opened (record { nodes = nodes; files = a.rest.files }) (table_of a) fd node (way_of (arg a 2)))
+
+-- as many bytes as the pipe has room for
+abbrev pub fitting : Ask → ℕ → List ℕ → List ℕ
+fitting a id bytes = take (pipe_room (pipe_view a.rest.files id)) bytes
 
 -- P holds after each change that a row makes
 pub record Kept (P : Rest → Type 0) (a : Ask) : Type 0 where
@@ -59,6 +65,13 @@ pub record Kept (P : Rest → Type 0) (a : Ask) : Type 0 where
       → (length bytes == 0) ≡ false → written a.rest.tree node (write_position a v node) bytes ≡ Ok nodes
       → P (record a.rest { tree = nodes; files = moves a (write_position a v node + length bytes) })
   pub print : (v : View) (bytes : List ℕ) → Shows a v Console → v.way.write ≡ true → P (record a.rest { console = a.rest.console ++ bytes })
+  -- pipe2, and the reads and writes of a pipe
+  pub pipe : (ends : Ends) → two_free a.rest.files (table_of a) ≡ Some ends
+      → P (with_files a.rest (piped a.rest.files (table_of a) ends (arg a 1 == close_on_exec)))
+  pub drain : (v : View) (id : ℕ) (end : Bool) (spans : List Span) → Shows a v (Pipe id end) → v.way.read ≡ true
+      → P (with_files a.rest (pipe_taken a.rest.files id (length (moved_bytes spans (pipe_bytes a.rest.files id)))))
+  pub fill : (v : View) (id : ℕ) (end : Bool) (bytes : List ℕ) → Shows a v (Pipe id end) → v.way.write ≡ true
+      → P (with_files a.rest (pipe_put a.rest.files id (fitting a id bytes)))
   -- mkdirat, unlinkat, and openat of what is there and of what isn't
   pub make : (nodes : Inodes) → with_folder a.rest.tree (path_of a) ≡ Ok nodes → P (with_tree a.rest nodes)
   pub remove : (nodes : Inodes) → unlinked a.rest.tree (path_of a) (arg a 2 == remove_folder) ≡ Ok nodes → P (with_tree a.rest nodes)

@@ -1,7 +1,9 @@
 -- Samples   the definitions, computed on whole runs
 -- FileSamples  the calls on files, computed on worked examples
 -- MapSamples   and those that map and unmap pages
+-- PipeSamples  a run that ends on a pipe, and reads and writes of pipes that are full, empty or closed
 -- States    a world in which one process has other registers and other bytes
+-- Awake     who goes on behind a call or a trap, and what that leaves
 -- TurnLaws  turns, event by event
 -- RunLaws   runs, quantum by quantum
 -- Steps     instructions of one process, one after the other
@@ -10,6 +12,7 @@
 -- Kept      each change that a row may make outside of the space
 -- ByRows    what holds after each of them holds of what every row leaves
 -- ByEvents  what holds after each change of an event holds after every event, turn and run
+-- Marks     between two events no pipe is marked
 -- OtherTables  the tables of descriptors beside one that changes
 -- Beside    what an event leaves of all other processes, spaces and tables of descriptors
 -- FreeNumbers  the lowest free number isn't above the count of those that are taken
@@ -23,11 +26,14 @@
 -- NodesAge  nodes age by each change of the tree
 -- Aging     and so by rows and events
 -- Chains    the processes of each space, of which one at most may run
+-- Runnable  the process of a turn may run, and may run still while its turn isn't over
 -- FamilySamples  vfork, execve, waitid and ends, computed on worked examples
 mod Samples
 mod FileSamples
 mod MapSamples
+mod PipeSamples
 pub mod States
+pub mod Awake
 pub mod TurnLaws
 pub mod RunLaws
 pub mod Steps
@@ -36,6 +42,7 @@ pub mod Signals
 pub mod Kept
 pub mod ByRows
 pub mod ByEvents
+pub mod Marks
 pub mod OtherTables
 pub mod Beside
 pub mod FreeNumbers
@@ -49,4 +56,5 @@ mod PlacementLaws
 pub mod NodesAge
 pub mod Aging
 pub mod Chains
+pub mod Runnable
 mod FamilySamples

@@ -76,6 +76,9 @@ rows_count n a same = record {
   take = λ v spans shows reads. same;
   write = λ v node bytes nodes shows may some is. same;
   print = λ v bytes shows may. same;
+  pipe = λ ends free. same;
+  drain = λ v id end spans shows reads. same;
+  fill = λ v id end bytes shows may. same;
   make = λ nodes is. same;
   remove = λ nodes is. same;
   open_old = λ fd node free found none. same;
@@ -87,7 +90,7 @@ module _ (n : ℕ) (w : World) (h : LoadsPrograms n w) where
   unfolding ended
   call_loads a = record {
     reply = λ ended r m same room. record { count = same; loaded = (tt, h.loaded) };
-    wait = λ who. record { count = h.count; loaded = h.loaded };
+    wait = λ state. record { count = h.count; loaded = h.loaded };
     exit = λ room. record { count = h.count; loaded = (tt, (tt, h.loaded)) };
     fork = λ few room. record { count = h.count; loaded = (tt, h.loaded) };
     load = λ f s page is fits room.
@@ -105,7 +108,7 @@ module _ (n : ℕ) (w : World) (h : LoadsPrograms n w) where
 
   event_loads : (pid : ℕ) → Keeps (LoadsPrograms n) (event w pid)
   event_loads pid =
-      by_event (λ now t. LoadsPrograms n now) (Counts n) w h.count pid (λ p s lives has. act_loads p s.space)
+      by_event (λ now t. LoadsPrograms n now) (Counts n) (λ now t kept. record { count = kept.count; loaded = kept.loaded }) w h.count pid (λ p s lives has. act_loads p s.space)
       (λ p s bytes. by_rows (Counts n) (ask_of w p s bytes) (rows_count n (ask_of w p s bytes) h.count) h.count)
 
 -- ---- turns

@@ -7,9 +7,10 @@ use Rattle.call_log.specs.Notes.{CallEntry, Note, call_note, most_calls, calls_i
 use Rattle.fd_tables.specs.Changes.{with_copy, exec_closed, without_table}
 use Rattle.fd_tables.proofs.ManyClosed.{counted-exec_closed, counted-without_table}
 use Rattle.fd_tables.proofs.TablesCounted.{counted-with_copy}
+use Rattle.fd_tables.proofs.PipesCounted.{counted-none_changed}
 use Rattle.machine_world.specs.World.{Process, Rest, World}
 use Rattle.machine_world.specs.Asks.{Ask, with_files, storage_of, with_storage}
-use Rattle.machine_world.specs.Event.{ask_of, entry_of, ended, event}
+use Rattle.machine_world.specs.Event.{ask_of, entry_of, ended, awake, event}
 use Rattle.machine_world.specs.Ages.{kept_calls}
 use Rattle.machine_world.specs.Order.{most_tables, IsInOrder, EventsKeepOrder, TurnsKeepOrder, RunsKeepOrder}
 use Rattle.machine_world.proofs.ByRows.{by_rows}
@@ -49,6 +50,10 @@ noted_call e notes = let more = sum_by-cons (λ n. n) 1 (map calls_in notes) in 
 
 -- ---- an event
 
+-- where those go on who wait on pipes
+order_awake : (w : World) → IsInOrder w → IsInOrder (awake w)
+order_awake w h = record { tree = h.tree; counts = counted-none_changed (storage_of w.rest) h.counts; tables = h.tables; calls = h.calls }
+
 -- a world by what is outside of its spaces, and by its kept calls
 of_rest : (w : World) (most kept : ℕ) → kept_calls w.notes ≡ kept → most ≤ most_tables + kept → kept ≤ most_calls → IsOrderly most w.rest → IsInOrder w
 of_rest w most kept is few calls h = record { tree = h.tree; counts = h.counts; tables = omega (arith, is, h.tables, few); calls = omega (arith, is, calls) }
@@ -73,7 +78,7 @@ module _ (w : World) (h : IsInOrder w) where
   unfolding ended
   call_order a = record {
     reply = λ ended r m order room. of_call _ room (entry_of a r.value r.got) _ refl many (omega arith) order;
-    wait = λ who. of_rest _ many (kept_calls w.notes) refl (omega arith) h.calls orderly;
+    wait = λ state. of_rest _ many (kept_calls w.notes) refl (omega arith) h.calls orderly;
     exit = λ room. of_call _ room (entry_of a 0 []) _ refl many (omega arith) (orderly_departed many w.rest orderly a.process.table);
     fork = λ few room.
         of_call _ room (entry_of a w.next_pid []) _ refl (many + 1) (omega arith)
@@ -91,7 +96,7 @@ module _ (w : World) (h : IsInOrder w) where
 
   event_order : (pid : ℕ) → Keeps IsInOrder (event w pid)
   event_order pid =
-      by_event (λ now t. IsInOrder now) (IsOrderly many) w orderly pid (λ p s lives has. act_order p s.space)
+      by_event (λ now t. IsInOrder now) (IsOrderly many) (λ now t order. order_awake now order) w orderly pid (λ p s lives has. act_order p s.space)
       (λ p s bytes. by_rows (IsOrderly many) (ask_of w p s bytes) (rows_keep_order (ask_of w p s bytes) many small orderly) orderly)
 
 pub events_keep_order : EventsKeepOrder

@@ -1,13 +1,16 @@
 -- The tables of descriptors beside one that changes: what they have stays, and so does which of them are there.
-use Rattle.std.proofs.Common.{◌≡◌, ◌≢◌, ℕ, zero, suc, Bool, true, false, List, [], ◌∷◌, Option, Some, None, refl, ap, ◌∙◌}
-use Rattle.std.specs.Prelude.{IsSome, nat_le, slice_get}
+use Rattle.std.proofs.Common.{◌≡◌, ◌≢◌, ℕ, zero, suc, Bool, true, false, cond, List, [], ◌∷◌, ◌++◌, length, drop, Option, Some, None, refl, ap, ◌∙◌}
+use Rattle.std.specs.Prelude.{◌==◌, IsSome, nat_le, slice_get}
 use Rattle.fd_tables.specs.declared.view.Way.{Way}
 use Rattle.fd_tables.specs.declared.open_file.OpenFile.{OpenFile}
 use Rattle.fd_tables.specs.declared.open_file.Handle.{Handle}
 use Rattle.fd_tables.specs.declared.open_file.Handle.TheVariants.{Input, Output, Open}
 use Rattle.fd_tables.specs.declared.open_file.Descriptor.{Descriptor}
-use Rattle.fd_tables.specs.Files.{Table, OpenFiles, at_number, table_at, descriptor}
-use Rattle.fd_tables.specs.Changes.{Storage, with_item, with_descriptor, shared, dropped, dropped_file, closed, closed_descriptor, opened, copied_descriptor, with_cloexec, duplicated, replaced, moved, moved_handle, taken, all_closed, all_descriptors, copied_table, with_copy, exec_closed, without_table}
+use Rattle.fd_tables.specs.Files.{Table, Pipe, OpenFiles, at_number, table_at, descriptor}
+use Rattle.fd_tables.specs.Changes.{Storage, with_item, with_descriptor, with_file, shared, dropped, dropped_file, closed, closed_descriptor, opened, copied_descriptor, with_cloexec, duplicated, replaced, moved, moved_handle, taken, all_closed, all_descriptors, copied_table, with_copy, exec_closed, without_table, with_open_file, pipe_end, with_end, piped}
+use Rattle.fd_tables.specs.declared.pipe_view.Ends.{Ends}
+use Rattle.fd_tables.specs.Pipes.{pipe_at, with_pipe, with_changed, pipe_taken, pipe_put}
+use Rattle.fd_tables.proofs.EndCounts.{tables-let_go}
 use Rattle.fd_tables.proofs.TablesThere.{copy_keeps_tables}
 use Rattle.machine_world.specs.World.{Rest}
 use Rattle.machine_world.specs.Asks.{Ask}
@@ -38,7 +41,7 @@ tables-shared fs Input = refl
 tables-shared fs Output = refl
 
 tables-last : (s : Storage) (n : ℕ) (f : OpenFile) (b : Bool) → nat_le f.uses 1 ≡ b → (dropped_file s n (Some f)).files.tables ≡ s.files.tables
-tables-last s n f true e = rw e refl
+tables-last s n f true e = rw e (tables-let_go (record s { files = with_file (λ f. None) s.files n }) f f.object)
 tables-last s n f false e = rw e refl
 
 tables-dropped_file : (s : Storage) (n : ℕ) (o : Option OpenFile) → (dropped_file s n o).files.tables ≡ s.files.tables
@@ -58,6 +61,22 @@ tables-handle fs at Output cloexec = refl
 tables-moved_handle : (fs : OpenFiles) (at : ℕ) (o : Option Descriptor) → (moved_handle fs at o).tables ≡ fs.tables
 tables-moved_handle fs at None = refl
 tables-moved_handle fs at (Some d) = tables-handle fs at d.handle d.cloexec
+
+pub tables-with_changed : (f : Pipe → Option Pipe) (fs : OpenFiles) (id : ℕ) (o : Option Pipe) → (with_changed f fs id o).tables ≡ fs.tables
+tables-with_changed f fs id (Some p) = refl
+tables-with_changed f fs id None = refl
+
+tables-unless : (b : Bool) (fs now : OpenFiles) → now.tables ≡ fs.tables → (cond b fs now).tables ≡ fs.tables
+tables-unless true fs now same = refl
+tables-unless false fs now same = same
+
+pub tables-pipe_taken : (fs : OpenFiles) (id n : ℕ) → (pipe_taken fs id n).tables ≡ fs.tables
+unfolding pipe_taken
+tables-pipe_taken fs id n = tables-unless (n == 0) fs _ (tables-with_changed (λ p. Some (record p { bytes = drop n p.bytes })) fs id (pipe_at fs id))
+
+pub tables-pipe_put : (fs : OpenFiles) (id : ℕ) (bytes : List ℕ) → (pipe_put fs id bytes).tables ≡ fs.tables
+unfolding pipe_put
+tables-pipe_put fs id bytes = tables-unless (length bytes == 0) fs _ (tables-with_changed (λ p. Some (record p { bytes = p.bytes ++ bytes })) fs id (pipe_at fs id))
 
 -- ---- the changes of one table
 
@@ -100,6 +119,12 @@ module _ (t other : ℕ) (beside : other ≢ t) where
   other-taken : (fs : OpenFiles) (n : ℕ) → table_at (taken fs n) other ≡ table_at fs other
   unfolding taken
   other-taken fs n = refl
+
+  other-piped : (fs : OpenFiles) (ends : Ends) (cloexec : Bool) → table_at (piped fs t ends cloexec) other ≡ table_at fs other
+  unfolding piped
+  other-piped fs ends cloexec =
+      other-with_descriptor (with_open_file (with_end (with_pipe fs) t ends.read fs.next_pipe false cloexec) (pipe_end fs.next_pipe true)) ends.write _
+      ∙ other-with_descriptor (with_open_file (with_pipe fs) (pipe_end fs.next_pipe false)) ends.read _
 
   other-test : (test : Descriptor → Bool) (s : Storage) (fd : ℕ) (d : Descriptor) (b : Bool) → descriptor s.files t fd ≡ Some d → test d ≡ b
       → table_at (all_closed test s t (fd ∷ [])).files other ≡ table_at s.files other
@@ -159,6 +184,9 @@ other_tables a =
       take = λ v spans shows reads other beside. other-taken t other beside files _;
       write = λ v node bytes nodes shows writes some is other beside. other-moved t other beside files _ _;
       print = λ v bytes shows writes other beside. refl;
+      pipe = λ ends free other beside. other-piped t other beside files ends _;
+      drain = λ v id end spans shows reads other beside. ap (λ (ts : List (Option Table)). at_number ts other) (tables-pipe_taken files id _);
+      fill = λ v id end bytes shows writes other beside. ap (λ (ts : List (Option Table)). at_number ts other) (tables-pipe_put files id _);
       make = λ nodes is other beside. refl;
       remove = λ nodes is other beside. refl;
       open_old = λ fd node free is none other beside. other-opened t other beside _ fd node _;

@@ -28,7 +28,7 @@ use Rattle.quantum_sched.specs.Picked.{picked}
 use Rattle.vfork_exec.specs.Keyed.{find, change, without}
 use Rattle.vfork_exec.specs.Families.{ended_behind, resumed, state_behind}
 use Rattle.machine_world.specs.World.{Program, Rest, World}
-use Rattle.machine_world.specs.Families.{borrows, spaces_left, all_left_by, ready_pids}
+use Rattle.machine_world.specs.Families.{borrows, spaces_left, all_left_by, all_roused, ready_pids}
 use Rattle.machine_world.specs.Free.{free_runs_in}
 use Rattle.mem_files.specs.Inodes.{Inodes, Entry, file, folder, new_inode}
 use Rattle.mem_files.specs.Paths.{names, is_too_long, walked, place_of}
@@ -37,7 +37,7 @@ use Rattle.fd_tables.specs.Files.{view, nothing_open}
 use Rattle.fd_tables.specs.Changes.{closed, with_table, without_table, all_descriptors}
 use Rattle.machine_world.specs.Rows.{row}
 use Rattle.machine_world.specs.Transfers.{write_row}
-use Rattle.machine_world.specs.Event.{ended, stepped, trapped, served, exited, answer, at_process, event}
+use Rattle.machine_world.specs.Event.{ended, stepped, trapped, served, exited, answer, settled, at_process, event}
 use Rattle.machine_world.specs.Turns.{End, all_ended, out_of_quanta, stray_at, Walk, turn, turns}
 use Rattle.machine_world.specs.Boot.{StartLine, BootFault, bad_start, no_run, started, all_started, boot}
 
@@ -69,13 +69,13 @@ files_from i (p ∷ ps) = Some (new_inode (file []) (Some i)) ∷ files_from (i 
 abbrev tree_of : List Program → Inodes
 tree_of programs = None ∷ Some (new_inode (folder 1 (entries_from 2 programs)) None) ∷ files_from 0 programs
 
-abbrev rest_of : ℕ → List Program → Rest
+abbrev pub rest_of : ℕ → List Program → Rest
 rest_of pages programs = record { pages = pages; kind = First; programs = programs; tree = tree_of programs; files = nothing_open []; console = [] }
 
-abbrev start : ℕ → List ℕ → StartLine
+abbrev pub start : ℕ → List ℕ → StartLine
 start line path = record { line = line; args = path ∷ [] }
 
-abbrev q : ℕ → ℕ → Quantum
+abbrev pub q : ℕ → ℕ → Quantum
 q pick count = record { pick = pick; count = count }
 
 -- what a run writes and counts, and why it stops
@@ -88,7 +88,7 @@ pub record Seen : Type 0 where
 abbrev seen_of : Walk → Seen
 seen_of w = record { console = w.world.rest.console; notes = reverse w.world.notes; events = w.world.events; end = w.end }
 
-abbrev run : List Quantum → Result World BootFault → Option Seen
+abbrev pub run : List Quantum → Result World BootFault → Option Seen
 run qs (Ok w) = Some (seen_of (turns qs w))
 run qs (Err fault) = None
 
@@ -104,7 +104,7 @@ st = record {
   };
 }
 
-abbrev loaded_at : ℕ → ℕ → ℕ → Note
+abbrev pub loaded_at : ℕ → ℕ → ℕ → Note
 loaded_at pid program base = load_note (record { pid = pid; program = program; base = base; pages = 2 })
 
 -- the notes of a program that writes its greeting and exits, in the order of its two calls
@@ -122,7 +122,7 @@ run-hi :
       events = 9;
       end = Some all_ended;
     })
-unfolding number_at byte_at from_base decoded opcode funct3 funct7 rd rs1 rs2 imm_i imm_s imm_b imm_u imm_j loaded stored effect meaning register with_register free_runs place refusal has_room sent read_span writable_in may_use block_pages frame_len frame frame_start frame_fits begin_space begin_regs find change without ended_behind state_behind resumed spaces_left borrows all_left_by free_runs_in write_row row view closed with_table without_table all_descriptors pieces names is_too_long walked place_of ended stepped trapped served exited answer at_process event turn ready_pids picked turns started all_started boot
+unfolding number_at byte_at from_base decoded opcode funct3 funct7 rd rs1 rs2 imm_i imm_s imm_b imm_u imm_j loaded stored effect meaning register with_register free_runs place refusal has_room sent read_span writable_in may_use block_pages frame_len frame frame_start frame_fits begin_space begin_regs find change without ended_behind state_behind resumed spaces_left borrows all_left_by free_runs_in write_row row view closed with_table without_table all_descriptors pieces names is_too_long walked place_of ended stepped trapped served exited answer at_process event settled all_roused turn ready_pids picked turns started all_started boot
 run-hi = refl
 
 -- both programs in one memory, one after the other
@@ -139,7 +139,7 @@ run-one_by_one :
       events = 18;
       end = Some all_ended;
     })
-unfolding number_at byte_at from_base decoded opcode funct3 funct7 rd rs1 rs2 imm_i imm_s imm_b imm_u imm_j loaded stored effect meaning register with_register free_runs place refusal has_room sent read_span writable_in may_use block_pages frame_len frame frame_start frame_fits begin_space begin_regs find change without ended_behind state_behind resumed spaces_left borrows all_left_by free_runs_in write_row row view closed with_table without_table all_descriptors pieces names is_too_long walked place_of ended stepped trapped served exited answer at_process event turn ready_pids picked turns started all_started boot
+unfolding number_at byte_at from_base decoded opcode funct3 funct7 rd rs1 rs2 imm_i imm_s imm_b imm_u imm_j loaded stored effect meaning register with_register free_runs place refusal has_room sent read_span writable_in may_use block_pages frame_len frame frame_start frame_fits begin_space begin_regs find change without ended_behind state_behind resumed spaces_left borrows all_left_by free_runs_in write_row row view closed with_table without_table all_descriptors pieces names is_too_long walked place_of ended stepped trapped served exited answer at_process event settled all_roused turn ready_pids picked turns started all_started boot
 run-one_by_one = refl
 
 -- by turns: the second one writes first
@@ -152,7 +152,7 @@ run-by_turns :
       events = 12;
       end = Some out_of_quanta;
     })
-unfolding number_at byte_at from_base decoded opcode funct3 funct7 rd rs1 rs2 imm_i imm_s imm_b imm_u imm_j loaded stored effect meaning register with_register free_runs place refusal has_room sent read_span writable_in may_use block_pages frame_len frame frame_start frame_fits begin_space begin_regs find change without ended_behind state_behind resumed spaces_left borrows all_left_by free_runs_in write_row row view closed with_table without_table all_descriptors pieces names is_too_long walked place_of ended stepped trapped served exited answer at_process event turn ready_pids picked turns started all_started boot
+unfolding number_at byte_at from_base decoded opcode funct3 funct7 rd rs1 rs2 imm_i imm_s imm_b imm_u imm_j loaded stored effect meaning register with_register free_runs place refusal has_room sent read_span writable_in may_use block_pages frame_len frame frame_start frame_fits begin_space begin_regs find change without ended_behind state_behind resumed spaces_left borrows all_left_by free_runs_in write_row row view closed with_table without_table all_descriptors pieces names is_too_long walked place_of ended stepped trapped served exited answer at_process event settled all_roused turn ready_pids picked turns started all_started boot
 run-by_turns = refl
 
 -- the first stray access, a store to the next block's first own byte, stops the run before it has any effect
@@ -165,7 +165,7 @@ run-stray :
       events = 2;
       end = Some (stray_at 1 (record { pc = 0x8000_0088; addr = 0x8000_2040; len = 1; kind = Store }));
     })
-unfolding number_at byte_at from_base decoded opcode funct3 funct7 rd rs1 rs2 imm_i imm_s imm_b imm_u imm_j loaded stored effect meaning register with_register free_runs place refusal has_room sent read_span writable_in may_use block_pages frame_len frame frame_start frame_fits begin_space begin_regs find change without ended_behind state_behind resumed spaces_left borrows all_left_by free_runs_in write_row row view closed with_table without_table all_descriptors pieces names is_too_long walked place_of ended stepped trapped served exited answer at_process event turn ready_pids picked turns started all_started boot
+unfolding number_at byte_at from_base decoded opcode funct3 funct7 rd rs1 rs2 imm_i imm_s imm_b imm_u imm_j loaded stored effect meaning register with_register free_runs place refusal has_room sent read_span writable_in may_use block_pages frame_len frame frame_start frame_fits begin_space begin_regs find change without ended_behind state_behind resumed spaces_left borrows all_left_by free_runs_in write_row row view closed with_table without_table all_descriptors pieces names is_too_long walked place_of ended stepped trapped served exited answer at_process event settled all_roused turn ready_pids picked turns started all_started boot
 run-stray = refl
 
 -- a program that isn't there, and one that finds no free run

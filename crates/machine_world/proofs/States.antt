@@ -9,7 +9,7 @@ use Rattle.mmap_rules.specs.Space.{Space, writable_in}
 use Rattle.vfork_exec.specs.Keyed.{find, change}
 use Rattle.vfork_exec.proofs.Keyed.{find_head, find_changed}
 use Rattle.machine_world.specs.World.{World, Process, LiveSpace, pid_of, id_of}
-use Rattle.machine_world.specs.Event.{Outcome, strays, effect, at_process, event, called, died, answer, trapped}
+use Rattle.machine_world.specs.Event.{Outcome, strays, effect, at_process, event, called, died, answer, trapped, settled}
 use Rattle.machine_world.specs.Courses.{moved}
 
 decide : (b : Bool) → (b ≡ true) ⊎ (b ≡ false)
@@ -116,11 +116,11 @@ module _ (w : World) (pid : ℕ) (p : Process) (s : LiveSpace) (lives : find pid
 
   pub is_called : meaning p.regs s.space.bytes (writable_in s.space.maps) ≡ call → event w pid ≡ called w pid
   unfolding called
-  is_called is = event_is ∙ ap (effect w p s.space) is ∙ sym (acts (answer w))
+  is_called is = event_is ∙ ap (effect w p s.space) is ∙ sym (acts (λ q l. settled (answer w q l)))
 
   pub is_died : (signal : ℕ) → meaning p.regs s.space.bytes (writable_in s.space.maps) ≡ trap signal → event w pid ≡ died w pid signal
   unfolding died
-  is_died signal is = event_is ∙ ap (effect w p s.space) is ∙ sym (acts (λ q l. trapped w q signal))
+  is_died signal is = event_is ∙ ap (effect w p s.space) is ∙ sym (acts (λ q l. settled (trapped w q signal)))
 
   pub is_stray : (access : Access) → meaning p.regs s.space.bytes (writable_in s.space.maps) ≡ refused access → event w pid ≡ strays access
   is_stray access is = event_is ∙ ap (effect w p s.space) is

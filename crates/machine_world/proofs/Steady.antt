@@ -5,13 +5,19 @@ use Rattle.mem_files.specs.Trees.{IsTree}
 use Rattle.mem_files.proofs.Alike.{tree-held, tree-let_go}
 use Rattle.fd_tables.specs.declared.view.Way.{Way}
 use Rattle.fd_tables.specs.declared.open_file.OpenFile.{OpenFile}
+use Rattle.fd_tables.specs.declared.open_file.Object.{Object}
+use Rattle.fd_tables.specs.declared.open_file.Object.TheVariants.{File, PipeEnd}
 use Rattle.fd_tables.specs.declared.open_file.Handle.{Handle}
 use Rattle.fd_tables.specs.declared.open_file.Handle.TheVariants.{Input, Output, Open}
 use Rattle.fd_tables.specs.declared.open_file.Descriptor.{Descriptor}
 use Rattle.fd_tables.specs.Files.{Table, OpenFiles, at_number, with_next, table_at, descriptor}
-use Rattle.fd_tables.specs.Changes.{Storage, with_descriptor, dropped, dropped_file, closed, closed_descriptor, opened, shared, copied_descriptor, with_cloexec, duplicated, replaced, moved, moved_handle, taken, all_shared, copied_table, with_copy, all_closed, all_descriptors, exec_closed, without_table}
+use Rattle.fd_tables.specs.Changes.{Storage, with_descriptor, with_file, let_go, with_end, piped, dropped, dropped_file, closed, closed_descriptor, opened, shared, copied_descriptor, with_cloexec, duplicated, replaced, moved, moved_handle, taken, all_shared, copied_table, with_copy, all_closed, all_descriptors, exec_closed, without_table}
 use Rattle.fd_tables.proofs.Items.{length-item}
+use Rattle.fd_tables.specs.declared.pipe_view.Ends.{Ends}
+use Rattle.fd_tables.specs.Pipes.{with_pipe, pipe_taken, pipe_put}
 use Rattle.fd_tables.proofs.TablesThere.{tables-shared}
+use Rattle.fd_tables.proofs.EndCounts.{tables-without_end}
+use Rattle.machine_world.proofs.OtherTables.{tables-pipe_taken, tables-pipe_put}
 use Rattle.machine_world.proofs.FreeNumbers.{length-one_more}
 
 -- a tree of names, and so many tables
@@ -46,6 +52,17 @@ pub length-duplicated : (fs : OpenFiles) (t old new : ℕ) (cloexec : Bool) → 
 unfolding duplicated
 length-duplicated fs t old new cloexec = length-copied fs t new (with_cloexec cloexec (descriptor fs t old))
 
+pub length-piped : (fs : OpenFiles) (t : ℕ) (ends : Ends) (cloexec : Bool) → length (piped fs t ends cloexec).tables ≡ length fs.tables
+unfolding piped
+length-piped fs t ends cloexec =
+    length-item _ (with_end (with_pipe fs) t ends.read fs.next_pipe false cloexec).tables t ∙ length-item _ fs.tables t
+
+pub length-pipe_taken : (fs : OpenFiles) (id n : ℕ) → length (pipe_taken fs id n).tables ≡ length fs.tables
+length-pipe_taken fs id n = ap length (tables-pipe_taken fs id n)
+
+pub length-pipe_put : (fs : OpenFiles) (id : ℕ) (bytes : List ℕ) → length (pipe_put fs id bytes).tables ≡ length fs.tables
+length-pipe_put fs id bytes = ap length (tables-pipe_put fs id bytes)
+
 tables-all_shared : (ds : List (Option Descriptor)) (fs : OpenFiles) → (all_shared fs ds).tables ≡ fs.tables
 tables-all_shared [] fs = refl
 tables-all_shared (Some d ∷ ds) fs = tables-all_shared ds (shared fs d.handle) ∙ tables-shared fs d.handle
@@ -66,8 +83,12 @@ length-with_copy fs t = copied_length fs (table_at fs t)
 -- ---- files and nodes
 
 module _ (n : ℕ) where
+  steady-object : (s : Storage) (f : OpenFile) (o : Object) → Steady n s → Steady n (let_go s f o)
+  steady-object s f (File node) h = record { tree = tree-let_go s.nodes node h.tree; tables = h.tables }
+  steady-object s f (PipeEnd id) h = record { tree = h.tree; tables = ap length (tables-without_end s.files id f.write) ∙ h.tables }
+
   steady-last : (s : Storage) (k : ℕ) (f : OpenFile) (b : Bool) → nat_le f.uses 1 ≡ b → Steady n s → Steady n (dropped_file s k (Some f))
-  steady-last s k f true e h = rw e (record { tree = tree-let_go s.nodes f.node h.tree; tables = h.tables })
+  steady-last s k f true e h = rw e (steady-object (record s { files = with_file (λ f. None) s.files k }) f f.object (record { tree = h.tree; tables = h.tables }))
   steady-last s k f false e h = rw e (record { tree = h.tree; tables = h.tables })
 
   steady-dropped_file : (s : Storage) (k : ℕ) (o : Option OpenFile) → Steady n s → Steady n (dropped_file s k o)

@@ -9,7 +9,7 @@ use Rattle.mem_files.specs.Inodes.{Inodes}
 use Rattle.fd_tables.specs.declared.view.View.{View}
 use Rattle.fd_tables.specs.Files.{OpenFiles, view, lowest_free}
 use Rattle.fd_tables.specs.Changes.{Storage}
-use Rattle.vfork_exec.specs.declared.family.Who.{Who}
+use Rattle.vfork_exec.specs.declared.family.State.{State}
 use Rattle.machine_world.specs.World.{Process, LiveSpace, Rest}
 
 -- by whom, with which number and arguments, in which space and beside which others, and the bytes that it read
@@ -26,7 +26,7 @@ abbrev pub arg : Ask → ℕ → ℕ
 arg a i = slice_index a.args i
 
 -- a reply, what is left outside of the caller's space, what is left of the space, the bytes that are written into it then, and
--- whether the turn ends; or a wait for children
+-- whether the turn ends; or a wait in this state
 pub record Reply : Type 0 where
   pub value : ℕ
   pub got : List Written
@@ -36,7 +36,7 @@ pub record Reply : Type 0 where
 
 pub data Row : Type 0 where
   replies : Reply → Row
-  waits : Who → Row
+  waits : State → Row
 
 -- a reply with bytes, and what is left outside
 abbrev pub gives : Ask → ℕ → List Written → Rest → Row

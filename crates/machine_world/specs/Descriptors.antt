@@ -1,8 +1,8 @@
--- The calls that look at descriptors and no path (Linux, dup(2), ioctl(2), close(2), lseek(2), getdents(2), in this project's
--- profile).
+-- The calls that look at descriptors and no path (Linux, dup(2), ioctl(2), close(2), pipe(2), lseek(2), getdents(2), in this
+-- project's profile).
 use Rattle.std.specs.Prelude.{ℕ, ◌+◌, ◌-◌, ◌*◌, ◌/◌, ◌^◌, ◌==◌, Bool, false, not, ◌||◌, nat_le, nat_lt, if◌then◌else◌, List, [], ◌∷◌, ◌++◌, length, drop, replicate, Option, Some, None}
 use Rattle.byte_words.specs.ByteMap.{little_bytes}
-use Rattle.call_log.specs.declared.errno.Errno.TheVariants.{Enotdir, Einval, Enotty, Espipe}
+use Rattle.call_log.specs.declared.errno.Errno.TheVariants.{Enotdir, Einval, Emfile, Enotty, Espipe}
 use Rattle.call_log.specs.Notes.{Written}
 use Rattle.mem_files.specs.declared.node.Node.{Node}
 use Rattle.mem_files.specs.declared.node.Node.TheVariants.{Dir, File}
@@ -10,7 +10,9 @@ use Rattle.mem_files.specs.Inodes.{Entry, Inodes, kind_of, size_of, entries_of}
 use Rattle.fd_tables.specs.declared.view.View.{View}
 use Rattle.fd_tables.specs.declared.view.Target.{Target}
 use Rattle.fd_tables.specs.declared.view.Target.TheVariants as target
-use Rattle.fd_tables.specs.Changes.{closed, duplicated, replaced, moved}
+use Rattle.fd_tables.specs.declared.pipe_view.Ends.{Ends}
+use Rattle.fd_tables.specs.Files.{two_free}
+use Rattle.fd_tables.specs.Changes.{closed, duplicated, replaced, moved, piped}
 use Rattle.fd_tables.specs.Calls.{dup_number, dup3_fault, close_fault}
 use Rattle.machine_world.specs.Asks.{Ask, arg, Row, gives, refuses, unless, with_ok, view_of, with_view, free_of, with_files, storage_of, with_storage}
 
@@ -24,7 +26,7 @@ dup_row a =
     with_ok a (dup_number (view_of a (arg a 0)) (free_of a))
     (λ free. gives a free [] (with_files a.rest (duplicated a.rest.files (table_of a) (arg a 0) free false)))
 
--- O_CLOEXEC is the one flag of dup3
+-- O_CLOEXEC is the one flag of dup3 and pipe2
 abbrev pub close_on_exec : ℕ
 close_on_exec = 0x80000
 
@@ -43,6 +45,23 @@ ioctl_row a = with_view a (view_of a (arg a 0)) (λ v. refuses a Enotty)
 unfoldable pub close_row : Ask → Row
 close_row a =
     unless a (close_fault (view_of a (arg a 0))) (gives a 0 [] (with_storage a.rest (closed (storage_of a.rest) (table_of a) (arg a 0))))
+
+-- ---- pipe2(p, flags)
+
+-- the descriptors of the reading end and the writing end
+abbrev pub ends_bytes : Ends → List ℕ
+ends_bytes ends = little_bytes 4 ends.read ++ little_bytes 4 ends.write
+
+-- EMFILE where fewer than two descriptors are free
+abbrev pub opens_pipe : Ask → (cloexec : Bool) → Option Ends → Row
+opens_pipe a cloexec None = refuses a Emfile
+opens_pipe a cloexec (Some ends) =
+    gives a 0 (record { addr = arg a 0; bytes = ends_bytes ends } ∷ []) (with_files a.rest (piped a.rest.files (table_of a) ends cloexec))
+
+unfoldable pub pipe2_row : Ask → Row
+pipe2_row a =
+    if not (arg a 1 == 0 || arg a 1 == close_on_exec) then refuses a Einval
+    else opens_pipe a (arg a 1 == close_on_exec) (two_free a.rest.files (table_of a))
 
 -- ---- llseek(fd, high, low, p, whence)
 
@@ -70,6 +89,7 @@ sought a (Some at) =
 
 abbrev pub seek_row : Ask → View → Target → Row
 seek_row a v target.Console = refuses a Espipe
+seek_row a v (target.Pipe id write) = refuses a Espipe
 seek_row a v (target.Node node) =
     if nat_lt 2 (arg a 4) then refuses a Einval
     else sought a (position_from (base_of a v node (arg a 4)) (arg a 1 * 2 ^ 32 + arg a 2))
@@ -133,6 +153,7 @@ folder_row a v node Dir = list_row a v (drop v.at (entries_of a.rest.tree node))
 
 abbrev pub dents_row : Ask → View → Target → Row
 dents_row a v target.Console = refuses a Enotdir
+dents_row a v (target.Pipe id write) = refuses a Enotdir
 dents_row a v (target.Node node) = folder_row a v node (kind_of a.rest.tree node)
 
 unfoldable pub getdents_row : Ask → Row

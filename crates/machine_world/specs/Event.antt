@@ -31,8 +31,9 @@ use Rattle.flat_loader.specs.Begin.{Loading, begin_space, begin_regs}
 use Rattle.flat_loader.specs.Alone.{Item, is_errno, child_regs}
 use Rattle.machine_world.specs.World.{Process, LiveSpace, World, pid_of, id_of}
 use Rattle.fd_tables.specs.Files.{free_number}
+use Rattle.fd_tables.specs.Pipes.{none_changed}
 use Rattle.fd_tables.specs.Changes.{with_copy, exec_closed, without_table}
-use Rattle.machine_world.specs.Families.{is_full, spaces_left, let_go, all_left_by, has_child}
+use Rattle.machine_world.specs.Families.{is_full, spaces_left, let_go, all_left_by, all_roused, has_child}
 use Rattle.machine_world.specs.Free.{free}
 use Rattle.machine_world.specs.Found.{Found, address_of, taken}
 use Rattle.machine_world.specs.Asks.{Ask, Reply, Row, replies, waits, arg, gives, refuses, with_files, storage_of, with_storage}
@@ -157,13 +158,13 @@ abbrev pub put : World → Ask → Reply → Result Bytes Span → Outcome
 put w a r (Ok bytes) = served w a r bytes
 put w a r (Err span) = strays (call_access a.process span)
 
--- a wait is an event without a note, and the call is made anew when one of these children has ended
-unfoldable pub waited : World → Ask → Who → Outcome
-waited w a who = went (counted (with_state w a.process.pid (Waiting who))) (record { space = a.process.space; events = 0; items = []; begins = None; over = true })
+-- a wait is an event without a note, and the call is made anew when the process may run again
+unfoldable pub waited : World → Process → State → Outcome
+waited w p state = went (counted (with_state w p.pid state)) (record { space = p.space; events = 0; items = []; begins = None; over = true })
 
 abbrev pub answered : World → Ask → Row → Outcome
 answered w a (replies r) = put w a r (put_got r.space.bytes (writable_in r.space.maps) r.got)
-answered w a (waits who) = waited w a who
+answered w a (waits state) = waited w a.process state
 
 -- exit and exit_group: the lowest eight bits of the code
 abbrev pub exit_code : Ask → ℕ
@@ -187,7 +188,7 @@ abbrev pub reaped : World → Ask → Who → Result Waited Errno → Outcome
 reaped w a who (Ok (Child pid how)) =
     answered (record w { ended = without_first a.process.pid who w.ended }) a (gives a 0 (info_at (arg a 2) (child_info pid how)) a.rest)
 reaped w a who (Ok NoneYet) = answered w a (gives a 0 (info_at (arg a 2) no_info) a.rest)
-reaped w a who (Ok Waits) = waited w a who
+reaped w a who (Ok Waits) = waited w a.process (Waiting who)
 reaped w a who (Err errno) = answered w a (refuses a errno)
 
 abbrev pub told_in : World → Ask → Result Waited Errno
@@ -305,10 +306,23 @@ answer w p s = asked w p s (sent (number_of p.regs) (args_of p.regs) s.bytes)
 
 -- ---- an event
 
+-- behind a call or a trap those go on that wait on a pipe which it changed: its bytes changed, or one of its ends closed
+abbrev pub awake : World → World
+awake w = record w {
+  procs = all_roused w.rest.files.changed w.procs;
+  rest = with_files w.rest (none_changed w.rest.files);
+}
+
+unfoldable pub settled : Outcome → Outcome
+settled (went now t) = went (awake now) t
+settled (strays access) = strays access
+settled full = full
+settled idle = idle
+
 abbrev pub effect : World → Process → Space → Meaning → Outcome
 effect w p s (next regs bytes) = stepped w p s regs bytes
-effect w p s call = answer w p s
-effect w p s (trap signal) = trapped w p signal
+effect w p s call = settled (answer w p s)
+effect w p s (trap signal) = settled (trapped w p signal)
 effect w p s (refused access) = strays access
 
 -- what comes of a process in its space, if it lives
@@ -328,10 +342,10 @@ event w pid = at_process w pid (λ p s. effect w p s (meaning p.regs s.bytes (wr
 
 -- the system call of a process, and its end by a signal
 unfoldable pub called : World → ℕ → Outcome
-called w pid = at_process w pid (answer w)
+called w pid = at_process w pid (λ p s. settled (answer w p s))
 
 unfoldable pub died : World → ℕ → ℕ → Outcome
-died w pid signal = at_process w pid (λ p s. trapped w p signal)
+died w pid signal = at_process w pid (λ p s. settled (trapped w p signal))
 
 -- the first stray access of the process's next event, if it has one
 abbrev pub stray_in : Outcome → Option Access

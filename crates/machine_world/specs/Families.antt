@@ -3,9 +3,9 @@ use Rattle.std.specs.Prelude.{◌≡◌, ℕ, ◌+◌, ◌==◌, Bool, true, fal
 use Rattle.std.specs.List.{list_any}
 use Rattle.vfork_exec.specs.declared.family.Who.{Who}
 use Rattle.vfork_exec.specs.declared.family.State.{State}
-use Rattle.vfork_exec.specs.declared.family.State.TheVariants.{Ready, Waiting, Lent}
+use Rattle.vfork_exec.specs.declared.family.State.TheVariants.{Ready, Waiting, OnPipe, Lent}
 use Rattle.vfork_exec.specs.Keyed.{find, without}
-use Rattle.vfork_exec.specs.Families.{is_child, parent_behind, is_ready, is_lent_to, resumed, state_behind}
+use Rattle.vfork_exec.specs.Families.{is_child, parent_behind, is_ready, is_lent_to, resumed, state_behind, roused}
 use Rattle.vfork_exec.specs.Procs.{most_entries}
 use Rattle.machine_world.specs.World.{Process, LiveSpace, World, pid_of, id_of}
 
@@ -46,6 +46,17 @@ left_by gone q = record q { parent = parent_behind gone.pid q.parent; state = st
 unfoldable pub all_left_by : Process → List Process → List Process
 all_left_by gone procs = map (left_by gone) (without pid_of gone.pid procs)
 
+-- ---- who waits on pipes
+
+-- another process, once this pipe has changed
+abbrev pub roused_by : (pipe : ℕ) → Process → Process
+roused_by pipe q = record q { state = roused pipe q.state }
+
+-- once these have
+unfoldable pub all_roused : (pipes : List ℕ) → List Process → List Process
+all_roused [] procs = procs
+all_roused (pipe ∷ pipes) procs = all_roused pipes (map (roused_by pipe) procs)
+
 -- ---- who asks for its children
 
 unfoldable pub has_child : ℕ → Who → List Process → Bool
@@ -60,6 +71,7 @@ sharing i procs = filter (λ p. p.space == i) procs
 abbrev pub is_lent : State → Bool
 is_lent Ready = false
 is_lent (Waiting who) = false
+is_lent (OnPipe pipe) = false
 is_lent (Lent child) = true
 
 -- each stands still for the one before it

@@ -1,14 +1,17 @@
 -- Laws of events.
-use Rattle.std.specs.Prelude.{◌≡◌, ℕ, false, if◌then◌else◌, List, [], ◌∷◌, Some, None}
+use Rattle.std.specs.Prelude.{◌≡◌, ℕ, false, if◌then◌else◌, List, [], ◌∷◌, Some, None, Ok}
 use Rattle.mmap_rules.specs.Space.{writable_in}
 use Rattle.region_watch.specs.Instructions.{Ran, instructions}
 use Rattle.vfork_exec.specs.Keyed.{find, change}
 use Rattle.call_log.specs.declared.errno.Errno.{Errno}
 use Rattle.call_log.specs.Errno.{refusal}
 use Rattle.call_log.specs.Notes.{call_note, weight_of, has_room}
-use Rattle.machine_world.specs.World.{World, Process, LiveSpace, pid_of, id_of}
+use Rattle.machine_world.specs.World.{Rest, World, Process, LiveSpace, pid_of, id_of}
 use Rattle.machine_world.specs.Asks.{Ask, refuses}
-use Rattle.machine_world.specs.Event.{Outcome, went, full, counted, noted, ask_of, entry_of, plain_item, replied, answered, classed}
+use Rattle.machine_world.specs.Event.{Trace, Outcome, went, full, counted, noted, ask_of, entry_of, plain_item, replied, answered, classed, settled, event}
+use Rattle.machine_world.specs.Turns.{turn, turns}
+use Rattle.machine_world.specs.Boot.{StartLine, boot}
+use Rattle.quantum_sched.specs.declared.Quantum.{Quantum}
 use Rattle.machine_world.specs.Courses.{Leads, Halts, moved}
 
 -- up to n instructions of a process over the bytes of its space are as many events: a turn goes on behind them, and where one
@@ -32,6 +35,19 @@ refused_outcome w p a e =
 -- whatever it read, in its own space
 abbrev pub RefusalsChangeNothingElse : Type 0
 RefusalsChangeNothingElse =
-    (w : World) (p : Process) (s : LiveSpace) (bytes : List ℕ) (e : Errno) → find id_of p.space w.spaces ≡ Some s →
+    (w : World) (p : Process) (s : LiveSpace) (bytes : List ℕ) (e : Errno) → find id_of p.space w.spaces ≡ Some s → w.rest.files.changed ≡ [] →
     let a : Ask = ask_of w p s.space bytes in
-    classed w a ≡ answered w a (refuses a e) → classed w a ≡ refused_outcome w p a e
+    classed w a ≡ answered w a (refuses a e) → settled (classed w a) ≡ refused_outcome w p a e
+
+-- between two events no pipe is marked
+abbrev pub EventsLeaveNoMark : Type 0
+EventsLeaveNoMark = (w : World) (pid : ℕ) (now : World) (t : Trace) → w.rest.files.changed ≡ [] → event w pid ≡ went now t → now.rest.files.changed ≡ []
+
+abbrev pub TurnsLeaveNoMark : Type 0
+TurnsLeaveNoMark = (count pid : ℕ) (w : World) → w.rest.files.changed ≡ [] → (turn count pid w).world.rest.files.changed ≡ []
+
+abbrev pub RunsLeaveNoMark : Type 0
+RunsLeaveNoMark = (quanta : List Quantum) (w : World) → w.rest.files.changed ≡ [] → (turns quanta w).world.rest.files.changed ≡ []
+
+abbrev pub BootsLeaveNoMark : Type 0
+BootsLeaveNoMark = (rest : Rest) (starts : List StartLine) (w : World) → rest.files.changed ≡ [] → boot rest starts ≡ Ok w → w.rest.files.changed ≡ []

@@ -20,7 +20,7 @@ use Rattle.region_watch.specs.Private.{only}
 use Rattle.mem_files.specs.Inodes.{Content, file, folder, Inode, Inodes, inode_at, bytes_of}
 use Rattle.fd_tables.specs.declared.view.View.{View}
 use Rattle.fd_tables.specs.declared.view.Target.{Target}
-use Rattle.fd_tables.specs.declared.view.Target.TheVariants.{Console, Node}
+use Rattle.fd_tables.specs.declared.view.Target.TheVariants.{Console, Node, Pipe}
 use Rattle.machine_world.specs.World.{LiveSpace}
 use Rattle.machine_world.specs.Free.{free_runs_in}
 use Rattle.machine_world.specs.Asks.{Ask, arg, Row, leaves, refuses, with_ok, view_of}
@@ -38,6 +38,7 @@ side_of_node id reads None = side.Closed
 
 abbrev pub side_of_target : Inodes → (reads : Bool) → Target → FileSide
 side_of_target nodes reads Console = side.NotFile
+side_of_target nodes reads (Pipe id write) = side.NotFile
 side_of_target nodes reads (Node id) = side_of_node id reads (inode_at nodes id)
 
 abbrev pub side_of : Inodes → Option View → FileSide

@@ -3,7 +3,7 @@ use Rattle.std.specs.Prelude.{ℕ, ◌==◌, Bool, true, ◌&&◌, ◌||◌, nat
 use Rattle.call_log.specs.declared.errno.Errno.TheVariants.{Enosys}
 use Rattle.mmap_rules.specs.Space.{Space}
 use Rattle.machine_world.specs.Asks.{Ask, arg, Row, replies, leaves, answers, refuses}
-use Rattle.machine_world.specs.Descriptors.{dup_row, dup3_row, ioctl_row, close_row, llseek_row, getdents_row}
+use Rattle.machine_world.specs.Descriptors.{dup_row, dup3_row, ioctl_row, close_row, pipe2_row, llseek_row, getdents_row}
 use Rattle.machine_world.specs.Transfers.{read_row, readv_row, write_row, writev_row}
 use Rattle.machine_world.specs.PathCalls.{mkdirat_row, unlinkat_row, openat_row}
 use Rattle.machine_world.specs.MapCalls.{munmap_row, mmap2_row}
@@ -31,6 +31,7 @@ row a =
     else if a.number == 35 then unlinkat_row a
     else if a.number == 56 then openat_row a
     else if a.number == 57 then close_row a
+    else if a.number == 59 then pipe2_row a
     else if a.number == 61 then getdents_row a
     else if a.number == 62 then llseek_row a
     else if a.number == 63 then read_row a

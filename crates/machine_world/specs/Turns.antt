@@ -13,9 +13,11 @@ use Rattle.machine_world.specs.World.{World}
 use Rattle.machine_world.specs.Families.{ready_pids}
 use Rattle.machine_world.specs.Event.{Trace, Outcome, went, strays, full, idle, noted, event}
 
--- why a run stops: no process lives, the quanta are used up, the next access strays, the next call finds no room in the log
+-- why a run stops: no process lives, processes live and none may run, the quanta are used up and one may run, the next access strays,
+-- the next call finds no room in the log
 pub data End : Type 0 where
   all_ended : End
+  stuck : End
   out_of_quanta : End
   stray_at : ℕ → Access → End
   log_full : End
@@ -64,11 +66,19 @@ going_on more walk = gone (walk.end)
     gone (Some end) = walk
     gone None = walked walk.traces (more walk.world)
 
+-- where none may run
+abbrev pub none_runs : World → End
+none_runs w = if length w.procs == 0 then all_ended else stuck
+
 abbrev pub quantum_turn : (World → Walk) → World → ℕ → Option ℕ → Walk
-quantum_turn more w count None = stays_at w (Some all_ended)
+quantum_turn more w count None = stays_at w (Some (none_runs w))
 quantum_turn more w count (Some pid) = going_on more (turn count pid w)
 
--- before each quantum and behind the last one the run stops where no process lives. While one lives, one may run
+abbrev pub last_end : World → List ℕ → End
+last_end w [] = none_runs w
+last_end w (pid ∷ pids) = out_of_quanta
+
+-- before each quantum and behind the last one the run stops where no process may run
 unfoldable pub turns : List Quantum → World → Walk
-turns [] w = stays_at w (Some (if length w.procs == 0 then all_ended else out_of_quanta))
+turns [] w = stays_at w (Some (last_end w (ready_pids w.procs)))
 turns (q ∷ qs) w = quantum_turn (turns qs) w q.count (picked q.pick (ready_pids w.procs))

@@ -1,7 +1,7 @@
 //! Laws over the definitions. They hold for all worlds, and no code runs.
 
 ghost use Rattle.machine_world.specs.Ages.{EventsAgeFiles};
-ghost use Rattle.machine_world.specs.Laws.{InstructionsAreEvents, RefusalsChangeNothingElse};
+ghost use Rattle.machine_world.specs.Laws.{InstructionsAreEvents, RefusalsChangeNothingElse, BootsLeaveNoMark, EventsLeaveNoMark, TurnsLeaveNoMark, RunsLeaveNoMark};
 ghost use Rattle.machine_world.specs.Order.{EventsKeepOrder, TurnsKeepOrder, RunsKeepOrder, BootsBeginInOrder};
 ghost use Rattle.machine_world.specs.Others.{EventsLeaveOthers};
 ghost use Rattle.machine_world.specs.Placements.{MapsAreExact, StartsAreExact, ExecsAreExact};
@@ -22,6 +22,14 @@ pub fn programs_law()
 /// A system call that is refused changes nothing but the reply, the next instruction, the notes and the count of events.
 pub fn refused_calls_law()
     ensures { RefusalsChangeNothingElse }
+{}
+
+/// Between two events no pipe is marked: whoever waits on one that changed goes on behind the event that changed it.
+pub fn marks_law()
+    ensures boots { BootsLeaveNoMark }
+    ensures events { EventsLeaveNoMark }
+    ensures turns { TurnsLeaveNoMark }
+    ensures runs { RunsLeaveNoMark }
 {}
 
 /// An event of a process leaves the registers, the space and the table of every other process, every other space and every other
