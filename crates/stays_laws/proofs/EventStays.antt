@@ -1,4 +1,5 @@
--- An instruction, a call that is answered and a wait keep what is told of the stays right, if rows are followed alone.
+-- An instruction, a call that is answered and a wait keep what is told of the stays right, if rows are followed alone; and so does it
+-- that those go on who wait on pipes.
 use Rattle.std.proofs.Common.{◌≡◌, ℕ, ◌+◌, ◌<◌, Bool, true, false, List, [], ◌∷◌, ◌++◌, map, length, Some, None, Result, Ok, Err, refl, sym, ap, subst, ◌∙◌, arith}
 use Rattle.std.specs.Prelude.{◌&&◌, slice_get, option_map, if◌then◌else◌}
 use Rattle.std.proofs.lemmas.List.{append-nil}
@@ -8,19 +9,20 @@ use Rattle.rv32im_step.specs.Meaning.{Meaning, next, call, meaning}
 use Rattle.call_log.specs.Notes.{Written, has_room, weight_of}
 use Rattle.call_log.specs.Sent.{Span, sent}
 use Rattle.mmap_rules.specs.Space.{Space, writable_in}
-use Rattle.vfork_exec.specs.declared.family.Who.{Who}
-use Rattle.vfork_exec.specs.declared.family.State.TheVariants.{Ready, Waiting}
+use Rattle.vfork_exec.specs.declared.family.State.{State}
+use Rattle.vfork_exec.specs.declared.family.State.TheVariants.{Ready}
 use Rattle.vfork_exec.specs.Keyed.{find, change}
 use Rattle.vfork_exec.proofs.Keyed.{find_changed, find_beside_change}
 use Rattle.flat_loader.specs.Alone.{Runner, Solo, Item, memory_of, writable_of, number_of, args_of, replied, put_got, is_same, is_call, with_items, solo_put, solo_called, solo_moved, solo_step, none_left}
 use Rattle.machine_world.specs.World.{Process, LiveSpace, World, pid_of, id_of}
 use Rattle.machine_world.specs.Asks.{Ask, Reply, Row, replies, waits}
-use Rattle.machine_world.specs.Event.{Trace, Outcome, went, strays, full, idle, counted, stepped, ask_of, entry_of, item_of, served, put, waited, with_state, answered}
+use Rattle.machine_world.specs.Event.{Trace, Outcome, went, strays, full, idle, counted, stepped, ask_of, entry_of, item_of, served, put, waited, with_state, answered, awake, settled}
 use Rattle.machine_world.proofs.States.{with_regs, with_own}
+use Rattle.machine_world.proofs.Awake.{woke, all_roused_is}
 use Rattle.stays_laws.specs.Stays.{Stay, change_at, longer, collect, runner_of, runners, alone_end, Agrees, kept_calls_of, loads_of, head_of, loaded_head, AreRight}
 use Rattle.stays_laws.specs.Sound.{IsSound}
 use Rattle.stays_laws.proofs.Lists.{eqb_same, length-change_at, map-change_at, change_at-same}
-use Rattle.stays_laws.proofs.Runners.{runners_beside_change, runners_change, runners_same}
+use Rattle.stays_laws.proofs.Runners.{runners_beside_change, runners_change, runners_same, runners_map}
 use Rattle.stays_laws.proofs.Frame.{ranges_of, writable, found_below, agrees_same, BesideSpace, agree_after, entries_of, told_after}
 use Rattle.stays_laws.proofs.Moved.{lenders, runs_first}
 use Rattle.stays_laws.proofs.SoloRuns.{alone_more}
@@ -36,7 +38,7 @@ Follows p below s a (replies r) =
     (m : Bytes) → put_got r.space.bytes (writable_in r.space.maps) r.got ≡ Ok m →
     solo_put (runner_of p) below (memory_of s) (item_of (entry_of a r.value r.got) m) (put_got s.bytes (writable_in s.maps) r.got)
     ≡ Some (solo_of (with_regs p (replied p.regs r.value)) below (record r.space { bytes = m }))
-Follows p below s a (waits who) = Unit {0}
+Follows p below s a (waits state) = Unit {0}
 
 -- ---- the item tells of the call
 
@@ -68,6 +70,24 @@ keeps_if ys false x y hx hy = hy
 pub keeps_test : (ys : List Stay) (b : Bool) (x y : Outcome) → (b ≡ true → Keeps ys x) → (b ≡ false → Keeps ys y) → Keeps ys (if b then x else y)
 keeps_test ys true x y hx hy = hx refl
 keeps_test ys false x y hx hy = hy refl
+
+-- those that go on keep their registers and spaces
+awake_right : (ys : List Stay) (w : World) → AreRight ys w → AreRight ys (awake w)
+awake_right ys w right = record {
+  count = right.count;
+  loads = right.loads;
+  agree = λ i y there.
+      agrees_same i w.procs (awake w).procs y (find id_of i w.spaces)
+      (ap (runners i) (all_roused_is w.rest.files.changed w.procs) ∙ runners_map (woke w.rest.files.changed) (λ q. refl) (λ q. refl) i w.procs) (right.agree i y there);
+  told = right.told;
+}
+
+pub keeps_settled : (ys : List Stay) (o : Outcome) → Keeps ys o → Keeps ys (settled o)
+unfolding settled
+keeps_settled ys (went now t) h = awake_right (collect ys t) now h
+keeps_settled ys (strays access) h = tt
+keeps_settled ys full h = tt
+keeps_settled ys idle h = tt
 
 module _ (ys : List Stay) (w : World) (sound : IsSound w) (right : AreRight ys w) (p : Process) (s : LiveSpace)
     (lives : find pid_of p.pid w.procs ≡ Some p) (ready : p.state ≡ Ready) (has : find id_of p.space w.spaces ≡ Some s) where
@@ -171,21 +191,21 @@ module _ (ys : List Stay) (w : World) (sound : IsSound w) (right : AreRight ys w
         (takes i (tells p s.space w bytes r.value r.got) ∙ ap (with_items []) (follows m wrote)))
         tt
 
-    pub keeps_waited : (who : Who) → Keeps ys (waited w the_ask who)
+    pub keeps_waited : (state : State) → Keeps ys (waited w p state)
     unfolding waited
-    keeps_waited who =
+    keeps_waited state =
         let t : Trace = record { space = p.space; events = 0; items = []; begins = None; over = true } in
         let same : (y : Stay) → longer t y ≡ y = λ y. let items = append-nil y.items in let events : y.events + 0 ≡ y.events = omega arith in (λ i. record y { items = items i; events = events i }) in
-        subst (λ l. AreRight l (counted (with_state w p.pid (Waiting who)))) (sym (append-nil (change_at p.space (longer t) ys) ∙ change_at-same (longer t) same p.space ys))
+        subst (λ l. AreRight l (counted (with_state w p.pid state))) (sym (append-nil (change_at p.space (longer t) ys) ∙ change_at-same (longer t) same p.space ys))
         (record {
           count = right.count;
           loads = right.loads;
           agree = λ j y there.
-              agrees_same j w.procs (with_state w p.pid (Waiting who)).procs y (find id_of j w.spaces)
-              (runners_same p.pid (λ q. record q { state = Waiting who }) (λ q. refl) (λ q. refl) j w.procs) (right.agree j y there);
+              agrees_same j w.procs (with_state w p.pid state).procs y (find id_of j w.spaces)
+              (runners_same p.pid (λ q. record q { state = state }) (λ q. refl) (λ q. refl) j w.procs) (right.agree j y there);
           told = right.told;
         })
 
     pub keeps_answered : (r : Row) → Follows p below s.space the_ask r → Keeps ys (answered w the_ask r)
     keeps_answered (replies r) follows = keeps_put r follows (put_got r.space.bytes (writable_in r.space.maps) r.got) refl
-    keeps_answered (waits who) follows = keeps_waited who
+    keeps_answered (waits state) follows = keeps_waited state

@@ -1,22 +1,23 @@
 -- A world in which one process and its space change.
-use Rattle.std.proofs.Common.{◌≡◌, ◌≢◌, ℕ, ◌+◌, ◌≤◌, inl, inr, List, ◌∷◌, ◌++◌, map, Option, Some, None, refl, sym, ap, subst, ◌∙◌, arith}
+use Rattle.std.proofs.Common.{◌≡◌, ◌≢◌, ℕ, ◌+◌, ◌≤◌, false, inl, inr, List, ◌∷◌, ◌++◌, map, Option, Some, None, refl, sym, ap, subst, ◌∙◌, arith}
 use Rattle.std.specs.Prelude.{IsSome, option_map}
 use Rattle.std.proofs.lemmas.Bool.{cases_eq}
 use Rattle.std.proofs.lemmas.Option.{same_Some}
 use Rattle.rv32im_step.specs.declared.regs.Regs.{Regs}
 use Rattle.call_log.specs.Notes.{Note, most_calls}
 use Rattle.mmap_rules.specs.Space.{Space}
-use Rattle.vfork_exec.specs.declared.family.Who.{Who}
-use Rattle.vfork_exec.specs.declared.family.State.TheVariants.{Ready, Waiting}
+use Rattle.vfork_exec.specs.declared.family.State.{State}
+use Rattle.vfork_exec.specs.declared.family.State.TheVariants.{Ready}
 use Rattle.vfork_exec.specs.declared.family.Ended.{Ended}
 use Rattle.vfork_exec.specs.Keyed.{find, change}
 use Rattle.vfork_exec.proofs.Keyed.{falls_change, find_changed, find_beside_change}
 use Rattle.machine_world.specs.World.{Process, LiveSpace, Rest, World, pid_of, id_of}
-use Rattle.machine_world.specs.Families.{sharing}
-use Rattle.machine_world.specs.Event.{counted, with_state}
+use Rattle.machine_world.specs.Families.{is_lent, sharing}
+use Rattle.machine_world.specs.Event.{counted, with_state, awake}
 use Rattle.machine_world.specs.Ages.{Follows, AreChanged, kept_calls, most_at_boot}
 use Rattle.machine_world.proofs.States.{find_has, with_regs, with_own}
-use Rattle.machine_world.proofs.Chains.{head_ready, chains_same, chains_waiting}
+use Rattle.machine_world.proofs.Awake.{woke, find_roused, falls_roused}
+use Rattle.machine_world.proofs.Chains.{head_ready, chains_same, chains_stopped, chains_roused}
 use Rattle.stays_laws.specs.Stays.{runners, runner_of}
 use Rattle.stays_laws.specs.Sound.{IsSpace, AreApart, HoldCopies, most_given, IsSound}
 use Rattle.stays_laws.proofs.AllMaps.{Around, around}
@@ -82,6 +83,29 @@ ended_sound w ended h = record {
   changes = h.changes;
   calls = h.calls;
 }
+
+-- those go on who wait on pipes
+pub awake_sound : (w : World) → IsSound w → IsSound (awake w)
+awake_sound w h = record {
+  some = h.some;
+  most = h.most;
+  pids = falls_roused w.rest.files.changed w.procs w.next_pid h.pids;
+  numbers = h.numbers;
+  given = h.given;
+  homes = λ pid q found. home pid q (find pid_of pid w.procs) refl (sym (find_roused w.rest.files.changed w.procs pid) ∙ found);
+  chains = chains_roused w.rest.files.changed w.procs h.chains;
+  spaces = h.spaces;
+  apart = h.apart;
+  copies = h.copies;
+  changes = h.changes;
+  calls = h.calls;
+}
+  where
+    home : (pid : ℕ) (q : Process) (o : Option Process) → find pid_of pid w.procs ≡ o → option_map (woke w.rest.files.changed) o ≡ Some q → IsSome (find id_of q.space w.spaces)
+    home pid q None was is = absurd cc
+    home pid q (Some old) was is =
+        let same : woke w.rest.files.changed old ≡ q = cc in
+        subst (λ (n : ℕ). IsSome (find id_of n w.spaces)) (ap (λ (x : Process). x.space) same) (h.homes pid old was)
 
 -- the copies of a space stay
 pub copies_stay : (w : World) → IsSound w → (rest : Rest) (notes : List Note) → Goes w rest notes → (i : ℕ) (l : LiveSpace) → find id_of i w.spaces ≡ Some l → HoldCopies rest.tree l.space
@@ -150,18 +174,18 @@ module _ (w : World) (h : IsSound w) (pid : ℕ) (p : Process) (s : LiveSpace) (
       calls = goes.calls;
     }
 
-  -- it waits
-  pub waiting_sound : (who : Who) → IsSound (counted (with_state w p.pid (Waiting who)))
-  waiting_sound who = record {
+  -- it waits, for its children or on a pipe
+  pub waiting_sound : (state : State) → is_lent state ≡ false → IsSound (counted (with_state w p.pid state))
+  waiting_sound state own = record {
     some = h.some;
     most = h.most;
-    pids = falls_change pid_of p.pid (λ q. record q { state = Waiting who }) (λ q. refl) w.next_pid w.procs h.pids;
+    pids = falls_change pid_of p.pid (λ q. record q { state = state }) (λ q. refl) w.next_pid w.procs h.pids;
     numbers = h.numbers;
     given = h.given;
     homes = λ k q found.
-        by_changed pid_of (λ x. record x { state = Waiting who }) (λ x. refl) p w.procs own_lives (λ x. IsSome (find id_of x.space w.spaces)) k q found
+        by_changed pid_of (λ x. record x { state = state }) (λ x. refl) p w.procs own_lives (λ x. IsSome (find id_of x.space w.spaces)) k q found
         (h.homes pid p lives) (λ other was. h.homes k q was);
-    chains = chains_waiting w.procs p.pid p who h.chains own_lives ready;
+    chains = chains_stopped w.procs p.pid p state own h.chains own_lives ready;
     spaces = h.spaces;
     apart = h.apart;
     copies = h.copies;

@@ -82,7 +82,7 @@ module _ (w : World) (p : Process) (below : List Runner) (s : Space) (bytes : Li
         ∙ if_no (i.entry.call == 220) (Some (solo_forked t p.regs i.entry)) (Some t) (is 220 no_clone)
 
     pub follows_same : (r : Row) → LeavesSpace s r → Follows p below s a r
-    follows_same (waits who) same = tt
+    follows_same (waits state) same = tt
     follows_same (replies r) same = λ m wrote.
         let i : Item = item_of (entry_of a r.value r.got) m in
         let put : put_got s.bytes (writable_in s.maps) r.got ≡ Ok m = (λ j. put_got (sym same.bytes j) (writable_in (sym same.maps j)) r.got) ∙ wrote in

@@ -1,9 +1,9 @@
--- A row leaves the caller's mappings and bytes, but for munmap and mmap2.
-use Rattle.std.proofs.Common.{◌≡◌, ℕ, ◌+◌, ◌*◌, Bool, true, false, not, List, [], ◌∷◌, length, map, drop, Option, Some, None, Result, Ok, Err, refl, sym, ◌∙◌}
-use Rattle.std.specs.Prelude.{⊤, ◌==◌, ◌||◌, ◌&&◌, ◌^◌, nat_lt, if◌then◌else◌}
+-- A row leaves the caller's mappings and bytes, but for munmap and mmap2. Where it waits, it is on a pipe.
+use Rattle.std.proofs.Common.{◌≡◌, ℕ, ◌+◌, ◌*◌, Bool, true, false, not, List, [], ◌∷◌, length, map, take, drop, Option, Some, None, Result, Ok, Err, refl, sym, ◌∙◌}
+use Rattle.std.specs.Prelude.{◌==◌, ◌||◌, ◌&&◌, ◌^◌, nat_lt, if◌then◌else◌}
 use Rattle.std.specs.List.{range_with_len}
 use Rattle.call_log.specs.declared.errno.Errno.{Errno}
-use Rattle.call_log.specs.declared.errno.Errno.TheVariants.{Enoent, Ebadf, Enosys, Einval}
+use Rattle.call_log.specs.declared.errno.Errno.TheVariants.{Enoent, Ebadf, Enosys, Einval, Epipe}
 use Rattle.call_log.specs.Sent.{Span, most_pieces, piece_at}
 use Rattle.mmap_rules.specs.Space.{Space}
 use Rattle.mem_files.specs.declared.node.Node.{Node}
@@ -13,11 +13,17 @@ use Rattle.mem_files.specs.Paths.{lookup}
 use Rattle.mem_files.specs.Changes.{with_folder, with_file, unlinked, written}
 use Rattle.fd_tables.specs.declared.view.View.{View}
 use Rattle.fd_tables.specs.declared.view.Target.{Target}
-use Rattle.fd_tables.specs.declared.view.Target.TheVariants.{Console, Node as a_node}
+use Rattle.fd_tables.specs.declared.view.Target.TheVariants.{Console, Node as a_node, Pipe}
+use Rattle.fd_tables.specs.declared.pipe_view.Ends.{Ends}
+use Rattle.fd_tables.specs.Files.{two_free}
+use Rattle.fd_tables.specs.Pipes.{pipe_view, pipe_bytes}
 use Rattle.fd_tables.specs.Calls.{dup_number, dup3_fault, close_fault}
+use Rattle.vfork_exec.specs.declared.family.State.{State}
+use Rattle.vfork_exec.specs.declared.family.State.TheVariants.{Ready, Waiting, OnPipe, Lent}
+use Rattle.machine_world.specs.Families.{is_lent}
 use Rattle.machine_world.specs.Asks.{Ask, arg, Row, replies, waits, answers, refuses, unless, with_ok, view_of, with_view, free_of, with_free}
-use Rattle.machine_world.specs.Descriptors.{close_on_exec, dup_row, dup3_row, ioctl_row, close_row, position_from, base_of, sought, seek_row, llseek_row, is_short, folder_row, dents_row, getdents_row}
-use Rattle.machine_world.specs.Transfers.{node_read, target_read, read_into, read_row, readv_row, write_position, target_write, write_row, writev_row}
+use Rattle.machine_world.specs.Descriptors.{table_of, close_on_exec, dup_row, dup3_row, ioctl_row, close_row, opens_pipe, pipe2_row, position_from, base_of, sought, seek_row, llseek_row, is_short, folder_row, dents_row, getdents_row}
+use Rattle.machine_world.specs.Transfers.{node_read, moved_bytes, read_waits, taken_read, pipe_read, target_read, read_into, read_row, readv_row, write_position, pipe_room, write_waits, put_write, pipe_write, target_write, write_row, writev_row}
 use Rattle.machine_world.specs.PathCalls.{path_of, path_fault, with_path, changes_tree, remove_folder, creates, asks_folder, access, opens, open_fault, opens_found, mkdirat_row, unlinkat_row, openat_row}
 use Rattle.machine_world.specs.MapCalls.{mmap2_row, munmap_row}
 use Rattle.machine_world.specs.Rows.{yield_row, brk_row, asks_pid, row}
@@ -27,9 +33,22 @@ pub record SameSpace (old now : Space) : Type 0 where
   pub maps : now.maps ≡ old.maps
   pub bytes : now.bytes ≡ old.bytes
 
+-- no call of a row waits for children
+abbrev pub IsOnPipe : State → Type 0
+IsOnPipe Ready = ⊥
+IsOnPipe (Waiting who) = ⊥
+IsOnPipe (OnPipe pipe) = Unit {0}
+IsOnPipe (Lent child) = ⊥
+
+pub pipe_isnt_lent : (state : State) → IsOnPipe state → is_lent state ≡ false
+pipe_isnt_lent Ready on = absurd on
+pipe_isnt_lent (Waiting who) on = refl
+pipe_isnt_lent (OnPipe pipe) on = refl
+pipe_isnt_lent (Lent child) on = absurd on
+
 abbrev pub LeavesSpace : Space → Row → Type 0
 LeavesSpace s (replies r) = SameSpace s r.space
-LeavesSpace s (waits who) = ⊤
+LeavesSpace s (waits state) = IsOnPipe state
 
 module _ (a : Ask) where
   same : SameSpace a.space a.space
@@ -80,6 +99,14 @@ module _ (a : Ask) where
   unfolding close_row
   by_close = by_fault (close_fault (view_of a (arg a 0))) _ same
 
+  by_ends : (o : Option Ends) → LeavesSpace a.space (opens_pipe a (arg a 1 == close_on_exec) o)
+  by_ends None = same
+  by_ends (Some ends) = same
+
+  by_pipe2 : LeavesSpace a.space (pipe2_row a)
+  unfolding pipe2_row
+  by_pipe2 = by_if (not (arg a 1 == 0 || arg a 1 == close_on_exec)) (refuses a Einval) _ same (by_ends (two_free a.rest.files (table_of a)))
+
   by_mkdirat : LeavesSpace a.space (mkdirat_row a)
   unfolding mkdirat_row
   by_mkdirat = by_path (λ path. with_ok a (with_folder a.rest.tree path) (changes_tree a)) (by_ok (with_folder a.rest.tree (path_of a)) (changes_tree a) (λ nodes. same))
@@ -103,6 +130,17 @@ module _ (a : Ask) where
       by_if (access (arg a 2) == 3 || (creates (arg a 2) && asks_folder (arg a 2))) (refuses a Einval) _ same
       (by_path (λ path. with_ok a (lookup a.rest.tree path) (opens_found a path)) (by_ok (lookup a.rest.tree (path_of a)) (opens_found a (path_of a)) by_found))
 
+  -- a pipe
+  by_pipe_read : (id : ℕ) (spans : List Span) → LeavesSpace a.space (pipe_read a id spans)
+  by_pipe_read id spans =
+      by_if (read_waits spans (pipe_view a.rest.files id)) (waits (OnPipe id)) (taken_read a id spans (moved_bytes spans (pipe_bytes a.rest.files id))) tt same
+
+  by_pipe_write : (id : ℕ) (bytes : List ℕ) → LeavesSpace a.space (pipe_write a id bytes)
+  by_pipe_write id bytes =
+      by_if (length bytes == 0) (answers a 0) _ same
+      (by_if (not (pipe_view a.rest.files id).read_open) (refuses a Epipe) _ same
+      (by_if (write_waits (length bytes) (pipe_view a.rest.files id)) (waits (OnPipe id)) (put_write a id (take (pipe_room (pipe_view a.rest.files id)) bytes)) tt same))
+
   -- what a descriptor leads to
   module _ (v : View) where
     by_sought : (o : Option ℕ) → LeavesSpace a.space (sought a o)
@@ -111,6 +149,7 @@ module _ (a : Ask) where
 
     by_seek : (t : Target) → LeavesSpace a.space (seek_row a v t)
     by_seek Console = same
+    by_seek (Pipe id write) = same
     by_seek (a_node node) = by_if (nat_lt 2 (arg a 4)) (refuses a Einval) _ same (by_sought (position_from (base_of a v node (arg a 4)) (arg a 1 * 2 ^ 32 + arg a 2)))
 
     by_folder : (node : ℕ) (kind : Node) → LeavesSpace a.space (folder_row a v node kind)
@@ -119,6 +158,7 @@ module _ (a : Ask) where
 
     by_dents : (t : Target) → LeavesSpace a.space (dents_row a v t)
     by_dents Console = same
+    by_dents (Pipe id write) = same
     by_dents (a_node node) = by_folder node (kind_of a.rest.tree node)
 
     by_node_read : (spans : List Span) (node : ℕ) (kind : Node) → LeavesSpace a.space (node_read a v spans node kind)
@@ -128,10 +168,12 @@ module _ (a : Ask) where
     by_target_read : (spans : List Span) (t : Target) → LeavesSpace a.space (target_read a v spans t)
     by_target_read spans Console = same
     by_target_read spans (a_node node) = by_node_read spans node (kind_of a.rest.tree node)
+    by_target_read spans (Pipe id write) = by_pipe_read id spans
 
     by_target_write : (bytes : List ℕ) (t : Target) → LeavesSpace a.space (target_write a v bytes t)
     by_target_write bytes Console = same
     by_target_write bytes (a_node node) = by_ok (written a.rest.tree node (write_position a v node) bytes) _ (λ nodes. same)
+    by_target_write bytes (Pipe id write) = by_pipe_write id bytes
 
   by_llseek : LeavesSpace a.space (llseek_row a)
   unfolding llseek_row
@@ -189,12 +231,13 @@ module _ (a : Ask) where
       (by_if (a.number == 35) (unlinkat_row a) _ by_unlinkat
       (by_if (a.number == 56) (openat_row a) _ by_openat
       (by_if (a.number == 57) (close_row a) _ by_close
+      (by_if (a.number == 59) (pipe2_row a) _ by_pipe2
       (by_if (a.number == 61) (getdents_row a) _ by_getdents
       (by_if (a.number == 62) (llseek_row a) _ by_llseek
       (by_if (a.number == 63) (read_row a) _ by_read
       (by_if (a.number == 64) (write_row a a.sent) _ (by_write a.sent)
       (by_if (a.number == 65) (readv_row a) _ by_readv
-      (by_if (a.number == 66) (writev_row a) _ by_writev (by_quiet no_munmap no_mmap2)))))))))))))
+      (by_if (a.number == 66) (writev_row a) _ by_writev (by_quiet no_munmap no_mmap2))))))))))))))
 
 -- ---- single rows, by their numbers
 

@@ -21,7 +21,8 @@ use Rattle.mmap_rules.specs.Mappings.{Hit, hit}
 use Rattle.mem_files.specs.Inodes.{Inodes}
 use Rattle.quantum_sched.specs.Picked.{picked}
 use Rattle.vfork_exec.specs.declared.family.Who.{Who}
-use Rattle.vfork_exec.specs.declared.family.State.TheVariants.{Ready}
+use Rattle.vfork_exec.specs.declared.family.State.{State}
+use Rattle.vfork_exec.specs.declared.family.State.TheVariants.{Ready, Waiting}
 use Rattle.vfork_exec.specs.declared.family.Ended.{Ended}
 use Rattle.vfork_exec.specs.declared.family.Waited.{Waited}
 use Rattle.vfork_exec.specs.declared.family.Waited.TheVariants.{Child, NoneYet, Waits}
@@ -32,7 +33,7 @@ use Rattle.flat_loader.specs.Original.{block_pages}
 use Rattle.flat_loader.specs.Frame.{frame_fits}
 use Rattle.flat_loader.specs.Begin.{Loading}
 use Rattle.machine_world.specs.World.{Process, LiveSpace, Rest, World, pid_of, id_of}
-use Rattle.machine_world.specs.Families.{MayRun, ready_pids, is_full}
+use Rattle.machine_world.specs.Families.{MayRun, ready_pids, is_full, is_lent}
 use Rattle.machine_world.specs.FamilyCalls.{who_of, waitid_fault, child_info, no_info, info_at, vfork_flags, runs}
 use Rattle.machine_world.specs.Free.{free}
 use Rattle.machine_world.specs.Found.{Found, address_of, taken}
@@ -40,24 +41,24 @@ use Rattle.machine_world.specs.Asks.{Ask, arg, Reply, Row, replies, waits, gives
 use Rattle.machine_world.specs.PathCalls.{path_of}
 use Rattle.machine_world.specs.MapCalls.{all_maps, unmaps, munmap_row}
 use Rattle.machine_world.specs.Rows.{row}
-use Rattle.machine_world.specs.Event.{Outcome, went, strays, full, idle, number_of, args_of, replied, entry_of, exit_code, noted, put_got, stepped, trapped, ended, served, put, waited, answered, exited, is_exit, reaped, told_in, waitid_behind, waitid, forked, cloned, load_of, executed, exec_at, exec_program, exec_strings, exec, classed, asked, ask_of, answer, effect, in_space, by_process, at_process, event}
+use Rattle.machine_world.specs.Event.{Outcome, went, strays, full, idle, number_of, args_of, replied, entry_of, exit_code, noted, put_got, stepped, trapped, ended, served, put, waited, answered, exited, is_exit, reaped, told_in, waitid_behind, waitid, forked, cloned, load_of, executed, exec_at, exec_program, exec_strings, exec, classed, asked, ask_of, answer, settled, effect, in_space, by_process, at_process, event}
 use Rattle.machine_world.specs.Turns.{Walk, End, traced, stays_at, turned, turn, seen_of, going_on, quantum_turn, turns}
 use Rattle.machine_world.specs.Ages.{AreChanged, Follows, most_changes, kept_calls, most_at_boot}
 use Rattle.machine_world.proofs.Kept.{Answers, Kept}
 use Rattle.machine_world.proofs.ByRows.{by_rows}
 use Rattle.machine_world.proofs.Aging.{rows_age, table_ages, exec_ages}
-use Rattle.machine_world.proofs.Chains.{may_run_still, ready_found}
+use Rattle.machine_world.proofs.Runnable.{may_run_still, ready_found}
 use Rattle.stays_laws.specs.Sound.{most_given, IsSound}
 use Rattle.stays_laws.specs.Laws.{EventsKeepSound, TurnsKeepSound, RunsKeepSound}
 use Rattle.stays_laws.proofs.Bytes.{put_keeps}
 use Rattle.stays_laws.proofs.Files.{follows_itself}
 use Rattle.stays_laws.proofs.FreePages.{each_of_all}
-use Rattle.stays_laws.proofs.Moved.{Goes, ended_sound, own_around, moved_sound, waiting_sound}
+use Rattle.stays_laws.proofs.Moved.{Goes, ended_sound, awake_sound, own_around, moved_sound, waiting_sound}
 use Rattle.stays_laws.proofs.Spaces.{IsFit, InSpace, fit_later, fit_there}
 use Rattle.stays_laws.proofs.SoundEnds.{left_sound}
 use Rattle.stays_laws.proofs.SoundForks.{forked_sound}
 use Rattle.stays_laws.proofs.SoundExecs.{exec_sound}
-use Rattle.stays_laws.proofs.RowSpaces.{LeavesSpace, row_leaves, row-munmap, row-mmap2}
+use Rattle.stays_laws.proofs.RowSpaces.{pipe_isnt_lent, LeavesSpace, row_leaves, row-munmap, row-mmap2}
 use Rattle.stays_laws.proofs.Unmaps.{is_hit, fit_unmapped}
 use Rattle.stays_laws.proofs.Maps.{fit_mapped}
 
@@ -93,6 +94,9 @@ same_pages a = by_rows (λ rest. rest.pages ≡ a.rest.pages) a kept refl
       take = λ v spans shows reads. refl;
       write = λ v node bytes nodes shows may some is. refl;
       print = λ v bytes shows may. refl;
+      pipe = λ ends free. refl;
+      drain = λ v id end spans shows reads. refl;
+      fill = λ v id end bytes shows may. refl;
       make = λ nodes is. refl;
       remove = λ nodes is. refl;
       open_old = λ fd node free found none. refl;
@@ -105,7 +109,7 @@ module _ (a : Ask) (front back : List Mapping) (fit : IsFit a.rest.pages front b
   fit_same (replies r) same =
       fit_later a.rest.pages front back a.space r.space a.rest.tree a.rest.tree same.maps (follows_itself a.rest.tree)
       (λ addr locked. ap (λ (f : Bytes). f addr) same.bytes) fit
-  fit_same (waits who) same = tt
+  fit_same (waits state) same = same
 
   fit_munmap : InSpace (IsFit a.rest.pages front back a.rest.tree) (munmap_row a)
   unfolding munmap_row
@@ -140,6 +144,14 @@ leaves_if false x y hx hy = hy
 leaves_either : (b : Bool) (x y : Outcome) → Leaves x → Leaves y → Leaves (if b then x else y)
 leaves_either true x y hx hy = hx
 leaves_either false x y hx hy = hy
+
+-- behind a call or a trap those go on who wait on pipes
+leaves_settled : (o : Outcome) → Leaves o → Leaves (settled o)
+unfolding settled
+leaves_settled (went now t) h = awake_sound now h
+leaves_settled (strays access) h = tt
+leaves_settled full h = tt
+leaves_settled idle h = tt
 
 all_inside : (w : World) → IsSound w → (j : ℕ) (m : Mapping) → slice_get (all_maps w.spaces) j ≡ Some m → m.first + m.pages ≤ w.rest.pages
 all_inside w h = each_of_all (λ m. m.first + m.pages ≤ w.rest.pages) w.loads w.spaces h.numbers (λ i s found. (h.spaces i s found).inside)
@@ -206,13 +218,13 @@ module _ (w : World) (h : IsSound w) (pid : ℕ) (p : Process) (s : LiveSpace) (
     leaves_put r (Ok m) fits wrote = leaves_served r m fits wrote
     leaves_put r (Err span) fits wrote = tt
 
-    leaves_waited : (who : Who) → Leaves (waited w the_ask who)
+    leaves_waited : (state : State) → is_lent state ≡ false → Leaves (waited w p state)
     unfolding waited
-    leaves_waited who = waiting_sound w h pid p s lives ready has who
+    leaves_waited state own = waiting_sound w h pid p s lives ready has state own
 
-    leaves_answered : (r : Row) → ((reply : Reply) → r ≡ replies reply → Fits reply) → Leaves (answered w the_ask r)
-    leaves_answered (replies r) fits = leaves_put r (put_got r.space.bytes (writable_in r.space.maps) r.got) (fits r refl) refl
-    leaves_answered (waits who) fits = leaves_waited who
+    leaves_answered : (r : Row) → ((reply : Reply) → r ≡ replies reply → Fits reply) → ((state : State) → r ≡ waits state → is_lent state ≡ false) → Leaves (answered w the_ask r)
+    leaves_answered (replies r) fits own = leaves_put r (put_got r.space.bytes (writable_in r.space.maps) r.got) (fits r refl) refl
+    leaves_answered (waits state) fits own = leaves_waited state (own state refl)
 
     -- a reply, and bytes
     pub leaves_given : (value : ℕ) (got : List Written) → Leaves (answered w the_ask (gives the_ask value got w.rest))
@@ -224,15 +236,18 @@ module _ (w : World) (h : IsSound w) (pid : ℕ) (p : Process) (s : LiveSpace) (
     pub leaves_refused : (e : Errno) → Leaves (answered w the_ask (refuses the_ask e))
     leaves_refused e = leaves_given (refusal e) []
 
+    in_space_row : InSpace (IsFit w.rest.pages front back w.rest.tree) (row the_ask)
+    in_space_row = fit_row the_ask front back fit w.loads h.numbers (own_around w h pid p s lives ready has).is (all_inside w h)
+
     leaves_row : Leaves (answered w the_ask (row the_ask))
     leaves_row =
         leaves_answered (row the_ask)
         (λ r is. (
           subst (Answers (λ rest. rest.pages ≡ w.rest.pages)) is (same_pages the_ask),
           rows_age the_ask r (most_at_boot + kept_calls w.notes) is h.changes (low_enough w.notes h.calls),
-          subst (InSpace (IsFit w.rest.pages front back w.rest.tree)) is
-              (fit_row the_ask front back fit w.loads h.numbers (own_around w h pid p s lives ready has).is (all_inside w h)),
+          subst (InSpace (IsFit w.rest.pages front back w.rest.tree)) is in_space_row,
         ))
+        (λ state is. pipe_isnt_lent state (subst (InSpace (IsFit w.rest.pages front back w.rest.tree)) is in_space_row))
 
     -- ---- an end
 
@@ -313,7 +328,7 @@ module _ (w : World) (h : IsSound w) (pid : ℕ) (p : Process) (s : LiveSpace) (
         let ended : List Ended = without_first p.pid who w.ended in
         leaves_given (record w { ended = ended }) (ended_sound w ended h) pid p s lives ready has bytes 0 (info_at (arg (ask_of w p s.space bytes) 2) (child_info child how))
     leaves_reaped who (Ok NoneYet) = leaves_given w h pid p s lives ready has bytes 0 (info_at (arg (ask_of w p s.space bytes) 2) no_info)
-    leaves_reaped who (Ok Waits) = leaves_waited w h pid p s lives ready has bytes who
+    leaves_reaped who (Ok Waits) = leaves_waited w h pid p s lives ready has bytes (Waiting who) refl
     leaves_reaped who (Err e) = leaves_refused w h pid p s lives ready has bytes e
 
     leaves_waitid : Leaves (waitid w (ask_of w p s.space bytes))
@@ -344,11 +359,12 @@ module _ (w : World) (h : IsSound w) (pid : ℕ) (p : Process) (s : LiveSpace) (
       moved_sound w h pid p s lives ready has w.rest w.notes (w.events + 1)
       (record { pages = refl; follows = follows_itself w.rest.tree; changes = h.changes; more = omega arith; calls = h.calls }) regs (record s.space { bytes = bytes }) now.is_space now.apart now.holds
   leaves_effect (trap signal) is =
-      left_sound w h pid p s lives ready has _ (with_storage w.rest (without_table (storage_of w.rest) p.table)) (end_note p.pid (Signal signal) ∷ w.notes) (w.events + 1)
+      leaves_settled (trapped w p signal)
+      (left_sound w h pid p s lives ready has _ (with_storage w.rest (without_table (storage_of w.rest) p.table)) (end_note p.pid (Signal signal) ∷ w.notes) (w.events + 1)
       (table_gone w h pid p s lives ready has (end_note p.pid (Signal signal) ∷ w.notes) (omega (arith, noted_more (end_note p.pid (Signal signal)) w.notes))
-      (let few = h.calls in omega (arith, few, noted_more (end_note p.pid (Signal signal)) w.notes)))
+      (let few = h.calls in omega (arith, few, noted_more (end_note p.pid (Signal signal)) w.notes))))
   leaves_effect (refused access) is = tt
-  leaves_effect call is = leaves_asked (sent (number_of p.regs) (args_of p.regs) s.space.bytes)
+  leaves_effect call is = leaves_settled (answer w p s.space) (leaves_asked (sent (number_of p.regs) (args_of p.regs) s.space.bytes))
 
 module _ (w : World) (h : IsSound w) (pid : ℕ) where
   leaves_in : (p : Process) → find pid_of pid w.procs ≡ Some p → p.state ≡ Ready → (found : Option LiveSpace) → find id_of p.space w.spaces ≡ found

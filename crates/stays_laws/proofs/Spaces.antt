@@ -13,6 +13,7 @@ use Rattle.stays_laws.proofs.Apart.{apart_front, apart_rest}
 use Rattle.stays_laws.proofs.Bytes.{copy_locked}
 use Rattle.stays_laws.proofs.Files.{copies_later}
 use Rattle.stays_laws.proofs.Moved.{own_around}
+use Rattle.stays_laws.proofs.RowSpaces.{IsOnPipe}
 
 -- among the mappings of the other spaces, over the nodes
 pub record IsFit (pages : ℕ) (front back : List Mapping) (nodes : Inodes) (s : Space) : Type 0 where
@@ -49,7 +50,7 @@ fit_there w h pid p s lives ready has = record {
   holds = h.copies p.space s has;
 }
 
--- what a row leaves of the caller's space, if it replies
+-- what a row leaves of the caller's space, if it replies; it may wait on a pipe
 abbrev pub InSpace : (Space → Type 0) → Row → Type 0
 InSpace P (replies r) = P r.space
-InSpace P (waits who) = Unit {0}
+InSpace P (waits state) = IsOnPipe state

@@ -12,12 +12,12 @@ use Rattle.machine_world.specs.World.{Process, LiveSpace, World, pid_of, id_of}
 use Rattle.machine_world.specs.Families.{MayRun}
 use Rattle.machine_world.specs.Asks.{Ask}
 use Rattle.machine_world.specs.Rows.{row}
-use Rattle.machine_world.specs.Event.{ask_of, answered, exited, is_exit, waitid, cloned, exec, asked, answer, effect, in_space, by_process, at_process, event}
+use Rattle.machine_world.specs.Event.{ask_of, answered, exited, is_exit, waitid, cloned, exec, asked, answer, trapped, effect, in_space, by_process, at_process, event}
 use Rattle.machine_world.proofs.States.{find_has}
 use Rattle.stays_laws.specs.Stays.{Stay, AreRight}
 use Rattle.stays_laws.specs.Sound.{IsSound}
 use Rattle.stays_laws.specs.Laws.{EventsKeepStays}
-use Rattle.stays_laws.proofs.EventStays.{Keeps, keeps_test, below, means, keeps_stepped, keeps_answered}
+use Rattle.stays_laws.proofs.EventStays.{Keeps, keeps_test, keeps_settled, below, means, keeps_stepped, keeps_answered}
 use Rattle.stays_laws.proofs.Ends.{keeps_trapped, keeps_exited}
 use Rattle.stays_laws.proofs.Forks.{keeps_cloned}
 use Rattle.stays_laws.proofs.Execs.{keeps_exec}
@@ -41,9 +41,9 @@ module _ (ys : List Stay) (w : World) (sound : IsSound w) (right : AreRight ys w
     keeps_effect : (m : Meaning) → means ys w sound right p s lives ready has ≡ m → Keeps ys (effect w p s.space m)
     unfolding answer
     keeps_effect (next regs bytes) is = keeps_stepped ys w sound right p s lives ready has regs bytes is
-    keeps_effect (trap signal) is = keeps_trapped ys w sound right p s lives ready has signal is
+    keeps_effect (trap signal) is = keeps_settled ys (trapped w p signal) (keeps_trapped ys w sound right p s lives ready has signal is)
     keeps_effect (refused access) is = tt
-    keeps_effect call is = keeps_asked is (sent (number_of p.regs) (args_of p.regs) s.space.bytes) refl
+    keeps_effect call is = keeps_settled ys (answer w p s.space) (keeps_asked is (sent (number_of p.regs) (args_of p.regs) s.space.bytes) refl)
 
   keeps_in : (p : Process) → find pid_of p.pid w.procs ≡ Some p → p.state ≡ Ready → (found : Option LiveSpace) → find id_of p.space w.spaces ≡ found
       → Keeps ys (in_space (λ q s. effect w q s (meaning q.regs s.bytes (writable_in s.maps))) p found)

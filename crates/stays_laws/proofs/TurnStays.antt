@@ -8,7 +8,7 @@ use Rattle.machine_world.specs.World.{World}
 use Rattle.machine_world.specs.Families.{MayRun, ready_pids}
 use Rattle.machine_world.specs.Event.{Trace, Outcome, went, strays, full, idle, noted, event}
 use Rattle.machine_world.specs.Turns.{Walk, End, seen_of, traced, stays_at, turned, turn, going_on, quantum_turn, turns}
-use Rattle.machine_world.proofs.Chains.{may_run_still, ready_found}
+use Rattle.machine_world.proofs.Runnable.{may_run_still, ready_found}
 use Rattle.stays_laws.specs.Stays.{Stay, collect, collect_all, kept_calls_of, loads_of, AreRight}
 use Rattle.stays_laws.specs.Sound.{IsSound}
 use Rattle.stays_laws.specs.Laws.{EventsKeepSound, TurnsKeepSound, EventsKeepStays, TurnsKeepStays, RunsKeepStays}

@@ -6,7 +6,7 @@ use Rattle.call_log.specs.declared.errno.Errno.{Errno}
 use Rattle.call_log.specs.Notes.{Written}
 use Rattle.call_log.specs.Sent.{sent}
 use Rattle.vfork_exec.specs.declared.family.Who.{Who}
-use Rattle.vfork_exec.specs.declared.family.State.TheVariants.{Ready}
+use Rattle.vfork_exec.specs.declared.family.State.TheVariants.{Ready, Waiting}
 use Rattle.vfork_exec.specs.declared.family.Ended.{Ended}
 use Rattle.vfork_exec.specs.declared.family.Waited.{Waited}
 use Rattle.vfork_exec.specs.declared.family.Waited.TheVariants.{Child, NoneYet, Waits}
@@ -62,7 +62,7 @@ module _ (ys : List Stay) (w : World) (sound : IsSound w) (right : AreRight ys w
   keeps_reaped : (who : Who) (r : Result Waited Errno) → Keeps ys (reaped w a who r)
   keeps_reaped who (Ok (Child child how)) = given_here (without_first p.pid who w.ended) 0 (info_at (arg a 2) (child_info child how))
   keeps_reaped who (Ok NoneYet) = given_here w.ended 0 (info_at (arg a 2) no_info)
-  keeps_reaped who (Ok Waits) = keeps_waited ys w sound right p s lives ready has is bytes reads who
+  keeps_reaped who (Ok Waits) = keeps_waited ys w sound right p s lives ready has is bytes reads (Waiting who)
   keeps_reaped who (Err e) = refused_here e
 
   pub keeps_waitid : Keeps ys (waitid w a)

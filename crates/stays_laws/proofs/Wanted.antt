@@ -13,7 +13,7 @@ use Rattle.mmap_rules.specs.Want.{pages_for, map_shared, map_private, map_fixed,
 use Rattle.mem_files.specs.Inodes.{Content, file, folder, Inode, Inodes, inode_at}
 use Rattle.fd_tables.specs.declared.view.View.{View}
 use Rattle.fd_tables.specs.declared.view.Target.{Target}
-use Rattle.fd_tables.specs.declared.view.Target.TheVariants.{Console, Node}
+use Rattle.fd_tables.specs.declared.view.Target.TheVariants.{Console, Node, Pipe}
 use Rattle.machine_world.specs.MapCalls.{side_of_content, side_of_node, side_of_target, side_of}
 
 -- ---- pages, and the file to which the descriptor leads
@@ -86,6 +86,7 @@ there_node nodes id reads None is = tt
 
 there_target : (nodes : Inodes) (reads : Bool) (t : Target) → There nodes (side_of_target nodes reads t)
 there_target nodes reads Console = tt
+there_target nodes reads (Pipe id write) = tt
 there_target nodes reads (Node id) = there_node nodes id reads (inode_at nodes id) refl
 
 pub there_side : (nodes : Inodes) (v : Option View) → There nodes (side_of nodes v)
