@@ -12,15 +12,17 @@ use Rattle.mem_files.specs.declared.node.Node.TheVariants.{Dir, File}
 use Rattle.mem_files.specs.Inodes.{Entry, Inodes, Content, file, folder, content_in, inode_at, kind_of, kind_in, size_of, size_in, entries_of, entries_in}
 use Rattle.call_log.specs.declared.errno.Errno.TheVariants.{Ebadf, Enotdir}
 use Rattle.fd_tables.specs.declared.view.View.{View}
-use Rattle.fd_tables.specs.declared.view.Target.TheVariants.{Console, Node}
+use Rattle.fd_tables.specs.declared.view.Target.{Target}
+use Rattle.fd_tables.specs.declared.view.Target.TheVariants.{Console, Node, Pipe}
 use Rattle.fd_tables.specs.Files.{OpenFiles, view}
 use Rattle.machine_world.specs.Asks.{Ask, arg, refuses}
 use Rattle.machine_world.specs.Descriptors.{Listing, record_len, type_of, dirent, is_short, listing, listed, list_row, folder_row, dents_row, getdents_row, written_at}
 use Rattle.file_calls.specs.declared.call.Call.{Call}
 use Rattle.file_calls.specs.declared.outcome.Outcome.{Outcome}
-use Rattle.file_calls.specs.declared.outcome.Then.TheVariants.{Move}
+use Rattle.file_calls.specs.declared.outcome.Then.{Then}
+use Rattle.file_calls.specs.declared.outcome.Then.TheVariants.{Nothing, Move, Take, TakePipe, MakePipe}
 use Rattle.file_calls.specs.Calls.{MadeBy, written_of, Gives}
-use Rattle.file_calls.specs.Outcomes.{GivesRow}
+use Rattle.file_calls.specs.Outcomes.{GivesRow, IsMove, HasEnds}
 use Rattle.file_calls.specs.Listings.{nothing_listed}
 use Rattle.file_calls.proofs.Asked.{arg_is, at_closed, at_open, gives_made}
 
@@ -149,8 +151,10 @@ module _ (call : Call) (a : Ask) (made : MadeBy call a) (files : OpenFiles) (sam
     unfolding getdents_row
     dents_open = at_open call a made files same (λ w. dents_row a w w.target) v shown
 
-    pub dents_console : v.target ≡ Console → getdents_row a ≡ refuses a Enotdir
-    dents_console console = dents_open ∙ ap (dents_row a v) console
+    pub dents_other : (t : Target) → v.target ≡ t → ((node : ℕ) → t ≡ Node node → ⊥) → getdents_row a ≡ refuses a Enotdir
+    dents_other Console leads other = dents_open ∙ ap (dents_row a v) leads
+    dents_other (Pipe id write) leads other = dents_open ∙ ap (dents_row a v) leads
+    dents_other (Node node) leads other = absurd (other node refl)
 
     module _ (node : ℕ) (leads : v.target ≡ Node node) (tree : Inodes) (same_tree : a.rest.tree ≡ tree) where
       dents_node : getdents_row a ≡ folder_row a v node (kind_of tree node)
@@ -172,3 +176,15 @@ pub dents_given : (call : Call) (tree : Inodes) (files : OpenFiles) (r : Result 
 dents_given call tree files (Ok o) v shown node leads kind gives = λ a made same_tree same.
     dents_folder call a made files same v shown node leads tree same_tree kind ∙ gives a made same_tree v refl
 dents_given call tree files (Err error) v shown node leads kind gives = gives
+
+-- no pipe is made where at most a position changes
+no_ends : (files : OpenFiles) (table : ℕ) (t : Then) → IsMove t → HasEnds files table t
+no_ends files table Nothing none = tt
+no_ends files table (Move fd at) none = tt
+no_ends files table (Take n) none = absurd none
+no_ends files table (TakePipe id n) none = absurd none
+no_ends files table (MakePipe ends cloexec) none = absurd none
+
+pub have_no_ends : (files : OpenFiles) (table : ℕ) (r : Result Outcome AllocError) → IfOk r (λ o. IsMove o.then) → IfOk r (λ o. HasEnds files table o.then)
+have_no_ends files table (Ok o) none = no_ends files table o.then none
+have_no_ends files table (Err error) none = none

@@ -5,7 +5,7 @@ use Rattle.vfork_exec.proofs.Keyed.{eqb_other}
 use Rattle.machine_world.specs.Asks.{Ask}
 use Rattle.machine_world.specs.Descriptors.{dup_row, dup3_row, close_row}
 use Rattle.machine_world.specs.PathCalls.{mkdirat_row, unlinkat_row, openat_row}
-use Rattle.machine_world.specs.Transfers.{write_row, writev_row}
+use Rattle.machine_world.specs.Transfers.{read_row, readv_row, write_row, writev_row}
 use Rattle.machine_world.specs.Rows.{row}
 use Rattle.file_calls.specs.Calls.{IsChange}
 
@@ -34,9 +34,17 @@ module _ (a : Ask) (number : ℕ) (is : a.number ≡ number) where
   unfolding row
   row_57 e = rw (is, e) refl
 
+  pub row_63 : number ≡ 63 → row a ≡ read_row a
+  unfolding row
+  row_63 e = rw (is, e) refl
+
   pub row_64 : number ≡ 64 → row a ≡ write_row a a.sent
   unfolding row
   row_64 e = rw (is, e) refl
+
+  pub row_65 : number ≡ 65 → row a ≡ readv_row a
+  unfolding row
+  row_65 e = rw (is, e) refl
 
   pub row_66 : number ≡ 66 → row a ≡ writev_row a
   unfolding row

@@ -4,7 +4,8 @@ use Rattle.std.specs.Prelude.{◌==◌, if◌then◌else◌, slice_index}
 use Rattle.call_log.specs.declared.errno.Errno.TheVariants.{Ebadf, Einval, Espipe}
 use Rattle.mem_files.specs.Inodes.{Inodes, size_of}
 use Rattle.fd_tables.specs.declared.view.View.{View}
-use Rattle.fd_tables.specs.declared.view.Target.TheVariants.{Console, Node}
+use Rattle.fd_tables.specs.declared.view.Target.{Target}
+use Rattle.fd_tables.specs.declared.view.Target.TheVariants.{Console, Node, Pipe}
 use Rattle.fd_tables.specs.Files.{OpenFiles, view}
 use Rattle.machine_world.specs.Asks.{Ask, refuses}
 use Rattle.machine_world.specs.Descriptors.{position_from, sought, seek_row, llseek_row}
@@ -25,8 +26,10 @@ module _ (call : Call) (files : OpenFiles) (a : Ask) (made : MadeBy call a) (sam
     unfolding llseek_row
     llseek_open = at_open call a made files same (λ w. seek_row a w w.target) v is
 
-    pub llseek_console : v.target ≡ Console → llseek_row a ≡ refuses a Espipe
-    llseek_console console = llseek_open ∙ ap (seek_row a v) console
+    pub llseek_other : (t : Target) → v.target ≡ t → ((node : ℕ) → t ≡ Node node → ⊥) → llseek_row a ≡ refuses a Espipe
+    llseek_other Console leads other = llseek_open ∙ ap (seek_row a v) leads
+    llseek_other (Pipe id write) leads other = llseek_open ∙ ap (seek_row a v) leads
+    llseek_other (Node node) leads other = absurd (other node refl)
 
     module _ (node : ℕ) (leads : v.target ≡ Node node) where
       pub llseek_whence : 2 < slice_index call.args 4 → llseek_row a ≡ refuses a Einval

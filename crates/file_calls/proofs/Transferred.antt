@@ -1,5 +1,5 @@
 -- read and readv: what they read into, and their pieces.
-use Rattle.std.proofs.Common.{◌≡◌, ℕ, ◌+◌, ◌*◌, ◌<◌, ◌≤◌, List, [], ◌∷◌, ◌++◌, map, Result, Ok, Err, refl, sym, ap, ◌∙◌, arith}
+use Rattle.std.proofs.Common.{◌≡◌, ℕ, ◌+◌, ◌*◌, ◌<◌, ◌≤◌, List, [], ◌∷◌, ◌++◌, map, None, Result, Ok, Err, refl, sym, ap, subst, ◌∙◌, arith}
 use Rattle.std.specs.Prelude.{IfOk, slice_index}
 use Rattle.std.specs.List.{range_with_len}
 use Rattle.std.specs.declared.alloc.AllocError.{AllocError}
@@ -15,13 +15,13 @@ use Rattle.machine_world.specs.Transfers.{read_into, read_row, readv_row}
 use Rattle.file_calls.specs.declared.call.Call.{Call}
 use Rattle.file_calls.specs.declared.piece.Piece.{Piece}
 use Rattle.file_calls.specs.declared.outcome.Outcome.{Outcome}
-use Rattle.file_calls.specs.Calls.{MadeBy}
-use Rattle.file_calls.specs.Outcomes.{GivesRow, span_of}
+use Rattle.file_calls.specs.Calls.{MadeBy, WaitsOn}
+use Rattle.file_calls.specs.Outcomes.{GivesRow, GivesUnlessWaits, span_of}
 use Rattle.file_calls.proofs.Asked.{arg_is, lt_true, lt_false}
 
 -- ---- the rows
 
-abbrev one_span : ℕ → ℕ → List Span
+abbrev pub one_span : ℕ → ℕ → List Span
 one_span addr len = record { addr = addr; len = len } ∷ []
 
 abbrev pub pieces_of : List ℕ → ℕ → List Span
@@ -47,6 +47,21 @@ pub rows_same : (row other : Ask → Row) (call : Call) (tree : Inodes) (files :
     ((a : Ask) → MadeBy call a → row a ≡ other a) → IfOk r (GivesRow other call tree files) → IfOk r (GivesRow row call tree files)
 rows_same row other call tree files (Ok o) same gives = λ a made same_tree same_files. same a made ∙ gives a made same_tree same_files
 rows_same row other call tree files (Err error) same gives = gives
+
+-- one row for another, where the call doesn't wait
+pub waits_same : (row other : Ask → Row) (call : Call) (tree : Inodes) (files : OpenFiles) (r : Result Outcome AllocError) →
+    ((a : Ask) → MadeBy call a → row a ≡ other a) → IfOk r (GivesUnlessWaits other call tree files) → IfOk r (GivesUnlessWaits row call tree files)
+waits_same row other call tree files (Ok o) same gives = λ a made same_tree same_files replies.
+    same a made ∙ gives a made same_tree same_files (subst (λ (r : Row). WaitsOn r None) (same a made) replies)
+waits_same row other call tree files (Err error) same gives = gives
+
+-- a call that doesn't wait
+pub replies_same : (row other : Ask → Row) (call : Call) (tree : Inodes) (files : OpenFiles) (r : Result Outcome AllocError) →
+    ((a : Ask) → MadeBy call a → row a ≡ other a) → ((a : Ask) → MadeBy call a → a.rest.files ≡ files → WaitsOn (row a) None) →
+    IfOk r (GivesUnlessWaits other call tree files) → IfOk r (GivesRow row call tree files)
+replies_same row other call tree files (Ok o) same replies gives = λ a made same_tree same_files.
+    same a made ∙ gives a made same_tree same_files (subst (λ (r : Row). WaitsOn r None) (same a made) (replies a made same_files))
+replies_same row other call tree files (Err error) same replies gives = gives
 
 -- one piece more
 pub pieces_more : (pieces before : List Piece) (piece : Piece) (bytes : List ℕ) (i : ℕ) → pieces ≡ before ++ piece ∷ [] →

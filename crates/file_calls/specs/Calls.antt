@@ -1,18 +1,21 @@
 -- A call on files as the code has it, and what the code makes of it.
-use Rattle.std.specs.Prelude.{◌≡◌, ℕ, ◌==◌, Bool, true, ◌||◌, List, [], map, Result, Ok, Err}
+use Rattle.std.specs.Prelude.{◌≡◌, ℕ, ◌==◌, Bool, true, ◌||◌, List, [], map, Option, Some, None, Result, Ok, Err, ⊤}
 use Rattle.std.specs.declared.alloc.AllocError.{AllocError}
 use Rattle.call_log.specs.Notes.{Written}
 use Rattle.call_log.specs.Values.{written_value}
 use Rattle.mem_files.specs.Inodes.{Inodes}
 use Rattle.fd_tables.specs.Files.{OpenFiles}
 use Rattle.fd_tables.specs.Kept.{Kept}
-use Rattle.fd_tables.specs.Changes.{moved, taken}
+use Rattle.fd_tables.specs.Pipes.{pipe_taken}
+use Rattle.fd_tables.specs.Changes.{moved, taken, piped}
 use Rattle.machine_world.specs.World.{Rest}
-use Rattle.machine_world.specs.Asks.{Ask, Row, gives, with_files}
+use Rattle.vfork_exec.specs.declared.family.State.TheVariants.{OnPipe}
+use Rattle.machine_world.specs.Asks.{Ask, Row, replies, waits, gives, with_files}
+use Rattle.machine_world.specs.Rows.{row}
 use Rattle.file_calls.specs.declared.call.Call.{Call}
 use Rattle.file_calls.specs.declared.outcome.Outcome.{Outcome}
 use Rattle.file_calls.specs.declared.outcome.Then.{Then}
-use Rattle.file_calls.specs.declared.outcome.Then.TheVariants.{Nothing, Move, Take}
+use Rattle.file_calls.specs.declared.outcome.Then.TheVariants.{Nothing, Move, Take, TakePipe, MakePipe}
 
 -- the same call, as the world has it
 pub record MadeBy (call : Call) (a : Ask) : Type 0 where
@@ -31,12 +34,25 @@ is_change number =
 abbrev pub IsChange : ℕ → Type 0
 IsChange number = is_change number ≡ true
 
--- getdents64, llseek, read and readv
+-- pipe2, getdents64, llseek, read and readv
 abbrev pub is_output : ℕ → Bool
-is_output number = number == 61 || number == 62 || number == 63 || number == 65
+is_output number = number == 59 || number == 61 || number == 62 || number == 63 || number == 65
 
 abbrev pub IsOutput : ℕ → Type 0
 IsOutput number = is_output number ≡ true
+
+-- ---- calls that wait on a pipe
+
+-- a row is a wait on this pipe, or no wait
+abbrev pub WaitsOn : Row → Option ℕ → Type 0
+WaitsOn (replies r) None = ⊤
+WaitsOn (replies r) (Some pipe) = ⊥
+WaitsOn (waits state) None = ⊥
+WaitsOn (waits state) (Some pipe) = state ≡ OnPipe pipe
+
+-- a call that doesn't wait, whatever it asks
+abbrev pub Replies : Call → OpenFiles → Type 0
+Replies call files = (a : Ask) → MadeBy call a → a.rest.files ≡ files → WaitsOn (row a) None
 
 -- the files and the console that the world has
 pub record IsRest (rest : Rest) (nodes : Inodes) (kept : Kept) (text : List ℕ) : Type 0 where
@@ -59,6 +75,8 @@ abbrev pub after : Then → ℕ → OpenFiles → OpenFiles
 after Nothing table files = files
 after (Move fd at) table files = moved files table fd at
 after (Take n) table files = taken files n
+after (TakePipe id n) table files = pipe_taken files id n
+after (MakePipe ends cloexec) table files = piped files table ends cloexec
 
 abbrev pub written_of : Outcome → List Written
 written_of o = map written_value o.got.items

@@ -12,6 +12,9 @@ use std::test::*;
 
 const HERE: u32 = 0xffff_ff9c;
 
+/// What stands for a call that waits.
+const WAITS: u32 = u32::MAX;
+
 /// A tree, what one process has open of it, and the console.
 #[derive(Drop)]
 struct Parts {
@@ -39,7 +42,7 @@ impl Parts {
         })
     }
 
-    /// The reply of a call; 0 of another one.
+    /// The reply of a call, if it doesn't wait; 0 of another one.
     fn call(&mut self, number: u32, args: [u32; 3], sent: &[u8]) -> Result<u32, AllocError> {
         if !is_change(number) {
             return Ok(0);
@@ -52,6 +55,9 @@ impl Parts {
             number,
             args: [a0, a1, a2, 0, 0, 0],
             sent: sent.to_vec(self.alloc)?,
+        };
+        let None = wait_of(&self.files, &call) else {
+            return Ok(WAITS);
         };
         change(&mut self.tree, &mut self.files, &mut self.console, &call)
     }
@@ -197,5 +203,33 @@ fn writes_move_the_position(rt: HostRuntime) -> Result<(), Fail> {
     parts.files.move_to(0, 3, 0x100_0000);
     assert_eq!(rt; parts.call(64, [3, 0, 1], b"x")?, Errno::Efbig.refusal());
     assert_eq!(rt; parts.call(64, [3, 0, 0], b"")?, 0);
+    Ok(())
+}
+
+#[test]
+fn a_pipe_is_full_and_closed(rt: HostRuntime) -> Result<(), Fail> {
+    let mut parts = Parts::new(rt.alloc())?;
+    parts.files.pipe(0, false)?;
+    let bytes = vec![in rt.alloc(); b'x'; 65_000]?;
+    let calls: [(u32, u32, usize, u32); 9] = [
+        (64, 4, 65_000, 65_000),
+        (64, 4, 4096, WAITS),
+        (64, 4, 5000, 536),
+        (64, 4, 5000, WAITS),
+        (64, 4, 0, 0),
+        (64, 3, 1, Errno::Ebadf.refusal()),
+        (57, 3, 0, 0),
+        (64, 4, 1, 0xffff_ffe0),
+        (64, 4, 0, 0),
+    ];
+    for (number, fd, count, reply) in calls {
+        let sent = &bytes[..count.min(bytes.len())];
+        assert_eq!(rt;
+            parts.call(number, [fd, 0, 0], sent)?,
+            reply,
+            "{number} {count}"
+        );
+    }
+    assert_eq!(rt; parts.files.pipe_view(1).held, 65_536);
     Ok(())
 }

@@ -3,7 +3,7 @@
 ghost use Rattle.machine_world.specs.Asks.{Ask};
 ghost use Rattle.machine_world.specs.Rows.{row};
 ghost use Rattle.file_calls.specs.Answers.{Answers};
-ghost use Rattle.file_calls.specs.Calls.{IsChange, MadeBy, IsRest, Changes, with_all};
+ghost use Rattle.file_calls.specs.Calls.{IsChange, MadeBy, Replies, IsRest, Changes, with_all};
 
 use crate::call::Call;
 use crate::descriptors::{close, dup, dup3};
@@ -14,7 +14,7 @@ use fd_tables::Files;
 use mem_files::{FileFault, Tree};
 use std::alloc::AllocError;
 
-/// Carries out a call on files that gives no bytes: dup, dup3, mkdirat, unlinkat, openat, close, write or writev. A refusal is
+/// Carries out a call on files that gives no bytes, and that doesn't wait: dup, dup3, mkdirat, unlinkat, openat, close, write or writev. A refusal is
 /// a reply, and changes nothing.
 pub fn change(
     tree: &mut Tree,
@@ -22,7 +22,8 @@ pub fn change(
     console: &mut Vec<u8>,
     call: &Call,
 ) -> Result<u32, AllocError>
-    requires { IsChange call.now.number }
+    requires change { IsChange call.now.number }
+    requires replies { Replies call.now files.old.open_files }
     ensures { (a : Ask) → MadeBy call.now a → IsRest a.rest tree.old files.old console.old.items → Changes a (row a) tree.old files.old console.old.items tree.new files.new console.new.items result }
 {
     match carry_out(tree, files, console, call) {
@@ -38,7 +39,8 @@ fn carry_out(
     console: &mut Vec<u8>,
     call: &Call,
 ) -> Result<u32, FileFault>
-    requires { IsChange call.now.number }
+    requires change { IsChange call.now.number }
+    requires replies { Replies call.now files.old.open_files }
     ensures { (a : Ask) → MadeBy call.now a → IsRest a.rest tree.old files.old console.old.items → Answers a (row a) (with_all a.rest tree.new files.new.open_files console.new.items) result }
 {
     match call.number {

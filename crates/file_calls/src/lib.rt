@@ -13,15 +13,18 @@ mod outcome;
 mod outputs;
 mod paths;
 mod piece;
+mod piping;
 mod reading;
 mod records;
 mod seeking;
+mod waiting;
 mod writing;
 
 pub use call::Call;
 pub use changes::change;
 pub use outcome::{Outcome, Then};
 pub use outputs::output;
+pub use waiting::wait_of;
 
 #[cfg(test)]
 mod change_tests;

@@ -9,7 +9,7 @@ ghost use Rattle.fd_tables.specs.declared.view.View.{View};
 ghost use Rattle.machine_world.specs.Asks.{Ask};
 ghost use Rattle.machine_world.specs.Descriptors.{record_len, is_short, listing, list_row, written_at, getdents_row};
 ghost use Rattle.file_calls.specs.Calls.{MadeBy, Gives};
-ghost use Rattle.file_calls.specs.Outcomes.{GivesRow, CanTake, IsNoTake};
+ghost use Rattle.file_calls.specs.Outcomes.{GivesRow, CanTake, HasEnds, IsMove};
 ghost use Rattle.file_calls.specs.Listings.{listing_value, nothing_listed};
 
 use crate::call::Call;
@@ -29,6 +29,7 @@ pub(crate) fn getdents64(
 ) -> Result<Outcome, AllocError>
     ensures gives { IfOk result (GivesRow getdents_row call.now tree.now files.now.open_files) }
     ensures fits { IfOk result (λ o. CanTake files.now.open_files o.then) }
+    ensures ends { IfOk result (λ o. HasEnds files.now.open_files call.now.table o.then) }
 {
     let view = match files.view(call.table, call.args[0]) {
         Ok(view) => view,
@@ -47,7 +48,7 @@ pub(crate) fn getdents64(
 fn list(alloc: Global, tree: &Tree, node: u32, at: u64, call: &Call) -> Result<Outcome, AllocError>
     requires { kind_of tree.now node ≡ Dir }
     ensures gives { IfOk result (λ o. (a : Ask) → MadeBy call.now a → a.rest.tree ≡ tree.now → (v : View) → v.at ≡ at → Gives a (list_row a v (drop at (entries_of tree.now node)) (slice_index call.now.args 2)) o) }
-    ensures then { IfOk result (λ o. IsNoTake o.then) }
+    ensures then { IfOk result (λ o. IsMove o.then) }
 {
     let room = call.args[2];
     let from = at.min(u64::from(tree.size(node))) as u32;

@@ -1,6 +1,7 @@
 //! What a call that gives bytes makes of files and descriptors.
 
 use call_log::{Errno, Got};
+use fd_tables::Ends;
 use std::alloc::Global;
 
 /// What changes once the bytes are given.
@@ -12,6 +13,10 @@ pub enum Then {
     Move { fd: u32, at: u64 },
     /// So many bytes go from the front of the console's input.
     Take(u32),
+    /// So many bytes go from the front of a pipe.
+    TakePipe { id: u32, n: u32 },
+    /// A pipe is made, with its ends at the two lowest descriptors that are free.
+    MakePipe { ends: Ends, cloexec: bool },
 }
 
 /// What a call gives: its reply, the bytes that go into its caller's memory, and what changes then.

@@ -2,25 +2,30 @@
 
 ghost use Rattle.std.specs.Prelude.{IfOk};
 ghost use Rattle.machine_world.specs.Rows.{row};
-ghost use Rattle.file_calls.specs.Calls.{IsOutput};
-ghost use Rattle.file_calls.specs.Outcomes.{GivesRow, CanTake};
+ghost use Rattle.file_calls.specs.Calls.{IsOutput, Replies};
+ghost use Rattle.file_calls.specs.Outcomes.{GivesRow, CanTake, HasEnds};
 
 use crate::call::Call;
 use crate::listing::getdents64;
 use crate::outcome::Outcome;
+use crate::piping::pipe2;
 use crate::reading::{read, readv};
 use crate::seeking::llseek;
 use fd_tables::Files;
 use mem_files::Tree;
 use std::alloc::{AllocError, Global};
 
-/// What a call on files gives that changes nothing before: getdents64, llseek, read or readv. A refusal is a reply without bytes.
+/// What a call on files gives that changes nothing before, and that doesn't wait: pipe2, getdents64, llseek, read or readv. A refusal
+/// is a reply without bytes.
 pub fn output(alloc: Global, tree: &Tree, files: &Files, call: &Call) -> Result<Outcome, AllocError>
-    requires { IsOutput call.now.number }
+    requires output { IsOutput call.now.number }
+    requires replies { Replies call.now files.now.open_files }
     ensures gives { IfOk result (GivesRow row call.now tree.now files.now.open_files) }
     ensures fits { IfOk result (λ o. CanTake files.now.open_files o.then) }
+    ensures ends { IfOk result (λ o. HasEnds files.now.open_files call.now.table o.then) }
 {
     match call.number {
+        59 => pipe2(alloc, files, call),
         61 => getdents64(alloc, tree, files, call),
         62 => llseek(alloc, tree, files, call),
         63 => read(alloc, tree, files, call),

@@ -6,10 +6,11 @@ ghost use Rattle.byte_words.specs.Numbers.{low_first, number_at};
 ghost use Rattle.call_log.specs.Sent.{most_moved, piece_at};
 ghost use Rattle.call_log.specs.Values.{written_value};
 ghost use Rattle.mem_files.specs.Inodes.{bytes_of};
+ghost use Rattle.fd_tables.specs.Pipes.{pipe_bytes};
 ghost use Rattle.machine_world.specs.Transfers.{moved_bytes, scattered, read_into, read_row, readv_row};
 ghost use Rattle.file_calls.specs.Calls.{written_of};
-ghost use Rattle.file_calls.specs.Outcomes.{GivesRow, CanTake, span_of};
-ghost use Rattle.file_calls.specs.declared.outcome.Then.TheVariants.{Move, Take};
+ghost use Rattle.file_calls.specs.Outcomes.{GivesUnlessWaits, CanTake, HasEnds, span_of};
+ghost use Rattle.file_calls.specs.declared.outcome.Then.TheVariants.{Move, Take, TakePipe};
 
 use crate::call::Call;
 use crate::outcome::{Outcome, Then};
@@ -23,7 +24,7 @@ use std::alloc::{AllocError, Global};
 const MOST_MOVED: u64 = 16_777_216;
 
 /// The most pieces of one call.
-const MOST_PIECES: u32 = 1024;
+pub(crate) const MOST_PIECES: u32 = 1024;
 
 /// read(fd, p, n).
 pub(crate) fn read(
@@ -32,8 +33,9 @@ pub(crate) fn read(
     files: &Files,
     call: &Call,
 ) -> Result<Outcome, AllocError>
-    ensures gives { IfOk result (GivesRow read_row call.now tree.now files.now.open_files) }
+    ensures gives { IfOk result (GivesUnlessWaits read_row call.now tree.now files.now.open_files) }
     ensures fits { IfOk result (λ o. CanTake files.now.open_files o.then) }
+    ensures ends { IfOk result (λ o. HasEnds files.now.open_files call.now.table o.then) }
 {
     let piece = Piece {
         addr: call.args[1],
@@ -49,8 +51,9 @@ pub(crate) fn readv(
     files: &Files,
     call: &Call,
 ) -> Result<Outcome, AllocError>
-    ensures gives { IfOk result (GivesRow readv_row call.now tree.now files.now.open_files) }
+    ensures gives { IfOk result (GivesUnlessWaits readv_row call.now tree.now files.now.open_files) }
     ensures fits { IfOk result (λ o. CanTake files.now.open_files o.then) }
+    ensures ends { IfOk result (λ o. HasEnds files.now.open_files call.now.table o.then) }
 {
     if call.args[2] > MOST_PIECES {
         return Ok(Outcome::refusal(alloc, Errno::Einval));
@@ -74,7 +77,7 @@ fn pieces(alloc: Global, bytes: &[u8], count: u32) -> Result<Vec<Piece>, AllocEr
 }
 
 /// The number of four bytes from an offset on, the lowest first; a byte past the end reads as 0.
-fn word_in(bytes: &[u8], at: usize) -> u32
+pub(crate) fn word_in(bytes: &[u8], at: usize) -> u32
     requires { at + 4 < 2 ^ 64 }
     ensures { result ≡ number_at low_first 4 bytes.now at }
 {
@@ -101,8 +104,9 @@ fn read_into(
     call: &Call,
     pieces: &[Piece],
 ) -> Result<Outcome, AllocError>
-    ensures gives { IfOk result (GivesRow (λ a. read_into a (map span_of pieces.now)) call.now tree.now files.now.open_files) }
+    ensures gives { IfOk result (GivesUnlessWaits (λ a. read_into a (map span_of pieces.now)) call.now tree.now files.now.open_files) }
     ensures fits { IfOk result (λ o. CanTake files.now.open_files o.then) }
+    ensures ends { IfOk result (λ o. HasEnds files.now.open_files call.now.table o.then) }
 {
     let view = match files.view(call.table, call.args[0]) {
         Ok(view) => view,
@@ -117,6 +121,7 @@ fn read_into(
             Node::Dir => Ok(Outcome::refusal(alloc, Errno::Eisdir)),
             Node::File => file_read(alloc, tree.bytes(node), call.args[0], view.at, pieces),
         },
+        Target::Pipe { id, .. } => pipe_read(alloc, files, id, pieces),
     }
 }
 
@@ -132,6 +137,21 @@ fn console_read(alloc: Global, files: &Files, pieces: &[Piece]) -> Result<Outcom
         value: count,
         got: scattered(alloc, bytes, pieces)?,
         then: Then::Take(count),
+    })
+}
+
+/// Reads from a pipe's front.
+fn pipe_read(alloc: Global, files: &Files, id: u32, pieces: &[Piece]) -> Result<Outcome, AllocError>
+    ensures value { IfOk result (λ o. o.value ≡ length (moved_bytes (map span_of pieces.now) (pipe_bytes files.now.open_files id))) }
+    ensures got { IfOk result (λ o. written_of o ≡ scattered (moved_bytes (map span_of pieces.now) (pipe_bytes files.now.open_files id)) (map span_of pieces.now)) }
+    ensures then { IfOk result (λ o. o.then ≡ TakePipe id (length (moved_bytes (map span_of pieces.now) (pipe_bytes files.now.open_files id)))) }
+{
+    let bytes = files.pipe_front(alloc, id, moved_len(pieces))?;
+    let n = bytes.len() as u32;
+    Ok(Outcome {
+        value: n,
+        got: scattered(alloc, &bytes, pieces)?,
+        then: Then::TakePipe { id, n },
     })
 }
 

@@ -5,7 +5,7 @@ ghost use Rattle.mem_files.specs.Inodes.{size_of};
 ghost use Rattle.machine_world.specs.Asks.{Ask, refuses};
 ghost use Rattle.machine_world.specs.Descriptors.{position_from, sought, llseek_row};
 ghost use Rattle.file_calls.specs.Calls.{MadeBy};
-ghost use Rattle.file_calls.specs.Outcomes.{GivesRow, CanTake};
+ghost use Rattle.file_calls.specs.Outcomes.{GivesRow, CanTake, HasEnds};
 
 use crate::call::Call;
 use crate::outcome::{Outcome, Then};
@@ -26,6 +26,7 @@ pub(crate) fn llseek(
 ) -> Result<Outcome, AllocError>
     ensures gives { IfOk result (GivesRow llseek_row call.now tree.now files.now.open_files) }
     ensures fits { IfOk result (λ o. CanTake files.now.open_files o.then) }
+    ensures ends { IfOk result (λ o. HasEnds files.now.open_files call.now.table o.then) }
 {
     let at = match sought_at(tree, files, call) {
         Ok(at) => at,

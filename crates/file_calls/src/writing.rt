@@ -1,18 +1,25 @@
 //! The calls that write.
 
-ghost use Rattle.std.specs.Prelude.{◌≡◌, ◌+◌, ◌*◌, drop, ◌^◌, ◌<◌, ◌==◌, ◌++◌, slice_index, if◌then◌else◌, length, is_ok, IfOk, IfErr};
+ghost use Rattle.std.specs.Prelude.{◌≡◌, ◌+◌, ◌*◌, drop, ◌^◌, ◌<◌, ◌≤◌, ◌==◌, ◌++◌, None, slice_index, if◌then◌else◌, length, is_ok, IfOk, IfErr};
 ghost use Rattle.mem_files.specs.declared.fault.FileFault.TheVariants.{Memory};
 ghost use Rattle.mem_files.specs.Inodes.{size_of};
-ghost use Rattle.machine_world.specs.Asks.{Ask, storage_of, with_storage};
-ghost use Rattle.machine_world.specs.Transfers.{write_row, writev_row, node_write, write_position};
+ghost use Rattle.machine_world.specs.Asks.{Ask, with_files, storage_of, with_storage};
+ghost use Rattle.machine_world.specs.Transfers.{write_row, writev_row, pipe_write, pipe_room, write_waits, node_write, write_position};
+ghost use Rattle.fd_tables.specs.Pipes.{most_held};
 ghost use Rattle.fd_tables.specs.Changes.{storage, moved};
 ghost use Rattle.file_calls.specs.Answers.{Answers};
-ghost use Rattle.file_calls.specs.Calls.{MadeBy, IsRest, with_all};
+ghost use Rattle.file_calls.specs.Calls.{MadeBy, IsRest, WaitsOn, with_all};
 
 use crate::call::Call;
 use call_log::Errno;
-use fd_tables::{Files, Target, View};
+use fd_tables::{Files, PipeView, Target, View};
 use mem_files::{FileFault, Tree};
+
+/// The most bytes that a pipe holds.
+const MOST_HELD: u32 = 65_536;
+
+/// A write of so many bytes to a pipe is whole, or waits.
+const MOST_WHOLE: usize = 4096;
 
 /// The most pieces of a writev.
 const MOST_PIECES: u32 = 1024;
@@ -24,7 +31,7 @@ pub(crate) fn writev(
     console: &mut Vec<u8>,
     call: &Call,
 ) -> Result<u32, FileFault>
-    ensures { (a : Ask) → MadeBy call.now a → IsRest a.rest tree.old files.old console.old.items → Answers a (writev_row a) (with_all a.rest tree.new files.new.open_files console.new.items) result }
+    ensures { (a : Ask) → MadeBy call.now a → IsRest a.rest tree.old files.old console.old.items → WaitsOn (writev_row a) None → Answers a (writev_row a) (with_all a.rest tree.new files.new.open_files console.new.items) result }
 {
     let count = call.args[2];
     if count > MOST_PIECES {
@@ -34,7 +41,7 @@ pub(crate) fn writev(
 }
 
 /// What stands behind so many pieces.
-fn behind_pieces(sent: &[u8], count: u32) -> &[u8]
+pub(crate) fn behind_pieces(sent: &[u8], count: u32) -> &[u8]
     ensures { result.now ≡ drop (8 * count) sent.now }
 {
     let start = sent.len().min(8 * count as usize);
@@ -49,7 +56,7 @@ pub(crate) fn write(
     call: &Call,
     bytes: &[u8],
 ) -> Result<u32, FileFault>
-    ensures { (a : Ask) → MadeBy call.now a → IsRest a.rest tree.old files.old console.old.items → Answers a (write_row a bytes.now) (with_all a.rest tree.new files.new.open_files console.new.items) result }
+    ensures { (a : Ask) → MadeBy call.now a → IsRest a.rest tree.old files.old console.old.items → WaitsOn (write_row a bytes.now) None → Answers a (write_row a bytes.now) (with_all a.rest tree.new files.new.open_files console.new.items) result }
 {
     let view = files.view(call.table, call.args[0])?;
     if !view.way.write {
@@ -58,7 +65,41 @@ pub(crate) fn write(
     match view.target {
         Target::Console => write_console(console, bytes),
         Target::Node(node) => write_node(tree, files, call, view, node, bytes),
+        Target::Pipe { id, .. } => write_pipe(files, id, bytes),
     }
+}
+
+/// How many more bytes a pipe takes.
+fn room_of(pipe: PipeView) -> usize
+    requires { pipe.held ≤ most_held }
+    ensures { result ≡ pipe_room pipe }
+{
+    (MOST_HELD - pipe.held) as usize
+}
+
+/// Whether a write of so many bytes waits: where it must be whole and has no room, and where there is no room at all.
+pub(crate) fn must_wait(pipe: PipeView, count: usize) -> bool
+    requires { pipe.held ≤ most_held }
+    ensures { result ≡ write_waits count pipe }
+{
+    let room = room_of(pipe);
+    (count <= MOST_WHOLE && room < count) || room == 0
+}
+
+/// Appends to a pipe as many bytes as it has room for. EPIPE where its reading end is closed, and there are bytes.
+fn write_pipe(files: &mut Files, id: u32, bytes: &[u8]) -> Result<u32, FileFault>
+    ensures { (a : Ask) → a.rest.files ≡ files.old.open_files → WaitsOn (pipe_write a id bytes.now) None → Answers a (pipe_write a id bytes.now) (with_files a.rest files.new.open_files) result }
+{
+    if bytes.is_empty() {
+        return Ok(0);
+    }
+    let pipe = files.pipe_view(id);
+    if !pipe.read_open {
+        return Err(FileFault::Errno(Errno::Epipe));
+    }
+    let count = bytes.len().min(room_of(pipe));
+    files.pipe_put(id, &bytes[..count]);
+    Ok(count as u32)
 }
 
 /// The console takes all, and gives the number of bytes.

@@ -1,11 +1,14 @@
 //! The worked examples, over a folder and a file.
 
+ghost use Rattle.std.specs.Prelude.{◌≡◌, IfOk};
 ghost use Rattle.file_calls.specs.Calls.{IsOutput};
 
 use super::*;
+use crate::changes::change;
 use crate::outcome::Then;
+use crate::waiting::wait_of;
 use call_log::Errno;
-use fd_tables::Way;
+use fd_tables::{Ends, Way};
 use std::process::Abort;
 use std::test::*;
 
@@ -40,6 +43,20 @@ fn with_files(alloc: Global) -> Result<World, Fail> {
     Ok(World { alloc, tree, files })
 }
 
+/// A call, by its number, its arguments, and the bytes that it read.
+fn call(world: &World, number: u32, args: [u32; 6], sent: &[u8]) -> Result<Call, AllocError>
+    ensures { IfOk result (λ call. call.number ≡ number) }
+{
+    Ok(Call {
+        pid: 1,
+        parent: 0,
+        table: 0,
+        number,
+        args,
+        sent: Vec::from_slice(world.alloc, sent)?,
+    })
+}
+
 /// What a call gives, by its number, its arguments, and the bytes that it read.
 fn check(
     rt: &impl Abort,
@@ -51,13 +68,9 @@ fn check(
 ) -> Result<(), Fail>
     requires { IsOutput number }
 {
-    let call = Call {
-        pid: 1,
-        parent: 0,
-        table: 0,
-        number,
-        args,
-        sent: Vec::from_slice(world.alloc, sent)?,
+    let call = call(world, number, args, sent)?;
+    let None = wait_of(&world.files, &call) else {
+        panic!(rt; "{number} waits");
     };
     let outcome = output(world.alloc, &world.tree, &world.files, &call)?;
     let (value, got, then) = expected;
@@ -252,4 +265,48 @@ fn pieces_are_filled_in_order(rt: HostRuntime) -> Result<(), Fail> {
         b"",
         refused(Errno::Einval),
     )
+}
+
+#[test]
+fn a_pipe_is_made(rt: HostRuntime) -> Result<(), Fail> {
+    let mut world = with_files(rt.alloc())?;
+    let ends = Ends { read: 5, write: 6 };
+    for (flags, cloexec) in [(0, false), (0x80000, true)] {
+        let made: Expected<'_> = (
+            0,
+            &[(80, b"\x05\0\0\0\x06\0\0\0")],
+            Then::MakePipe { ends, cloexec },
+        );
+        check(&rt, &world, 59, [80, flags, 0, 0, 0, 0], b"", made)?;
+    }
+    let bad = refused(Errno::Einval);
+    check(&rt, &world, 59, [80, 0x800, 0, 0, 0, 0], b"", bad)
+}
+
+#[test]
+fn a_pipe_is_read(rt: HostRuntime) -> Result<(), Fail> {
+    let mut world = with_files(rt.alloc())?;
+    world.files.pipe(0, false)?;
+    let waits: [([u32; 3], Option<u32>); 4] = [
+        ([5, 80, 4], Some(1)),
+        ([5, 80, 0], None),
+        ([6, 80, 4], None),
+        ([4, 80, 4], None),
+    ];
+    for ([fd, at, count], pipe) in waits {
+        let read = call(&world, 63, [fd, at, count, 0, 0, 0], b"")?;
+        assert_eq!(rt; wait_of(&world.files, &read), pipe, "{fd} {count}");
+    }
+    let written = call(&world, 64, [6, 0, 3, 0, 0, 0], b"abc")?;
+    let None = wait_of(&world.files, &written) else {
+        panic!(&rt; "a pipe has no room");
+    };
+    let mut console = Vec::new(rt.alloc());
+    change(&mut world.tree, &mut world.files, &mut console, &written)?;
+    let front: Expected<'_> = (2, &[(80, b"ab")], Then::TakePipe { id: 1, n: 2 });
+    check(&rt, &world, 63, [5, 80, 2, 0, 0, 0], b"", front)?;
+    world.files.pipe(0, false)?;
+    world.files.close(&mut world.tree, 0, 8)?;
+    let end: Expected<'_> = (0, &[], Then::TakePipe { id: 2, n: 0 });
+    check(&rt, &world, 63, [7, 80, 4, 0, 0, 0], b"", end)
 }

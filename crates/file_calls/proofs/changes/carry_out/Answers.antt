@@ -1,6 +1,8 @@
 -- Each number has its row.
-use Rattle.std.proofs.Common.{arith, ◌∙◌, ap, sym}
+use Rattle.std.proofs.Common.{arith, None, ◌∙◌, ap, sym, subst}
+use Rattle.machine_world.specs.Asks.{Row}
 use Rattle.machine_world.specs.Transfers.{write_row}
+use Rattle.file_calls.specs.Calls.{WaitsOn}
 use Rattle.file_calls.proofs.Faults.{over_files, over_tree, over_storage, over_all, stored}
 use Rattle.file_calls.proofs.Numbers.{row_23, row_24, row_34, row_35, row_56, row_57, row_64, row_66, is_last}
 use Rattle.file_calls.proofs.changes.carry_out.Goals as goal
@@ -24,8 +26,11 @@ pub returns-in-57 : goal.returns-in-57
 returns-in-57 c = λ a made rest. over_storage a _ _ (row_57 a _ made.number c.in-57.is) _ _ _ _ rest.console (c.close.ensures a made (stored a.rest _ _ rest.tree rest.files))
 
 pub returns-in-64 : goal.returns-in-64
-returns-in-64 c = λ a made rest. over_all a _ _ (row_64 a _ made.number c.in-64.is ∙ ap (write_row a) (made.sent ∙ sym c.deref.ensures.value)) _ _ _ _ (c.write.ensures a made rest)
+returns-in-64 c = λ a made rest.
+    let is = row_64 a _ made.number c.in-64.is ∙ ap (write_row a) (made.sent ∙ sym c.deref.ensures.value) in
+    over_all a _ _ is _ _ _ _ (c.write.ensures a made rest (subst (λ (r : Row). WaitsOn r None) is (c.requires.replies a made rest.files)))
 
 pub returns-in_default : goal.returns-in_default
 returns-in_default c = λ a made rest.
-    over_all a _ _ (row_66 a _ made.number (is_last c.args.call.now.number c.requires (λ e. omega arith) (λ e. omega arith) (λ e. omega arith) (λ e. omega arith) (λ e. omega arith) (λ e. omega arith) (λ e. omega arith))) _ _ _ _ (c.writev.ensures a made rest)
+    let is = row_66 a _ made.number (is_last c.args.call.now.number c.requires.change (λ e. omega arith) (λ e. omega arith) (λ e. omega arith) (λ e. omega arith) (λ e. omega arith) (λ e. omega arith) (λ e. omega arith)) in
+    over_all a _ _ is _ _ _ _ (c.writev.ensures a made rest (subst (λ (r : Row). WaitsOn r None) is (c.requires.replies a made rest.files)))

@@ -1,9 +1,9 @@
 -- Each return is an answer of the row.
-use Rattle.std.proofs.Common.{◌+◌, ◌*◌, ◌^◌, ◌∙◌, sym, ap}
+use Rattle.std.proofs.Common.{◌+◌, ◌*◌, ◌^◌, ◌∙◌, sym, ap, refl}
 use Rattle.std.proofs.lemmas.Result.{err_from_is_err_and}
 use Rattle.machine_world.specs.Asks.{refuses}
 use Rattle.file_calls.proofs.Asked.{closed, is_open}
-use Rattle.file_calls.proofs.Sought.{llseek_closed, llseek_console, llseek_whence, llseek_found}
+use Rattle.file_calls.proofs.Sought.{llseek_closed, llseek_other, llseek_whence, llseek_found}
 use Rattle.file_calls.proofs.seeking.sought_at.Goals as goal
 
 pub returns-in_err-view : goal.returns-in_err-view
@@ -14,7 +14,7 @@ returns-in_err-view c = λ a made same_tree same.
 
 pub returns-in_default : goal.returns-in_default
 returns-in_default c = λ a made same_tree same.
-    llseek_console _ _ a made same c.in_ok-view.view (is_open _ _ _ c.view.ensures c.in_ok-view.was) c.in_default.is
+    llseek_other _ _ a made same c.in_ok-view.view (is_open _ _ _ c.view.ensures c.in_ok-view.was) _ refl c.in_default.not-Node
 
 pub returns-in_default-base : goal.returns-in_default-base
 returns-in_default-base c = λ a made same_tree same.

@@ -1,15 +1,17 @@
 -- The row of writev, whose data stands behind its pieces.
-use Rattle.std.proofs.Common.{◌≡◌, ◌∙◌, ◌*◌, ap, drop, sym}
-use Rattle.machine_world.specs.Asks.{arg}
+use Rattle.std.proofs.Common.{◌≡◌, ◌∙◌, ◌*◌, None, ap, subst, drop, sym}
+use Rattle.machine_world.specs.Asks.{Row, arg}
 use Rattle.machine_world.specs.Transfers.{write_row}
+use Rattle.file_calls.specs.Calls.{WaitsOn}
 use Rattle.file_calls.proofs.Faults.{kept_all, over_all}
 use Rattle.file_calls.proofs.Writes.{writev_many, writev_few}
 use Rattle.file_calls.proofs.writing.writev.Goals as goal
 
 pub returns-then-count-gt-MOST_PIECES : goal.returns-then-count-gt-MOST_PIECES
-returns-then-count-gt-MOST_PIECES c = λ a made rest. (writev_many a (rw made.args c.if-count-gt-MOST_PIECES.true), kept_all a.rest _ _ _ rest.tree rest.files rest.console)
+returns-then-count-gt-MOST_PIECES c = λ a made rest says. (writev_many a (rw made.args c.if-count-gt-MOST_PIECES.true), kept_all a.rest _ _ _ rest.tree rest.files rest.console)
 
 pub returns : goal.returns
-returns c = λ a made rest.
+returns c = λ a made rest says.
     let behind : drop (8 * arg a 2) a.sent ≡ c.behind_pieces.result.now = rw (made.args, made.sent, ← c.deref.ensures.value) (sym c.behind_pieces.ensures) in
-    over_all a _ _ (writev_few a (rw made.args c.if-count-gt-MOST_PIECES.false) ∙ ap (write_row a) behind) _ _ _ _ (c.write.ensures a made rest)
+    let is = writev_few a (rw made.args c.if-count-gt-MOST_PIECES.false) ∙ ap (write_row a) behind in
+    over_all a _ _ is _ _ _ _ (c.write.ensures a made rest (subst (λ (r : Row). WaitsOn r None) is says))
