@@ -1,5 +1,5 @@
 -- The parts with one program more stand for the world that starts it.
-use Rattle.std.proofs.Common.{◌≡◌, ℕ, ◌+◌, ◌-◌, ◌<◌, Bool, true, false, List, [], ◌∷◌, ◌++◌, map, length, arith, refl, sym, ap, subst, ◌∙◌, length-set, length-append}
+use Rattle.std.proofs.Common.{◌≡◌, ℕ, ◌+◌, ◌<◌, Bool, true, false, List, [], ◌∷◌, ◌++◌, map, length, arith, refl, sym, ap, subst, ◌∙◌, length-set, length-append}
 use Rattle.std.specs.Prelude.{Option, Some, None, Result, Ok, Err, ⊤}
 use Rattle.page_runs.specs.declared.place.Kind.{Kind}
 use Rattle.mmap_rules.specs.Held.{Held, page_address}
@@ -19,7 +19,6 @@ use Rattle.flat_loader.specs.declared.loading.Loaded.{Loaded}
 use Rattle.flat_loader.specs.declared.loading.LoadRefusal.{LoadRefusal}
 use Rattle.flat_loader.specs.declared.loading.LoadRefusal.TheVariants.{E2big, NoRun, Memory}
 use Rattle.machine_world.specs.World.{World}
-use Rattle.machine_world.specs.Free.{free}
 use Rattle.machine_world.specs.Boot.{StartLine, BootFault, args_too_big, begun, Found, placed, fitting}
 use Rattle.syscall_layer.specs.declared.start.StartRefusal.{StartRefusal}
 use Rattle.syscall_layer.specs.declared.start.StartRefusal.TheVariants as refusal

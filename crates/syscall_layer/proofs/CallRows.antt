@@ -56,6 +56,7 @@ record Plain (n : ℕ) : Type 0 where
   n35 : (n == 35) ≡ false
   n56 : (n == 56) ≡ false
   n57 : (n == 57) ≡ false
+  n59 : (n == 59) ≡ false
   n61 : (n == 61) ≡ false
   n62 : (n == 62) ≡ false
   n63 : (n == 63) ≡ false
@@ -73,6 +74,7 @@ plain n change output mapping = record {
   n35 = none (n == 35) (λ is. let e : n ≡ 35 = eqb_is n 35 is in change_not n 35 e refl change);
   n56 = none (n == 56) (λ is. let e : n ≡ 56 = eqb_is n 56 is in change_not n 56 e refl change);
   n57 = none (n == 57) (λ is. let e : n ≡ 57 = eqb_is n 57 is in change_not n 57 e refl change);
+  n59 = none (n == 59) (λ is. let e : n ≡ 59 = eqb_is n 59 is in output_not n 59 e refl output);
   n61 = none (n == 61) (λ is. let e : n ≡ 61 = eqb_is n 61 is in output_not n 61 e refl output);
   n62 = none (n == 62) (λ is. let e : n ≡ 62 = eqb_is n 62 is in output_not n 62 e refl output);
   n63 = none (n == 63) (λ is. let e : n ≡ 63 = eqb_is n 63 is in output_not n 63 e refl output);
@@ -122,7 +124,7 @@ module _ (call : Call) (a : Ask) (made : MadeBy call a) where
     unfolding row
     row_pid n29 is =
         let p = plain call.number change output mapping in
-        rw (made.number, p.n23, p.n24, eqb_other call.number 29 n29, p.n34, p.n35, p.n56, p.n57, p.n61, p.n62, p.n63, p.n64, p.n65, p.n66, is, made.pid) refl
+        rw (made.number, p.n23, p.n24, eqb_other call.number 29 n29, p.n34, p.n35, p.n56, p.n57, p.n59, p.n61, p.n62, p.n63, p.n64, p.n65, p.n66, is, made.pid) refl
 
     pub row_other : (value : ℕ) → call.number ≢ 29 → asks_pid call.number ≡ false → call.number ≢ 124 → call.number ≢ 173 → call.number ≢ 214 → value ≡ refusal Enosys →
         row a ≡ replies (reply_of a (Answer value))
@@ -138,6 +140,7 @@ module _ (call : Call) (a : Ask) (made : MadeBy call a) where
           p.n35,
           p.n56,
           p.n57,
+          p.n59,
           p.n61,
           p.n62,
           p.n63,

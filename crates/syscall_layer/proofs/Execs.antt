@@ -1,5 +1,5 @@
 -- The parts with a program in the place of another one stand for the world in which it is.
-use Rattle.std.proofs.Common.{◌≡◌, ℕ, ◌+◌, Bool, true, false, List, [], ◌∷◌, ◌++◌, map, length, Option, Some, None, refl, sym, ap, subst, ◌∙◌, arith, add-zero, length-set, length-append}
+use Rattle.std.proofs.Common.{◌≡◌, ℕ, Bool, true, false, List, [], ◌∷◌, ◌++◌, map, length, Option, Some, None, refl, sym, ap, subst, ◌∙◌, arith, add-zero, length-set, length-append}
 use Rattle.std.specs.Prelude.{if◌then◌else◌, IsSome, slice_get, slice_set}
 use Rattle.std.proofs.lemmas.Option.{slice_get_within}
 use Rattle.page_runs.specs.declared.place.Kind.{Kind}
@@ -13,7 +13,7 @@ use Rattle.flat_loader.specs.Begin.{Loading, begin_space, begin_regs}
 use Rattle.flat_loader.specs.Loads.{block_page, block_region, held_begin, page_loading}
 use Rattle.vfork_exec.specs.declared.entry.Entry.{Entry}
 use Rattle.vfork_exec.specs.Keyed.{without}
-use Rattle.vfork_exec.specs.Procs.{Lives, process}
+use Rattle.vfork_exec.specs.Procs.{Lives}
 use Rattle.vfork_exec.specs.Procs.{borrows as entry_borrows}
 use Rattle.vfork_exec.proofs.Keyed.{eqb_other, without_head}
 use Rattle.file_calls.specs.declared.call.Call.{Call}
@@ -28,7 +28,7 @@ use Rattle.syscall_layer.specs.Kept.{Kept}
 use Rattle.syscall_layer.specs.Regular.{Regular}
 use Rattle.syscall_layer.specs.Stands.{About, later, live_spaces, process_of, world_of}
 use Rattle.syscall_layer.specs.Serves.{Answered}
-use Rattle.syscall_layer.specs.Gone.{without_space, space_left}
+use Rattle.syscall_layer.specs.Gone.{space_left}
 use Rattle.syscall_layer.specs.Calls.{RunsIn, IsCall, ask_in, noted_call}
 use Rattle.syscall_layer.proofs.Counts.{get_before}
 use Rattle.syscall_layer.proofs.Worlds

@@ -21,7 +21,8 @@ use Rattle.vfork_exec.proofs.Keyed.{decide, eqb_is, any_map, any_found, find_hea
 use Rattle.quantum_sched.specs.Picked.{picked}
 use Rattle.machine_world.specs.World.{Process, pid_of}
 use Rattle.machine_world.specs.Families.{ready_pids, borrows, let_go, left_by, all_left_by, has_child, sharing, AreChains}
-use Rattle.machine_world.proofs.Chains.{sharing_head, find_sharing, owner_alone, chains_same, chains_left, ready_found}
+use Rattle.machine_world.proofs.Chains.{sharing_head, find_sharing, owner_alone, chains_same, chains_left}
+use Rattle.machine_world.proofs.Runnable.{ready_found}
 use Rattle.syscall_layer.specs.declared.task.Task.{Task}
 use Rattle.syscall_layer.specs.Stands.{process_of}
 
@@ -41,7 +42,7 @@ same_change key k f g (y ∷ xs) x there same = elim (decide (key y == k)) [
       ∙ sym (change_head key k g y xs false is)
 ]
 
-map_both : {A B : Type 0} (f : A → A) (g : A → B) (h : B → B) → ((x : A) → g (f x) ≡ h (g x)) → (xs : List A) → map g (map f xs) ≡ map h (map g xs)
+pub map_both : {A B : Type 0} (f : A → A) (g : A → B) (h : B → B) → ((x : A) → g (f x) ≡ h (g x)) → (xs : List A) → map g (map f xs) ≡ map h (map g xs)
 map_both f g h goes [] = refl
 map_both f g h goes (x ∷ xs) = λ j. goes x j ∷ map_both f g h goes xs j
 

@@ -44,6 +44,7 @@
 -- ExecCalls  which way an execve goes, by its path and its strings
 -- Forks      the parts after a process had a child, and what comes of a clone
 -- Waits      what a process is told of its children, in the world and in the parts
+-- Wakes      the parts once those go on that wait on a pipe which changed
 mod Begins
 pub mod Worlds
 pub mod Families
@@ -90,3 +91,4 @@ pub mod ReadStrings
 pub mod StringLists
 pub mod Forks
 pub mod Waits
+pub mod Wakes

@@ -14,7 +14,7 @@ use Rattle.mmap_rules.specs.Mappings.{Hit, hit}
 use Rattle.mem_files.specs.Inodes.{Content, file, folder, Inode, Inodes, inode_at}
 use Rattle.fd_tables.specs.declared.view.View.{View}
 use Rattle.fd_tables.specs.declared.view.Target.{Target}
-use Rattle.fd_tables.specs.declared.view.Target.TheVariants.{Console, Node}
+use Rattle.fd_tables.specs.declared.view.Target.TheVariants.{Console, Node, Pipe}
 use Rattle.fd_tables.specs.Files.{OpenFiles, view}
 use Rattle.machine_world.specs.Asks.{Ask, arg, with_ok}
 use Rattle.machine_world.specs.Rows.{row}
@@ -102,6 +102,7 @@ there_node nodes id reads None is = tt
 
 there_target : (nodes : Inodes) (reads : Bool) (t : Target) → There nodes (side_of_target nodes reads t)
 there_target nodes reads Console = tt
+there_target nodes reads (Pipe id write) = tt
 there_target nodes reads (Node id) = there_node nodes id reads (inode_at nodes id) refl
 
 there : (nodes : Inodes) (v : Option View) → There nodes (side_of nodes v)

@@ -16,16 +16,17 @@ use Rattle.mmap_rules.specs.Space.{Space, writable_in}
 use Rattle.mem_files.specs.Inodes.{Inodes}
 use Rattle.fd_tables.specs.Files.{OpenFiles}
 use Rattle.vfork_exec.specs.declared.entry.Entry.{Entry}
+use Rattle.vfork_exec.specs.declared.family.State.TheVariants.{OnPipe}
 use Rattle.vfork_exec.specs.Keyed.{find}
 use Rattle.vfork_exec.specs.Procs.{Lives, value_at}
 use Rattle.machine_world.specs.World.{Process, LiveSpace, World, pid_of, id_of}
 use Rattle.machine_world.specs.Asks.{Ask, Reply, Row, replies, waits}
 use Rattle.machine_world.specs.Rows.{row}
-use Rattle.machine_world.specs.Event.{Trace, Outcome, went, strays, full, with_space, counted, noted, departed, ended, number_of, args_of, entry_of, item_of, call_access, replied, served, put, put_got, answered, exit_code, exited, is_exit, waitid, cloned, exec, classed, answer, asked, trapped, called, died, at_process, by_process, in_space}
+use Rattle.machine_world.specs.Event.{Trace, Outcome, went, strays, full, with_space, counted, noted, departed, ended, number_of, args_of, entry_of, item_of, call_access, replied, served, put, put_got, waited, answered, exit_code, exited, is_exit, waitid, cloned, exec, classed, answer, asked, trapped, called, settled, at_process, by_process, in_space}
 use Rattle.syscall_layer.specs.declared.task.Task.{Task}
 use Rattle.file_calls.specs.declared.call.Call.{Call}
 use Rattle.file_calls.specs.declared.outcome.Outcome.{Outcome as Output}
-use Rattle.file_calls.specs.Calls.{MadeBy, is_change, is_output, with_all, after, written_of}
+use Rattle.file_calls.specs.Calls.{MadeBy, WaitsOn, is_change, is_output, with_all, after, written_of}
 use Rattle.syscall_layer.specs.declared.effect.Effect.{Effect}
 use Rattle.syscall_layer.specs.declared.effect.Effect.TheVariants.{Answer, Yield, Break}
 use Rattle.syscall_layer.specs.declared.answer.Served.{Served}
@@ -64,13 +65,9 @@ module _ (a : About) (k : Kept) (pid : ℕ) (e : Entry Task) (h : Held) (runs : 
       ap (λ (o : Option Process). by_process (world_of a k).spaces act o) process_there
       ∙ ap (λ (o : Option LiveSpace). in_space act (process_of e) o) space_there
 
-  pub called_is : called (world_of a k) pid ≡ answer (world_of a k) (process_of e) (private_of k.mem h)
+  pub called_is : called (world_of a k) pid ≡ settled (answer (world_of a k) (process_of e) (private_of k.mem h))
   unfolding called
-  called_is = acts_is (answer (world_of a k))
-
-  pub died_is : (signal : ℕ) → died (world_of a k) pid signal ≡ trapped (world_of a k) (process_of e) signal
-  unfolding died
-  died_is signal = acts_is (λ p s. trapped (world_of a k) p signal)
+  called_is = acts_is (λ p s. settled (answer (world_of a k) p s))
 
 -- the bytes that are read
 answer_is : (w : World) (p : Process) (s : Space) (found : Result (List ℕ) Span) → sent (number_of p.regs) (args_of p.regs) s.bytes ≡ found → answer w p s ≡ asked w p s found
@@ -80,7 +77,8 @@ answer_is w p s found is = ap (asked w p s) is
 -- the call strays
 stray_serves : (a : About) (k : Kept) (pid : ℕ) (e : Entry Task) (h : Held) → RunsIn k pid e h → (span : Span) →
     sent (number_of e.value.regs) (args_of e.value.regs) (private_bytes k.mem h) ≡ Err span → called (world_of a k) pid ≡ strays (call_access (process_of e) span)
-stray_serves a k pid e h runs span is = called_is a k pid e h runs ∙ answer_is (world_of a k) (process_of e) (private_of k.mem h) (Err span) is
+unfolding settled
+stray_serves a k pid e h runs span is = called_is a k pid e h runs ∙ ap settled (answer_is (world_of a k) (process_of e) (private_of k.mem h) (Err span) is)
 
 -- ---- classes
 
@@ -127,6 +125,19 @@ module _ (n : ℕ) (goes : is_exit n ≡ false) where
 
   pub number_row : (m : ℕ) → n ≡ m → (m == 95) ≡ false → (m == 220) ≡ false → (m == 221) ≡ false → IsRow n
   number_row m is n95 n220 n221 = record { exits = goes; n95 = ap (λ x. x == 95) is ∙ n95; n220 = ap (λ x. x == 220) is ∙ n220; n221 = ap (λ x. x == 221) is ∙ n221 }
+
+-- a call that waits on a pipe is one
+waits_is : (r : Row) (pipe : ℕ) → WaitsOn r (Some pipe) → r ≡ waits (OnPipe pipe)
+waits_is (replies r) pipe is = absurd is
+waits_is (waits state) pipe is = ap waits is
+
+module _ (a : Ask) (pipe : ℕ) (is : WaitsOn (row a) (Some pipe)) where
+  waits_at : (n : ℕ) → a.number ≡ n → WaitsOn (row (record a { number = n })) (Some pipe)
+  waits_at n same = subst (λ (m : ℕ). WaitsOn (row (record a { number = m })) (Some pipe)) same is
+
+  wait_row : is_exit a.number ≡ false → IsRow a.number
+  unfolding row
+  wait_row goes = plain_row a.number goes (λ same. waits_at 95 same) (λ same. waits_at 220 same) (λ same. waits_at 221 same)
 
 -- ---- room in the log
 
@@ -188,8 +199,8 @@ module _ (a : About) (k : Kept) (e : Entry Task) (h : Held) (call : Call) (runs 
   note_is : (value : ℕ) (got : List Written) → noted_call call value got ≡ call_note (entry_of (ask_in a k e h call) value got)
   note_is value got = same_entry call.pid e.pid call.number (number_of e.value.regs) call.args (args_of e.value.regs) call.sent.items value got is.pid is.number is.args
 
-  pub call_answer : called (world_of a k) call.pid ≡ classed (world_of a k) (ask_in a k e h call)
-  call_answer = called_is a k call.pid e h runs ∙ answer_is (world_of a k) (process_of e) (private_of k.mem h) (Ok call.sent.items) is.sent
+  pub call_answer : called (world_of a k) call.pid ≡ settled (classed (world_of a k) (ask_in a k e h call))
+  call_answer = called_is a k call.pid e h runs ∙ ap settled (answer_is (world_of a k) (process_of e) (private_of k.mem h) (Ok call.sent.items) is.sent)
 
   -- ---- a reply
 
@@ -399,6 +410,11 @@ module _ (a : About) (k : Kept) (e : Entry Task) (h : Held) (call : Call) (runs 
     pub row_classed : IsRow call.number → Serves a (answered (world_of a k) ask (row ask)) k new call.pid result → Serves a (classed (world_of a k) (ask_in a k e h call)) k new call.pid result
     row_classed goes = by_outcome (answered (world_of a k) ask (row ask)) (class_row (world_of a k) ask (row ask) (subst IsRow is.number goes) refl)
 
+    pub wait_classed : (pipe : ℕ) → is_exit call.number ≡ false → WaitsOn (row ask) (Some pipe) → Serves a (waited (world_of a k) (process_of e) (OnPipe pipe)) k new call.pid result →
+        Serves a (classed (world_of a k) (ask_in a k e h call)) k new call.pid result
+    wait_classed pipe goes waits_so = by_outcome (waited (world_of a k) (process_of e) (OnPipe pipe))
+        (class_row (world_of a k) ask (waits (OnPipe pipe)) (wait_row ask pipe waits_so (ap is_exit (sym is.number) ∙ goes)) (waits_is (row ask) pipe waits_so))
+
     pub effect_classed : (f : Effect) → IsRow call.number → row ask ≡ replies (reply_of ask f) →
         Serves a (answered (world_of a k) (ask_in a k e h call) (replies (reply_of (ask_in a k e h call) f))) k new call.pid result → Serves a (classed (world_of a k) (ask_in a k e h call)) k new call.pid result
     effect_classed f goes rows = by_outcome (answered (world_of a k) (ask_in a k e h call) (replies (reply_of (ask_in a k e h call) f)))
@@ -417,7 +433,7 @@ module _ (a : About) (k : Kept) (e : Entry Task) (h : Held) (call : Call) (runs 
 
 module _ (a : About) (k : Kept) (pid : ℕ) (regular : Regular k) (lives : Lives k.procs pid) where
   pub serve_call : (call : Call) → call.pid ≡ pid → ((e : Entry Task) → (h : Held) → RunsIn k pid e h → IsCall k.mem e h call) → (new : Kept) (result : Result Served AllocError) →
-      ((e : Entry Task) → (h : Held) → RunsIn k call.pid e h → IsCall k.mem e h call → Serves a (classed (world_of a k) (ask_in a k e h call)) k new call.pid result) →
+      ((e : Entry Task) → (h : Held) → RunsIn k call.pid e h → IsCall k.mem e h call → Serves a (settled (classed (world_of a k) (ask_in a k e h call))) k new call.pid result) →
       Serves a (called (world_of a k) pid) k new pid result
   serve_call call same made new result serves =
       let r = runs_in k pid regular lives in
@@ -456,8 +472,8 @@ module _ (a : About) (k : Kept) (pid : ℕ) (e : Entry Task) (h : Held) (runs : 
   unfolding trapped
   trapped_is = refl
 
-  pub end_serves : Died a (died (world_of a k) pid signal) after_end pid
-  end_serves = subst (λ (o : Outcome). Died a o after_end pid) (sym (died_is a k pid e h runs signal ∙ trapped_is)) (sym after_end_world, refl, gone_dead k pid e h runs (Signal signal))
+  pub end_serves : Died a (at_process (world_of a k) pid (λ p s. trapped (world_of a k) p signal)) after_end pid
+  end_serves = subst (λ (o : Outcome). Died a o after_end pid) (sym (acts_is a k pid e h runs (λ p s. trapped (world_of a k) p signal) ∙ trapped_is)) (sym after_end_world, refl, gone_dead k pid e h runs (Signal signal))
 
 -- what an exit leaves, where it was noted before the process went
 pub exit_done : (k : Kept) (call : Call) (e : Entry Task) (h : Held) (new : Kept) (notes : List Note) → notes ≡ end_note call.pid (exit_of call) ∷ noted_call call 0 [] ∷ k.notes →
@@ -467,14 +483,14 @@ exit_done k call e h new notes is_noted departs =
 
 -- the same of the parts that are left, where the end was noted before the process went
 pub end_done : (a : About) (k : Kept) (pid signal : ℕ) → Regular k → Lives k.procs pid → (new : Kept) (notes : List Note) → notes ≡ end_note pid (Signal signal) ∷ k.notes →
-    ((e : Entry Task) → (h : Held) → RunsIn (record k { notes = notes }) pid e h → new ≡ gone (record k { notes = notes }) e h (Signal signal)) → Died a (died (world_of a k) pid signal) new pid
+    ((e : Entry Task) → (h : Held) → RunsIn (record k { notes = notes }) pid e h → new ≡ gone (record k { notes = notes }) e h (Signal signal)) → Died a (at_process (world_of a k) pid (λ p s. trapped (world_of a k) p signal)) new pid
 end_done a k pid signal regular lives new notes is_noted departs =
     let r = runs_in k pid regular lives in
     let e : Entry Task = r.0 in
     let h : Held = r.1.0 in
     let runs : RunsIn k pid e h = r.1.1 in
     let is = departs e h (record { lives = runs.lives; home = runs.home }) ∙ gone_noted k e h (Signal signal) notes ∙ ap (λ (ns : List Note). record (gone k e h (Signal signal)) { notes = ns }) is_noted in
-    subst (λ (now : Kept). Died a (died (world_of a k) pid signal) now pid) (sym is) (end_serves a k pid e h runs signal)
+    subst (λ (now : Kept). Died a (at_process (world_of a k) pid (λ p s. trapped (world_of a k) p signal)) now pid) (sym is) (end_serves a k pid e h runs signal)
 
 -- ---- a note alone
 

@@ -1,6 +1,6 @@
 -- The ranges that a call gives are ranges that an access can have.
-use Rattle.std.proofs.Common.{◌≡◌, ℕ, ◌+◌, ◌*◌, ◌^◌, ◌<◌, min, length, take, drop, map, Bool, true, false, List, [], ◌∷◌, Option, Some, None, inl, inr, arith, refl, sym, ap, subst, ◌∙◌, length-take, length-drop}
-use Rattle.std.specs.Prelude.{◌==◌, slice_index, nat_lt, sum, All, if◌then◌else◌}
+use Rattle.std.proofs.Common.{◌≡◌, ℕ, ◌+◌, ◌*◌, ◌^◌, ◌<◌, min, length, take, drop, map, Bool, true, false, List, [], ◌∷◌, Option, Some, None, inl, inr, arith, refl, sym, ap, subst, ◌∙◌, length-take, length-drop, length-append}
+use Rattle.std.specs.Prelude.{◌==◌, ◌||◌, not, slice_index, nat_lt, sum, All, if◌then◌else◌}
 use Rattle.std.specs.List.{range_with_len}
 use Rattle.std.proofs.lemmas.Bool.{false≢true}
 use Rattle.std.proofs.lemmas.List.Elements.{All-nil, All-cons}
@@ -14,12 +14,14 @@ use Rattle.mem_files.specs.declared.node.Node.TheVariants.{Dir, File}
 use Rattle.mem_files.specs.Inodes.{Inodes, Entry, kind_of, entries_of, bytes_of}
 use Rattle.fd_tables.specs.declared.view.View.{View}
 use Rattle.fd_tables.specs.declared.view.Target.{Target}
-use Rattle.fd_tables.specs.declared.view.Target.TheVariants.{Console, Node as a_node}
-use Rattle.fd_tables.specs.Files.{OpenFiles}
-use Rattle.vfork_exec.specs.declared.family.State.TheVariants.{Ready}
+use Rattle.fd_tables.specs.declared.view.Target.TheVariants.{Console, Node as a_node, Pipe}
+use Rattle.fd_tables.specs.declared.pipe_view.Ends.{Ends}
+use Rattle.fd_tables.specs.Files.{OpenFiles, two_free}
+use Rattle.fd_tables.specs.Pipes.{pipe_view, pipe_bytes}
+use Rattle.vfork_exec.specs.declared.family.State.TheVariants.{Ready, OnPipe}
 use Rattle.machine_world.specs.Asks.{Ask, arg, Row, replies, waits, refuses, view_of, with_view}
-use Rattle.machine_world.specs.Descriptors.{position_from, base_of, sought, seek_row, llseek_row, listing, written_at, is_short, listed, list_row, folder_row, dents_row, getdents_row}
-use Rattle.machine_world.specs.Transfers.{scattered, moved_bytes, node_read, target_read, read_into, read_row, readv_row}
+use Rattle.machine_world.specs.Descriptors.{table_of, close_on_exec, ends_bytes, opens_pipe, pipe2_row, position_from, base_of, sought, seek_row, llseek_row, listing, written_at, is_short, listed, list_row, folder_row, dents_row, getdents_row}
+use Rattle.machine_world.specs.Transfers.{scattered, moved_bytes, read_waits, taken_read, pipe_read, node_read, target_read, read_into, read_row, readv_row}
 use Rattle.machine_world.specs.Rows.{row}
 use Rattle.page_runs.specs.declared.place.Kind.TheVariants.{First}
 use Rattle.file_calls.specs.declared.call.Call.{Call}
@@ -30,10 +32,10 @@ use Rattle.file_calls.proofs.Listed.{listing_fits}
 use Rattle.syscall_layer.specs.Puts.{IsRange}
 use Rattle.syscall_layer.proofs.Counts.{decide, eqb_is}
 
--- every range of a reply
+-- every range of a reply, if there is one
 abbrev pub Ranged : Row → Type 0
 Ranged (replies r) = All IsRange r.got
-Ranged (waits who) = ⊥
+Ranged (waits state) = Unit {0}
 
 none_ranged : All IsRange []
 none_ranged = All-nil IsRange
@@ -73,6 +75,7 @@ ranged_sought a (Some at) =
 
 ranged_seek : (a : Ask) (v : View) (t : Target) → Ranged (seek_row a v t)
 ranged_seek a v Console = none_ranged
+ranged_seek a v (Pipe id write) = none_ranged
 ranged_seek a v (a_node node) =
     ranged_if (nat_lt 2 (arg a 4)) (refuses a Einval) (sought a (position_from (base_of a v node (arg a 4)) (arg a 1 * 2 ^ 32 + arg a 2))) none_ranged
     (ranged_sought a (position_from (base_of a v node (arg a 4)) (arg a 1 * 2 ^ 32 + arg a 2)))
@@ -80,6 +83,20 @@ ranged_seek a v (a_node node) =
 ranged_llseek : (a : Ask) → Ranged (llseek_row a)
 unfolding llseek_row
 ranged_llseek a = ranged_view a (view_of a (arg a 0)) (λ v. seek_row a v v.target) (λ v. ranged_seek a v v.target)
+
+-- ---- pipe2
+
+ranged_ends : (a : Ask) (cloexec : Bool) (ends : Option Ends) → Ranged (opens_pipe a cloexec ends)
+ranged_ends a cloexec None = none_ranged
+ranged_ends a cloexec (Some ends) =
+    let len : length (ends_bytes ends) ≡ 8 = omega (arith, length-append (little_bytes 4 ends.read) (little_bytes 4 ends.write), length-little_bytes 4 ends.read, length-little_bytes 4 ends.write) in
+    more_ranged (record { addr = arg a 0; bytes = ends_bytes ends }) [] (omega (arith, len), omega (arith, len)) none_ranged
+
+ranged_pipe2 : (a : Ask) → Ranged (pipe2_row a)
+unfolding pipe2_row
+ranged_pipe2 a =
+    ranged_if (not (arg a 1 == 0 || arg a 1 == close_on_exec)) (refuses a Einval) (opens_pipe a (arg a 1 == close_on_exec) (two_free a.rest.files (table_of a))) none_ranged
+    (ranged_ends a (arg a 1 == close_on_exec) (two_free a.rest.files (table_of a)))
 
 -- ---- getdents64
 
@@ -99,6 +116,7 @@ ranged_folder a v node Dir small = ranged_list a v (drop v.at (entries_of a.rest
 
 ranged_dents : (a : Ask) (v : View) (t : Target) → arg a 2 < 2 ^ 32 → Ranged (dents_row a v t)
 ranged_dents a v Console small = none_ranged
+ranged_dents a v (Pipe id write) small = none_ranged
 ranged_dents a v (a_node node) small = ranged_folder a v node (kind_of a.rest.tree node) small
 
 ranged_getdents : (a : Ask) → arg a 2 < 2 ^ 32 → Ranged (getdents_row a)
@@ -123,8 +141,15 @@ ranged_filled bytes (span ∷ spans) few =
 moved_few : (spans : List Span) (left : List ℕ) → length (moved_bytes spans left) < 2 ^ 32
 moved_few spans left = let n = sum (map (λ (span : Span). span.len) spans) in omega (arith, length-take (min n 16777216) left)
 
+ranged_pipe : (a : Ask) (id : ℕ) (spans : List Span) → Ranged (pipe_read a id spans)
+ranged_pipe a id spans =
+    let bytes = pipe_bytes a.rest.files id in
+    ranged_if (read_waits spans (pipe_view a.rest.files id)) (waits (OnPipe id)) (taken_read a id spans (moved_bytes spans bytes)) tt
+    (ranged_filled (moved_bytes spans bytes) spans (moved_few spans bytes))
+
 ranged_target : (a : Ask) (v : View) (spans : List Span) (t : Target) → Ranged (target_read a v spans t)
 ranged_target a v spans Console = ranged_filled (moved_bytes spans a.rest.files.stdin) spans (moved_few spans a.rest.files.stdin)
+ranged_target a v spans (Pipe id write) = ranged_pipe a id spans
 ranged_target a v spans (a_node node) = by (kind_of a.rest.tree node)
   where
     by : (kind : Node) → Ranged (node_read a v spans node kind)
@@ -149,6 +174,10 @@ ranged_readv a =
 -- ---- the rows of all outputs
 
 module _ (a : Ask) where
+  ranged_59 : a.number ≡ 59 → Ranged (row a)
+  unfolding row
+  ranged_59 is = rw is (ranged_pipe2 (record a { number = 59 }))
+
   ranged_61 : a.number ≡ 61 → arg a 2 < 2 ^ 32 → Ranged (row a)
   unfolding row
   ranged_61 is small = rw is (ranged_getdents (record a { number = 61 }) small)
@@ -165,19 +194,22 @@ module _ (a : Ask) where
   unfolding row
   ranged_65 is = rw is (ranged_readv (record a { number = 65 }))
 
-  no_other : (a.number == 61) ≡ false → (a.number == 62) ≡ false → (a.number == 63) ≡ false → (a.number == 65) ≡ false → is_output a.number ≡ false
-  no_other n61 n62 n63 n65 = rw (n61, n62, n63, n65) refl
+  no_other : (a.number == 59) ≡ false → (a.number == 61) ≡ false → (a.number == 62) ≡ false → (a.number == 63) ≡ false → (a.number == 65) ≡ false → is_output a.number ≡ false
+  no_other n59 n61 n62 n63 n65 = rw (n59, n61, n62, n63, n65) refl
 
   pub ranged_row : IsOutput a.number → arg a 2 < 2 ^ 32 → Ranged (row a)
-  ranged_row output small = elim (decide (a.number == 61)) [
-    | inl is ↦ ranged_61 (eqb_is a.number 61 is) small
-    | inr n61 ↦ elim (decide (a.number == 62)) [
-      | inl is ↦ ranged_62 (eqb_is a.number 62 is)
-      | inr n62 ↦ elim (decide (a.number == 63)) [
-        | inl is ↦ ranged_63 (eqb_is a.number 63 is)
-        | inr n63 ↦ elim (decide (a.number == 65)) [
-          | inl is ↦ ranged_65 (eqb_is a.number 65 is)
-          | inr n65 ↦ absurd (false≢true (sym (no_other n61 n62 n63 n65) ∙ output))
+  ranged_row output small = elim (decide (a.number == 59)) [
+    | inl is ↦ ranged_59 (eqb_is a.number 59 is)
+    | inr n59 ↦ elim (decide (a.number == 61)) [
+      | inl is ↦ ranged_61 (eqb_is a.number 61 is) small
+      | inr n61 ↦ elim (decide (a.number == 62)) [
+        | inl is ↦ ranged_62 (eqb_is a.number 62 is)
+        | inr n62 ↦ elim (decide (a.number == 63)) [
+          | inl is ↦ ranged_63 (eqb_is a.number 63 is)
+          | inr n63 ↦ elim (decide (a.number == 65)) [
+            | inl is ↦ ranged_65 (eqb_is a.number 65 is)
+            | inr n65 ↦ absurd (false≢true (sym (no_other n59 n61 n62 n63 n65) ∙ output))
+          ]
         ]
       ]
     ]

@@ -12,7 +12,7 @@ use Rattle.call_log.specs.Notes.{weight_of, has_room}
 use Rattle.call_log.specs.Sent.{Span}
 use Rattle.mmap_rules.specs.Held.{Held}
 use Rattle.vfork_exec.specs.declared.family.Who.{Who}
-use Rattle.vfork_exec.specs.declared.family.State.TheVariants.{Waiting}
+use Rattle.vfork_exec.specs.declared.family.State.{State}
 use Rattle.vfork_exec.specs.declared.family.Ended.{Ended}
 use Rattle.vfork_exec.specs.declared.family.Waited.{Waited}
 use Rattle.vfork_exec.specs.declared.family.Waited.TheVariants.{Child, NoneYet, Waits}
@@ -25,11 +25,11 @@ use Rattle.vfork_exec.proofs.Keyed.{decide, eqb_is, eqb_same, find_changed, find
 use Rattle.vfork_exec.proofs.Families.{without_first_head}
 use Rattle.vfork_exec.proofs.Places.{found}
 use Rattle.machine_world.specs.World.{Process, World, pid_of}
-use Rattle.machine_world.specs.Families.{has_child, AreChains}
+use Rattle.machine_world.specs.Families.{has_child, is_lent, AreChains}
 use Rattle.machine_world.specs.Asks.{Ask, Reply, replies, arg, gives, refuses}
 use Rattle.machine_world.specs.FamilyCalls.{who_of, may_wait, waitid_fault, child_info, info_at}
 use Rattle.machine_world.specs.Event.{Trace, Outcome, went, strays, full, replied, put_got, call_access, put, served, answered, waited, reaped, told_in, waitid_behind, waitid}
-use Rattle.machine_world.proofs.Chains.{chains_waiting}
+use Rattle.machine_world.proofs.Chains.{chains_stopped}
 use Rattle.file_calls.specs.declared.call.Call.{Call}
 use Rattle.file_calls.specs.declared.outcome.Outcome.{Outcome as Output}
 use Rattle.file_calls.specs.declared.outcome.Then.TheVariants.{Nothing}
@@ -164,12 +164,12 @@ regular_told k regular pid who (Ok NoneYet) is = regular
 regular_told k regular pid who (Ok Waits) is = absurd (looked_told k.procs pid who Waits (sym is))
 regular_told k regular pid who (Err errno) is = regular
 
--- a process waits
-module _ (k : Kept) (pid : ℕ) (e : Entry Task) (who : Who) (regular : Regular k) (lives : process k.procs pid ≡ Some e) where
+-- a process waits, for its children or on a pipe
+module _ (k : Kept) (pid : ℕ) (e : Entry Task) (state : State) (own : is_lent state ≡ false) (regular : Regular k) (lives : process k.procs pid ≡ Some e) where
   abbrev waiting : Entry Task → Entry Task
-  waiting x = with_state x (Waiting who)
+  waiting x = with_state x state
 
-  pub regular_waiting : CanRun k.procs pid → Regular (record k { procs = with_state_at k.procs pid (Waiting who) })
+  pub regular_waiting : CanRun k.procs pid → Regular (record k { procs = with_state_at k.procs pid state })
   regular_waiting runs = record {
     memory = regular.memory;
     some = regular.some;
@@ -184,13 +184,13 @@ module _ (k : Kept) (pid : ℕ) (e : Entry Task) (who : Who) (regular : Regular 
           let at : q ≡ pid = eqb_is q pid is in
           let now : Some (waiting e) ≡ Some x =
           sym (find_changed entry_pid pid waiting (λ y. refl) k.procs.entries ∙ ap (option_map waiting) lives)
-          ∙ ap (λ n. process (with_state_at k.procs pid (Waiting who)) n) (sym at) ∙ there in
+          ∙ ap (λ n. process (with_state_at k.procs pid state) n) (sym at) ∙ there in
           subst (HasSpace k.spaces) (ap (λ (y : Entry Task). y.value.space) (same_Some _ _ now)) (regular.runs pid e lives)
       | inr is ↦
           regular.runs q x (sym (find_beside_change entry_pid pid q (λ same. not_both is (eqb_same q pid same)) waiting (λ y. refl) k.procs.entries) ∙ there)
     ];
-    chains = subst AreChains (sym (state_is k.procs pid (Waiting who)))
-        (chains_waiting (map process_of k.procs.entries) pid (process_of e) who regular.chains (found_is k.procs pid e lives) (state_ready k.procs pid e lives runs));
+    chains = subst AreChains (sym (state_is k.procs pid state))
+        (chains_stopped (map process_of k.procs.entries) pid (process_of e) state own regular.chains (found_is k.procs pid e lives) (state_ready k.procs pid e lives runs));
     falls = falls_change entry_pid pid waiting (λ y. refl) k.procs.next_pid k.procs.entries regular.falls;
     few = omega (arith, regular.few, length_change entry_pid pid waiting k.procs.entries);
     pids = regular.pids;
@@ -298,15 +298,15 @@ module _ (a : About) (k : Kept) (e : Entry Task) (h : Held) (call : Call) (is : 
 
 -- ---- a process waits
 
-module _ (a : About) (k : Kept) (e : Entry Task) (h : Held) (call : Call) (lives : process k.procs call.pid ≡ Some e) (who : Who) where
-  pub waits_serve : Answered a (waited (world_of a k) (ask_in a k e h call) who) k (record k { procs = with_state_at k.procs call.pid (Waiting who) }) call.pid result.Waits
+module _ (a : About) (k : Kept) (pid : ℕ) (e : Entry Task) (lives : process k.procs pid ≡ Some e) (state : State) where
+  pub waits_serve : Answered a (waited (world_of a k) (process_of e) state) k (record k { procs = with_state_at k.procs pid state }) pid result.Waits
   unfolding world_of waited
   waits_serve =
-      let pid_is : e.pid ≡ call.pid = own_pid k.procs call.pid e lives in (
+      let pid_is : e.pid ≡ pid = own_pid k.procs pid e lives in (
         (λ i. record (world_of (later 1 a) k) {
-          procs = (ap (λ (n : ℕ). change pid_of n (λ (q : Process). record q { state = Waiting who }) (map process_of k.procs.entries)) pid_is ∙ sym (state_is k.procs call.pid (Waiting who))) i;
+          procs = (ap (λ (n : ℕ). change pid_of n (λ (q : Process). record q { state = state }) (map process_of k.procs.entries)) pid_is ∙ sym (state_is k.procs pid state)) i;
         }),
-        (refl, refl, changed_lives k.procs call.pid (λ (x : Entry Task). with_state x (Waiting who)) (λ x. refl) (some_lives (process k.procs call.pid) e lives)),
+        (refl, refl, changed_lives k.procs pid (λ (x : Entry Task). with_state x state) (λ x. refl) (some_lives (process k.procs pid) e lives)),
       )
     where
       some_lives : (f : Option (Entry Task)) (x : Entry Task) → f ≡ Some x → IsSome f

@@ -6,6 +6,7 @@
 -- Starts   what the start of a program leaves
 -- Inside   the fields of `Parts` as what is kept
 -- Reading  what the reading of a call's bytes answers
+-- Awake    the parts once those go on that wait on a pipe which changed
 -- Gone     the parts without a process, and without a space
 -- Flats    the programs that can be run are flat files
 -- Families  what a process is told of its children, and which program a path leads to
@@ -24,6 +25,7 @@ pub mod Inside
 pub mod Reading
 pub mod StringsOf
 pub mod Gone
+pub mod Awake
 pub mod Flats
 pub mod Families
 pub mod Calls

@@ -1,5 +1,5 @@
 -- What a system call, a signal and a stray access leave.
-use Rattle.std.specs.Prelude.{◌≡◌, ℕ, true, false, None, Result, Ok, Err, ⊤}
+use Rattle.std.specs.Prelude.{◌≡◌, ℕ, Bool, true, false, None, Result, Ok, Err, ⊤}
 use Rattle.std.specs.declared.alloc.AllocError.{AllocError}
 use Rattle.rv32im_step.specs.declared.access.Access.{Access}
 use Rattle.call_log.specs.Notes.{stray_note}
@@ -19,6 +19,14 @@ Went t new pid served.Waits = (t.over ≡ true) × (t.events ≡ 0) × Lives new
 Went t new pid served.Ended = (t.over ≡ true) × (t.events ≡ 1) × (process new.procs pid ≡ None)
 Went t new pid (served.Stray access) = ⊥
 Went t new pid served.LogFull = ⊥
+
+abbrev pub went_by : Served → Bool
+went_by served.Replied = true
+went_by served.TurnEnds = true
+went_by served.Waits = true
+went_by served.Ended = true
+went_by (served.Stray access) = false
+went_by served.LogFull = false
 
 abbrev pub Strays : Access → Kept → Kept → Served → Type 0
 Strays access old new (served.Stray seen) = (seen ≡ access) × (new ≡ old)

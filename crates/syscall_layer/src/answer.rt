@@ -12,12 +12,13 @@ ghost use Rattle.mmap_rules.specs.Want.{AsksPages};
 ghost use Rattle.machine_world.specs.Asks.{replies};
 ghost use Rattle.machine_world.specs.MapCalls.{mapped};
 ghost use Rattle.machine_world.specs.Rows.{row};
-ghost use Rattle.machine_world.specs.Event.{called, classed, answered, exited};
-ghost use Rattle.file_calls.specs.Calls.{IsChange, IsOutput, written_of};
-ghost use Rattle.file_calls.specs.Outcomes.{GivesRow, CanTake};
+ghost use Rattle.machine_world.specs.Event.{called, classed, answered, exited, waited, settled};
+ghost use Rattle.vfork_exec.specs.declared.family.State.TheVariants.{OnPipe};
+ghost use Rattle.file_calls.specs.Calls.{IsChange, IsOutput, Replies, written_of};
+ghost use Rattle.file_calls.specs.Outcomes.{GivesRow, CanTake, HasEnds};
 ghost use Rattle.syscall_layer.specs.declared.task.Task.{Task};
-ghost use Rattle.syscall_layer.specs.Stands.{About, world_of};
-ghost use Rattle.syscall_layer.specs.Serves.{Serves};
+ghost use Rattle.syscall_layer.specs.Stands.{About, process_of, world_of};
+ghost use Rattle.syscall_layer.specs.Serves.{Answered, Serves, went_by};
 ghost use Rattle.mmap_rules.specs.Copies.{IsKnown};
 ghost use Rattle.syscall_layer.specs.Puts.{first_stray, access_at, IsRange};
 ghost use Rattle.syscall_layer.specs.Calls.{RunsIn, IsCall, ask_in, reply_of, given, served_by};
@@ -33,7 +34,7 @@ use crate::parts::Parts;
 use crate::reading::Unread;
 use bflt_format::Flat;
 use call_log::{Got, Log};
-use file_calls::{Call, Outcome, output};
+use file_calls::{Call, Outcome, output, wait_of};
 use mmap_rules::Want;
 use page_runs::{Chooser, Run};
 use rv32im_step::{Access, AccessKind};
@@ -110,10 +111,11 @@ pub(crate) fn answer_effect(
     Ok(served_by(effect))
 }
 
-/// Carries out a call that changes files, where the log has room for it.
+/// Carries out a call that changes files and doesn't wait, where the log has room for it.
 fn answer_change(parts: &mut Parts, call: Call) -> Result<Served, AllocError>
     requires lives { Lives parts.old.procs call.pid }
     requires change { IsChange call.number }
+    requires replies { Replies call parts.old.files }
     ensures { (a : About) → (e : Entry Task) → (h : Held) → RunsIn parts.old call.pid e h → IsCall parts.old.mem e h call →
         Serves a (answered (world_of a parts.old) (ask_in a parts.old e h call) (row (ask_in a parts.old e h call))) parts.old parts.new call.pid result }
 {
@@ -139,9 +141,11 @@ fn stray_of(parts: &Parts, pid: u32, got: &[Got]) -> Option<Access>
 /// What a call gives. Each of its ranges is one that an access can have.
 fn outcome_of(parts: &Parts, call: &Call) -> Result<Outcome, AllocError>
     requires output { IsOutput call.now.number }
+    requires replies { Replies call.now parts.now.files }
     requires room { slice_index call.now.args 2 < 2 ^ 32 }
     ensures gives { IfOk result (GivesRow row call.now parts.now.tree parts.now.files) }
     ensures fits { IfOk result (λ o. CanTake parts.now.files o.then) }
+    ensures ends { IfOk result (λ o. HasEnds parts.now.files call.now.table o.then) }
     ensures ranges { IfOk result (λ o. All IsRange (written_of o)) }
 {
     let alloc = *parts.console.allocator();
@@ -156,6 +160,7 @@ pub(crate) fn answer_given(
 ) -> Result<Served, AllocError>
     requires lives { Lives parts.old.procs call.pid }
     requires fits { CanTake parts.old.files outcome.then }
+    requires ends { HasEnds parts.old.files call.table outcome.then }
     requires ranges { All IsRange (written_of outcome) }
     ensures serves { (a : About) → (e : Entry Task) → (h : Held) → RunsIn parts.old call.pid e h → IsCall parts.old.mem e h call →
         Serves a (answered (world_of a parts.old) (ask_in a parts.old e h call) (replies (given (ask_in a parts.old e h call) outcome))) parts.old parts.new call.pid result }
@@ -171,10 +176,11 @@ pub(crate) fn answer_given(
     Ok(Served::Replied)
 }
 
-/// Carries out a call that gives bytes, where they may be written and the log has room for them.
+/// Carries out a call that gives bytes and doesn't wait, where they may be written and the log has room for them.
 fn answer_output(parts: &mut Parts, call: Call) -> Result<Served, AllocError>
     requires lives { Lives parts.old.procs call.pid }
     requires output { IsOutput call.number }
+    requires replies { Replies call parts.old.files }
     requires room { slice_index call.args 2 < 2 ^ 32 }
     ensures { (a : About) → (e : Entry Task) → (h : Held) → RunsIn parts.old call.pid e h → IsCall parts.old.mem e h call →
         Serves a (answered (world_of a parts.old) (ask_in a parts.old e h call) (row (ask_in a parts.old e h call))) parts.old parts.new call.pid result }
@@ -236,6 +242,16 @@ fn answer_unmap(parts: &mut Parts, call: Call) -> Result<Served, AllocError>
     Ok(Served::Replied)
 }
 
+/// The process of a call waits on a pipe, without a note.
+fn answer_wait(parts: &mut Parts, call: &Call, pipe: u32) -> Served
+    requires { CanRun parts.old.procs call.now.pid }
+    ensures { (a : About) → (e : Entry Task) → (h : Held) → RunsIn parts.old call.now.pid e h → IsCall parts.old.mem e h call.now →
+        Answered a (waited (world_of a parts.old) (process_of e) (OnPipe pipe)) parts.old parts.new call.now.pid result }
+{
+    parts.procs.wait_on(call.pid, pipe);
+    Served::Waits
+}
+
 /// Carries out a call that is read.
 fn answer<F: Fn(&[Run], u32) -> Option<usize>>(
     parts: &mut Parts,
@@ -251,6 +267,9 @@ fn answer<F: Fn(&[Run], u32) -> Option<usize>>(
 {
     if is_exit(call.number) {
         return answer_exit(parts, call);
+    }
+    if let Some(pipe) = wait_of(&parts.files, &call) {
+        return Ok(answer_wait(parts, &call, pipe));
     }
     if is_change(call.number) {
         return answer_change(parts, call);
@@ -271,7 +290,37 @@ fn answer<F: Fn(&[Run], u32) -> Option<usize>>(
     }
 }
 
-/// Carries out the system call that a process stands at, which may run. A run of pages that it needs is the chooser's, and the
+/// Whether it was an event: what it changed stays.
+fn went(served: Served) -> bool
+    ensures { result ≡ went_by served }
+{
+    match served {
+        Served::Replied | Served::TurnEnds | Served::Waits | Served::Ended => true,
+        Served::Stray(_) | Served::LogFull => false,
+    }
+}
+
+/// Carries out a call that is read. Those go on that wait on a pipe which it changed.
+fn answer_and_wake<F: Fn(&[Run], u32) -> Option<usize>>(
+    parts: &mut Parts,
+    call: Call,
+    programs: &[Flat],
+    chooser: &Chooser<F>,
+) -> Result<Served, AllocError>
+    requires chooser { IsChooser F.pre F.post chooser.now }
+    requires ready { CanRun parts.old.procs call.pid }
+    requires room { slice_index call.args 2 < 2 ^ 32 }
+    ensures { (a : About) → a.kind ≡ kind_of chooser.now → AreFlats a.programs programs.now → (e : Entry Task) → (h : Held) → RunsIn parts.old call.pid e h → IsCall parts.old.mem e h call →
+        Serves a (settled (classed (world_of a parts.old) (ask_in a parts.old e h call))) parts.old parts.new call.pid result }
+{
+    let served = answer(parts, call, programs, chooser)?;
+    if went(served) {
+        parts.wake_changed();
+    }
+    Ok(served)
+}
+
+/// Carries out the system call that a process stands at, which may run; those go on that wait on a pipe which it changed. A run of pages that it needs is the chooser's, and the
 /// programs that it may run are these.
 pub fn serve<F: Fn(&[Run], u32) -> Option<usize>>(
     parts: &mut Parts,
@@ -284,7 +333,7 @@ pub fn serve<F: Fn(&[Run], u32) -> Option<usize>>(
     ensures { (a : About) → a.kind ≡ kind_of chooser.now → AreFlats a.programs programs.now → Serves a (called (world_of a parts.old) pid) parts.old parts.new pid result }
 {
     match call_of(parts, pid) {
-        Ok(call) => answer(parts, call, programs, chooser),
+        Ok(call) => answer_and_wake(parts, call, programs, chooser),
         Err(Unread::Stray { addr, len }) => Ok(Served::Stray(Access {
             pc: parts.procs.get(pid).regs.pc,
             addr,

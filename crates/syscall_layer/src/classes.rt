@@ -25,9 +25,9 @@ pub fn is_change(number: u32) -> bool
         || number == 66
 }
 
-/// getdents64, llseek, read and readv.
+/// pipe2, getdents64, llseek, read and readv.
 pub fn is_output(number: u32) -> bool
     ensures { result ≡ is_output number }
 {
-    number == 61 || number == 62 || number == 63 || number == 65
+    number == 59 || number == 61 || number == 62 || number == 63 || number == 65
 }

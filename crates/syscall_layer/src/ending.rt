@@ -5,7 +5,7 @@ ghost use Rattle.call_log.specs.Notes.{has_room};
 ghost use Rattle.mmap_rules.specs.Held.{Held};
 ghost use Rattle.vfork_exec.specs.declared.entry.Entry.{Entry as Listed};
 ghost use Rattle.vfork_exec.specs.Procs.{CanRun, process};
-ghost use Rattle.machine_world.specs.Event.{died};
+ghost use Rattle.machine_world.specs.Event.{at_process, trapped, died};
 ghost use Rattle.syscall_layer.specs.declared.task.Task.{Task};
 ghost use Rattle.syscall_layer.specs.Regular.{HasSpace};
 ghost use Rattle.syscall_layer.specs.Stands.{About, world_of};
@@ -92,14 +92,24 @@ impl Parts {
     }
 
     /// Ends a process by a signal: its own space goes, and a note is kept.
-    pub fn end_by_signal(&mut self, pid: u32, signal: u8) -> Result<(), AllocError>
+    fn die(&mut self, pid: u32, signal: u8) -> Result<(), AllocError>
         requires { CanRun self.old.procs pid }
-        ensures { (a : About) → Dies a (died (world_of a self.old) pid signal) self.old self.new pid result }
+        ensures { (a : About) → Dies a (at_process (world_of a self.old) pid (λ p s. trapped (world_of a self.old) p signal)) self.old self.new pid result }
     {
         self.log.reserve(1)?;
         let how = How::Signal(signal);
         keep(&mut self.log, Note::End { pid, how });
         self.depart(pid, how);
+        Ok(())
+    }
+
+    /// Ends a process by a signal: its own space goes, and a note is kept. Those go on that wait on a pipe of which an end closes.
+    pub fn end_by_signal(&mut self, pid: u32, signal: u8) -> Result<(), AllocError>
+        requires { CanRun self.old.procs pid }
+        ensures { (a : About) → Dies a (died (world_of a self.old) pid signal) self.old self.new pid result }
+    {
+        self.die(pid, signal)?;
+        self.wake_changed();
         Ok(())
     }
 }

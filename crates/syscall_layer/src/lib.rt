@@ -23,6 +23,7 @@ mod start;
 mod stray;
 mod strings;
 mod task;
+mod wake;
 
 pub use answer::{Served, serve};
 pub use parts::Parts;

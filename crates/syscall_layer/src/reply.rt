@@ -9,8 +9,8 @@ ghost use Rattle.vfork_exec.specs.declared.entry.Entry.{Entry as Listed};
 ghost use Rattle.vfork_exec.specs.Procs.{Lives, value_at, with_value_at};
 ghost use Rattle.machine_world.specs.Rows.{row};
 ghost use Rattle.machine_world.specs.Event.{replied};
-ghost use Rattle.file_calls.specs.Calls.{IsChange, written_of};
-ghost use Rattle.file_calls.specs.Outcomes.{CanTake};
+ghost use Rattle.file_calls.specs.Calls.{IsChange, Replies as RepliesOnly, written_of};
+ghost use Rattle.file_calls.specs.Outcomes.{CanTake, HasEnds};
 ghost use Rattle.syscall_layer.specs.declared.task.Task.{Task};
 ghost use Rattle.syscall_layer.specs.Regular.{HasSpace};
 ghost use Rattle.syscall_layer.specs.Stands.{About};
@@ -109,11 +109,12 @@ impl Parts {
         Ok(())
     }
 
-    /// Carries out a call that changes files, and notes it. There is room for its note.
+    /// Carries out a call that changes files and doesn't wait, and notes it. There is room for its note.
     pub(crate) fn change(&mut self, call: Call) -> Result<(), AllocError>
         requires lives { Lives self.old.procs call.pid }
         requires room { has_room self.old.notes (length call.sent.items) ≡ true }
         requires change { IsChange call.number }
+        requires replies { RepliesOnly call self.old.files }
         ensures { (a : About) → (e : Listed Task) → (h : Held) → RunsIn self.old call.pid e h → IsCall self.old.mem e h call → Changes a self.old e h call (row (ask_in a self.old e h call)) self.new result }
     {
         self.log.reserve(1)?;
@@ -128,16 +129,17 @@ impl Parts {
         requires lives { Lives self.old.procs call.pid }
         requires room { has_room self.old.notes (weight_of call.sent.items (written_of outcome)) ≡ true }
         requires fits { CanTake self.old.files outcome.then }
+        requires ends { HasEnds self.old.files call.table outcome.then }
         requires ranges { All IsRange (written_of outcome) }
         requires own { (e : Listed Task) → (h : Held) → RunsIn self.old call.pid e h → first_stray (writable_in h.maps) (written_of outcome) ≡ None }
         ensures gives { (a : About) → (e : Listed Task) → (h : Held) → RunsIn self.old call.pid e h → IsCall self.old.mem e h call → Gives a self.old e h call outcome self.new result }
         ensures lives { Lives self.new.procs call.pid }
     {
         self.log.reserve(1)?;
+        follow(&mut self.files, call.table, outcome.then)?;
         let number = self.procs.get(call.pid).space;
         let owners = home(&self.spaces, number).owners();
         put(&mut self.mem, owners, &outcome.got);
-        follow(&mut self.files, call.table, outcome.then);
         finish(
             &mut self.procs,
             &mut self.log,

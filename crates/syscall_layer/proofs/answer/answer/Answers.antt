@@ -1,13 +1,24 @@
 -- Each class of calls.
-use Rattle.std.proofs.Common.{◌≢◌, refl, sym, ap, ◌∙◌, arith}
+use Rattle.std.proofs.Common.{◌≢◌, refl, sym, ap, subst, ◌∙◌, arith}
+use Rattle.std.specs.Prelude.{Ok}
+use Rattle.machine_world.specs.Rows.{row}
+use Rattle.file_calls.specs.Calls.{WaitsOn}
 use Rattle.syscall_layer.specs.Kept.{Kept}
 use Rattle.syscall_layer.specs.Calls.{ask_in}
-use Rattle.syscall_layer.proofs.Outcomes.{made_by, files_in, change_row, output_row, number_row, plain_row, exit_classed, row_classed, effect_classed, waitid_classed, clone_classed, exec_classed}
+use Rattle.syscall_layer.proofs.Outcomes.{made_by, files_in, change_row, output_row, number_row, plain_row, exit_classed, row_classed, wait_classed, effect_classed, waitid_classed, clone_classed, exec_classed}
 use Rattle.syscall_layer.proofs.answer.answer.Goals as goal
 
 pub returns-then-is_exit : goal.returns-then-is_exit
 returns-then-is_exit g c = λ a kind flats e h runs is.
     exit_classed a c.args.parts.now e h c.args.call runs is c.answer_exit.new.parts c.answer_exit.result (sym c.is_exit.ensures ∙ c.if-is_exit.true) (c.answer_exit.ensures a e h runs is)
+
+pub returns-in-Some : goal.returns-in-Some
+returns-in-Some g c = λ a kind flats e h runs is.
+    let k = c.args.parts.now in
+    let call = c.args.call in
+    let files = files_in a k e h call (ap (λ (x : Kept). x.files) (sym c.parts.view_is)) in
+    let waits = subst (WaitsOn (row (ask_in a k e h call))) c.in-Some.is (c.wait_of.ensures (ask_in a k e h call) (made_by a k e h call runs is) files) in
+    wait_classed a k e h call runs is c.answer_wait.new.parts (Ok c.answer_wait.result) c.in-Some.pipe (sym c.is_exit.ensures ∙ c.if-is_exit.false) waits (c.answer_wait.ensures a e h runs is)
 
 pub returns-then-is_change : goal.returns-then-is_change
 returns-then-is_change g c = λ a kind flats e h runs is.
@@ -41,8 +52,8 @@ returns-in-222 g c = λ a kind flats e h runs is.
     row_classed a c.args.parts.now e h c.args.call runs is c.answer_map.new.parts c.answer_map.result
     (number_row c.args.call.number (sym c.is_exit.ensures ∙ c.if-is_exit.false) 222 c.in-222.is refl refl refl) (c.answer_map.ensures a kind e h runs is)
 
-pub returns-in_default : goal.returns-in_default
-returns-in_default g c = λ a kind flats e h runs is.
+pub returns-in_default-number : goal.returns-in_default-number
+returns-in_default-number g c = λ a kind flats e h runs is.
     let k = c.args.parts.now in
     let call = c.args.call in
     let n95 : call.number ≢ 95 = omega arith in

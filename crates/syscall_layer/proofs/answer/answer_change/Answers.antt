@@ -1,19 +1,20 @@
 -- A change, or a log without room.
-use Rattle.std.proofs.Common.{true, false, length, sym, ap, ◌∙◌}
+use Rattle.std.proofs.Common.{true, false, length, refl, sym, ap, ◌∙◌}
 use Rattle.std.proofs.lemmas.Result.{err_from_is_err_and}
 use Rattle.file_calls.specs.Calls.{is_change}
 use Rattle.syscall_layer.specs.Inside.{kept_of}
 use Rattle.syscall_layer.specs.Calls.{ask_in}
 use Rattle.syscall_layer.proofs.Settled.{room_is}
 use Rattle.syscall_layer.proofs.QuietRows.{quiet_row}
-use Rattle.syscall_layer.proofs.Outcomes.{change_serves, quiet_full}
+use Rattle.syscall_layer.proofs.Outcomes.{made_by, files_in, change_serves, quiet_full}
 use Rattle.syscall_layer.proofs.answer.answer_change.Goals as goal
 
 pub returns-then-not-has_room : goal.returns-then-not-has_room
 returns-then-not-has_room c = λ a e h runs is.
     let k = c.args.parts.now in
     let call = c.args.call in
-    quiet_full a k e h call runs is _ (quiet_row (ask_in a k e h call) (ap is_change (sym is.number) ∙ c.requires.change))
+    quiet_full a k e h call runs is _ (quiet_row (ask_in a k e h call) (ap is_change (sym is.number) ∙ c.requires.change)
+    (c.requires.replies (ask_in a k e h call) (made_by a k e h call runs is) (files_in a k e h call refl)))
     (room_is (kept_of c.parts.inside) k c.parts.view_is (length call.sent.items) c.has_room.result false c.has_room.ensures c.if-not-has_room.true)
 
 pub returns-in_err-change : goal.returns-in_err-change

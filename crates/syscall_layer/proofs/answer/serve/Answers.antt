@@ -12,7 +12,7 @@ use Rattle.syscall_layer.proofs.answer.serve.Goals as goal
 pub returns-in-Ok : goal.returns-in-Ok
 returns-in-Ok g c = λ a kind flats.
     serve_call a c.args.parts.now c.args.pid (subst IsRegular c.parts.view_is c.parts.invariant).0 (can_run_lives c.args.parts.now.procs c.args.pid c.requires.ready) c.in-Ok.call c.in-Ok.ensures.pid c.in-Ok.ensures.made
-    c.answer.new.parts c.answer.result (c.answer.ensures a kind flats)
+    c.answer_and_wake.new.parts c.answer_and_wake.result (c.answer_and_wake.ensures a kind flats)
 
 pub returns-in-Err-Stray : goal.returns-in-Err-Stray
 returns-in-Err-Stray g c = λ a kind flats.

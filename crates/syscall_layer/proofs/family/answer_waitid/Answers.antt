@@ -42,7 +42,7 @@ invariant_of-parts c =
     let r = runs_in k pid c.parts.invariant.0 (can_run_lives k.procs pid ready) in
     let waits = c.wait.ensures.answer ∙ sym c.wait_look.ensures ∙ c.in-Ok.is ∙ ap Ok c.in-Waits.is in (
       subst (λ (s : Listed Task). Regular (record k { procs = s })) (sym (c.wait.ensures.after ∙ ap (with_wait k.procs pid c.meant-who.result) waits))
-          (regular_waiting k pid r.0 c.meant-who.result c.parts.invariant.0 r.1.1.lives ready),
+          (regular_waiting k pid r.0 (Waiting c.meant-who.result) refl c.parts.invariant.0 r.1.1.lives ready),
       c.parts.invariant.1,
     )
 
@@ -59,7 +59,7 @@ returns-in-Waits c = λ a e h runs is.
     let looks_so = ap (λ (x : Kept). looked x.procs call.pid who may) (sym c.parts.view_is) ∙ looks in
     let procs = c.wait.ensures.after ∙ ap (with_wait old.procs call.pid who) (c.wait.ensures.answer ∙ looks) in
     let serves = looked_serves a k e h call runs.lives is (record k { procs = with_state_at k.procs call.pid (Waiting who) }) (Ok served.Waits) fault who may (c.meant-who.ensures asks (sym is.args)) refl
-    (Ok waited.Waits) looks_so (waits_serve a k e h call runs.lives who) in
+    (Ok waited.Waits) looks_so (waits_serve a k call.pid e runs.lives (Waiting who)) in
     subst (λ (x : Kept). Answered a (waitid (world_of a k) asks) k x call.pid served.Waits)
     (ap (λ (x : Kept). record x { procs = with_state_at x.procs call.pid (Waiting who) }) (sym c.parts.view_is) ∙ (λ i. record old { procs = sym procs i })) serves
 

@@ -1,23 +1,23 @@
--- The end is noted, and the process is gone.
-use Rattle.std.proofs.Common.{List, ◌∷◌, sym, ap, subst, ◌∙◌}
-use Rattle.call_log.specs.declared.how.How.TheVariants.{Signal}
-use Rattle.call_log.specs.Notes.{Note, end_note}
-use Rattle.vfork_exec.specs.Procs.{CanRun}
-use Rattle.machine_world.specs.Event.{died}
-use Rattle.syscall_layer.specs.Kept.{Kept}
-use Rattle.syscall_layer.specs.Inside.{kept_of}
+-- Behind the end those go on that wait on a pipe of which an end closes.
+use Rattle.std.proofs.Common.{sym, subst}
+use Rattle.std.proofs.lemmas.Result.{err_from_is_err_and}
+use Rattle.machine_world.specs.Event.{Outcome, at_process, trapped}
 use Rattle.syscall_layer.specs.Stands.{world_of}
 use Rattle.syscall_layer.specs.Serves.{Died}
-use Rattle.syscall_layer.proofs.Families.{can_run_lives}
-use Rattle.syscall_layer.proofs.Outcomes.{end_done}
+use Rattle.syscall_layer.proofs.Wakes.{died_settled, settled_dies}
 use Rattle.syscall_layer.proofs.parts.Parts.end_by_signal.Goals as goal
+
+pub returns-in_err-die : goal.returns-in_err-die
+returns-in_err-die c = λ a.
+    let p = err_from_is_err_and c.from_residual.result c.from_residual.ensures.1 in
+    rw p.1 (c.in_err-die.ensures a)
 
 pub returns : goal.returns
 returns c = λ a.
+    let w = world_of a c.args.self.now in
     let pid = c.args.pid in
     let signal = c.args.signal in
-    let k = kept_of c.self.inside in
-    let lives = can_run_lives k.procs pid (subst (λ (s : Kept). CanRun s.procs pid) (sym c.self.view_is) c.requires) in
-    let noted = c.keep.ensures.notes ∙ ap (λ (ns : List Note). end_note pid (Signal signal) ∷ ns) c.reserve.ensures.same in
-    subst (λ (old : Kept). Died a (died (world_of a old) pid signal) c.depart.new.self pid) c.self.view_is
-    (end_done a k pid signal c.self.invariant.0 lives c.depart.new.self c.keep.new.log.notes noted c.depart.ensures)
+    let mid = c.die.new.self in
+    let new = c.wake_changed.new.self in
+    subst (λ (o : Outcome). Died a o new pid) (sym (died_settled w pid signal))
+    (settled_dies a pid mid new c.wake_changed.ensures.kept (at_process w pid (λ p s. trapped w p signal)) (c.in_ok-die.ensures a))

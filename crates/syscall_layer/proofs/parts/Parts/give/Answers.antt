@@ -57,7 +57,7 @@ returns-clause-gives c = λ a e h.
     let own = c.owners-owners.ensures.own ∙ ap (λ (x : Held). own_in x.maps) same in
     let writes = c.owners-owners.ensures.writable ∙ ap (λ (x : Held). writable_in x.maps) same in
     gave_by a k e h call runs is c.self.invariant.0 o c.owners-owners.result.now c.put.new.mem c.follow.new.files.open_files c.finish.new.procs c.finish.new.log.notes
-    own writes puts c.follow.ensures c.finish.ensures.procs noted)
+    own writes puts (c.in_ok-follow.ensures.after) c.finish.ensures.procs noted)
 
 pub returns-clause-lives : goal.returns-clause-lives
 returns-clause-lives c =

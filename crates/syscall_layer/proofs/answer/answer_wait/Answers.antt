@@ -1,0 +1,37 @@
+-- The state of the process is another one, and nothing else.
+use Rattle.std.proofs.Common.{refl, sym, ap, subst, ◌∙◌}
+use Rattle.vfork_exec.specs.declared.family.State.TheVariants.{OnPipe}
+use Rattle.vfork_exec.specs.Procs.{Listed, CanRun, with_wait_on}
+use Rattle.machine_world.specs.Event.{waited}
+use Rattle.syscall_layer.specs.declared.task.Task.{Task}
+use Rattle.syscall_layer.specs.declared.answer.Served.TheVariants.{Waits}
+use Rattle.syscall_layer.specs.Kept.{Kept}
+use Rattle.syscall_layer.specs.Inside.{kept_of}
+use Rattle.syscall_layer.specs.Regular.{Regular}
+use Rattle.syscall_layer.specs.Stands.{process_of, world_of}
+use Rattle.syscall_layer.specs.Serves.{Answered}
+use Rattle.syscall_layer.proofs.Runs.{runs_in}
+use Rattle.syscall_layer.proofs.Families.{can_run_lives}
+use Rattle.syscall_layer.proofs.Waits.{regular_waiting, waits_serve}
+use Rattle.syscall_layer.proofs.answer.answer_wait.Goals as goal
+
+pub invariant_of-parts : goal.invariant_of-parts
+invariant_of-parts c =
+    let k = kept_of c.parts.inside in
+    let pid = c.args.call.now.pid in
+    let ready = subst (λ (x : Kept). CanRun x.procs pid) (sym c.parts.view_is) c.requires in
+    let r = runs_in k pid c.parts.invariant.0 (can_run_lives k.procs pid ready) in (
+      subst (λ (s : Listed Task). Regular (record k { procs = s })) (sym c.wait_on.ensures)
+          (regular_waiting k pid r.0 (OnPipe c.args.pipe) refl c.parts.invariant.0 r.1.1.lives ready),
+      c.parts.invariant.1,
+    )
+
+pub returns : goal.returns
+returns c = λ a e h runs is.
+    let k = c.args.parts.now in
+    let old = kept_of c.parts.inside in
+    let pid = c.args.call.now.pid in
+    let pipe = c.args.pipe in
+    subst (λ (x : Kept). Answered a (waited (world_of a k) (process_of e) (OnPipe pipe)) k x pid Waits)
+    (ap (λ (x : Kept). record x { procs = with_wait_on x.procs pid pipe }) (sym c.parts.view_is) ∙ (λ i. record old { procs = sym c.wait_on.ensures i }))
+    (waits_serve a k pid e runs.lives (OnPipe pipe))

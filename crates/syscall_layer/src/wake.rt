@@ -1,0 +1,20 @@
+//! Those go on that wait on a pipe which changed.
+
+ghost use Rattle.std.specs.Prelude.{◌≡◌};
+ghost use Rattle.machine_world.specs.Event.{awake};
+ghost use Rattle.syscall_layer.specs.Awake.{awake_in};
+ghost use Rattle.syscall_layer.specs.Stands.{About, world_of};
+
+use crate::parts::Parts;
+
+impl Parts {
+    /// Those go on that wait on a pipe of which the bytes changed or an end closed, and no pipe is marked any more.
+    pub(crate) fn wake_changed(&mut self)
+        ensures kept { self.new ≡ awake_in self.old }
+        ensures world { (a : About) → world_of a self.new ≡ awake (world_of a self.old) }
+    {
+        while let Some(pipe) = self.files.next_changed() {
+            self.procs.wake(pipe);
+        }
+    }
+}
