@@ -14,7 +14,7 @@ use Rattle.machine_world.specs.Event.{Outcome, went, strays, full, idle, noted, 
 use Rattle.machine_world.specs.Turns.{seen_of}
 use Rattle.machine_world.specs.Courses.{StandsAt}
 use Rattle.machine_world.proofs.States.{is_called, is_died, is_stray}
-use Rattle.machine_world.proofs.Chains.{may_run_still}
+use Rattle.machine_world.proofs.Runnable.{may_run_still}
 use Rattle.machine_world.proofs.Signals.{trap_small}
 use Rattle.syscall_layer.specs.declared.answer.Served.{Served}
 use Rattle.syscall_layer.specs.declared.answer.Served.TheVariants as served
@@ -92,6 +92,7 @@ module _ (a : About) (old new : Kept) (pid : ℕ) where
   strayed access mid same (Err error) x = x ∙ same
   strayed access mid same (Ok (after.RunEnds (told.Stray seen))) x = (x.0, x.1 a ∙ ap (λ (k : Kept). noted (stray_note pid (seen_of access)) (world_of a k)) same)
   strayed access mid same (Ok (after.RunEnds told.AllEnded)) x = absurd x
+  strayed access mid same (Ok (after.RunEnds told.Stuck)) x = absurd x
   strayed access mid same (Ok (after.RunEnds told.OutOfQuanta)) x = absurd x
   strayed access mid same (Ok (after.RunEnds told.LogFull)) x = absurd x
   strayed access mid same (Ok after.GoesOn) x = absurd x

@@ -6,6 +6,7 @@
 -- Turned    a turn, by its events
 -- Picks     the process of a turn
 -- Rounds    runs by quanta
+-- Waiting   who waits in a machine's world, and why where a run is stuck
 -- Readers   what the fields of a machine say of its world
 -- Copies    the own bytes of a process, in the one memory
 -- Found     the program of a path, and the start of a start line
@@ -18,6 +19,7 @@ pub mod Events
 pub mod Turned
 pub mod Picks
 pub mod Rounds
+pub mod Waiting
 pub mod Copies
 pub mod Found
 pub mod Booted

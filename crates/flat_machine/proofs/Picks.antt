@@ -1,18 +1,18 @@
 -- The process of a turn may run, and is that of the world.
-use Rattle.std.proofs.Common.{◌≡◌, ◌≢◌, ℕ, true, false, [], map, length, Option, Some, None, refl, sym, ap, ◌∙◌, arith}
+use Rattle.std.proofs.Common.{◌≡◌, ◌≢◌, ℕ, true, false, List, [], ◌∷◌, map, length, Option, Some, None, refl, sym, ap, ◌∙◌, arith}
 use Rattle.std.specs.Prelude.{◌==◌, option_map, IfSome}
 use Rattle.std.proofs.lemmas.List.{length-map}
 use Rattle.std.proofs.lemmas.Bool.Decides.{nat_tests}
 use Rattle.vfork_exec.specs.declared.entry.Entry.{Entry}
 use Rattle.vfork_exec.specs.Keyed.{Falls}
-use Rattle.vfork_exec.specs.Procs.{CanRun, process, state_at}
+use Rattle.vfork_exec.specs.Procs.{CanRun, process, ready, state_at}
 use Rattle.vfork_exec.specs.Procs.{pid_of as entry_pid, ready_pids as ready_entries}
 use Rattle.quantum_sched.specs.Picked.{picked}
 use Rattle.machine_world.specs.World.{Process, pid_of}
 use Rattle.machine_world.specs.Families.{MayRun, ready_pids}
 use Rattle.machine_world.specs.Families.{state_at as state_in}
-use Rattle.machine_world.specs.Turns.{all_ended, out_of_quanta, Walk, turns}
-use Rattle.machine_world.proofs.Chains.{ready_found}
+use Rattle.machine_world.specs.Turns.{all_ended, stuck, out_of_quanta, Walk, none_runs, last_end, turns}
+use Rattle.machine_world.proofs.Runnable.{ready_found}
 use Rattle.machine_world.proofs.RunLaws.{none_left}
 use Rattle.syscall_layer.specs.declared.task.Task.{Task}
 use Rattle.syscall_layer.specs.Kept.{Kept}
@@ -57,16 +57,35 @@ picked_can_run k next falls pick (Some pid) h =
     can_run some_about k pid
     (ready_found (world_of some_about k).procs next pick pid (sym (picked_world some_about k pick (Some pid) h)) (world_falls some_about k next falls))
 
+-- ---- where none may run
+
+pub none_lives : (a : About) (k : Kept) → length k.procs.entries ≡ 0 → none_runs (world_of a k) ≡ all_ended
+unfolding world_of
+none_lives a k none =
+    let test : (length (map process_of k.procs.entries) == 0) ≡ true = grind (arith, nat_tests, length-map {A = Entry Task} {B = Process}) in
+    rw test refl
+
+pub some_live : (a : About) (k : Kept) → length k.procs.entries ≢ 0 → none_runs (world_of a k) ≡ stuck
+unfolding world_of
+some_live a k some =
+    let test : (length (map process_of k.procs.entries) == 0) ≡ false = grind (arith, nat_tests, length-map {A = Entry Task} {B = Process}) in
+    rw test refl
+
 -- ---- behind the last quantum
 
-pub none_at_all : (a : About) (k : Kept) → length k.procs.entries ≡ 0 → (turns [] (world_of a k)).end ≡ Some all_ended
-unfolding world_of
-none_at_all a k none =
-    let test : (length (map process_of k.procs.entries) == 0) ≡ true = grind (arith, nat_tests, length-map {A = Entry Task} {B = Process}) in
-    ap (λ (v : Walk). v.end) (none_left (world_of a k)) ∙ (rw test refl)
+last_is : (a : About) (k : Kept) → (turns [] (world_of a k)).end ≡ Some (last_end (world_of a k) (ready_entries k.procs))
+last_is a k = ap (λ (v : Walk). v.end) (none_left (world_of a k)) ∙ ap (λ (pids : List ℕ). Some (last_end (world_of a k) pids)) (world_ready a k)
 
-pub some_left : (a : About) (k : Kept) → length k.procs.entries ≢ 0 → (turns [] (world_of a k)).end ≡ Some out_of_quanta
-unfolding world_of
-some_left a k some =
-    let test : (length (map process_of k.procs.entries) == 0) ≡ false = grind (arith, nat_tests, length-map {A = Entry Task} {B = Process}) in
-    ap (λ (v : Walk). v.end) (none_left (world_of a k)) ∙ (rw test refl)
+pub last_of_none : (a : About) (k : Kept) → length (ready k.procs) ≡ 0 → (turns [] (world_of a k)).end ≡ Some (none_runs (world_of a k))
+last_of_none a k none = last_is a k ∙ ap Some (tells (ready k.procs) none)
+  where
+    tells : (es : List (Entry Task)) → length es ≡ 0 → last_end (world_of a k) (map entry_pid es) ≡ none_runs (world_of a k)
+    tells [] empty = refl
+    tells (e ∷ es) empty = absurd (omega arith)
+
+pub last_of_some : (a : About) (k : Kept) → length (ready k.procs) ≢ 0 → (turns [] (world_of a k)).end ≡ Some out_of_quanta
+last_of_some a k some = last_is a k ∙ ap Some (tells (ready k.procs) some)
+  where
+    tells : (es : List (Entry Task)) → length es ≢ 0 → last_end (world_of a k) (map entry_pid es) ≡ out_of_quanta
+    tells [] there = absurd (there refl)
+    tells (e ∷ es) there = refl

@@ -11,7 +11,7 @@ use Rattle.quantum_sched.specs.Picked.{picked}
 use Rattle.vfork_exec.specs.Procs.{CanRun}
 use Rattle.machine_world.specs.World.{World}
 use Rattle.machine_world.specs.Families.{ready_pids}
-use Rattle.machine_world.specs.Turns.{End, Walk, turn, turns, walked}
+use Rattle.machine_world.specs.Turns.{End, Walk, none_runs, turn, turns, walked}
 use Rattle.machine_world.specs.Programs.{AreLoaded, LoadsPrograms}
 use Rattle.machine_world.proofs.Loads.{turn_loads_programs}
 use Rattle.machine_world.specs.Courses.{Comes}
@@ -35,14 +35,15 @@ ends_is : (o : Option End) (end : Told) → Ends o end → (e : End) × (o ≡ S
 ends_is (Some e) end x = (e, refl)
 ends_is None told.AllEnded x = absurd x
 ends_is None (told.Stray seen) x = absurd x
+ends_is None told.Stuck x = absurd x
 ends_is None told.OutOfQuanta x = absurd x
 ends_is None told.LogFull x = absurd x
 
 -- ---- one quantum
 
 module _ (q : Quantum) (w : World) where
-  pub quantum_none : picked q.pick (ready_pids w.procs) ≡ None → Leaves (q ∷ []) w w (Ok (Some told.AllEnded))
-  quantum_none none back = rw (none_chosen q w none back) (refl, tt)
+  pub quantum_none : picked q.pick (ready_pids w.procs) ≡ None → (end : Told) → Ends (Some (none_runs w)) end → Leaves (q ∷ []) w w (Ok (Some end))
+  quantum_none none end tells back = rw (none_chosen q w none back) (refl, tells)
 
   module _ (pid : ℕ) (chosen : picked q.pick (ready_pids w.procs) ≡ Some pid) (done : ℕ) (new : World) where
     pub quantum_leaves : (r : Result (Option Told) AllocError) → TurnLeaves pid q.count w done new r → Leaves (q ∷ []) w new r

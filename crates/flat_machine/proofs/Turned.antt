@@ -131,16 +131,20 @@ module _ (kind : Kind) (flats : List Values) (pid count : ℕ) (old now : Kept) 
         (ap (λ (z : Walk). z.world) same ∙ ap (world_of (later n a)) (sym x), rw same tt)
     stops_with a so are (went v t) told.AllEnded is x = absurd x
     stops_with a so are (went v t) (told.Stray seen) is x = absurd x
+    stops_with a so are (went v t) told.Stuck is x = absurd x
     stops_with a so are (went v t) told.OutOfQuanta is x = absurd x
     stops_with a so are (went v t) told.LogFull is x = absurd x
     stops_with a so are (strays access) told.AllEnded is x = absurd x
+    stops_with a so are (strays access) told.Stuck is x = absurd x
     stops_with a so are (strays access) told.OutOfQuanta is x = absurd x
     stops_with a so are (strays access) told.LogFull is x = absurd x
     stops_with a so are full told.AllEnded is x = absurd x
     stops_with a so are full (told.Stray seen) is x = absurd x
+    stops_with a so are full told.Stuck is x = absurd x
     stops_with a so are full told.OutOfQuanta is x = absurd x
     stops_with a so are idle told.AllEnded is x = absurd x
     stops_with a so are idle (told.Stray seen) is x = absurd x
+    stops_with a so are idle told.Stuck is x = absurd x
     stops_with a so are idle told.OutOfQuanta is x = absurd x
     stops_with a so are idle told.LogFull is x = absurd x
 

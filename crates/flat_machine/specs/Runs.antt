@@ -10,8 +10,10 @@ use Rattle.quantum_sched.specs.Picked.{picked}
 use Rattle.vfork_exec.specs.Keyed.{find}
 use Rattle.machine_world.specs.World.{World, Process, LiveSpace, pid_of, id_of}
 use Rattle.machine_world.specs.Families.{ready_pids}
-use Rattle.machine_world.specs.Turns.{End, all_ended, out_of_quanta, stray_at, log_full, turn, turns}
+use Rattle.machine_world.specs.Turns.{End, all_ended, stuck, out_of_quanta, stray_at, log_full, turn, turns}
 use Rattle.stays_laws.specs.Stays.{Stay, AreRight, stays}
+use Rattle.waits_laws.specs.Waits.{WaitsWell}
+use Rattle.waits_laws.specs.Laws.{IsOrdered, WaitsOrLent}
 use Rattle.flat_machine.specs.declared.run.End.{End as Told}
 use Rattle.flat_machine.specs.declared.run.End.TheVariants as told
 use Rattle.flat_machine.specs.State.{State, world}
@@ -23,6 +25,7 @@ repeated (suc n) quanta = quanta ++ repeated n quanta
 
 abbrev pub Ends : Option End → Told → Type 0
 Ends (Some all_ended) told.AllEnded = Unit {0}
+Ends (Some stuck) told.Stuck = Unit {0}
 Ends (Some (stray_at pid access)) (told.Stray seen) = seen ≡ access
 Ends (Some out_of_quanta) told.OutOfQuanta = Unit {0}
 Ends (Some log_full) told.LogFull = Unit {0}
@@ -64,3 +67,14 @@ Runs quanta old new (Err error) = Stops quanta (world old) (world new)
 abbrev pub KeepsStays : List Quantum → State → State → Result Told AllocError → Type 0
 KeepsStays quanta old new result =
     OnOk result ((told : List Stay) → AreRight told (world old) → AreRight (stays told (world old) quanta) (world new))
+
+-- where the world was in order and those that waited in it waited well, so it is behind the run, also out of memory
+abbrev pub KeepsWaits : State → State → Type 0
+KeepsWaits old new = IsOrdered (world old) → WaitsWell (world old) → IsOrdered (world new) × WaitsWell (world new)
+
+-- and where the run is stuck, each process that lives waits in a call that would wait again, or stands still for its vfork child
+abbrev pub WaitsWhereStuck : State → State → Result Told AllocError → Type 0
+WaitsWhereStuck old new (Ok told.Stuck) =
+    IsOrdered (world old) → WaitsWell (world old) → (pid : ℕ) (p : Process) → find pid_of pid (world new).procs ≡ Some p → WaitsOrLent (world new) p p.state
+WaitsWhereStuck old new (Ok other) = Unit {0}
+WaitsWhereStuck old new (Err error) = Unit {0}

@@ -10,7 +10,7 @@ ghost use Rattle.page_runs.specs.Choosers.{IsChooser, kind_of};
 ghost use Rattle.machine_world.specs.Boot.{boot, started};
 ghost use Rattle.manifest_text.specs.declared.manifest.Start.{Start as StartItem};
 ghost use Rattle.flat_machine.specs.State.{rest_of, line_of, lines_of, about_boot};
-ghost use Rattle.flat_machine.specs.Boots.{marked, Boots, Begins, BeginsStays};
+ghost use Rattle.flat_machine.specs.Boots.{marked, Boots, Begins, BeginsStays, BeginsWaits};
 
 use crate::machine::Machine;
 use bflt_format::Flat;
@@ -120,6 +120,7 @@ impl Machine {
         requires starts { length setup.starts.items ≤ 64 }
         requires args { (i : ℕ) → (s : StartItem) → slice_get setup.starts.items i ≡ Some s → 0 < length s.args.items }
         ensures world { Boots (boot (rest_of setup.pages (kind_of chooser.now) setup.paths.items setup.programs.items setup.tree setup.stdin.items) (lines_of setup.starts.items)) result }
+        ensures waits { BeginsWaits (rest_of setup.pages (kind_of chooser.now) setup.paths.items setup.programs.items setup.tree setup.stdin.items) result }
         ensures alone { BeginsStays (rest_of setup.pages (kind_of chooser.now) setup.paths.items setup.programs.items setup.tree setup.stdin.items) (lines_of setup.starts.items) result }
     {
         let Setup {

@@ -1,14 +1,14 @@
 //! A run by quanta.
 
-ghost use Rattle.std.specs.Prelude.{◌≡◌, ◌+◌, ◌*◌, ◌^◌, ◌<◌, ◌≤◌, [], ◌∷◌, sum_by, IfSome};
+ghost use Rattle.std.specs.Prelude.{◌≡◌, ◌+◌, ◌*◌, ◌^◌, ◌<◌, ◌≤◌, [], ◌∷◌, sum_by, Some, IfSome};
 ghost use Rattle.page_runs.specs.Choosers.{IsChooser, kind_of};
 ghost use Rattle.vfork_exec.specs.Procs.{CanRun};
 ghost use Rattle.quantum_sched.specs.Picked.{picked};
 ghost use Rattle.machine_world.specs.Families.{ready_pids};
-ghost use Rattle.machine_world.specs.Turns.{turns};
+ghost use Rattle.machine_world.specs.Turns.{none_runs, turns};
 ghost use Rattle.syscall_layer.specs.Stands.{About, world_of};
 ghost use Rattle.flat_machine.specs.State.{world};
-ghost use Rattle.flat_machine.specs.Runs.{Ends, Runs, KeepsStays, repeated};
+ghost use Rattle.flat_machine.specs.Runs.{Ends, Runs, KeepsStays, KeepsWaits, WaitsWhereStuck, repeated};
 ghost use Rattle.flat_machine.specs.Leaves.{Leaves};
 
 use crate::machine::Machine;
@@ -26,7 +26,9 @@ pub enum End {
     AllEnded,
     /// The next access strays: it isn't carried out, and its note is the last one.
     Stray(Access),
-    /// The quanta are used up, and a process lives.
+    /// Processes live, and none may run: all wait or stand still.
+    Stuck,
+    /// The quanta are used up, and a process may run.
     OutOfQuanta,
     /// The log has no room for the next call, which isn't carried out.
     LogFull,
@@ -40,12 +42,23 @@ fn chosen(parts: &Parts, quantum: Quantum) -> Option<u32>
     pick(&parts.procs, quantum)
 }
 
+/// Why a run stops where no process may run.
+fn none_runs(parts: &Parts) -> End
+    ensures { (a : About) → Ends (Some (none_runs (world_of a parts.now))) result }
+{
+    if parts.procs.live() == 0 {
+        End::AllEnded
+    } else {
+        End::Stuck
+    }
+}
+
 /// Why a run stops behind its last quantum.
 fn last_end(parts: &Parts) -> End
     ensures { (a : About) → Ends (turns [] (world_of a parts.now)).end result }
 {
-    if parts.procs.live() == 0 {
-        End::AllEnded
+    if parts.procs.runnable() == 0 {
+        none_runs(parts)
     } else {
         End::OutOfQuanta
     }
@@ -66,7 +79,7 @@ impl Machine {
         ensures leaves { Leaves (quantum ∷ []) (world self.old) (world self.new) result }
     {
         let Some(pid) = chosen(&self.parts, quantum) else {
-            return Ok(Some(End::AllEnded));
+            return Ok(Some(none_runs(&self.parts)));
         };
         let TurnEnd { events, end } = turn(
             &mut self.parts,
@@ -112,6 +125,8 @@ impl Machine {
         requires kind { kind_of chooser.now ≡ self.old.kind }
         requires events { self.old.events + count * sum_by (λ q. q.count) quanta.now < 2 ^ 64 }
         ensures turns { Runs (repeated count quanta.now) self.old self.new result }
+        ensures waits { KeepsWaits self.old self.new }
+        ensures stuck { WaitsWhereStuck self.old self.new result }
         ensures alone { KeepsStays (repeated count quanta.now) self.old self.new result }
     {
         let _kind = self.kind();

@@ -1,15 +1,16 @@
--- Whether any process lives.
+-- Whether any process may run.
 use Rattle.std.proofs.Common.{sym, ◌∙◌}
 use Rattle.syscall_layer.specs.Inside.{kept_of}
-use Rattle.flat_machine.proofs.Picks.{none_at_all, some_left}
+use Rattle.flat_machine.proofs.Picks.{last_of_none, last_of_some}
 use Rattle.flat_machine.proofs.run.last_end.Goals as goal
 
-pub returns-then-live-eq0 : goal.returns-then-live-eq0
-returns-then-live-eq0 c a =
+pub returns-then-runnable-eq0 : goal.returns-then-runnable-eq0
+returns-then-runnable-eq0 c a =
     let v = c.parts.view_is in
-    rw (← v, none_at_all a (kept_of c.parts.inside) (sym c.live.ensures.count ∙ c.if-live-eq0.true)) tt
+    let tells = rw (← v) at (c.none_runs.ensures a) in
+    rw (← v, last_of_none a (kept_of c.parts.inside) (sym c.runnable.ensures ∙ c.if-runnable-eq0.true)) tells
 
-pub returns-else-live-eq0 : goal.returns-else-live-eq0
-returns-else-live-eq0 c a =
+pub returns-else-runnable-eq0 : goal.returns-else-runnable-eq0
+returns-else-runnable-eq0 c a =
     let v = c.parts.view_is in
-    rw (← v, some_left a (kept_of c.parts.inside) (λ e. c.if-live-eq0.false (c.live.ensures.count ∙ e))) tt
+    rw (← v, last_of_some a (kept_of c.parts.inside) (λ e. c.if-runnable-eq0.false (c.runnable.ensures ∙ e))) tt

@@ -15,6 +15,7 @@ use Rattle.stays_laws.proofs.SoundRuns.{boots_are_sound}
 use Rattle.stays_laws.proofs.StaysRuns.{boots_begin_stays}
 use Rattle.flat_machine.specs.State.{about_boot, line_of, lines_of, rest_of}
 use Rattle.flat_machine.proofs.Booted.{more_pids, more_spaces, more_processes, left_on, left_fails, left_none, fails_as, boots_from, machine_boots, machine_loads}
+use Rattle.flat_machine.proofs.Waiting.{boots_wait_well}
 use Rattle.flat_machine.proofs.machine.Machine.boot.Goals as goal
 
 pub loop-start-init : goal.loop-start-init
@@ -91,3 +92,15 @@ returns-clause-alone g c =
     let kind = c.kind.ensures in
     rw (← c.deref-start-items.ensures.value, kind)
     (boots_begin_stays rest (lines_of c.deref-start-items.result.now) (world_of a c.loop-start.parts) (record { some = c.requires.some; most = c.requires.most; changes = c.requires.changes }) (sym (all ∙ first_is)))
+
+pub returns-clause-waits : goal.returns-clause-waits
+returns-clause-waits g c =
+    let a = about_boot (kind_of c.args.chooser.now) c.args.setup.paths.items c.args.setup.programs.items in
+    let rest = rest_of c.args.setup.pages (kind_of c.args.chooser.now) c.args.setup.paths.items c.args.setup.programs.items c.args.setup.tree c.args.setup.stdin.items in
+    let first_is = boots_from a c.args.setup.pages c.args.setup.tree c.in_ok-files.files.open_files rest c.in_ok-parts.parts (lines_of c.deref-start-items.result.now) c.in_ok-parts.ensures (ap (λ (files : OpenFiles). record rest { files = files }) c.in_ok-files.ensures) refl in
+    let all = left_none c.deref-start-items.result.now c.loop-start.start-index (world_of a c.loop-start.parts) (all_started (world_of a c.in_ok-parts.parts) (lines_of c.deref-start-items.result.now))
+    c.loop-start-test.false c.loop-start.invariant.left in
+    let few : length (lines_of c.deref-start-items.result.now) ≤ most_entries = let items = c.deref-start-items.ensures.value in omega (arith, c.requires.starts, length-map c.deref-start-items.result.now line_of, ap (λ (starts : List StartItem). length starts) items) in
+    let kind = c.kind.ensures in
+    rw kind
+    (λ fresh. boots_wait_well rest (lines_of c.deref-start-items.result.now) (world_of a c.loop-start.parts) (record { some = c.requires.some; most = c.requires.most; changes = c.requires.changes }) fresh few (sym (all ∙ first_is)))

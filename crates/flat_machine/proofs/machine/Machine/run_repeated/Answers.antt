@@ -7,6 +7,7 @@ use Rattle.flat_machine.specs.State.{about_of, world}
 use Rattle.flat_machine.specs.Inside.{state_of}
 use Rattle.flat_machine.specs.Runs.{repeated}
 use Rattle.flat_machine.proofs.Rounds.{time_fits, one_more_time, time_on, time_ends, time_fails, machine_ends, runs_fail, run_keeps_stays}
+use Rattle.flat_machine.proofs.Waiting.{run_keeps_waits, run_waits_where_stuck}
 use Rattle.flat_machine.proofs.machine.Machine.run_repeated.Goals as goal
 
 pub loop-time-init : goal.loop-time-init
@@ -51,3 +52,23 @@ returns-in-Some-clause-alone g c =
 pub returns-clause-alone : goal.returns-clause-alone
 returns-clause-alone g c =
     run_keeps_stays (repeated c.args.count c.args.quanta.now) c.args.self.now c.loop-time.self (Ok c.last_end.result) c.kind-kind.ensures.sound (returns-clause-turns g c)
+
+pub returns-in-Some-clause-waits : goal.returns-in-Some-clause-waits
+returns-in-Some-clause-waits g c =
+    run_keeps_waits (repeated c.args.count c.args.quanta.now) c.args.self.now c.round.new.self (Ok c.in-Some.end) (returns-in-Some-clause-turns g c)
+
+pub returns-clause-waits : goal.returns-clause-waits
+returns-clause-waits g c =
+    run_keeps_waits (repeated c.args.count c.args.quanta.now) c.args.self.now c.loop-time.self (Ok c.last_end.result) (returns-clause-turns g c)
+
+pub returns-in-Some-clause-stuck : goal.returns-in-Some-clause-stuck
+returns-in-Some-clause-stuck g c =
+    run_waits_where_stuck (repeated c.args.count c.args.quanta.now) c.args.self.now c.round.new.self (Ok c.in-Some.end) (returns-in-Some-clause-turns g c)
+
+pub returns-clause-stuck : goal.returns-clause-stuck
+returns-clause-stuck g c =
+    run_waits_where_stuck (repeated c.args.count c.args.quanta.now) c.args.self.now c.loop-time.self (Ok c.last_end.result) (returns-clause-turns g c)
+
+pub returns-in_err-end-clause-waits : goal.returns-in_err-end-clause-waits
+returns-in_err-end-clause-waits g c =
+    run_keeps_waits (repeated c.args.count c.args.quanta.now) c.args.self.now c.round.new.self c.from_residual.result (returns-in_err-end-clause-turns g c)

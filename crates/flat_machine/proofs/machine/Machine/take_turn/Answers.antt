@@ -11,7 +11,8 @@ use Rattle.flat_machine.proofs.machine.Machine.take_turn.Goals as goal
 pub returns-in_default-clause-leaves : goal.returns-in_default-clause-leaves
 returns-in_default-clause-leaves g c =
     let v = c.self.view_is in
-    rw (← v) (quantum_none c.args.quantum (world (state_of c.self.inside)) (sym (c.in_default.ensures.picked (about_of (state_of c.self.inside)))))
+    rw (← v) (quantum_none c.args.quantum (world (state_of c.self.inside)) (sym (c.in_default.ensures.picked (about_of (state_of c.self.inside)))) c.none_runs.result
+    (c.none_runs.ensures (about_of (state_of c.self.inside))))
 
 pub returns-clause-leaves : goal.returns-clause-leaves
 returns-clause-leaves g c =
