@@ -31,6 +31,7 @@ exit status:
   7   standard output or error can't be written
   8   out of memory
   9   a file can't be written
+  10  processes live and none can run on
 
 Read on in the manual page, flatc(1), and in README.md.
 ";

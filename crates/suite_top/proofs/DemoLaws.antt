@@ -3,7 +3,7 @@ use Rattle.std.proofs.Common.{◌≡◌, ℕ, List, [], map, Option, Some, None,
 use Rattle.page_runs.specs.declared.place.Kind.TheVariants.{First}
 use Rattle.manifest_text.specs.Values.{Manifest}
 use Rattle.machine_world.specs.World.{World}
-use Rattle.machine_world.specs.Turns.{End, all_ended, out_of_quanta, stray_at, log_full, Walk, turns}
+use Rattle.machine_world.specs.Turns.{End, all_ended, stuck, out_of_quanta, stray_at, log_full, Walk, turns}
 use Rattle.machine_world.specs.Boot.{BootFault, boot}
 use Rattle.flat_machine.specs.Runs.{repeated}
 use Rattle.run_setup.specs.Brought.{Brought, FaultAt, nothing_brought, all_brought}
@@ -55,6 +55,7 @@ module _ (n : ℕ) where
     stopped w boots walk walks None ends is done = other_end n _ (λ h. cc) is done
     stopped w boots walk walks (Some all_ended) ends is done =
         record { brought = b; brings = brings; world = w; boots = boots; walk = walk; walks = walks; ended = ends; ending = is }
+    stopped w boots walk walks (Some stuck) ends is done = other_end n _ (λ h. cc) is done
     stopped w boots walk walks (Some (stray_at pid access)) ends is done = other_end n _ (λ h. cc) is done
     stopped w boots walk walks (Some out_of_quanta) ends is done = other_end n _ (λ h. cc) is done
     stopped w boots walk walks (Some log_full) ends is done = other_end n _ (λ h. cc) is done

@@ -10,6 +10,7 @@
 -- Opened: a list opened at one place.
 -- LoadedItems: the loads of a manifest's lines.
 -- Booted, RunEndings, RunLaws: what a boot of the machine gives, how a run ends, and when it reaches its machine.
+-- OpenedRuns: what the laws of boots ask for, of a run that reaches its machine.
 -- Demos, DemoFaults, DemoLaws: the manifest of a demo and its programs, and the laws of the command.
 -- Samples, ListSamples, RunSamples: the definitions on the worked example and on small manifests.
 pub mod HostCourses
@@ -38,6 +39,7 @@ pub mod LoadedItems
 pub mod Booted
 pub mod RunEndings
 pub mod RunLaws
+pub mod OpenedRuns
 pub mod Demos
 pub mod DemoFaults
 pub mod DemoLaws

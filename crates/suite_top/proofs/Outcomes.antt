@@ -7,7 +7,7 @@ use Rattle.bflt_format.specs.Fault.{flat_fault}
 use Rattle.elf2flt_tool.specs.Fault.{fault}
 use Rattle.elf2flt_tool.specs.Converted.{flat}
 use Rattle.suite_top.specs.declared.status.Status.{Status}
-use Rattle.suite_top.specs.declared.status.Status.TheVariants.{Done, Usage, HostRead, Refused, Stray, OutOfQuanta, LogFull}
+use Rattle.suite_top.specs.declared.status.Status.TheVariants.{Done, Usage, HostRead, Refused, Stray, OutOfQuanta, LogFull, Stuck}
 use Rattle.suite_top.specs.Sizes.{sizes}
 use Rattle.suite_top.specs.Texts.{refusal_tail, convert_line, check_line, too_long_tail}
 use Rattle.suite_top.specs.Texts.Listing.{listing, flat_tail}
@@ -72,11 +72,11 @@ module _ (P : Ending → Type 0) (read : (name : List ℕ) → P (failure_ending
     result_by usage (Some k) inputs = invoked k inputs
 
 -- a status that no outcome has
-pub never : (s : Status) → (HostRead ≡ s → ⊥) → (Refused ≡ s → ⊥) → (Done ≡ s → ⊥) → (Usage ≡ s → ⊥) → (Stray ≡ s → ⊥) → (OutOfQuanta ≡ s → ⊥) → (LogFull ≡ s → ⊥)
+pub never : (s : Status) → (HostRead ≡ s → ⊥) → (Refused ≡ s → ⊥) → (Done ≡ s → ⊥) → (Usage ≡ s → ⊥) → (Stray ≡ s → ⊥) → (OutOfQuanta ≡ s → ⊥) → (LogFull ≡ s → ⊥) → (Stuck ≡ s → ⊥)
     → (arguments : List (List ℕ)) (inputs : Inputs) → (result_of arguments inputs).ending.status ≡ s → ⊥
-never s read refused done usage stray quanta full arguments inputs =
+never s read refused done usage stray quanta full still arguments inputs =
     result_by (λ t. t.status ≡ s → ⊥) (λ name. read) (λ tail. refused) (λ text. done)
-    (λ telling dumps walk. told_status (λ t. t ≡ s → ⊥) done stray quanta full telling dumps walk.world walk.end)
+    (λ telling dumps walk. told_status (λ t. t ≡ s → ⊥) done stray quanta full still telling dumps walk.world walk.end)
     usage (command_of arguments) inputs
 
 one_text : (o : Option Invocation) (inputs : Inputs) → IsNoRun o → IsOneText (command_outcome o inputs).ending
@@ -89,7 +89,7 @@ texts_are_apart arguments inputs = one_text (command_of arguments) inputs
 no_command : (o : Option Invocation) (inputs : Inputs) → (command_outcome o inputs).ending.status ≡ Usage → o ≡ None
 no_command None inputs is = refl
 no_command (Some k) inputs is =
-    absurd (invoked (λ t. t.status ≡ Usage → ⊥) (λ name e. cc) (λ tail e. cc) (λ text e. cc) (λ telling dumps walk. told_status (λ t. t ≡ Usage → ⊥) (λ e. cc) (λ e. cc) (λ e. cc) (λ e. cc) telling dumps walk.world walk.end) k inputs is)
+    absurd (invoked (λ t. t.status ≡ Usage → ⊥) (λ name e. cc) (λ tail e. cc) (λ text e. cc) (λ telling dumps walk. told_status (λ t. t ≡ Usage → ⊥) (λ e. cc) (λ e. cc) (λ e. cc) (λ e. cc) (λ e. cc) telling dumps walk.world walk.end) k inputs is)
 
 pub usage_is_exact : UsageIsExact
 usage_is_exact arguments inputs = (

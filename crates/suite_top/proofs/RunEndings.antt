@@ -25,7 +25,7 @@ use Rattle.suite_top.proofs.RunOutcomes.{told_status}
 -- no end is that of a failed load
 booted_is_told : (telling : Telling) (m : Manifest) (b : Result World BootFault) → (booted_ending telling m b).status ≢ status.HostRead
 booted_is_told telling m (Err fault) = λ h. cc
-booted_is_told telling m (Ok w) = told_status (λ s. s ≢ status.HostRead) (λ h. cc) (λ h. cc) (λ h. cc) (λ h. cc) telling m.dumps _ _
+booted_is_told telling m (Ok w) = told_status (λ s. s ≢ status.HostRead) (λ h. cc) (λ h. cc) (λ h. cc) (λ h. cc) (λ h. cc) telling m.dumps _ _
 
 brought_is_told : (telling : Telling) (kind : Kind) (m : Manifest) (r : Result Brought FaultAt) → (brought_ending telling kind m r).status ≢ status.HostRead
 brought_is_told telling kind m (Err at) = λ h. cc

@@ -124,4 +124,4 @@ opens_where_it_stops t name log kind stop =
 pub runs_stop_or_end_early : RunsStopOrEndEarly
 runs_stop_or_end_early =
     run_by (λ (o : Outcome). IsStop o.ending.status ⊎ IsEarly o.ending) (λ name o p. p) (λ name. inr (refl, inl refl)) (λ tail. inr (refl, inr refl))
-    (λ telling dumps walk. inl (told_status IsStop tt tt tt tt telling dumps walk.world walk.end))
+    (λ telling dumps walk. inl (told_status IsStop tt tt tt tt tt telling dumps walk.world walk.end))

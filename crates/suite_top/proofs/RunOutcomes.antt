@@ -5,11 +5,11 @@ use Rattle.manifest_text.specs.declared.manifest.Dump.{Dump}
 use Rattle.manifest_text.specs.Values.{Item, Manifest}
 use Rattle.manifest_text.specs.Manifest.{Fault, manifest_of}
 use Rattle.machine_world.specs.World.{World}
-use Rattle.machine_world.specs.Turns.{End, all_ended, out_of_quanta, stray_at, log_full, Walk, turns}
+use Rattle.machine_world.specs.Turns.{End, all_ended, stuck, out_of_quanta, stray_at, log_full, Walk, turns}
 use Rattle.machine_world.specs.Boot.{BootFault, boot}
 use Rattle.flat_machine.specs.Runs.{repeated}
 use Rattle.suite_top.specs.declared.status.Status.{Status}
-use Rattle.suite_top.specs.declared.status.Status.TheVariants.{Done, Stray, OutOfQuanta, LogFull}
+use Rattle.suite_top.specs.declared.status.Status.TheVariants.{Done, Stray, OutOfQuanta, LogFull, Stuck}
 use Rattle.suite_top.specs.Texts.Refusals.{manifest_tail, line_tail, too_long_at}
 use Rattle.suite_top.specs.Ending.{refused_ending}
 use Rattle.suite_top.specs.Outcome.{load, failure_ending, Outcome, Inputs, after}
@@ -75,19 +75,21 @@ module _ (P : Outcome → Type 0) (step : (name : List ℕ) (o : Outcome) → P 
   demo_by n = from_files (Demo n) First (demo_manifest n) (each_of demo_file n)
 
 -- the statuses of a machine that stopped
-pub other_status : (P : Status → Type 0) → P Done → P Stray → P OutOfQuanta → P LogFull → (end : Option End) → P (status_of_end end)
-other_status P done stray quanta full None = quanta
-other_status P done stray quanta full (Some all_ended) = done
-other_status P done stray quanta full (Some (stray_at pid access)) = stray
-other_status P done stray quanta full (Some out_of_quanta) = quanta
-other_status P done stray quanta full (Some log_full) = full
+pub other_status : (P : Status → Type 0) → P Done → P Stray → P OutOfQuanta → P LogFull → P Stuck → (end : Option End) → P (status_of_end end)
+other_status P done stray quanta full still None = quanta
+other_status P done stray quanta full still (Some all_ended) = done
+other_status P done stray quanta full still (Some stuck) = still
+other_status P done stray quanta full still (Some (stray_at pid access)) = stray
+other_status P done stray quanta full still (Some out_of_quanta) = quanta
+other_status P done stray quanta full still (Some log_full) = full
 
 -- those of what a run tells
-pub told_status : (P : Status → Type 0) → P Done → P Stray → P OutOfQuanta → P LogFull
+pub told_status : (P : Status → Type 0) → P Done → P Stray → P OutOfQuanta → P LogFull → P Stuck
     → (telling : Telling) (dumps : List Dump) (w : World) (end : Option End) → P (told_ending telling dumps w end).status
-told_status P done stray quanta full (Report log) dumps w end = other_status P done stray quanta full end
-told_status P done stray quanta full (Demo n) dumps w None = quanta
-told_status P done stray quanta full (Demo n) dumps w (Some all_ended) = done
-told_status P done stray quanta full (Demo n) dumps w (Some (stray_at pid access)) = stray
-told_status P done stray quanta full (Demo n) dumps w (Some out_of_quanta) = quanta
-told_status P done stray quanta full (Demo n) dumps w (Some log_full) = full
+told_status P done stray quanta full still (Report log) dumps w end = other_status P done stray quanta full still end
+told_status P done stray quanta full still (Demo n) dumps w None = quanta
+told_status P done stray quanta full still (Demo n) dumps w (Some all_ended) = done
+told_status P done stray quanta full still (Demo n) dumps w (Some stuck) = still
+told_status P done stray quanta full still (Demo n) dumps w (Some (stray_at pid access)) = stray
+told_status P done stray quanta full still (Demo n) dumps w (Some out_of_quanta) = quanta
+told_status P done stray quanta full still (Demo n) dumps w (Some log_full) = full

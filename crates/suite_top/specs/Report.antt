@@ -6,7 +6,7 @@ use Rattle.call_log.specs.Notes.{Note, call_note}
 use Rattle.call_log.specs.Lines.{line}
 use Rattle.manifest_text.specs.declared.manifest.Dump.{Dump}
 use Rattle.machine_world.specs.World.{World, program_path}
-use Rattle.machine_world.specs.Turns.{End, all_ended, out_of_quanta, stray_at, log_full}
+use Rattle.machine_world.specs.Turns.{End, all_ended, stuck, out_of_quanta, stray_at, log_full}
 use Rattle.flat_machine.specs.declared.run.End.{End as Told}
 use Rattle.flat_machine.specs.Runs.{Ends}
 use Rattle.flat_machine.specs.OwnBytes.{own_bytes}
@@ -37,6 +37,7 @@ dump_line w d = joined
 -- why a run stopped. One that has no end yet is out of quanta
 abbrev pub stop_word : Option End → List ℕ
 stop_word (Some all_ended) = codes "done"
+stop_word (Some stuck) = codes "stuck"
 stop_word (Some (stray_at pid access)) = codes "stray"
 stop_word (Some out_of_quanta) = codes "quanta"
 stop_word (Some log_full) = codes "log"
@@ -56,6 +57,7 @@ report_text log dumps w end = notes_text log w ++ flat_map (dump_line w) dumps +
 
 abbrev pub status_of_end : Option End → Status
 status_of_end (Some all_ended) = status.Done
+status_of_end (Some stuck) = status.Stuck
 status_of_end (Some (stray_at pid access)) = status.Stray
 status_of_end (Some out_of_quanta) = status.OutOfQuanta
 status_of_end (Some log_full) = status.LogFull

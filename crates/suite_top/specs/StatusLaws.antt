@@ -3,7 +3,7 @@ use Rattle.std.specs.Prelude.{◌≡◌, ◌⊎◌, ◌++◌, ◌↔◌, ℕ, �
 use Rattle.host_io.specs.Faults.{Rose}
 use Rattle.host_io.specs.Host.{Told}
 use Rattle.suite_top.specs.declared.status.Status.{Status}
-use Rattle.suite_top.specs.declared.status.Status.TheVariants.{Done, Usage, HostRead, Refused, Stray, OutOfQuanta, LogFull, SinkWrite, Memory, HostWrite}
+use Rattle.suite_top.specs.declared.status.Status.TheVariants.{Done, Usage, HostRead, Refused, Stray, OutOfQuanta, LogFull, SinkWrite, Memory, HostWrite, Stuck}
 use Rattle.suite_top.specs.Texts.{memory_line}
 use Rattle.suite_top.specs.Ending.{Ending, memory_ending}
 use Rattle.suite_top.specs.Outcome.{Request, load, store, failure_ending, Inputs}
@@ -21,6 +21,7 @@ IsAnswer Refused = Unit {0}
 IsAnswer Stray = Unit {0}
 IsAnswer OutOfQuanta = Unit {0}
 IsAnswer LogFull = Unit {0}
+IsAnswer Stuck = Unit {0}
 IsAnswer HostRead = ⊥
 IsAnswer HostWrite = ⊥
 IsAnswer SinkWrite = ⊥

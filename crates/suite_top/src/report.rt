@@ -39,6 +39,7 @@ pub fn status_of(end: End) -> Status
 {
     match end {
         End::AllEnded => Status::Done,
+        End::Stuck => Status::Stuck,
         End::Stray(_) => Status::Stray,
         End::OutOfQuanta => Status::OutOfQuanta,
         End::LogFull => Status::LogFull,
@@ -124,6 +125,7 @@ fn stop_word(end: End) -> &'static str
 {
     match end {
         End::AllEnded => "done",
+        End::Stuck => "stuck",
         End::Stray(_) => "stray",
         End::OutOfQuanta => "quanta",
         End::LogFull => "log",

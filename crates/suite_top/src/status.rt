@@ -15,7 +15,7 @@ pub enum Status {
     Refused,
     /// A program made an access outside of its own bytes.
     Stray,
-    /// The quanta of a run are used up, and a process lives.
+    /// The quanta of a run are used up, and a process may run.
     OutOfQuanta,
     /// The log of a run has no room for the next call.
     LogFull,
@@ -25,6 +25,8 @@ pub enum Status {
     Memory,
     /// The host failed at a store.
     HostWrite,
+    /// Processes live, and none may run: all wait or stand still.
+    Stuck,
 }
 
 impl Status {
@@ -43,6 +45,7 @@ impl Status {
             Status::SinkWrite => 7,
             Status::Memory => 8,
             Status::HostWrite => 9,
+            Status::Stuck => 10,
         }
     }
 }

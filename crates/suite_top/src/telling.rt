@@ -38,7 +38,7 @@ pub fn told(
         Telling::Report { log } => reported(alloc, machine, log, dumps, end),
         Telling::Demo { programs } => match end {
             End::AllEnded => demonstrated(alloc, machine, programs),
-            End::Stray(_) | End::OutOfQuanta | End::LogFull => {
+            End::Stuck | End::Stray(_) | End::OutOfQuanta | End::LogFull => {
                 reported(alloc, machine, false, dumps, end)
             }
         },

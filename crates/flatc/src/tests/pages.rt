@@ -39,7 +39,8 @@ fn next_status(status: Status) -> Option<Status> {
         Status::LogFull => Some(Status::SinkWrite),
         Status::SinkWrite => Some(Status::Memory),
         Status::Memory => Some(Status::HostWrite),
-        Status::HostWrite => None,
+        Status::HostWrite => Some(Status::Stuck),
+        Status::Stuck => None,
     }
 }
 
@@ -55,6 +56,7 @@ fn meaning(status: Status) -> &'static str {
         Status::SinkWrite => "standard output or error can't be written",
         Status::Memory => "out of memory",
         Status::HostWrite => "a file can't be written",
+        Status::Stuck => "processes live and none can run on",
     }
 }
 
@@ -64,7 +66,8 @@ fn expected_help(alloc: Global) -> Result<String, AllocError> {
     let mut status = Some(Status::Done);
     for _ in 0..256u32 {
         if let Some(one) = status {
-            let line = format!(in alloc; "  {}   {}\n", one.code(), meaning(one))?;
+            let gap = if one.code() < 10 { "   " } else { "  " };
+            let line = format!(in alloc; "  {}{}{}\n", one.code(), gap, meaning(one))?;
             page.push_str(&line)?;
             status = next_status(one);
         }

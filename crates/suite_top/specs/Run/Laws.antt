@@ -5,13 +5,16 @@ use Rattle.host_io.specs.Host.{Files}
 use Rattle.page_runs.specs.declared.place.Kind.{Kind}
 use Rattle.manifest_text.specs.Values.{Item, Manifest}
 use Rattle.manifest_text.specs.Manifest.{manifest_of}
-use Rattle.machine_world.specs.World.{World}
+use Rattle.machine_world.specs.World.{Process, World, pid_of}
 use Rattle.machine_world.specs.Boot.{boot, empty_world}
-use Rattle.machine_world.specs.Turns.{turns}
+use Rattle.machine_world.specs.Turns.{stuck, turns}
+use Rattle.vfork_exec.specs.Keyed.{find}
+use Rattle.waits_laws.specs.Waits.{WaitsWell}
+use Rattle.waits_laws.specs.Laws.{WaitsOrLent}
 use Rattle.stays_laws.specs.Stays.{Stay, AreRight, stays, first_stays}
 use Rattle.flat_machine.specs.Runs.{repeated}
 use Rattle.suite_top.specs.declared.status.Status.{Status}
-use Rattle.suite_top.specs.declared.status.Status.TheVariants.{Done, HostRead, Refused, Stray, OutOfQuanta, LogFull}
+use Rattle.suite_top.specs.declared.status.Status.TheVariants.{Done, HostRead, Refused, Stray, OutOfQuanta, LogFull, Stuck}
 use Rattle.suite_top.specs.declared.telling.Telling.TheVariants.{Report}
 use Rattle.suite_top.specs.Ending.{Ending}
 use Rattle.suite_top.specs.Outcome.{load, Outcome, Inputs}
@@ -58,6 +61,7 @@ IsStop Done = Unit {0}
 IsStop Stray = Unit {0}
 IsStop OutOfQuanta = Unit {0}
 IsStop LogFull = Unit {0}
+IsStop Stuck = Unit {0}
 IsStop other = ⊥
 
 abbrev pub RunsWhereItOpens : Type 0
@@ -90,3 +94,15 @@ opened_end o = (turns (repeated o.manifest.repeat o.manifest.quanta) o.world).wo
 -- what each process does is what its program does alone, under the replies that it had
 abbrev pub RunsAreAsAlone : Type 0
 RunsAreAsAlone = (t : Files) (name : List ℕ) (kind : Kind) (o : Opens t name kind) → AreRight (opened_stays o) (opened_end o)
+
+-- ---- those that wait
+
+-- who waits in the world behind the turns would wait again, for just what it waits for; and where the run is stuck, each process that
+-- lives waits so, or stands still for its vfork child
+pub record WaitsToTheEnd {t : Files} {name : List ℕ} {kind : Kind} (o : Opens t name kind) : Type 0 where
+  pub waits : WaitsWell (opened_end o)
+  pub when_stuck : (turns (repeated o.manifest.repeat o.manifest.quanta) o.world).end ≡ Some stuck →
+      (pid : ℕ) (p : Process) → find pid_of pid (opened_end o).procs ≡ Some p → WaitsOrLent (opened_end o) p p.state
+
+abbrev pub RunsWaitWell : Type 0
+RunsWaitWell = (t : Files) (name : List ℕ) (kind : Kind) (o : Opens t name kind) → WaitsToTheEnd o

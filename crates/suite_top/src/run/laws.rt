@@ -1,5 +1,5 @@
 //! Laws over every run. No code runs.
-ghost use Rattle.suite_top.specs.Run.Laws.{RunsWhereItOpens, OpensWhereItStops, RunsStopOrEndEarly, RunsAreAsAlone};
+ghost use Rattle.suite_top.specs.Run.Laws.{RunsWhereItOpens, OpensWhereItStops, RunsStopOrEndEarly, RunsAreAsAlone, RunsWaitWell};
 ghost use Rattle.run_setup.specs.Originals.{OriginalsAreSame};
 
 /// A run reaches its machine exactly where all files are there and nothing has a fault.
@@ -19,4 +19,10 @@ pub fn originals_law()
 /// itself, relocated by the psABI.
 pub fn alone_law()
     ensures { RunsAreAsAlone }
+{}
+
+/// Each process that waits at the end of a run would wait again, for just what it waits for. Where the run is stuck, each process
+/// that lives waits so, or stands still for its vfork child.
+pub fn waits_law()
+    ensures { RunsWaitWell }
 {}
