@@ -7,6 +7,7 @@ mod examples;
 mod families;
 mod files;
 mod mappings;
+mod pipes;
 mod placements;
 mod programs;
 mod refusals;

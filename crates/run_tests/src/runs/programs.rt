@@ -105,6 +105,21 @@ pub const ZERO: Program = Program {
     ..EMPTY
 };
 
+/// Makes a pipe, with its ends told 16 bytes below its first stack pointer, and reads a byte from it.
+pub const PP: Program = Program {
+    code: &[
+        0xff01_0513,
+        0x03b0_0893,
+        0x0000_0073,
+        0x0030_0513,
+        0xff01_0593,
+        0x0010_0613,
+        0x03f0_0893,
+        0x0000_0073,
+    ],
+    ..EMPTY
+};
+
 /// getpid, gettid, set_tid_address, getppid, a call of an unknown number, sched_yield, and exit_group with 258.
 pub const IDS: Program = Program {
     code: &[
