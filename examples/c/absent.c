@@ -1,6 +1,7 @@
 /* Calls that the machine doesn't serve fail, and say so: none of them pretends to succeed. Linux serves most of them, so under
    qemu-riscv32 this program says something else. */
 #include <errno.h>
+#include <signal.h>
 #include <stdio.h>
 #include <string.h>
 #include <sys/stat.h>
@@ -24,6 +25,7 @@ int main(void)
     say("chdir", chdir("/"));
     say("access", access("absent", 0));
     say("rename", rename("absent", "present"));
+    say("kill", kill(getpid(), 0));
     say("gettimeofday", gettimeofday(&time_of, 0));
     say("usleep", usleep(1));
     say("clock", (long)clock());

@@ -26,6 +26,7 @@ static void transfers(void)
     say("read of a file to be written", read(fd, a, 1));
     say("dup", dup(fd));
     say("dup3 of equal ones", dup3(fd, fd, 0));
+    say("dup3 with another flag", dup3(fd, 10, O_APPEND));
     say("dup3", dup3(fd, 10, O_CLOEXEC));
     say("dup3 of none", dup3(77, 11, 0));
     close(fd);
@@ -39,6 +40,42 @@ static void transfers(void)
     say("lseek to 2^31 - 1", lseek(fd, 0x7fffffff, SEEK_SET));
     say("lseek to 2^31", lseek(fd, 1, SEEK_CUR));
     close(fd);
+}
+
+/* An end of a pipe isn't a file: what is asked of it otherwise than to be read or written fails. */
+static void pipes(void)
+{
+    char a[4097] = "", b[8] = "";
+    struct iovec out[2] = {{"pi", 2}, {"pes\n", 4}}, in[2] = {{b, 3}, {a, 9}};
+    int fds[2] = {-1, -1}, more[2] = {-1, -1};
+    say("pipe2", pipe2(fds, O_CLOEXEC));
+    say("from its first end to its second", fds[1] - fds[0]);
+    say("pipe2 with another flag", pipe2(more, O_APPEND));
+    say("writev", writev(fds[1], out, 2));
+    say("readv", readv(fds[0], in, 2));
+    printf("%s%s", b, a);
+    say("read of the end to be written", read(fds[1], a, 1));
+    say("write to the end to be read", write(fds[0], a, 1));
+    say("write of no bytes", write(fds[1], a, 0));
+    say("read of no bytes", read(fds[0], a, 0));
+    say("lseek", lseek(fds[0], 0, SEEK_CUR));
+    say("mmap", (long)mmap(0, 12, PROT_READ, MAP_PRIVATE, fds[0], 0));
+    say("fdopendir", fdopendir(fds[0]) ? 0 : -1);
+    say("a terminal", isatty(fds[0]));
+    say("dup2 of equal ones", dup2(fds[0], fds[0]) - fds[0]);
+    say("dup2", dup2(fds[1], 10));
+    close(fds[1]);
+    say("write by the other one", write(10, a, sizeof a));
+    close(10);
+    say("read", read(fds[0], a, 4000));
+    say("read of the rest", read(fds[0], a, 4000));
+    say("read at the end", read(fds[0], a, 4000));
+    close(fds[0]);
+    for (int i = 0; i < 32 && dup(1) != 30; i++)
+        ;
+    say("pipe with one free descriptor", pipe(more));
+    for (int fd = 3; fd < 31; fd++)
+        close(fd);
 }
 
 static void mappings(void)
@@ -123,6 +160,7 @@ static void streams(void)
 int main(void)
 {
     transfers();
+    pipes();
     mappings();
     paths();
     streams();

@@ -1,7 +1,9 @@
-/* Programs that start others: vfork, execv, waitpid, pipe, dup2 and kill, and what a status says. The machine doesn't serve
-   pipes and kill, so this one is run under qemu-riscv32 alone, where the programs are those of the host. */
+/* Programs that start others: vfork, execv, waitpid, pipe, pipe2, dup2 and kill, and what a status says. That a program can't
+   be started its parent learns by a pipe whose ends close at an execve. The machine doesn't serve kill: there the one that it
+   would end goes on, and ends with its input. */
 #define _GNU_SOURCE
 #include <errno.h>
+#include <fcntl.h>
 #include <signal.h>
 #include <stdio.h>
 #include <string.h>
@@ -11,20 +13,30 @@
 /* Starts a program with its descriptors 0 and 1 from in and out; the child closes `other`. */
 static pid_t start(char *const argv[], int in, int out, int other)
 {
+    int told[2], why = 0;
     fflush(stdout);
+    if (pipe2(told, O_CLOEXEC) == -1)
+        return -1;
     pid_t pid = vfork();
-    if (pid)
-        return pid;
-    dup2(in, 0);
-    dup2(out, 1);
-    if (in != 0)
-        close(in);
-    if (out != 1)
-        close(out);
-    if (other >= 0)
-        close(other);
-    execv(argv[0], argv);
-    _exit(127);
+    if (pid == 0) {
+        dup2(in, 0);
+        dup2(out, 1);
+        if (in != 0)
+            close(in);
+        if (out != 1)
+            close(out);
+        if (other >= 0)
+            close(other);
+        execv(argv[0], argv);
+        int failed = errno;
+        write(told[1], &failed, sizeof failed);
+        _exit(127);
+    }
+    close(told[1]);
+    if (read(told[0], &why, sizeof why) == sizeof why)
+        printf("%s: %s\n", argv[0], strerror(why));
+    close(told[0]);
+    return pid;
 }
 
 static void wait_for(pid_t pid)
@@ -41,22 +53,29 @@ static void wait_for(pid_t pid)
 
 int main(void)
 {
-    char *echo[] = {"/bin/echo", "a b", "c", 0}, *tr[] = {"/usr/bin/tr", "a-c", "A-C", 0};
-    char *nothing[] = {"/nowhere/at/all", 0}, *sleep_long[] = {"/bin/sleep", "100", 0};
+    char *lines[] = {"lines", "12", 0}, *match[] = {"match", "1", 0}, *wc[] = {"wc", 0};
+    char *nothing[] = {"nowhere/at/all", 0}, *illegal[] = {"ends", "i", 0};
     int fds[2], status;
     printf("pipe: %d\n", pipe(fds));
-    pid_t first = start(echo, 0, fds[1], fds[0]);
+    pid_t first = start(lines, 0, fds[1], fds[0]);
     close(fds[1]);
-    pid_t second = start(tr, fds[0], 1, -1);
+    pid_t second = start(match, fds[0], 1, -1);
     close(fds[0]);
     wait_for(second);
     wait_for(first);
     start(nothing, 0, 1, -1);
     wait_for(-1);
-    pid_t sleeper = start(sleep_long, 0, 1, -1);
-    printf("without waiting: %d\n", waitpid(sleeper, &status, WNOHANG));
-    printf("kill: %d\n", kill(sleeper, SIGTERM));
-    wait_for(sleeper);
+    wait_for(start(illegal, 0, 1, -1));
+    printf("pipe2: %d\n", pipe2(fds, O_CLOEXEC));
+    pid_t reader = start(wc, fds[0], 1, -1);
+    close(fds[0]);
+    printf("without waiting: %d\n", waitpid(reader, &status, WNOHANG));
+    write(fds[1], "two words\n", 10);
+    int killed = kill(reader, SIGTERM);
+    printf("kill: %d%s%s\n", killed, killed ? " " : "", killed ? strerror(errno) : "");
+    fflush(stdout);
+    close(fds[1]);
+    wait_for(reader);
     wait_for(-1);
     return 0;
 }

@@ -1,0 +1,5 @@
+# A process waits for room in a pipe that nobody else can empty: the run is stuck.
+elf /stuck stuck.elf 4096
+start /stuck full
+quanta 0:1000
+repeat 1000
