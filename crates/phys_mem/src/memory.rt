@@ -1,11 +1,15 @@
 //! Physical memory.
 
-ghost use Rattle.std.specs.Prelude.{◌≡◌, ◌⊎◌, ◌↔◌, ◌+◌, ◌*◌, ◌^◌, ◌<◌, ◌≤◌, List, ◌∷◌, [], ℕ, IsTrue, IfOk, length, replicate, slice_index, slice_range};
+ghost use Rattle.std.specs.Prelude.{◌≡◌, ◌⊎◌, ◌↔◌, ◌+◌, ◌*◌, ◌^◌, ◌<◌, ◌≤◌, List, ◌∷◌, [], ℕ, IsTrue, IfOk, IfSome, length, replicate, slice_index, slice_range};
 ghost use Rattle.byte_words.specs.ByteMap.{little, little_bytes};
 ghost use Rattle.byte_words.specs.Patches.{laid};
+ghost use Rattle.rv32im_table.specs.Instr.{FieldsFit};
+ghost use Rattle.rv32im_table.specs.Table.{decoded};
 ghost use Rattle.phys_mem.specs.Memory.{IsMemory, Within, place};
 
-use crate::words::{read, write};
+use crate::slots::{Slot, decoded_slot, forget, forget_number, no_words, slot_of};
+use crate::words::{copy_over, read, write, zero, zeros};
+use rv32im_table::Instr;
 use std::alloc::{AllocError, Global};
 use std::marker::Model;
 
@@ -19,23 +23,29 @@ pub const PAGE: u32 = 4096;
 #[derive(Drop)]
 pub struct PhysMem {
     bytes: Vec<u8>,
+    /// Words that were decoded and not written since.
+    slots: Vec<Slot>,
 }
 
 impl Model for PhysMem {
+    ghost use Rattle.std.specs.Prelude.{List, ℕ};
+    ghost use Rattle.phys_mem.specs.Memory.{IsMemory};
+    ghost use Rattle.phys_mem.specs.Slots.{AreSlots};
+
     ghost Value = { List ℕ };
 
     ghost view = { λ m. m.bytes.items };
 
-    ghost invariant = { λ m. IsMemory m.bytes.items };
+    ghost invariant = { λ m. IsMemory m.bytes.items × AreSlots m.bytes.items m.slots.items };
 }
 
 /// The place of an address in the array.
 #[inline]
-fn place_of(at: u32) -> usize
+fn place_of(at: u32) -> u32
     requires { 2 ^ 31 ≤ at }
     ensures { result ≡ place at }
 {
-    (at - BASE) as usize
+    at - BASE
 }
 
 impl PhysMem {
@@ -46,7 +56,8 @@ impl PhysMem {
         ensures { IfOk result (λ m. m ≡ replicate (4096 * pages) 0) }
     {
         Ok(PhysMem {
-            bytes: vec![in alloc; 0; (pages * PAGE) as usize]?,
+            bytes: zeros(alloc, (PAGE * pages) as usize)?,
+            slots: no_words(alloc)?,
         })
     }
 
@@ -84,7 +95,7 @@ impl PhysMem {
         ensures value { result ≡ little self.now (place at) len }
         ensures fits { result < 256 ^ len }
     {
-        read(&self.bytes, place_of(at), len)
+        read(&self.bytes, place_of(at) as usize, len)
     }
 
     /// Writes the lowest one, two or four bytes of a number, little-endian, at any alignment.
@@ -94,7 +105,25 @@ impl PhysMem {
         requires within { Within self.old at len }
         ensures { self.new ≡ laid self.old (place at) (little_bytes len value) }
     {
-        write(&mut self.bytes, place_of(at), len, value);
+        let place = place_of(at);
+        forget_number(&mut self.slots, place, len);
+        write(&mut self.bytes, place as usize, len, value);
+    }
+
+    /// The instruction that the word at an address is, at any alignment. None where it is none.
+    #[inline]
+    pub fn instr(&mut self, at: u32) -> Option<Instr>
+        requires { Within self.old at 4 }
+        ensures instr { result ≡ decoded (little self.old (place at) 4) }
+        ensures fields { IfSome result FieldsFit }
+        ensures same { self.new ≡ self.old }
+    {
+        let place = place_of(at);
+        let mut slot = slot_of(place);
+        if self.slots[slot].at != place {
+            slot = decoded_slot(&mut self.slots, &self.bytes, place)?;
+        }
+        Some(self.slots[slot].instr)
     }
 
     /// A byte.
@@ -103,7 +132,7 @@ impl PhysMem {
         requires { Within self.now at 1 }
         ensures { result ≡ slice_index self.now (place at) }
     {
-        self.bytes[place_of(at)]
+        self.bytes[place_of(at) as usize]
     }
 
     /// Writes a byte.
@@ -138,8 +167,9 @@ impl PhysMem {
         requires { Within self.old at (length bytes.now) }
         ensures { self.new ≡ laid self.old (place at) bytes.now }
     {
-        let from = place_of(at);
-        self.bytes[from..from + bytes.len()].copy_from_slice(bytes);
+        let place = place_of(at);
+        forget(&mut self.slots, place, bytes.len() as u32);
+        copy_over(&mut self.bytes, place as usize, bytes);
     }
 
     /// Copies bytes out.
@@ -147,7 +177,7 @@ impl PhysMem {
         requires { Within self.now at (length into.old) }
         ensures { into.new ≡ slice_range self.now (place at) (place at + length into.old) }
     {
-        let from = place_of(at);
+        let from = place_of(at) as usize;
         into.copy_from_slice(&self.bytes[from..from + into.len()]);
     }
 
@@ -156,7 +186,8 @@ impl PhysMem {
         requires { Within self.old at len }
         ensures { self.new ≡ laid self.old (place at) (replicate len 0) }
     {
-        let from = place_of(at);
-        self.bytes[from..from + len as usize].fill(0);
+        let place = place_of(at);
+        forget(&mut self.slots, place, len);
+        zero(&mut self.bytes, place as usize, len as usize);
     }
 }

@@ -1,4 +1,5 @@
 use super::*;
+use rv32im_table::Instr;
 use std::alloc::Global;
 use std::test::*;
 
@@ -37,6 +38,43 @@ fn ranges(rt: HostRuntime) -> Result<(), Fail> {
         (0x8000_0001, 0xffff_ffff, false),
     ] {
         assert_eq!(rt; memory.holds(at, len), want, "{at:#x} {len}");
+    }
+    Ok(())
+}
+
+/// An instruction is that of the bytes as they are: behind a write over its word or the end of it, a copy and a clear, and at no
+/// multiple of 4.
+#[test]
+fn instructions(rt: HostRuntime) -> Result<(), Fail> {
+    let nop = Some(Instr::Addi {
+        rd: 0,
+        rs1: 0,
+        imm: 0,
+    });
+    let mut memory = PhysMem::new(rt.alloc(), 1)?;
+    if memory.holds(BASE, 4096) {
+        assert_eq!(rt; memory.instr(BASE), None);
+        memory.set32(BASE, 0x0000_0013);
+        memory.set32(BASE + 4, 0x0000_0073);
+        assert_eq!(rt; memory.instr(BASE), nop);
+        assert_eq!(rt; memory.instr(BASE + 4), Some(Instr::Ecall));
+        memory.set32(BASE + 2, 0x0073_0000);
+        assert_eq!(rt; memory.instr(BASE), nop);
+        assert_eq!(rt; memory.instr(BASE + 4), Some(Instr::Ecall));
+        memory.set32(BASE + 2, 0x0013_0000);
+        assert_eq!(rt; memory.instr(BASE + 4), nop);
+        memory.set8(BASE + 4, 0x73);
+        assert_eq!(rt; memory.instr(BASE + 4), Some(Instr::Ecall));
+        memory.copy_in(BASE + 3, &[0, 0x13]);
+        assert_eq!(rt; memory.instr(BASE + 4), nop);
+        assert_eq!(rt; memory.instr(BASE + 1), None);
+        memory.set32(BASE + 1, 0x0000_0073);
+        assert_eq!(rt; memory.instr(BASE + 1), Some(Instr::Ecall));
+        memory.set8(BASE + 4, 0x13);
+        memory.clear(BASE + 7, 4089);
+        assert_eq!(rt; memory.instr(BASE + 4), nop);
+        memory.clear(BASE, 4096);
+        assert_eq!(rt; memory.instr(BASE + 4), None);
     }
     Ok(())
 }

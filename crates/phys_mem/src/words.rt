@@ -1,8 +1,17 @@
 //! Little-endian numbers of one, two or four bytes in a slice.
 
-ghost use Rattle.std.specs.Prelude.{◌≡◌, ◌⊎◌, ◌+◌, ◌^◌, ◌<◌, ◌≤◌, length};
+ghost use Rattle.std.specs.Prelude.{◌≡◌, ◌⊎◌, ◌+◌, ◌^◌, ◌<◌, ◌≤◌, IfOk, length, replicate};
 ghost use Rattle.byte_words.specs.ByteMap.{little, little_bytes, overwritten};
 ghost use Rattle.byte_words.specs.Patches.{laid};
+
+use std::alloc::{AllocError, Global};
+
+/// So many bytes, all zero.
+pub fn zeros(alloc: Global, len: usize) -> Result<Vec<u8>, AllocError>
+    ensures { IfOk result (λ bytes. bytes.items ≡ replicate len 0) }
+{
+    Ok(vec![in alloc; 0; len]?)
+}
 
 /// The number of `len` bytes.
 #[inline]
@@ -21,10 +30,10 @@ pub fn read(bytes: &[u8], at: usize, len: u32) -> u32
 
 /// Writes the lowest `len` bytes of a number, one by one.
 #[inline]
-fn write_each(bytes: &mut [u8], at: usize, len: u32, value: u32)
+fn write_each(bytes: &mut Vec<u8>, at: usize, len: u32, value: u32)
     requires len { (len ≡ 1) ⊎ (len ≡ 2) ⊎ (len ≡ 4) }
-    requires within { at + len ≤ length bytes.old }
-    ensures { bytes.new ≡ overwritten bytes.old at (little_bytes len value) }
+    requires within { at + len ≤ length bytes.old.items }
+    ensures { bytes.new.items ≡ overwritten bytes.old.items at (little_bytes len value) }
 {
     let [b0, b1, b2, b3] = value.to_le_bytes();
     if len == 4 {
@@ -40,10 +49,26 @@ fn write_each(bytes: &mut [u8], at: usize, len: u32, value: u32)
 /// Writes the lowest `len` bytes of a number.
 #[inline]
 #[tactic(auto, using(byte_words::proofs::ByteArrays::laid_little))]
-pub fn write(bytes: &mut [u8], at: usize, len: u32, value: u32)
+pub fn write(bytes: &mut Vec<u8>, at: usize, len: u32, value: u32)
     requires len { (len ≡ 1) ⊎ (len ≡ 2) ⊎ (len ≡ 4) }
-    requires within { at + len ≤ length bytes.old }
-    ensures { bytes.new ≡ laid bytes.old at (little_bytes len value) }
+    requires within { at + len ≤ length bytes.old.items }
+    ensures { bytes.new.items ≡ laid bytes.old.items at (little_bytes len value) }
 {
     write_each(bytes, at, len, value);
+}
+
+/// Copies bytes over those from a place on.
+pub fn copy_over(bytes: &mut Vec<u8>, at: usize, from: &[u8])
+    requires { at + length from.now ≤ length bytes.old.items }
+    ensures { bytes.new.items ≡ laid bytes.old.items at from.now }
+{
+    bytes[at..at + from.len()].copy_from_slice(from);
+}
+
+/// Makes `len` bytes zero from a place on.
+pub fn zero(bytes: &mut Vec<u8>, at: usize, len: usize)
+    requires { at + len ≤ length bytes.old.items }
+    ensures { bytes.new.items ≡ laid bytes.old.items at (replicate len 0) }
+{
+    bytes[at..at + len].fill(0);
 }

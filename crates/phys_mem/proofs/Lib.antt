@@ -1,0 +1,2 @@
+-- Kept   what the slots say, after a write
+pub mod Kept

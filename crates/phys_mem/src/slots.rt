@@ -1,0 +1,122 @@
+//! Words that were decoded.
+
+ghost use Rattle.std.specs.Prelude.{◌≡◌, ◌⊎◌, ◌+◌, ◌-◌, ◌<◌, ◌≤◌, ◌^◌, IfOk, length, replicate};
+ghost use Rattle.byte_words.specs.ByteMap.{little};
+ghost use Rattle.rv32im_table.specs.Table.{decoded};
+ghost use Rattle.phys_mem.specs.Slots.{slot_of, AreSlots, IsDecoded, IsBeside, Loses, Forgets};
+
+use crate::words::read;
+use rv32im_table::{Instr, decode};
+use std::alloc::{AllocError, Global};
+
+/// How many words are kept: those of 64 KiB that stand side by side. Behind their slots stands one more, for a word at no
+/// multiple of 4, which isn't kept.
+const SLOTS: usize = 16384;
+
+/// The place of an empty slot.
+const NOWHERE: u32 = u32::MAX;
+
+/// A word that was decoded. The one at a place is kept in the slot of its index, modulo the number of slots.
+#[derive(Clone, Copy)]
+pub struct Slot {
+    /// Its place in memory, a multiple of 4.
+    pub at: u32,
+    /// The instruction that it is.
+    pub instr: Instr,
+}
+
+/// Empty slots.
+pub fn no_words(alloc: Global) -> Result<Vec<Slot>, AllocError>
+    ensures { IfOk result (λ slots. slots.items ≡ replicate 16385 (record { at = 2 ^ 32 - 1; instr = Instr.Fence })) }
+{
+    let empty = Slot {
+        at: NOWHERE,
+        instr: Instr::Fence,
+    };
+    Ok(vec![in alloc; empty; SLOTS + 1]?)
+}
+
+/// The slot of the word at a place.
+#[inline]
+pub fn slot_of(at: u32) -> usize
+    ensures slot { result ≡ slot_of at }
+    ensures within { result < 16384 }
+{
+    (at / 4) as usize % SLOTS
+}
+
+/// The slot in which the word at a place stands once it is decoded. None where it is no instruction.
+#[inline(never)]
+pub fn decoded_slot(slots: &mut Vec<Slot>, bytes: &[u8], at: u32) -> Option<usize>
+    requires count { length slots.old.items ≡ 16385 }
+    requires within { at + 4 ≤ length bytes.now }
+    requires small { length bytes.now < 2 ^ 31 }
+    ensures slot { IsDecoded (decoded (little bytes.now at 4)) slots.new.items result }
+    ensures kept { AreSlots bytes.now slots.old.items → AreSlots bytes.now slots.new.items }
+{
+    let instr = decode(read(bytes, at as usize, 4))?;
+    if at % 4 == 0 {
+        let slot = slot_of(at);
+        slots[slot] = Slot { at, instr };
+        return Some(slot);
+    }
+    slots[SLOTS] = Slot { at: NOWHERE, instr };
+    Some(SLOTS)
+}
+
+/// Forgets the word at a place.
+#[inline]
+fn forget_word(slots: &mut Vec<Slot>, at: u32)
+    requires count { length slots.old.items ≡ 16385 }
+    requires small { at < 2 ^ 32 - 1 }
+    ensures { Loses at slots.old.items slots.new.items }
+{
+    let slot = &mut slots[slot_of(at)];
+    if slot.at == at {
+        slot.at = NOWHERE;
+    }
+}
+
+/// Forgets the words that a number of one, two or four bytes touches.
+#[inline]
+pub fn forget_number(slots: &mut Vec<Slot>, at: u32, len: u32)
+    requires count { length slots.old.items ≡ 16385 }
+    requires some { 0 < len }
+    requires few { len ≤ 4 }
+    requires range { at + len < 2 ^ 31 }
+    ensures { Forgets at (at + len) slots.old.items slots.new.items }
+{
+    let word = at - at % 4;
+    forget_word(slots, word);
+    if at % 4 + len > 4 {
+        forget_word(slots, word + 4);
+    }
+}
+
+/// Forgets the word in a slot if it is one of these, by their indices.
+fn forget_if_within(slot: &mut Slot, first: u32, words: u32)
+    requires { first + words < 2 ^ 31 }
+    ensures beside { IsBeside first words slot.new }
+    ensures kept { (slot.new ≡ slot.old) ⊎ (slot.new.at ≡ 2 ^ 32 - 1) }
+{
+    let index = slot.at / 4;
+    if first <= index && index - first < words {
+        slot.at = NOWHERE;
+    }
+}
+
+/// Forgets the words that a range touches.
+pub fn forget(slots: &mut Vec<Slot>, at: u32, len: u32)
+    requires count { length slots.old.items ≡ 16385 }
+    requires range { at + len < 2 ^ 31 }
+    ensures { Forgets at (at + len) slots.old.items slots.new.items }
+{
+    if len == 0 {
+        return;
+    }
+    let first = at / 4;
+    let words = (at + len - 1) / 4 - first + 1;
+    for i in 0..words.min(SLOTS as u32) {
+        forget_if_within(&mut slots[(first + i) as usize % SLOTS], first, words);
+    }
+}
