@@ -1,5 +1,5 @@
 -- What a plain bus's array is as a map.
-use Rattle.std.proofs.Common.{◌≡◌, ℕ, zero, suc, ◌+◌, ◌/◌, ◌≤◌, ◌<◌, ◌^◌, length, List, arith, refl, ap, ◌∙◌}
+use Rattle.std.proofs.Common.{◌≡◌, ℕ, zero, suc, ◌+◌, ◌<◌, ◌^◌, length, List, arith, refl}
 use Rattle.std.specs.Prelude.{true, ◌&&◌, nat_le, is_some, Option, Some, None, Ok, Err}
 use Rattle.std.proofs.lemmas.Bool.Decides.{nat_tests}
 use Rattle.byte_words.specs.ByteMap.{Bytes, with_low, number, little_bytes, byte_of, place_of, little, overwritten}

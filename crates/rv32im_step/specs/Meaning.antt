@@ -131,6 +131,16 @@ row Ebreak x regs m w = trap breakpoint
 unfoldable pub effect : Instr → Regs → Bytes → (ℕ → Bool) → Meaning
 effect instr regs m w = row instr (register regs.x) regs m w
 
+-- ---- a step
+
+abbrev pub decoded_word : Result ℕ Access → Result (Option Instr) Access
+decoded_word (Ok word) = Ok (decoded word)
+decoded_word (Err access) = Err access
+
+-- the instruction that an access fetches, if the word is one
+unfoldable pub decoded_at : Bytes → Access → Result (Option Instr) Access
+decoded_at m access = decoded_word (loaded m access)
+
 -- a word without a row is an illegal instruction
 abbrev pub decoded_effect : Option Instr → Regs → Bytes → (ℕ → Bool) → Meaning
 decoded_effect (Some instr) regs m w = effect instr regs m w

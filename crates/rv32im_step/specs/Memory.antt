@@ -1,6 +1,6 @@
 -- Memory as a map of bytes, and accesses to it: RISC-V unprivileged ISA, "Memory" and "Load and Store
 -- Instructions". Numbers are little-endian, and an access of any alignment is one access.
-use Rattle.std.specs.Prelude.{ℕ, zero, suc, ◌+◌, ◌*◌, ◌/◌, ◌%◌, ◌^◌, Bool, true, ◌&&◌, ◌==◌, nat_le, is_some, if◌then◌else◌, Option, Some, None, Result, Ok, Err, List, [], ◌∷◌}
+use Rattle.std.specs.Prelude.{ℕ, zero, suc, ◌+◌, ◌^◌, Bool, true, ◌&&◌, nat_le, is_some, if◌then◌else◌, Option, Some, None, Result, Ok, Err}
 use Rattle.byte_words.specs.ByteMap.{Bytes, number, little_bytes, with_bytes}
 use Rattle.rv32im_step.specs.declared.access.Access.{Access}
 use Rattle.rv32im_step.specs.declared.access.AccessKind.TheVariants.{Fetch, Load, Store}

@@ -1,11 +1,14 @@
 //! What a step asks of memory.
 
-ghost use Rattle.std.specs.Prelude.{◌≡◌, ◌⊎◌, ℕ, ◌^◌, ◌<◌, Bool, List, [], ◌++◌, Err, Ok, IfOk, MatchResult};
+ghost use Rattle.std.specs.Prelude.{◌≡◌, ◌⊎◌, ℕ, ◌^◌, ◌<◌, Bool, List, [], ◌++◌, Err, Ok, IfOk, IfSome, MatchResult};
+ghost use Rattle.rv32im_table.specs.Instr.{FieldsFit};
 ghost use Rattle.rv32im_step.specs.Asked.{Asked, reads, writes};
 ghost use Rattle.byte_words.specs.ByteMap.{Bytes};
 ghost use Rattle.rv32im_step.specs.Memory.{fetch_of, load_of, store_of, loaded, stored};
+ghost use Rattle.rv32im_step.specs.Meaning.{decoded_at};
 
 use crate::access::Access;
+use rv32im_table::Instr;
 
 /// Memory as a step sees it: a map of bytes, some of which may be written. An access goes to all its
 /// bytes at once, of any alignment, little-endian: RISC-V unprivileged ISA, "Memory" and "Load and Store
@@ -25,6 +28,14 @@ pub trait Bus {
     /// The instruction word at `pc`.
     fn fetch(&mut self, pc: u32) -> Result<u32, Access>
         ensures answer { result ≡ loaded (byte self.old) (fetch_of pc) }
+        ensures bytes { byte self.new ≡ byte self.old }
+        ensures writable { writable self.new ≡ writable self.old }
+        ensures did { did self.old (reads (byte self.old) (fetch_of pc)) self.new };
+
+    /// The instruction at `pc`, fetched by one access as a word is. None where the word there is none.
+    fn instr(&mut self, pc: u32) -> Result<Option<Instr>, Access>
+        ensures answer { result ≡ decoded_at (byte self.old) (fetch_of pc) }
+        ensures fields { IfOk result (λ instr. IfSome instr FieldsFit) }
         ensures bytes { byte self.new ≡ byte self.old }
         ensures writable { writable self.new ≡ writable self.old }
         ensures did { did self.old (reads (byte self.old) (fetch_of pc)) self.new };

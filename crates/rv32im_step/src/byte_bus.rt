@@ -13,6 +13,7 @@ use crate::bus::Bus;
 use crate::hart::step;
 use crate::regs::Regs;
 use crate::stop::Stop;
+use rv32im_table::{Instr, decode};
 
 /// A bus over one array: its bytes stand from address `base` on. Those below 2^32 may all be written; no
 /// access reaches the others.
@@ -101,6 +102,20 @@ impl Bus for ByteBus<'_> {
     fn fetch(&mut self, pc: u32) -> Result<u32, Access> {
         match self.number(pc, 4) {
             Some(n) => Ok(n),
+            None => Err(Access {
+                pc,
+                addr: pc,
+                len: 4,
+                kind: AccessKind::Fetch,
+            }),
+        }
+    }
+
+    #[inline]
+    #[tactic(auto, unfolding(crate::specs::Memory::loaded, crate::specs::Meaning::decoded_at))]
+    fn instr(&mut self, pc: u32) -> Result<Option<Instr>, Access> {
+        match self.number(pc, 4) {
+            Some(n) => Ok(decode(n)),
             None => Err(Access {
                 pc,
                 addr: pc,

@@ -1,4 +1,4 @@
-//! One step of a hart: fetch, decoding, instruction.
+//! One step of a hart.
 
 ghost use Rattle.std.specs.Prelude.{◌≡◌};
 ghost use Rattle.rv32im_table.specs.Instr.{FieldsFit};
@@ -12,7 +12,7 @@ use crate::multiply::{div, divu, mul, mulh, mulhsu, mulhu, rem, remu};
 use crate::regs::Regs;
 use crate::stop::Stop;
 use crate::transfer::{branch, jump, jump_by_register};
-use rv32im_table::{Instr, decode};
+use rv32im_table::Instr;
 
 /// The signal of an illegal instruction.
 const ILLEGAL: u32 = 4;
@@ -86,7 +86,7 @@ fn execute<B: Bus>(instr: Instr, regs: &mut Regs, bus: &mut B) -> Stop
     }
 }
 
-/// Carries out the instruction at pc: it is fetched, decoded and executed as RV32IM with Zifencei says.
+/// Carries out the instruction at pc, which the bus fetches and decodes, as RV32IM with Zifencei says.
 /// FENCE and FENCE.I do nothing, since each access is done when its step ends. RISC-V unprivileged ISA,
 /// "RV32I Base Integer Instruction Set" and '"M" Extension for Integer Multiplication and Division'.
 #[tactic(auto, unfolding(crate::specs::Meaning::meaning, crate::specs::Asked::asked))]
@@ -96,11 +96,9 @@ pub fn step<B: Bus>(regs: &mut Regs, bus: &mut B) -> Stop
     ensures writable { B.writable bus.new ≡ B.writable bus.old }
     ensures did { B.did bus.old (asked regs.old (B.byte bus.old) (B.writable bus.old)) bus.new }
 {
-    match bus.fetch(regs.pc) {
-        Ok(word) => match decode(word) {
-            Some(instr) => execute(instr, regs, bus),
-            None => Stop::Trap(ILLEGAL),
-        },
+    match bus.instr(regs.pc) {
+        Ok(Some(instr)) => execute(instr, regs, bus),
+        Ok(None) => Stop::Trap(ILLEGAL),
         Err(access) => Stop::Refused(access),
     }
 }
