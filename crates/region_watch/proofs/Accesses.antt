@@ -13,6 +13,8 @@ use Rattle.byte_words.proofs.ByteArrays.{byte_at, number_within, length-little_b
 use Rattle.byte_words.proofs.Laid.{length-overwritten}
 use Rattle.byte_words.proofs.ByteArrays.{laid_little, byte_of-laid}
 use Rattle.rv32im_step.specs.declared.access.Access.{Access}
+use Rattle.rv32im_table.specs.Table.{decoded}
+use Rattle.rv32im_step.specs.Meaning.{decoded_at}
 use Rattle.rv32im_step.specs.Memory.{loaded, all_writable, stored}
 use Rattle.region_watch.specs.Private.{only, physical, own_bytes, frozen}
 use Rattle.region_watch.proofs.Maps.{all_pass-at, all_pass-each, reading-only, all_writable-only, with_bytes-only, with_bytes-beside}
@@ -98,6 +100,20 @@ pub stray_loaded : (table : List PageOwner) (mem : List ℕ) (access : Access) �
 unfolding loaded
 stray_loaded table mem access is = rw (reading-only (owns table false) (physical mem) access.addr access.len, is) refl
 
+-- ---- what is fetched
+
+pub own_decoded : (table : List PageOwner) (mem : List ℕ) (access : Access) → length mem ≡ 4096 * length table → 0 < access.len
+    → may_use (owns table false) access.addr access.len ≡ true → decoded_at (own_bytes table mem) access ≡ Ok (decoded (little mem (access.addr - 2 ^ 31) access.len))
+unfolding decoded_at
+own_decoded table mem access paged some is = rw (own_loaded table mem access paged some is) refl
+
+pub stray_decoded : (table : List PageOwner) (mem : List ℕ) (access : Access) → may_use (owns table false) access.addr access.len ≡ false
+    → decoded_at (own_bytes table mem) access ≡ Err access
+unfolding decoded_at
+stray_decoded table mem access is = rw (stray_loaded table mem access is) refl
+
+-- ---- what is written
+
 -- a byte that may be written is there
 writable_there : (table : List PageOwner) (mem : List ℕ) → length mem ≡ 4096 * length table → (i : ℕ) → owns table true i ≡ true
     → is_some (own_bytes table mem i) ≡ true
@@ -163,4 +179,4 @@ pub store_length : (mem : List ℕ) (at len n : ℕ) → at + len ≤ length mem
 store_length mem at len n fits =
     ap (length {A = ℕ}) (sym (laid_little mem at len n fits)) ∙ length-overwritten mem at (little_bytes len n)
 
-pub ruleset accesses = (own_within, own_loaded, stray_loaded, own_stored, stray_stored, store_frozen, store_length)
+pub ruleset accesses = (own_within, own_loaded, stray_loaded, own_decoded, stray_decoded, own_stored, stray_stored, store_frozen, store_length)

@@ -179,3 +179,53 @@ fn runs(rt: HostRuntime) -> Result<(), Fail> {
     };
     expect_run(&rt, rt.alloc(), BASE + 0xfa0, 5, refused, 0)
 }
+
+/// The address of the instruction that is changed.
+const CHANGED: u32 = BASE + 0x80;
+
+/// Two pages with `addi a0, a0, 1`, this store, and both again: `addi a5, a5, -1`, `bne a5, zero, -12`, `ecall`.
+fn changing_code(alloc: Global, store: u32) -> Result<PhysMem, AllocError>
+    ensures { IfOk result (λ m. length m ≡ 4096 * 2) }
+{
+    let [s0, s1, s2, s3] = store.to_le_bytes();
+    let mut mem = PhysMem::new(alloc, 2)?;
+    if mem.holds(CHANGED, 20) {
+        mem.copy_in(
+            CHANGED,
+            &[
+                0x13, 5, 0x15, 0, s0, s1, s2, s3, 0x93, 0x87, 0xf7, 0xff, 0xe3, 0x9a, 7, 0xfe,
+                0x73, 0, 0, 0,
+            ],
+        );
+    }
+    Ok(mem)
+}
+
+/// A program changes an instruction that it has carried out, in one turn: by SW, SH and SB, and by an SW over the word's end or
+/// its beginning.
+#[test]
+fn changed_code(rt: HostRuntime) -> Result<(), Fail> {
+    for (store, value, at, a0, a1) in [
+        (0x00d7_2023, 0x0105_0513, CHANGED, 17, 0),
+        (0x00d7_1023, 0x0105, CHANGED + 2, 17, 0),
+        (0x00d7_0023, 1, CHANGED + 3, 18, 0),
+        (0x00d7_2023, 0x2023_0105, CHANGED + 2, 17, 0),
+        (0x00d7_2023, 0x0593_0000, CHANGED - 2, 1, 2),
+    ] {
+        let mut mem = changing_code(rt.alloc(), store)?;
+        let owners = table(rt.alloc())?;
+        let mut regs = Regs {
+            pc: CHANGED,
+            x: [0; 32],
+        };
+        regs.x[13] = value;
+        regs.x[14] = at;
+        regs.x[15] = 2;
+        let mut watch = Watch::new(&mut mem, &owners, window(&owners, BASE + 64, 4032));
+        let progress = run_steps(&mut regs, &mut watch, 100);
+        assert_eq!(rt; progress.done, 8);
+        assert_eq!(rt; progress.stop, Stop::Call);
+        assert_eq!(rt; [regs.x[10], regs.x[11]], [a0, a1], "{store:#x} {at:#x}");
+    }
+    Ok(())
+}

@@ -10,6 +10,7 @@ ghost use Rattle.region_watch.specs.Strays.{call_of, noted, noted_all, noted_on}
 use mmap_rules::Owners;
 use phys_mem::PhysMem;
 use rv32im_step::{Access, AccessKind, Bus};
+use rv32im_table::Instr;
 
 /// The own bytes of the program's block: those from `from` on, `size` of them. All of them may be written.
 /// It may be smaller than the block, and empty.
@@ -182,6 +183,21 @@ impl Bus for Watch<'_> {
         } else {
             Err(access)
         }
+    }
+
+    #[inline]
+    #[tactic(auto, using(crate::proofs::Accesses::accesses))]
+    fn instr(&mut self, pc: u32) -> Result<Option<Instr>, Access> {
+        let access = Access {
+            pc,
+            addr: pc,
+            len: 4,
+            kind: AccessKind::Fetch,
+        };
+        if !self.allows(access, false) {
+            return Err(access);
+        }
+        Ok(self.mem.instr(pc))
     }
 
     #[inline]
