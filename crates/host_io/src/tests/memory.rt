@@ -1,5 +1,4 @@
 //! The memory forms, each call once with ample memory.
-ghost use Rattle.std.specs.Prelude.{None};
 
 use super::check_loads;
 use crate::host::{Host, HostError, Loaded};
@@ -59,33 +58,33 @@ fn memory_sink_takes_whole_pieces(rt: HostRuntime) -> Result<(), Fail> {
     Ok(())
 }
 
-/// Takes one byte a write.
-#[derive(Drop)]
-struct OneByteSink {
-    taken: MemSink,
-}
-
-impl Sink for OneByteSink {
-    ghost told = { λ _. None };
-
-    ghost faults = { λ s. s.taken.calls.faults };
-
-    fn write(&mut self, alloc: Global, piece: &[u8]) -> Result<usize, SinkError> {
-        let some = if piece.len() > 1 { &piece[..1] } else { piece };
-        self.taken.write(alloc, some)
+#[test]
+fn memory_sink_takes_at_most_so_many_bytes_a_write(rt: HostRuntime) -> Result<(), Fail> {
+    let alloc = rt.alloc();
+    let mut sink = MemSink::new(alloc)?;
+    assert_eq!(rt; sink.write(alloc, b"hello"), Ok(5));
+    sink.take_at_most(3);
+    for (piece, want) in [("hello", 3), ("hel", 3), ("h", 1), ("", 0)] {
+        assert_eq!(rt; sink.write(alloc, piece.as_bytes()), Ok(want), "{piece}");
     }
+    sink.take_at_most(1);
+    assert_eq!(rt; sink.write(alloc, b"hello"), Ok(1));
+    assert_eq!(rt; sink.bytes(), b"hellohelhelhh".as_slice());
+    Ok(())
 }
 
 #[test]
 fn whole_text_over_a_one_byte_sink(rt: HostRuntime) -> Result<(), Fail> {
     let alloc = rt.alloc();
-    let mut taken = MemSink::new(alloc)?;
-    taken.fail_at(2)?;
-    let mut sink = OneByteSink { taken };
+    let mut sink = MemSink::new(alloc)?;
+    sink.take_at_most(1);
+    sink.fail_at(2)?;
     assert_eq!(rt;
         write_whole(alloc, &mut sink, b"hi\n"),
         Err(SinkError::Failed)
     );
-    assert_eq!(rt; sink.taken.bytes(), b"hi".as_slice());
+    assert_eq!(rt; sink.bytes(), b"hi".as_slice());
+    assert_eq!(rt; write_whole(alloc, &mut sink, b"\nho\n"), Ok(()));
+    assert_eq!(rt; sink.bytes(), b"hi\nho\n".as_slice());
     Ok(())
 }
