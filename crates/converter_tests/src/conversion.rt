@@ -9,6 +9,7 @@ mod examples;
 mod many;
 mod order;
 mod overlap;
+mod sections;
 
 use elf_maker::{MakeRela, MakeSymbol, Part, make};
 use elf2flt_tool::{Refusal, convert};

@@ -4,6 +4,7 @@ mod callers;
 mod calls;
 mod demo;
 mod examples;
+mod failing;
 mod families;
 mod files;
 mod mappings;
@@ -82,26 +83,20 @@ fn arguments_of(alloc: Global, options: &[&str]) -> Result<Vec<String>, AllocErr
 
 /// Runs `run m` with these options.
 fn run_of(alloc: Global, host: &mut MemHost, options: &[&str]) -> Result<Ran, AllocError> {
-    run_with(alloc, host, options, false, false)
+    let out = MemSink::new(alloc)?;
+    let report = MemSink::new(alloc)?;
+    run_to(alloc, host, options, out, report)
 }
 
-/// The same with sinks of which one or both fail at their first call.
-fn run_with(
+/// The same, with the texts to these sinks.
+fn run_to(
     alloc: Global,
     host: &mut MemHost,
     options: &[&str],
-    out_fails: bool,
-    report_fails: bool,
+    mut out: MemSink,
+    mut report: MemSink,
 ) -> Result<Ran, AllocError> {
     let arguments = arguments_of(alloc, options)?;
-    let mut out = MemSink::new(alloc)?;
-    let mut report = MemSink::new(alloc)?;
-    if out_fails {
-        out.fail_at(0)?;
-    }
-    if report_fails {
-        report.fail_at(0)?;
-    }
     let place = Placements {
         first: Chooser::new(Kind::First, |runs: &[Run], need: u32| first_fit(runs, need)),
         best: Chooser::new(Kind::Best, |runs: &[Run], need: u32| best_fit(runs, need)),

@@ -4,21 +4,23 @@ use super::*;
 
 const GREETERS: &[File] = &[("hi.flt", Content::Flat(HI)), ("ho.flt", Content::Flat(HO))];
 
-const CASES: &[Case] = &[
-    Case {
-        name: "run-hi-with-log",
-        files: GREETERS,
-        manifest: "memory 4\nflat /hi hi.flt\nstart /hi\nquanta 0:100\n",
-        options: &["--log"],
-        status: Status::Done,
-        out: "hi\n",
-        report: "load 1 /hi base 0x80000000 pages 2
+pub const HI_WITH_LOG: Case = Case {
+    name: "run-hi-with-log",
+    files: GREETERS,
+    manifest: "memory 4\nflat /hi hi.flt\nstart /hi\nquanta 0:100\n",
+    options: &["--log"],
+    status: Status::Done,
+    out: "hi\n",
+    report: "load 1 /hi base 0x80000000 pages 2
 call 1 64 00000001 800000a4 00000003 00000000 00000000 00000000 = 00000003 sent 68690a got -
 call 1 93 00000007 800000a4 00000003 00000000 00000000 00000000 = 00000000 sent - got -
 end 1 exit 7
 stop done events 9
 ",
-    },
+};
+
+const CASES: &[Case] = &[
+    HI_WITH_LOG,
     Case {
         name: "two programs, one after the other",
         files: GREETERS,
@@ -78,25 +80,4 @@ stop stray events 0
 #[test]
 fn worked_examples_are_written(rt: HostRuntime) -> Result<(), Fail> {
     expect_cases(&rt, rt.alloc(), CASES)
-}
-
-/// A sink that fails stops all writing.
-#[test]
-fn failing_sinks_stop_the_texts(rt: HostRuntime) -> Result<(), Fail> {
-    let alloc = rt.alloc();
-    let mut host = host_of(alloc, CASES[0].files, CASES[0].manifest)?;
-    let failed = run_with(alloc, &mut host, &[], true, false)?;
-    assert!(rt;
-        failed.status == Status::SinkWrite
-            && failed.out.bytes().is_empty()
-            && failed.report.bytes().is_empty()
-    );
-    let mut host = host_of(alloc, CASES[0].files, CASES[0].manifest)?;
-    let failed = run_with(alloc, &mut host, &[], false, true)?;
-    assert!(rt;
-        failed.status == Status::SinkWrite
-            && failed.out.bytes() == b"hi\n".as_slice()
-            && failed.report.bytes().is_empty()
-    );
-    Ok(())
 }

@@ -137,6 +137,42 @@ const CASES: &[Case] = &[
     },
 ];
 
+/// Of a manifest that is so many times the same text: its first line with a fault, and the fault.
+const FAULTS: &[(&str, u32, &str)] = &[
+    ("memory 4\n\u{7f}\n", 1, "2 1 BadByte"),
+    ("memory 4\npages 4\n", 1, "2 2 UnknownWord"),
+    ("memory\n", 1, "1 3 WordCount"),
+    ("memory 04\n", 1, "1 4 BadNumber"),
+    ("dir d\n", 1, "1 5 BadPath"),
+    ("repeat 2\n", 2, "2 6 Repeated"),
+    ("start /a\n", 65, "65 7 TooMany"),
+    ("start /a\n", 1, "0 8 NoQuanta"),
+    ("quanta 0:1\n", 1, "0 9 NoStart"),
+];
+
+/// No other file is asked for.
+#[test]
+fn each_fault_of_a_manifest_is_told(rt: HostRuntime) -> Result<(), Fail> {
+    let alloc = rt.alloc();
+    for (text, times, fault) in FAULTS {
+        let mut manifest = String::new(alloc);
+        for _ in 0..*times {
+            manifest.push_str(text)?;
+        }
+        let mut host = host_of(alloc, &[], &manifest)?;
+        let ran = run_of(alloc, &mut host, &[])?;
+        let report = format!(in alloc; "refused: manifest line {fault}\n")?;
+        assert!(rt;
+            ran.status == Status::Refused
+                && ran.out.bytes().is_empty()
+                && ran.report.bytes() == report.as_bytes()
+                && host.asked().len() == 1,
+            "{fault}"
+        );
+    }
+    Ok(())
+}
+
 #[test]
 fn refusals_are_told(rt: HostRuntime) -> Result<(), Fail> {
     expect_cases(&rt, rt.alloc(), CASES)

@@ -92,13 +92,14 @@ fn faults_are_refused(rt: HostRuntime) -> Result<(), Fail> {
 /// Arguments that are no command.
 #[test]
 fn other_arguments_are_no_command(rt: HostRuntime) -> Result<(), Fail> {
-    let faulty: [&[&str]; 23] = [
+    let faulty: [&[&str]; 25] = [
         &[],
         &["--help"],
         &["Convert", "a.elf", "a.flt"],
         &["convert", "a.elf"],
         &["convert", "a.elf", "a.flt", "--stack"],
         &["convert", "--stack", "17", "a.elf", "a.flt"],
+        &["convert", "a.elf", "a.flt", "--stack", "8"],
         &["convert", "a.elf", "a.flt", "--stack", "15"],
         &["convert", "a.elf", "a.flt", "--stack", "1048577"],
         &["convert", "a.elf", "a.flt", "--stack", "+17"],
@@ -110,6 +111,7 @@ fn other_arguments_are_no_command(rt: HostRuntime) -> Result<(), Fail> {
         &["run", "a.run", "--place", "worst"],
         &["run", "a.run", "--place", "best", "--log"],
         &["run", "a.run", "--log", "best"],
+        &["run", "a.run", "--go-on", "--log"],
         &["demo"],
         &["demo", "0"],
         &["demo", "65"],

@@ -101,3 +101,45 @@ fn faults_of_sinks_take_the_status(rt: HostRuntime) -> Result<(), Fail> {
     assert!(rt; wrote(&outside, "", ""));
     Ok(())
 }
+
+/// Lets a sink take one byte at a time, and fail at this write.
+fn slow_down(sink: &mut MemSink, fails_at: usize) -> Result<(), AllocError> {
+    sink.take_at_most(1);
+    sink.fail_at(u32::try_from(fails_at).unwrap_or(u32::MAX))
+}
+
+/// Whether a sink has the first bytes of a text, up to so many, and no others.
+fn has_first(sink: &MemSink, text: &str, count: usize) -> bool {
+    sink.bytes().len() == text.len().min(count) && text.as_bytes().starts_with(sink.bytes())
+}
+
+/// Over sinks that take one byte at a time, where each write fails in turn, and none. One of the two has a text, and where it is
+/// `out`, the flat file is stored by then.
+#[test]
+fn one_byte_sinks_take_all_before_the_write_that_fails(rt: HostRuntime) -> Result<(), Fail> {
+    let alloc = rt.alloc();
+    let calls = [
+        (0, Status::HostRead, "", "host: cannot read a.elf\n"),
+        (1, Status::HostWrite, "", "host: cannot write a.flt\n"),
+        (2, Status::Done, LINE, ""),
+    ];
+    for (host_fails, status, out, report) in calls {
+        let len = out.len().max(report.len());
+        for write in 0..=len {
+            let mut outside = with_file(alloc, "a.elf", &ELF)?;
+            outside.host.fail_at(host_fails)?;
+            slow_down(&mut outside.out, write)?;
+            slow_down(&mut outside.report, write)?;
+            let ends = if write < len {
+                Status::SinkWrite
+            } else {
+                status
+            };
+            assert_eq!(rt; call(alloc, &CONVERT, &mut outside)?, ends, "write {write}");
+            assert!(rt; has_first(&outside.out, out, write), "write {write}");
+            assert!(rt; has_first(&outside.report, report, write), "write {write}");
+            assert_eq!(rt; stored(&outside, &FLT), host_fails == 2, "write {write}");
+        }
+    }
+    Ok(())
+}
