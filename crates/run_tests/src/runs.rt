@@ -2,6 +2,7 @@
 
 mod callers;
 mod calls;
+mod code;
 mod demo;
 mod examples;
 mod failing;
