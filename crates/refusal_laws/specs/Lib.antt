@@ -1,0 +1,8 @@
+-- Calls    a system call that a process is to make
+-- Regular  what holds of every world of a run, so that no reply but a refusal is an errno
+-- NoRun    who needs a free run of pages and finds none
+-- Laws     which replies are refusals, and which refusals are ENOMEM
+pub mod Calls
+pub mod Regular
+pub mod NoRun
+pub mod Laws
