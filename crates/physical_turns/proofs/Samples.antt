@@ -32,18 +32,19 @@ use Rattle.vfork_exec.specs.Keyed.{find, change, without}
 use Rattle.vfork_exec.specs.Families.{ended_behind, resumed, state_behind}
 use Rattle.mem_files.specs.Inodes.{Inodes, Entry, file, folder, new_inode}
 use Rattle.mem_files.specs.Paths.{names, is_too_long, walked, place_of}
-use Rattle.fd_tables.specs.Files.{view, nothing_open}
-use Rattle.fd_tables.specs.Changes.{closed, with_table, without_table, all_descriptors}
+use Rattle.fd_tables.specs.Files.{view, two_free, nothing_open}
+use Rattle.fd_tables.specs.Changes.{closed, piped, with_table, without_table, all_descriptors}
 use Rattle.machine_world.specs.World.{Program, Rest, World}
 use Rattle.machine_world.specs.Families.{borrows, spaces_left, all_left_by, all_roused, ready_pids}
 use Rattle.machine_world.specs.Free.{free_runs_in}
 use Rattle.machine_world.specs.Rows.{row}
 use Rattle.machine_world.specs.MapCalls.{munmap_row, mmap2_row}
+use Rattle.machine_world.specs.Descriptors.{pipe2_row}
 use Rattle.machine_world.specs.Transfers.{write_row}
-use Rattle.machine_world.specs.Event.{ended, stepped, trapped, served, exited, answer, settled, at_process, event, stray}
+use Rattle.machine_world.specs.Event.{ended, stepped, trapped, served, exited, answer, settled, at_process as private_process, event, stray}
 use Rattle.machine_world.specs.Turns.{End, all_ended, out_of_quanta}
 use Rattle.machine_world.specs.Boot.{StartLine, BootFault, started, all_started, boot}
-use Rattle.physical_turns.specs.Physical.{Walk, physical_event, physical_turn, physical_turns, in_memory}
+use Rattle.physical_turns.specs.Physical.{Walk, bytes_in, laid_behind, waitid_in, answer_in, at_process, carried_out, physical_event, physical_turn, physical_turns, first_memory, opening}
 
 -- a program of these words at number 64
 abbrev of_words : List ℕ → List ℕ → Program
@@ -69,6 +70,11 @@ again = of_words (codes "/st") (0x07a00513 ∷ 0x06010593 ∷ 0x00a58023 ∷ 0xf
 abbrev mapper : Program
 mapper = of_words (codes "/a")
     (0x15b7 ∷ 0x00300613 ∷ 0x02200693 ∷ 0xfff00713 ∷ 0x0de00893 ∷ 0x73 ∷ 0x00050413 ∷ 0x00c40023 ∷ 0x0d700893 ∷ 0x73 ∷ 0x011400a3 ∷ 0x513 ∷ 0x0de00893 ∷ 0x73 ∷ [])
+
+-- pipe2(sp + 96, 0), write(1, sp + 96, 4), and it goes in a circle
+abbrev caller : Program
+caller = of_words (codes "/st")
+    (0x06010513 ∷ 0x593 ∷ 0x03b00893 ∷ 0x73 ∷ 0x00100513 ∷ 0x06010593 ∷ 0x00400613 ∷ 0x04000893 ∷ 0x73 ∷ 0x6f ∷ [])
 
 -- it does nothing
 abbrev still : Program
@@ -106,23 +112,31 @@ q pick count = record { pick = pick; count = count }
 abbrev loaded_at : ℕ → ℕ → ℕ → Note
 loaded_at pid program base = load_note (record { pid = pid; program = program; base = base; pages = 2 })
 
--- what a run writes, counts and leaves at some addresses, and why it stops
+-- what a run writes, counts, and leaves at some addresses in memory and in its spaces, and why it stops
 pub record Saw : Type 0 where
   pub console : List ℕ
   pub notes : List Note
   pub events : ℕ
   pub bytes : List (Option ℕ)
+  pub own : List (Option ℕ)
   pub end : Option End
 
 abbrev saw : List ℕ → Walk → Saw
-saw at w = record { console = w.now.world.rest.console; notes = reverse w.now.world.notes; events = w.now.world.events; bytes = map w.now.memory at; end = w.end }
+saw at w = record {
+  console = w.now.world.rest.console;
+  notes = reverse w.now.world.notes;
+  events = w.now.world.events;
+  bytes = map w.now.memory at;
+  own = map (bytes_in w.now.world.spaces) at;
+  end = w.end;
+}
 
 -- each program's header is 64 bytes of its number and 80
 abbrev headers : List (List ℕ)
 headers = replicate 64 80 ∷ replicate 64 81 ∷ []
 
 abbrev run : List ℕ → List Quantum → Result World BootFault → Option Saw
-run at qs (Ok w) = Some (saw at (physical_turns qs (in_memory headers w)))
+run at qs (Ok w) = Some (saw at (physical_turns qs (opening headers w)))
 run at qs (Err fault) = None
 
 -- the store goes into the other program's block, and the run goes on
@@ -134,9 +148,10 @@ run-stray_store :
           ∷ stray_note 1 (record { pc = 0x8000_0088; addr = 0x8000_2040; len = 1; kind = seen.Store }) ∷ [];
       events = 3;
       bytes = Some 80 ∷ Some 81 ∷ Some 0x7a ∷ None ∷ [];
+      own = None ∷ None ∷ Some 0x7a ∷ None ∷ [];
       end = Some out_of_quanta;
     })
-unfolding number_at byte_at from_base decoded opcode funct3 funct7 rd rs1 rs2 imm_i imm_s imm_b imm_u imm_j loaded stored effect meaning register with_register free_runs place refusal has_room sent read_span writable_in own_in only may_use block_pages frame_len frame frame_start frame_fits begin_space begin_regs find change without ended_behind state_behind resumed spaces_left borrows all_left_by free_runs_in write_row row view closed with_table without_table all_descriptors pieces names is_too_long walked place_of ended stepped trapped served exited answer at_process event stray settled all_roused physical_event physical_turn ready_pids picked physical_turns in_memory started all_started boot
+unfolding number_at byte_at from_base decoded opcode funct3 funct7 rd rs1 rs2 imm_i imm_s imm_b imm_u imm_j loaded stored effect meaning register with_register free_runs place refusal has_room sent read_span writable_in own_in only may_use block_pages frame_len frame frame_start frame_fits begin_space begin_regs find change without ended_behind state_behind resumed spaces_left borrows all_left_by free_runs_in write_row row view closed with_table without_table all_descriptors pieces names is_too_long walked place_of ended stepped trapped served exited answer private_process event stray settled all_roused laid_behind waitid_in answer_in at_process carried_out physical_event physical_turn ready_pids picked physical_turns first_memory opening started all_started boot
 run-stray_store = refl
 
 -- an access outside memory is noted, and ends the process
@@ -147,9 +162,10 @@ run-outside_memory :
       notes = loaded_at 1 0 0x8000_0000 ∷ stray_note 1 (record { pc = 0x8000_0080; addr = 0; len = 4; kind = seen.Store }) ∷ end_note 1 (Signal 11) ∷ [];
       events = 1;
       bytes = Some 80 ∷ [];
+      own = None ∷ [];
       end = Some all_ended;
     })
-unfolding number_at byte_at from_base decoded opcode funct3 funct7 rd rs1 rs2 imm_i imm_s imm_b imm_u imm_j loaded stored effect meaning register with_register free_runs place refusal has_room sent read_span writable_in own_in only may_use block_pages frame_len frame frame_start frame_fits begin_space begin_regs find change without ended_behind state_behind resumed spaces_left borrows all_left_by free_runs_in write_row row view closed with_table without_table all_descriptors pieces names is_too_long walked place_of ended stepped trapped served exited answer at_process event stray settled all_roused physical_event physical_turn ready_pids picked physical_turns in_memory started all_started boot
+unfolding number_at byte_at from_base decoded opcode funct3 funct7 rd rs1 rs2 imm_i imm_s imm_b imm_u imm_j loaded stored effect meaning register with_register free_runs place refusal has_room sent read_span writable_in own_in only may_use block_pages frame_len frame frame_start frame_fits begin_space begin_regs find change without ended_behind state_behind resumed spaces_left borrows all_left_by free_runs_in write_row row view closed with_table without_table all_descriptors pieces names is_too_long walked place_of ended stepped trapped served exited answer private_process event stray settled all_roused laid_behind waitid_in answer_in at_process carried_out physical_event physical_turn ready_pids picked physical_turns first_memory opening started all_started boot
 run-outside_memory = refl
 
 -- the second stray access has no note
@@ -161,9 +177,10 @@ run-one_note :
           ∷ stray_note 1 (record { pc = 0x8000_0088; addr = 0x8000_2040; len = 1; kind = seen.Store }) ∷ [];
       events = 5;
       bytes = Some 0x7a ∷ [];
+      own = Some 0x7a ∷ [];
       end = Some out_of_quanta;
     })
-unfolding number_at byte_at from_base decoded opcode funct3 funct7 rd rs1 rs2 imm_i imm_s imm_b imm_u imm_j loaded stored effect meaning register with_register free_runs place refusal has_room sent read_span writable_in own_in only may_use block_pages frame_len frame frame_start frame_fits begin_space begin_regs find change without ended_behind state_behind resumed spaces_left borrows all_left_by free_runs_in mmap2_row wanted munmap_row hit without_hit row view closed with_table without_table all_descriptors pieces names is_too_long walked place_of ended stepped trapped served exited answer at_process event stray settled all_roused physical_event physical_turn ready_pids picked physical_turns in_memory started all_started boot
+unfolding number_at byte_at from_base decoded opcode funct3 funct7 rd rs1 rs2 imm_i imm_s imm_b imm_u imm_j loaded stored effect meaning register with_register free_runs place refusal has_room sent read_span writable_in own_in only may_use block_pages frame_len frame frame_start frame_fits begin_space begin_regs find change without ended_behind state_behind resumed spaces_left borrows all_left_by free_runs_in mmap2_row wanted munmap_row hit without_hit row view closed with_table without_table all_descriptors pieces names is_too_long walked place_of ended stepped trapped served exited answer private_process event stray settled all_roused laid_behind waitid_in answer_in at_process carried_out physical_event physical_turn ready_pids picked physical_turns first_memory opening started all_started boot
 run-one_note = refl
 
 -- the notes of an mmap2 of one page, and of its munmap
@@ -184,9 +201,10 @@ run-freed_page :
       notes = loaded_at 1 0 0x8000_0000 ∷ maps_page ∷ unmaps_page ∷ stray_behind ∷ [];
       events = 11;
       bytes = Some 3 ∷ Some 215 ∷ [];
+      own = None ∷ None ∷ [];
       end = Some out_of_quanta;
     })
-unfolding number_at byte_at from_base decoded opcode funct3 funct7 rd rs1 rs2 imm_i imm_s imm_b imm_u imm_j loaded stored effect meaning register with_register free_runs place refusal has_room sent read_span writable_in own_in only may_use block_pages frame_len frame frame_start frame_fits begin_space begin_regs find change without ended_behind state_behind resumed spaces_left borrows all_left_by free_runs_in mmap2_row wanted munmap_row hit without_hit row view closed with_table without_table all_descriptors pieces names is_too_long walked place_of ended stepped trapped served exited answer at_process event stray settled all_roused physical_event physical_turn ready_pids picked physical_turns in_memory started all_started boot
+unfolding number_at byte_at from_base decoded opcode funct3 funct7 rd rs1 rs2 imm_i imm_s imm_b imm_u imm_j loaded stored effect meaning register with_register free_runs place refusal has_room sent read_span writable_in own_in only may_use block_pages frame_len frame frame_start frame_fits begin_space begin_regs find change without ended_behind state_behind resumed spaces_left borrows all_left_by free_runs_in mmap2_row wanted munmap_row hit without_hit row view closed with_table without_table all_descriptors pieces names is_too_long walked place_of ended stepped trapped served exited answer private_process event stray settled all_roused laid_behind waitid_in answer_in at_process carried_out physical_event physical_turn ready_pids picked physical_turns first_memory opening started all_started boot
 run-freed_page = refl
 
 -- a fresh mapping is cleared
@@ -197,7 +215,25 @@ run-mapped_again :
       notes = loaded_at 1 0 0x8000_0000 ∷ maps_page ∷ unmaps_page ∷ stray_behind ∷ maps_page ∷ [];
       events = 14;
       bytes = Some 0 ∷ Some 0 ∷ [];
+      own = Some 0 ∷ Some 0 ∷ [];
       end = Some out_of_quanta;
     })
-unfolding number_at byte_at from_base decoded opcode funct3 funct7 rd rs1 rs2 imm_i imm_s imm_b imm_u imm_j loaded stored effect meaning register with_register free_runs place refusal has_room sent read_span writable_in own_in only may_use block_pages frame_len frame frame_start frame_fits begin_space begin_regs find change without ended_behind state_behind resumed spaces_left borrows all_left_by free_runs_in mmap2_row wanted munmap_row hit without_hit row view closed with_table without_table all_descriptors pieces names is_too_long walked place_of ended stepped trapped served exited answer at_process event stray settled all_roused physical_event physical_turn ready_pids picked physical_turns in_memory started all_started boot
+unfolding number_at byte_at from_base decoded opcode funct3 funct7 rd rs1 rs2 imm_i imm_s imm_b imm_u imm_j loaded stored effect meaning register with_register free_runs place refusal has_room sent read_span writable_in own_in only may_use block_pages frame_len frame frame_start frame_fits begin_space begin_regs find change without ended_behind state_behind resumed spaces_left borrows all_left_by free_runs_in mmap2_row wanted munmap_row hit without_hit row view closed with_table without_table all_descriptors pieces names is_too_long walked place_of ended stepped trapped served exited answer private_process event stray settled all_roused laid_behind waitid_in answer_in at_process carried_out physical_event physical_turn ready_pids picked physical_turns first_memory opening started all_started boot
 run-mapped_again = refl
+
+-- a call writes into the other program's block, and one reads from there
+run-stray_calls :
+    run (0x8000_2040 ∷ 0x8000_2044 ∷ []) (q 0 9 ∷ []) (boot (rest_of 4 (caller ∷ still ∷ [])) (start 3 (codes "/st") ∷ start 4 (codes "/a") ∷ []))
+    ≡ Some (record {
+      console = 3 ∷ 0 ∷ 0 ∷ 0 ∷ [];
+      notes = loaded_at 1 0 0x8000_0000 ∷ loaded_at 2 1 0x8000_2000
+          ∷ stray_note 1 (record { pc = 0x8000_008c; addr = 0x8000_2040; len = 8; kind = seen.Call })
+          ∷ call_note (record { pid = 1; call = 59; args = 0x8000_2040 ∷ 0 ∷ 0 ∷ 0 ∷ 0 ∷ 0 ∷ []; sent = []; reply = 0; got = record { addr = 0x8000_2040; bytes = 3 ∷ 0 ∷ 0 ∷ 0 ∷ 4 ∷ 0 ∷ 0 ∷ 0 ∷ [] } ∷ [] })
+          ∷ call_note (record { pid = 1; call = 64; args = 1 ∷ 0x8000_2040 ∷ 4 ∷ 0 ∷ 0 ∷ 0 ∷ []; sent = 3 ∷ 0 ∷ 0 ∷ 0 ∷ []; reply = 4; got = [] }) ∷ [];
+      events = 9;
+      bytes = Some 3 ∷ Some 4 ∷ [];
+      own = Some 3 ∷ Some 4 ∷ [];
+      end = Some out_of_quanta;
+    })
+unfolding number_at byte_at from_base decoded opcode funct3 funct7 rd rs1 rs2 imm_i imm_s imm_b imm_u imm_j loaded stored effect meaning register with_register free_runs place refusal has_room sent read_span writable_in own_in only may_use block_pages frame_len frame frame_start frame_fits begin_space begin_regs find change without ended_behind state_behind resumed spaces_left borrows all_left_by free_runs_in pipe2_row write_row row view two_free piped with_table without_table all_descriptors pieces names is_too_long walked place_of ended stepped trapped served exited answer private_process event stray settled all_roused laid_behind waitid_in answer_in at_process carried_out physical_event physical_turn ready_pids picked physical_turns first_memory opening started all_started boot
+run-stray_calls = refl

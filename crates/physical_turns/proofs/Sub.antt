@@ -49,7 +49,7 @@ bytes_sub own mem a (suc len) bytes is =
     parts (Some b) None here more is = absurd (cc)
     parts None high here more is = absurd (cc)
 
-span_sub : (own : ℕ → Bool) (mem : Bytes) (span : Span) → Sub (read_span (only own mem) span) (read_span mem span)
+pub span_sub : (own : ℕ → Bool) (mem : Bytes) (span : Span) → Sub (read_span (only own mem) span) (read_span mem span)
 unfolding read_span
 span_sub own mem span = if_sub (nat_le (span.addr + span.len) (2 ^ 32)) _ _ _ _ (found (bytes_from (only own mem) span.addr span.len) refl) (same_sub (Err span))
   where

@@ -13,7 +13,7 @@ use Rattle.region_watch.specs.Instructions.{Ran, one_more, goes_on, instructions
 use Rattle.region_watch.proofs.Maps.{with_bytes-only}
 use Rattle.call_log.specs.Notes.{Written}
 use Rattle.flat_loader.specs.Alone.{put_got}
-use Rattle.physical_turns.specs.Wider.{everywhere, IsWithin, Grows, Widens, RanWider, PutWider}
+use Rattle.physical_turns.specs.Wider.{IsWithin, Grows, Widens, RanWider, PutWider}
 use Rattle.physical_turns.proofs.Widened.{wide_meaning}
 
 untouched : (own may : ℕ → Bool) (mem : Bytes) → Grows own may mem (only own mem) mem
@@ -31,18 +31,18 @@ one_more_wide own may mem mid small large Call before (regs, done, stop, g) = (r
 one_more_wide own may mem mid small large (Trap signal) before (regs, done, stop, g) = (regs, ap (λ n. n + 1) done, stop, grows_on own may mem mid small.bytes large.bytes before g)
 one_more_wide own may mem mid small large (Refused access) before wide = tt
 
-pub wide_run : (n : ℕ) (own may : ℕ → Bool) (regs : Regs) (mem : Bytes) → IsWithin own may
-    → RanWider own may mem (instructions n may regs (only own mem)) (instructions n everywhere regs mem) (instructions n may regs (only own mem)).stop
+pub wide_run : (n : ℕ) (own may wide : ℕ → Bool) (regs : Regs) (mem : Bytes) → IsWithin own may → IsWithin wide may
+    → RanWider own may mem (instructions n may regs (only own mem)) (instructions n wide regs mem) (instructions n may regs (only own mem)).stop
 unfolding instructions
-wide_run zero own may regs mem within = (refl, refl, refl, untouched own may mem)
-wide_run (suc n) own may regs mem within =
-    stepped (meaning regs (only own mem) may) (meaning regs mem everywhere) (wide_meaning own may regs mem within) (λ after all. wide_run n own may after all within)
+wide_run zero own may wide regs mem within inside = (refl, refl, refl, untouched own may mem)
+wide_run (suc n) own may wide regs mem within inside =
+    stepped (meaning regs (only own mem) may) (meaning regs mem wide) (wide_meaning own may wide regs mem within inside) (λ after all. wide_run n own may wide after all within inside)
   where
     stepped : (small large : Meaning) → Widens own may mem small large
-        → ((after : Regs) (all : Bytes) → RanWider own may all (instructions n may after (only own all)) (instructions n everywhere after all) (instructions n may after (only own all)).stop)
-        → RanWider own may mem (goes_on regs (only own mem) (λ after now. instructions n may after now) small) (goes_on regs mem (λ after now. instructions n everywhere after now) large) (goes_on regs (only own mem) (λ after now. instructions n may after now) small).stop
+        → ((after : Regs) (all : Bytes) → RanWider own may all (instructions n may after (only own all)) (instructions n wide after all) (instructions n may after (only own all)).stop)
+        → RanWider own may mem (goes_on regs (only own mem) (λ after now. instructions n may after now) small) (goes_on regs mem (λ after now. instructions n wide after now) large) (goes_on regs (only own mem) (λ after now. instructions n may after now) small).stop
     stepped (next after part) (next there all) (same, g) more =
-        rw (same, ← g.seen) (one_more_wide own may mem all (instructions n may after (only own all)) (instructions n everywhere after all) (instructions n may after (only own all)).stop g.rest (more after all))
+        rw (same, ← g.seen) (one_more_wide own may mem all (instructions n may after (only own all)) (instructions n wide after all) (instructions n may after (only own all)).stop g.rest (more after all))
     stepped call call is more = (refl, refl, refl, untouched own may mem)
     stepped (trap signal) (trap other) is more = (refl, refl, ap Trap is, untouched own may mem)
     stepped (refused access) large is more = tt
@@ -69,10 +69,6 @@ pass_within own may a (suc len) within is =
     let parts = both (may a) (all_pass may (a + 1) len) is in
     rw (within a parts.0, pass_within own may (a + 1) len within parts.1) refl
 
-pass_all : (a len : ℕ) → all_pass everywhere a len ≡ true
-pass_all a zero = refl
-pass_all a (suc len) = pass_all (a + 1) len
-
 locked_byte : (may : ℕ → Bool) (mem now : Bytes) (a b i : ℕ) → may a ≡ true → may i ≡ false → now i ≡ mem i → with_byte now a b i ≡ mem i
 locked_byte may mem now a b i may_a locked before = grind (arith, nat_tests)
 
@@ -82,25 +78,26 @@ locked may mem a (b ∷ bs) i pass is =
     let parts = both (may a) (all_pass may (a + 1) (length bs)) pass in
     locked_byte may mem (with_bytes mem (a + 1) bs) a b i parts.0 is (locked may mem (a + 1) bs i parts.1 is)
 
-ok_same : (x y : Bytes) → put_got x everywhere [] ≡ Ok y → x ≡ y
-ok_same x y is = cc
+ok_same : (wide : ℕ → Bool) (x y : Bytes) → put_got x wide [] ≡ Ok y → x ≡ y
+ok_same wide x y is = cc
 
-pub wide_put : (own may : ℕ → Bool) (mem part : Bytes) (got : List Written) → IsWithin own may → put_got (only own mem) may got ≡ Ok part → PutWider own may mem part got
+pub wide_put : (own may wide : ℕ → Bool) (mem part : Bytes) (got : List Written) → IsWithin own may → IsWithin wide may
+    → put_got (only own mem) may got ≡ Ok part → PutWider own may wide mem part got
 unfolding may_use
-wide_put own may mem part [] within is = record { all = mem; put = refl; grows = subst (λ (p : Bytes). Grows own may mem p mem) (ok_same (only own mem) part is) (untouched own may mem) }
-wide_put own may mem part (g ∷ gs) within is =
-    tested (nat_le (g.addr + length g.bytes) (2 ^ 32)) (all_pass may g.addr (length g.bytes)) refl refl is (λ now is. wide_put own may now part gs within is)
+wide_put own may wide mem part [] within inside is = record { all = mem; put = refl; grows = subst (λ (p : Bytes). Grows own may mem p mem) (ok_same may (only own mem) part is) (untouched own may mem) }
+wide_put own may wide mem part (g ∷ gs) within inside is =
+    tested (nat_le (g.addr + length g.bytes) (2 ^ 32)) (all_pass may g.addr (length g.bytes)) refl refl is (λ now is. wide_put own may wide now part gs within inside is)
   where
     tested : (fits pass : Bool) → nat_le (g.addr + length g.bytes) (2 ^ 32) ≡ fits → all_pass may g.addr (length g.bytes) ≡ pass
         → (if fits && pass then put_got (with_bytes (only own mem) g.addr g.bytes) may gs else Err (record { addr = g.addr; len = length g.bytes })) ≡ Ok part
-        → ((now : Bytes) → put_got (only own now) may gs ≡ Ok part → PutWider own may now part gs) → PutWider own may mem part (g ∷ gs)
+        → ((now : Bytes) → put_got (only own now) may gs ≡ Ok part → PutWider own may wide now part gs) → PutWider own may wide mem part (g ∷ gs)
     tested true true fits pass is more =
         let now : Bytes = with_bytes mem g.addr g.bytes in
         let cut : only own now ≡ with_bytes (only own mem) g.addr g.bytes = with_bytes-only own mem g.addr g.bytes (pass_within own may g.addr (length g.bytes) within pass) in
         let rest = more now (ap (λ (m : Bytes). put_got m may gs) cut ∙ is) in
         record {
           all = rest.all;
-          put = rw (fits, pass_all g.addr (length g.bytes)) rest.put;
+          put = rw (fits, pass_within wide may g.addr (length g.bytes) inside pass) rest.put;
           grows = grows_on own may mem now part rest.all (λ i is. locked may mem g.addr g.bytes i pass is) rest.grows;
         }
     tested true false fits pass is more = absurd (cc)

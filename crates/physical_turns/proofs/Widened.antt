@@ -18,7 +18,7 @@ use Rattle.rv32im_step.specs.Memory.{fetch_of, load_of, store_of, or_refused, lo
 use Rattle.mmap_rules.specs.Space.{all_pass}
 use Rattle.region_watch.specs.Private.{only}
 use Rattle.region_watch.proofs.Maps.{number-only, with_bytes-only}
-use Rattle.physical_turns.specs.Wider.{everywhere, IsWithin, Grows, Widens}
+use Rattle.physical_turns.specs.Wider.{IsWithin, Grows, Widens}
 
 abbrev Wide : (own may : ℕ → Bool) → Bytes → Meaning → Meaning → Type 0
 Wide own may mem small large = Widens own may mem small large
@@ -84,11 +84,11 @@ there own mem a is = tested (own a) is
     tested true is = is
     tested false is = absurd (cc)
 
-writable_wide : (own may : ℕ → Bool) (mem : Bytes) (a len : ℕ) → all_writable (only own mem) may a len ≡ true → all_writable mem everywhere a len ≡ true
-writable_wide own may mem a zero is = refl
-writable_wide own may mem a (suc len) is =
+writable_wide : (own may wide : ℕ → Bool) (mem : Bytes) (a len : ℕ) → IsWithin wide may → all_writable (only own mem) may a len ≡ true → all_writable mem wide a len ≡ true
+writable_wide own may wide mem a zero inside is = refl
+writable_wide own may wide mem a (suc len) inside is =
     let first = all_true (is_some (only own mem a)) (may a) (all_writable (only own mem) may (a + 1) len) is in
-    rw (there own mem a first.0, writable_wide own may mem (a + 1) len first.2) refl
+    rw (there own mem a first.0, inside a first.1, writable_wide own may wide mem (a + 1) len inside first.2) refl
 
 passes : (own may : ℕ → Bool) (mem : Bytes) (a len : ℕ) → IsWithin own may → all_writable (only own mem) may a len ≡ true → all_pass own a len ≡ true
 passes own may mem a zero within is = refl
@@ -105,81 +105,84 @@ locked_bytes own may mem a (suc len) n i is locked =
     let first = all_true (is_some (only own mem a)) (may a) (all_writable (only own mem) may (a + 1) len) is in
     locked_byte may mem (with_bytes mem (a + 1) (little_bytes len (n / 256))) a (n % 256) i first.1 locked (locked_bytes own may mem (a + 1) len (n / 256) i first.2 locked)
 
-wide_stores : (own may : ℕ → Bool) (mem : Bytes) (regs : Regs) (addr len n : ℕ) → IsWithin own may → Wide own may mem (stores regs (only own mem) may addr len n) (stores regs mem everywhere addr len n)
+wide_stores : (own may wide : ℕ → Bool) (mem : Bytes) (regs : Regs) (addr len n : ℕ) → IsWithin own may → IsWithin wide may
+    → Wide own may mem (stores regs (only own mem) may addr len n) (stores regs mem wide addr len n)
 unfolding stored
-wide_stores own may mem regs addr len n within = tested (nat_le (addr + len) (2 ^ 32)) (all_writable (only own mem) may addr len) refl
+wide_stores own may wide mem regs addr len n within inside = tested (nat_le (addr + len) (2 ^ 32)) (all_writable (only own mem) may addr len) refl
   where
     tested : (fits ok : Bool) → all_writable (only own mem) may addr len ≡ ok →
         Wide own may mem (changes regs (if fits && ok then Ok (with_bytes (only own mem) addr (little_bytes len n)) else Err (store_of regs.pc addr len)))
-        (changes regs (if fits && all_writable mem everywhere addr len then Ok (with_bytes mem addr (little_bytes len n)) else Err (store_of regs.pc addr len)))
+        (changes regs (if fits && all_writable mem wide addr len then Ok (with_bytes mem addr (little_bytes len n)) else Err (store_of regs.pc addr len)))
     tested true true is =
         let pass : all_pass own addr (length (little_bytes len n)) ≡ true = ap (all_pass own addr) (length-little_bytes len n) ∙ passes own may mem addr len within is in
-        rw (writable_wide own may mem addr len is) (refl, record { seen = with_bytes-only own mem addr (little_bytes len n) pass; rest = λ i locked. locked_bytes own may mem addr len n i is locked })
+        rw (writable_wide own may wide mem addr len inside is) (refl, record { seen = with_bytes-only own mem addr (little_bytes len n) pass; rest = λ i locked. locked_bytes own may mem addr len n i is locked })
     tested true false is = tt
     tested false ok is = tt
 
 -- ---- the rows
 
-wide_row : (own may : ℕ → Bool) (mem : Bytes) → IsWithin own may → (instr : Instr) (x : ℕ → ℕ) (regs : Regs) → Wide own may mem (row instr x regs (only own mem) may) (row instr x regs mem everywhere)
-wide_row own may mem within (Lui rd imm) x regs = (refl, untouched own may mem)
-wide_row own may mem within (Auipc rd imm) x regs = (refl, untouched own may mem)
-wide_row own may mem within (Jal rd imm) x regs = wide_jumps own may mem regs rd (wrap (regs.pc + imm))
-wide_row own may mem within (Jalr rd rs1 imm) x regs = wide_jumps own may mem regs rd (even (wrap (x rs1 + imm)))
-wide_row own may mem within (Beq rs1 rs2 imm) x regs = wide_branches own may mem regs (x rs1 == x rs2) imm
-wide_row own may mem within (Bne rs1 rs2 imm) x regs = wide_branches own may mem regs (not (x rs1 == x rs2)) imm
-wide_row own may mem within (Blt rs1 rs2 imm) x regs = wide_branches own may mem regs (int_lt (signed (x rs1)) (signed (x rs2))) imm
-wide_row own may mem within (Bge rs1 rs2 imm) x regs = wide_branches own may mem regs (not (int_lt (signed (x rs1)) (signed (x rs2)))) imm
-wide_row own may mem within (Bltu rs1 rs2 imm) x regs = wide_branches own may mem regs (nat_lt (x rs1) (x rs2)) imm
-wide_row own may mem within (Bgeu rs1 rs2 imm) x regs = wide_branches own may mem regs (not (nat_lt (x rs1) (x rs2))) imm
-wide_row own may mem within (Lb rd rs1 imm) x regs = wide_loads own may mem regs rd (add (x rs1) imm) 1 (sign_extended 8)
-wide_row own may mem within (Lh rd rs1 imm) x regs = wide_loads own may mem regs rd (add (x rs1) imm) 2 (sign_extended 16)
-wide_row own may mem within (Lw rd rs1 imm) x regs = wide_loads own may mem regs rd (add (x rs1) imm) 4 same
-wide_row own may mem within (Lbu rd rs1 imm) x regs = wide_loads own may mem regs rd (add (x rs1) imm) 1 same
-wide_row own may mem within (Lhu rd rs1 imm) x regs = wide_loads own may mem regs rd (add (x rs1) imm) 2 same
-wide_row own may mem within (Sb rs1 rs2 imm) x regs = wide_stores own may mem regs (add (x rs1) imm) 1 (x rs2) within
-wide_row own may mem within (Sh rs1 rs2 imm) x regs = wide_stores own may mem regs (add (x rs1) imm) 2 (x rs2) within
-wide_row own may mem within (Sw rs1 rs2 imm) x regs = wide_stores own may mem regs (add (x rs1) imm) 4 (x rs2) within
-wide_row own may mem within (Addi rd rs1 imm) x regs = (refl, untouched own may mem)
-wide_row own may mem within (Slti rd rs1 imm) x regs = (refl, untouched own may mem)
-wide_row own may mem within (Sltiu rd rs1 imm) x regs = (refl, untouched own may mem)
-wide_row own may mem within (Xori rd rs1 imm) x regs = (refl, untouched own may mem)
-wide_row own may mem within (Ori rd rs1 imm) x regs = (refl, untouched own may mem)
-wide_row own may mem within (Andi rd rs1 imm) x regs = (refl, untouched own may mem)
-wide_row own may mem within (Slli rd rs1 imm) x regs = (refl, untouched own may mem)
-wide_row own may mem within (Srli rd rs1 imm) x regs = (refl, untouched own may mem)
-wide_row own may mem within (Srai rd rs1 imm) x regs = (refl, untouched own may mem)
-wide_row own may mem within (Add rd rs1 rs2) x regs = (refl, untouched own may mem)
-wide_row own may mem within (Sub rd rs1 rs2) x regs = (refl, untouched own may mem)
-wide_row own may mem within (Sll rd rs1 rs2) x regs = (refl, untouched own may mem)
-wide_row own may mem within (Slt rd rs1 rs2) x regs = (refl, untouched own may mem)
-wide_row own may mem within (Sltu rd rs1 rs2) x regs = (refl, untouched own may mem)
-wide_row own may mem within (Xor rd rs1 rs2) x regs = (refl, untouched own may mem)
-wide_row own may mem within (Srl rd rs1 rs2) x regs = (refl, untouched own may mem)
-wide_row own may mem within (Sra rd rs1 rs2) x regs = (refl, untouched own may mem)
-wide_row own may mem within (Or rd rs1 rs2) x regs = (refl, untouched own may mem)
-wide_row own may mem within (And rd rs1 rs2) x regs = (refl, untouched own may mem)
-wide_row own may mem within (Mul rd rs1 rs2) x regs = (refl, untouched own may mem)
-wide_row own may mem within (Mulh rd rs1 rs2) x regs = (refl, untouched own may mem)
-wide_row own may mem within (Mulhsu rd rs1 rs2) x regs = (refl, untouched own may mem)
-wide_row own may mem within (Mulhu rd rs1 rs2) x regs = (refl, untouched own may mem)
-wide_row own may mem within (Div rd rs1 rs2) x regs = (refl, untouched own may mem)
-wide_row own may mem within (Divu rd rs1 rs2) x regs = (refl, untouched own may mem)
-wide_row own may mem within (Rem rd rs1 rs2) x regs = (refl, untouched own may mem)
-wide_row own may mem within (Remu rd rs1 rs2) x regs = (refl, untouched own may mem)
-wide_row own may mem within Fence x regs = (refl, untouched own may mem)
-wide_row own may mem within FenceI x regs = (refl, untouched own may mem)
-wide_row own may mem within Ecall x regs = tt
-wide_row own may mem within Ebreak x regs = refl
+wide_row : (own may wide : ℕ → Bool) (mem : Bytes) → IsWithin own may → IsWithin wide may → (instr : Instr) (x : ℕ → ℕ) (regs : Regs) → Wide own may mem (row instr x regs (only own mem) may) (row instr x regs mem wide)
+wide_row own may wide mem within inside (Lui rd imm) x regs = (refl, untouched own may mem)
+wide_row own may wide mem within inside (Auipc rd imm) x regs = (refl, untouched own may mem)
+wide_row own may wide mem within inside (Jal rd imm) x regs = wide_jumps own may mem regs rd (wrap (regs.pc + imm))
+wide_row own may wide mem within inside (Jalr rd rs1 imm) x regs = wide_jumps own may mem regs rd (even (wrap (x rs1 + imm)))
+wide_row own may wide mem within inside (Beq rs1 rs2 imm) x regs = wide_branches own may mem regs (x rs1 == x rs2) imm
+wide_row own may wide mem within inside (Bne rs1 rs2 imm) x regs = wide_branches own may mem regs (not (x rs1 == x rs2)) imm
+wide_row own may wide mem within inside (Blt rs1 rs2 imm) x regs = wide_branches own may mem regs (int_lt (signed (x rs1)) (signed (x rs2))) imm
+wide_row own may wide mem within inside (Bge rs1 rs2 imm) x regs = wide_branches own may mem regs (not (int_lt (signed (x rs1)) (signed (x rs2)))) imm
+wide_row own may wide mem within inside (Bltu rs1 rs2 imm) x regs = wide_branches own may mem regs (nat_lt (x rs1) (x rs2)) imm
+wide_row own may wide mem within inside (Bgeu rs1 rs2 imm) x regs = wide_branches own may mem regs (not (nat_lt (x rs1) (x rs2))) imm
+wide_row own may wide mem within inside (Lb rd rs1 imm) x regs = wide_loads own may mem regs rd (add (x rs1) imm) 1 (sign_extended 8)
+wide_row own may wide mem within inside (Lh rd rs1 imm) x regs = wide_loads own may mem regs rd (add (x rs1) imm) 2 (sign_extended 16)
+wide_row own may wide mem within inside (Lw rd rs1 imm) x regs = wide_loads own may mem regs rd (add (x rs1) imm) 4 same
+wide_row own may wide mem within inside (Lbu rd rs1 imm) x regs = wide_loads own may mem regs rd (add (x rs1) imm) 1 same
+wide_row own may wide mem within inside (Lhu rd rs1 imm) x regs = wide_loads own may mem regs rd (add (x rs1) imm) 2 same
+wide_row own may wide mem within inside (Sb rs1 rs2 imm) x regs = wide_stores own may wide mem regs (add (x rs1) imm) 1 (x rs2) within inside
+wide_row own may wide mem within inside (Sh rs1 rs2 imm) x regs = wide_stores own may wide mem regs (add (x rs1) imm) 2 (x rs2) within inside
+wide_row own may wide mem within inside (Sw rs1 rs2 imm) x regs = wide_stores own may wide mem regs (add (x rs1) imm) 4 (x rs2) within inside
+wide_row own may wide mem within inside (Addi rd rs1 imm) x regs = (refl, untouched own may mem)
+wide_row own may wide mem within inside (Slti rd rs1 imm) x regs = (refl, untouched own may mem)
+wide_row own may wide mem within inside (Sltiu rd rs1 imm) x regs = (refl, untouched own may mem)
+wide_row own may wide mem within inside (Xori rd rs1 imm) x regs = (refl, untouched own may mem)
+wide_row own may wide mem within inside (Ori rd rs1 imm) x regs = (refl, untouched own may mem)
+wide_row own may wide mem within inside (Andi rd rs1 imm) x regs = (refl, untouched own may mem)
+wide_row own may wide mem within inside (Slli rd rs1 imm) x regs = (refl, untouched own may mem)
+wide_row own may wide mem within inside (Srli rd rs1 imm) x regs = (refl, untouched own may mem)
+wide_row own may wide mem within inside (Srai rd rs1 imm) x regs = (refl, untouched own may mem)
+wide_row own may wide mem within inside (Add rd rs1 rs2) x regs = (refl, untouched own may mem)
+wide_row own may wide mem within inside (Sub rd rs1 rs2) x regs = (refl, untouched own may mem)
+wide_row own may wide mem within inside (Sll rd rs1 rs2) x regs = (refl, untouched own may mem)
+wide_row own may wide mem within inside (Slt rd rs1 rs2) x regs = (refl, untouched own may mem)
+wide_row own may wide mem within inside (Sltu rd rs1 rs2) x regs = (refl, untouched own may mem)
+wide_row own may wide mem within inside (Xor rd rs1 rs2) x regs = (refl, untouched own may mem)
+wide_row own may wide mem within inside (Srl rd rs1 rs2) x regs = (refl, untouched own may mem)
+wide_row own may wide mem within inside (Sra rd rs1 rs2) x regs = (refl, untouched own may mem)
+wide_row own may wide mem within inside (Or rd rs1 rs2) x regs = (refl, untouched own may mem)
+wide_row own may wide mem within inside (And rd rs1 rs2) x regs = (refl, untouched own may mem)
+wide_row own may wide mem within inside (Mul rd rs1 rs2) x regs = (refl, untouched own may mem)
+wide_row own may wide mem within inside (Mulh rd rs1 rs2) x regs = (refl, untouched own may mem)
+wide_row own may wide mem within inside (Mulhsu rd rs1 rs2) x regs = (refl, untouched own may mem)
+wide_row own may wide mem within inside (Mulhu rd rs1 rs2) x regs = (refl, untouched own may mem)
+wide_row own may wide mem within inside (Div rd rs1 rs2) x regs = (refl, untouched own may mem)
+wide_row own may wide mem within inside (Divu rd rs1 rs2) x regs = (refl, untouched own may mem)
+wide_row own may wide mem within inside (Rem rd rs1 rs2) x regs = (refl, untouched own may mem)
+wide_row own may wide mem within inside (Remu rd rs1 rs2) x regs = (refl, untouched own may mem)
+wide_row own may wide mem within inside Fence x regs = (refl, untouched own may mem)
+wide_row own may wide mem within inside FenceI x regs = (refl, untouched own may mem)
+wide_row own may wide mem within inside Ecall x regs = tt
+wide_row own may wide mem within inside Ebreak x regs = refl
 
-wide_decoded : (own may : ℕ → Bool) (mem : Bytes) → IsWithin own may → (instr : Option Instr) (regs : Regs) → Wide own may mem (decoded_effect instr regs (only own mem) may) (decoded_effect instr regs mem everywhere)
+wide_decoded : (own may wide : ℕ → Bool) (mem : Bytes) → IsWithin own may → IsWithin wide may → (instr : Option Instr) (regs : Regs)
+    → Wide own may mem (decoded_effect instr regs (only own mem) may) (decoded_effect instr regs mem wide)
 unfolding effect
-wide_decoded own may mem within (Some instr) regs = wide_row own may mem within instr _ regs
-wide_decoded own may mem within None regs = refl
+wide_decoded own may wide mem within inside (Some instr) regs = wide_row own may wide mem within inside instr _ regs
+wide_decoded own may wide mem within inside None regs = refl
 
-pub wide_meaning : (own may : ℕ → Bool) (regs : Regs) (mem : Bytes) → IsWithin own may → Wide own may mem (meaning regs (only own mem) may) (meaning regs mem everywhere)
+pub wide_meaning : (own may wide : ℕ → Bool) (regs : Regs) (mem : Bytes) → IsWithin own may → IsWithin wide may
+    → Wide own may mem (meaning regs (only own mem) may) (meaning regs mem wide)
 unfolding meaning
-wide_meaning own may regs mem within = fetched (loaded (only own mem) (fetch_of regs.pc)) (loaded mem (fetch_of regs.pc)) (λ n is. loaded_wide own mem (fetch_of regs.pc) n is)
+wide_meaning own may wide regs mem within inside = fetched (loaded (only own mem) (fetch_of regs.pc)) (loaded mem (fetch_of regs.pc)) (λ n is. loaded_wide own mem (fetch_of regs.pc) n is)
   where
-    fetched : (x y : Result ℕ Access) → ((n : ℕ) → x ≡ Ok n → y ≡ Ok n) → Wide own may mem (fetched_effect x regs (only own mem) may) (fetched_effect y regs mem everywhere)
-    fetched (Ok word) y found = rw (found word refl) (wide_decoded own may mem within (decoded word) regs)
+    fetched : (x y : Result ℕ Access) → ((n : ℕ) → x ≡ Ok n → y ≡ Ok n) → Wide own may mem (fetched_effect x regs (only own mem) may) (fetched_effect y regs mem wide)
+    fetched (Ok word) y found = rw (found word refl) (wide_decoded own may wide mem within inside (decoded word) regs)
     fetched (Err access) y found = tt

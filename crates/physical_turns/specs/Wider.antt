@@ -11,9 +11,6 @@ use Rattle.call_log.specs.Notes.{Written}
 use Rattle.call_log.specs.Sent.{sent}
 use Rattle.flat_loader.specs.Alone.{put_got}
 
-abbrev pub everywhere : ℕ → Bool
-everywhere a = true
-
 -- what may be written is in the part
 abbrev pub IsWithin : (own may : ℕ → Bool) → Type 0
 IsWithin own may = (a : ℕ) → may a ≡ true → own a ≡ true
@@ -33,7 +30,8 @@ Widens own may mem small large = ⊥
 
 abbrev pub MeaningWidens : Type 0
 MeaningWidens =
-    (own may : ℕ → Bool) (regs : Regs) (mem : Bytes) → IsWithin own may → Widens own may mem (meaning regs (only own mem) may) (meaning regs mem everywhere)
+    (own may wide : ℕ → Bool) (regs : Regs) (mem : Bytes) → IsWithin own may → IsWithin wide may →
+    Widens own may mem (meaning regs (only own mem) may) (meaning regs mem wide)
 
 -- several
 abbrev pub RanWider : (own may : ℕ → Bool) → Bytes → (small large : Ran) → Stop → Type 0
@@ -43,20 +41,21 @@ RanWider own may mem small large stop =
 
 abbrev pub InstructionsWiden : Type 0
 InstructionsWiden =
-    (n : ℕ) (own may : ℕ → Bool) (regs : Regs) (mem : Bytes) → IsWithin own may →
+    (n : ℕ) (own may wide : ℕ → Bool) (regs : Regs) (mem : Bytes) → IsWithin own may → IsWithin wide may →
     let small = instructions n may regs (only own mem) in
-    RanWider own may mem small (instructions n everywhere regs mem) small.stop
+    RanWider own may mem small (instructions n wide regs mem) small.stop
 
 -- the bytes that a call reads
 abbrev pub SentWidens : Type 0
 SentWidens = (own : ℕ → Bool) (mem : Bytes) (number : ℕ) (args bytes : List ℕ) → sent number args (only own mem) ≡ Ok bytes → sent number args mem ≡ Ok bytes
 
 -- and those that it writes
-pub record PutWider (own may : ℕ → Bool) (mem part : Bytes) (got : List Written) : Type 0 where
+pub record PutWider (own may wide : ℕ → Bool) (mem part : Bytes) (got : List Written) : Type 0 where
   pub all : Bytes
-  pub put : put_got mem everywhere got ≡ Ok all
+  pub put : put_got mem wide got ≡ Ok all
   pub grows : Grows own may mem part all
 
 abbrev pub PutWidens : Type 0
 PutWidens =
-    (own may : ℕ → Bool) (mem part : Bytes) (got : List Written) → IsWithin own may → put_got (only own mem) may got ≡ Ok part → PutWider own may mem part got
+    (own may wide : ℕ → Bool) (mem part : Bytes) (got : List Written) → IsWithin own may → IsWithin wide may →
+    put_got (only own mem) may got ≡ Ok part → PutWider own may wide mem part got

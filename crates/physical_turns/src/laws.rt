@@ -1,5 +1,7 @@
 //! Laws over the definitions. No code runs.
 
+ghost use Rattle.physical_turns.specs.Courses.{OwnInstructionsLead, WholeInstructionsLead, OpeningsShow, EventsShow, TurnsShow, RunsShow};
+ghost use Rattle.physical_turns.specs.Growth.{EventsAdd, TurnsAdd, RunsAdd, EventsLeavePrograms, TurnsLeavePrograms, RunsLeavePrograms};
 ghost use Rattle.physical_turns.specs.Wider.{MeaningWidens, InstructionsWiden, SentWidens, PutWidens};
 
 /// What a program does in a part of memory it does in all of it, as long as it doesn't stray: an instruction and several, the bytes
@@ -9,4 +11,34 @@ pub fn wider_law()
     ensures instructions { InstructionsWiden }
     ensures sent { SentWidens }
     ensures put { PutWidens }
+{}
+
+/// Instructions of one process, one after the other, are events over one memory: over the process's own bytes, and, once a stray
+/// access was noted, over all of memory.
+pub fn instructions_in_law()
+    ensures own { OwnInstructionsLead }
+    ensures whole { WholeInstructionsLead }
+{}
+
+/// Every space has what memory has in its own ranges: in the opening world, and behind every event, turn and run.
+pub fn shown_law()
+    ensures openings { OpeningsShow }
+    ensures events { EventsShow }
+    ensures turns { TurnsShow }
+    ensures runs { RunsShow }
+{}
+
+/// A run only adds to its notes and to its console: what was there stays.
+pub fn notes_stay_law()
+    ensures events { EventsAdd }
+    ensures turns { TurnsAdd }
+    ensures runs { RunsAdd }
+{}
+
+/// The programs, the pages and the choice of free runs stay, and load notes name programs that are
+/// there, if they did before.
+pub fn physical_programs_law()
+    ensures events { EventsLeavePrograms }
+    ensures turns { TurnsLeavePrograms }
+    ensures runs { RunsLeavePrograms }
 {}

@@ -3,4 +3,4 @@
 
 mod laws;
 
-pub use laws::wider_law;
+pub use laws::{instructions_in_law, notes_stay_law, physical_programs_law, shown_law, wider_law};

@@ -1,0 +1,43 @@
+-- What a run over one memory only adds to, and what it leaves.
+use Rattle.std.specs.Prelude.{◌≡◌, ℕ, List, length, ◌++◌}
+use Rattle.quantum_sched.specs.declared.Quantum.{Quantum}
+use Rattle.call_log.specs.Notes.{Note}
+use Rattle.machine_world.specs.World.{World}
+use Rattle.machine_world.specs.Programs.{AreLoaded}
+use Rattle.physical_turns.specs.Physical.{Physical, After, after, no_room, nobody, physical_event, physical_turn, physical_turns}
+
+-- what holds of the world that an event leaves
+abbrev pub AfterHas : (World → Type 0) → After → Type 0
+AfterHas P (after now over) = P now.world
+AfterHas P (no_room now) = P now.world
+AfterHas P nobody = Unit {0}
+
+-- notes come before those that are there, and the console has more behind what it has
+abbrev pub Adds : (old now : World) → Type 0
+Adds old now =
+    ((more : List Note) × (now.notes ≡ more ++ old.notes)) × ((more : List ℕ) × (now.rest.console ≡ old.rest.console ++ more))
+
+abbrev pub EventsAdd : Type 0
+EventsAdd = (p : Physical) (pid : ℕ) → AfterHas (Adds p.world) (physical_event p pid)
+
+abbrev pub TurnsAdd : Type 0
+TurnsAdd = (count pid : ℕ) (p : Physical) → Adds p.world (physical_turn count pid p).now.world
+
+abbrev pub RunsAdd : Type 0
+RunsAdd = (quanta : List Quantum) (p : Physical) → Adds p.world (physical_turns quanta p).now.world
+
+-- the same programs, pages, and choice of free runs; and load notes name programs that are there, if they did
+pub record LeavesPrograms (old now : World) : Type 0 where
+  pub programs : now.rest.programs ≡ old.rest.programs
+  pub pages : now.rest.pages ≡ old.rest.pages
+  pub kind : now.rest.kind ≡ old.rest.kind
+  pub loaded : AreLoaded (length old.rest.programs) old.notes → AreLoaded (length old.rest.programs) now.notes
+
+abbrev pub EventsLeavePrograms : Type 0
+EventsLeavePrograms = (p : Physical) (pid : ℕ) → AfterHas (LeavesPrograms p.world) (physical_event p pid)
+
+abbrev pub TurnsLeavePrograms : Type 0
+TurnsLeavePrograms = (count pid : ℕ) (p : Physical) → LeavesPrograms p.world (physical_turn count pid p).now.world
+
+abbrev pub RunsLeavePrograms : Type 0
+RunsLeavePrograms = (quanta : List Quantum) (p : Physical) → LeavesPrograms p.world (physical_turns quanta p).now.world
