@@ -1,0 +1,4 @@
+-- Alike  when the one memory of a run that goes on stands for a world of private spaces
+-- Laws   up to the first stray access it does, at boot and along every run
+pub mod Alike
+pub mod Laws
