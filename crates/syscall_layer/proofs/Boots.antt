@@ -199,7 +199,7 @@ copies_by k n regular copies kind index f args b =
     let loaded = copies_loaded k regular copies page pages p.free (page_loading f page args []) refl end n.mem p.len p.others in
     let now : Kept = with_program k index f args page n.mem in
     subst (λ (x : Kept). CopiesHold x.regions x.mem x.tree x.notes) (sym b.new)
-    (copies_noted now.regions now.mem now.tree k.notes now.notes loaded (omega (arith, load_counts (record { pid = k.procs.next_pid; program = index; base = page_address page; pages = pages }) k.notes)))
+    (copies_noted now.regions now.mem now.tree k.notes now.notes loaded (omega (arith, load_counts (record { pid = k.procs.next_pid; program = index; base = page_address page; pages = pages }) k.notes)) (λ unstrayed. unstrayed))
 
 pub starts_by : (old k n : Kept) → k ≡ old → Regular k → (kind : Kind) (index : ℕ) (f : Values) (args : List (List ℕ))
     → Begun k n kind index f args → Starts kind index (flat_original f) args old n (Ok tt)

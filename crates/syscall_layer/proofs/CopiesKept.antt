@@ -66,8 +66,8 @@ pub copies_stay : (rs : List Region) (old new : List ℕ) (ns : Inodes) (notes :
     → a < (r.first + r.pages) * 4096 → slice_get new a ≡ slice_get old a)
     → CopiesHold rs new ns notes
 copies_stay rs old new ns notes copies len same = record {
-  hold = λ id r is live.
-      holds_as old new ns r r r.source (λ copy. bytes_same old new r len (same id r is live copy)) refl (copies.hold id r is live);
+  hold = λ unstrayed id r is live.
+      holds_as old new ns r r r.source (λ copy. bytes_same old new r len (same id r is live copy)) refl (copies.hold unstrayed id r is live);
   changes = copies.changes;
   uses = copies.uses;
 }

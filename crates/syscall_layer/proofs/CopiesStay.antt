@@ -22,6 +22,7 @@ use Rattle.call_log.specs.Notes.{CallEntry, LoadEntry, Note, call_note, load_not
 use Rattle.flat_loader.specs.Loads.{block_region}
 use Rattle.flat_loader.specs.Begin.{Loading, in_block, block_end}
 use Rattle.machine_world.specs.Ages.{AreChanged, Follows, kept_calls, most_at_boot}
+use Rattle.physical_turns.specs.Physical.{has_stray}
 use Rattle.syscall_layer.specs.Kept.{Kept}
 use Rattle.syscall_layer.specs.Regular.{Regular, named_in}
 use Rattle.syscall_layer.specs.Copies.{HoldsFile, HoldsSource, CopiesHold}
@@ -58,9 +59,9 @@ changed_more : (base few many : ℕ) (ns : Inodes) → few ≤ many → AreChang
 changed_more base few many ns more changed id n is = omega (arith, more, changed id n is)
 
 pub copies_noted : (rs : List Region) (mem : List ℕ) (ns : Inodes) (notes now : List Note) → CopiesHold rs mem ns notes → kept_calls notes ≤ kept_calls now
-    → CopiesHold rs mem ns now
-copies_noted rs mem ns notes now copies more = record {
-  hold = copies.hold;
+    → (has_stray now ≡ false → has_stray notes ≡ false) → CopiesHold rs mem ns now
+copies_noted rs mem ns notes now copies more strays = record {
+  hold = λ unstrayed. copies.hold (strays unstrayed);
   changes = changed_more most_at_boot (kept_calls notes) (kept_calls now) ns more copies.changes;
   uses = λ id r is. omega (arith, more, copies.uses id r is);
 }
@@ -89,9 +90,9 @@ source_ages mem ns nodes r Own follows held = tt
 source_ages mem ns nodes r (Copy file change first) follows held = file_ages mem ns nodes r file change first follows held
 
 pub copies_aged : (rs : List Region) (mem : List ℕ) (ns nodes : Inodes) (notes now : List Note) → CopiesHold rs mem ns notes → Follows ns nodes
-    → AreChanged (most_at_boot + kept_calls now) nodes → kept_calls notes ≤ kept_calls now → CopiesHold rs mem nodes now
-copies_aged rs mem ns nodes notes now copies follows changed more = record {
-  hold = λ id r is live. source_ages mem ns nodes r r.source follows (copies.hold id r is live);
+    → AreChanged (most_at_boot + kept_calls now) nodes → kept_calls notes ≤ kept_calls now → (has_stray now ≡ false → has_stray notes ≡ false) → CopiesHold rs mem nodes now
+copies_aged rs mem ns nodes notes now copies follows changed more strays = record {
+  hold = λ unstrayed id r is live. source_ages mem ns nodes r r.source follows (copies.hold (strays unstrayed) id r is live);
   changes = changed;
   uses = λ id r is. omega (arith, more, copies.uses id r is);
 }
@@ -105,12 +106,12 @@ fewer mem ns r s uses is held = rw is (holds_as mem mem ns r (record r { uses = 
 pub copies_released : (rs : List Region) (mem : List ℕ) (ns : Inodes) (notes : List Note) (maps : List Mapping) → CopiesHold rs mem ns notes
     → CopiesHold (released rs maps) mem ns notes
 copies_released rs mem ns notes maps copies = record {
-  hold = λ id s is live.
+  hold = λ unstrayed id s is live.
       let r = get_or rs id s in
       let there = there_before id s is in
       let same = fewer_at id s is in
       let more : 0 < r.uses = omega (arith, live, ap (λ (q : Region). q.uses) same) in
-      fewer mem ns r s (r.uses - named_in id maps) same (copies.hold id r there more);
+      fewer mem ns r s (r.uses - named_in id maps) same (copies.hold unstrayed id r there more);
   changes = copies.changes;
   uses = λ id s is.
       let r = get_or rs id s in
@@ -150,12 +151,12 @@ pub copies_begun : (k : Kept) → Regular k → CopiesHold k.regions k.mem k.tre
     → ((at : ℕ) → (at < page_size * page) ⊎ (page_size * (page + pages) ≤ at) → slice_get mem at ≡ slice_get k.mem at)
     → CopiesHold (slice_set k.regions page (block_region page pages)) mem k.tree k.notes
 copies_begun k regular copies page pages free mem len others = record {
-  hold = λ id r is live. elim (after_set k.regions page id (block_region page pages) r is) [
+  hold = λ unstrayed id r is live. elim (after_set k.regions page id (block_region page pages) r is) [
     | inl here ↦ subst (λ (q : Region). HoldsSource mem k.tree q q.source) (sym here.1) tt
     | inr other ↦
         let bytes = bytes_same k.mem mem r (sym len)
         (λ at low high. others at (beside_free k.regions page pages free id r other.1 live at low high)) in
-        holds_as k.mem mem k.tree r r r.source (λ copy. bytes) refl (copies.hold id r other.1 live)
+        holds_as k.mem mem k.tree r r r.source (λ copy. bytes) refl (copies.hold unstrayed id r other.1 live)
   ];
   changes = copies.changes;
   uses = λ id r is. elim (after_set k.regions page id (block_region page pages) r is) [
@@ -188,7 +189,7 @@ all_same (suc n) v (suc id) r is = all_same n v id r is
 pub copies_begin : (pages : ℕ) (mem : List ℕ) (ns : Inodes) → AreChanged most_at_boot ns
     → CopiesHold (replicate pages (record { first = 0; pages = 0; source = Own; uses = 0 })) mem ns []
 copies_begin pages mem ns changed = record {
-  hold = λ id r is live. absurd (omega (arith, live, unused id r is));
+  hold = λ unstrayed id r is live. absurd (omega (arith, live, unused id r is));
   changes = λ id n is. omega (arith, changed id n is);
   uses = λ id r is. omega (arith, unused id r is);
 }

@@ -39,7 +39,7 @@ use Rattle.syscall_layer.proofs.Outcomes.{effect_full}
 
 -- ---- the program of a number
 
-got_map : {A B : Type 0} (g : A → B) (xs : List A) (i : ℕ) → slice_get (map g xs) i ≡ option_map g (slice_get xs i)
+pub got_map : {A B : Type 0} (g : A → B) (xs : List A) (i : ℕ) → slice_get (map g xs) i ≡ option_map g (slice_get xs i)
 got_map g [] i = refl
 got_map g (x ∷ xs) zero = refl
 got_map g (x ∷ xs) (suc i) = got_map g xs i
@@ -96,7 +96,7 @@ path_is : (ask : Ask) → path_of ask ≡ before_zero ask.sent
 unfolding path_of
 path_is ask = refl
 
-module _ (a : About) (k : Kept) (e : Entry Task) (h : Held) (call : Call) (is : IsCall k.mem e h call) where
+module _ (a : About) (k : Kept) (e : Entry Task) (h : Held) (call : Call) (is : IsCall e call) where
   abbrev ask : Ask
   ask = ask_in a k e h call
 

@@ -27,6 +27,7 @@ use Rattle.machine_world.specs.World.{Process, pid_of}
 use Rattle.machine_world.specs.Families.{let_go, sharing, AreChains}
 use Rattle.machine_world.specs.Event.{with_exec as world_exec}
 use Rattle.machine_world.specs.Ages.{kept_calls, most_at_boot}
+use Rattle.physical_turns.specs.Physical.{has_stray}
 use Rattle.machine_world.proofs.Aging.{exec_ages}
 use Rattle.machine_world.proofs.Chains.{find_let_go, find_sharing, owner_alone, chains_exec, sharing_own_exec}
 use Rattle.syscall_layer.specs.declared.task.Task.{Task}
@@ -223,9 +224,9 @@ module _ (k : Kept) (regular : Regular k) (pid : ℕ) (e : Entry Task) (lives : 
 pub copies_switched : (k : Kept) → Regular k → CopiesHold k.regions k.mem k.tree k.notes → (t : Task) (page pages : ℕ) → AreFree k.regions page pages → (l : Loading)
     → l.block ≡ page_address page → block_end l ≡ page_address (page + pages) → (mem : List ℕ) → length mem ≡ length k.mem
     → ((a : ℕ) → in_block l a ≡ false → byte_of memory_base mem a ≡ byte_of memory_base k.mem a)
-    → (notes : List Note) → kept_calls notes ≡ kept_calls k.notes + 1
+    → (notes : List Note) → kept_calls notes ≡ kept_calls k.notes + 1 → (has_stray notes ≡ false → has_stray k.notes ≡ false)
     → CopiesHold (slice_set k.regions page (block_region page pages)) mem (files_closed k t).nodes notes
-copies_switched k regular copies t page pages free l block end mem len others notes counted =
+copies_switched k regular copies t page pages free l block end mem len others notes counted strays =
     let ages = exec_ages (storage k.tree k.files) t.table (most_at_boot + kept_calls k.notes) copies.changes in
     copies_aged (slice_set k.regions page (block_region page pages)) mem k.tree (files_closed k t).nodes k.notes notes
-    (copies_loaded k regular copies page pages free l block end mem len others) ages.0 (λ id n there. omega (arith, ages.1 id n there, counted)) (omega (arith, counted))
+    (copies_loaded k regular copies page pages free l block end mem len others) ages.0 (λ id n there. omega (arith, ages.1 id n there, counted)) (omega (arith, counted)) strays

@@ -79,10 +79,10 @@ counts_behind k call f page index =
 
 module _ (k n : Kept) (regular : Regular k) (call : Call) (task : Task) (kind : Kind) (index : ℕ) (f : Values) (args env : List (List ℕ)) (b : Begun k n call task kind index f args env) where
   -- the task is that of the process
-  task_is : (e : Entry Task) → process k.procs call.pid ≡ Some e → task ≡ e.value
+  pub task_is : (e : Entry Task) → process k.procs call.pid ≡ Some e → task ≡ e.value
   task_is e lives = value_found k.procs call.pid e lives task b.kept
 
-  running_is : (e : Entry Task) → process k.procs call.pid ≡ Some e → n ≡ running k call e.value f args env b.is.page index n.mem
+  pub running_is : (e : Entry Task) → process k.procs call.pid ≡ Some e → n ≡ running k call e.value f args env b.is.page index n.mem
   running_is e lives = b.new ∙ ap (λ (t : Task). running k call t f args env b.is.page index n.mem) (task_is e lives)
 
   pub sound_by : CopiesHold k.regions k.mem k.tree k.notes → CanRun k.procs call.pid → IsRegular n
@@ -98,7 +98,7 @@ module _ (k n : Kept) (regular : Regular k) (call : Call) (task : Task) (kind : 
       subst IsRegular (sym (running_is e lives)) (
         regular_switched k regular call.pid e lives (state_ready k.procs call.pid e lives ready) (block_region page pages) (held_begin (length k.regions) (page_loading f page args env))
             (page_loading f page args env) n.mem (notes_behind k call f page index) (fits k regular f args env page b.is.free) b.is.len counted,
-        copies_switched k regular copies e.value page pages b.is.free (page_loading f page args env) refl end n.mem b.is.len b.is.others (notes_behind k call f page index) counted,
+        copies_switched k regular copies e.value page pages b.is.free (page_loading f page args env) refl end n.mem b.is.len b.is.others (notes_behind k call f page index) counted (λ unstrayed. unstrayed),
       )
 
   pub there_by : Lives k.procs call.pid → HasSpace n.spaces task.space
@@ -118,7 +118,7 @@ module _ (k n : Kept) (regular : Regular k) (call : Call) (task : Task) (kind : 
 
   -- ---- the world
 
-  module _ (a : About) (same : a.kind ≡ kind) (e : Entry Task) (h : Held) (runs : RunsIn k call.pid e h) (is : IsCall k.mem e h call) (room : has_room k.notes (length call.sent.items) ≡ true) where
+  module _ (a : About) (same : a.kind ≡ kind) (e : Entry Task) (h : Held) (runs : RunsIn k call.pid e h) (is : IsCall e call) (room : has_room k.notes (length call.sent.items) ≡ true) where
     serves_by : (lent : Bool) → entry_borrows k.procs call.pid ≡ lent →
         Answered a (exec_fitting (world_of a k) (ask_in a k e h call) (record { index = index; original = flat_original f }) (record { args = args; env = env }) (frame_fits (flat_original f) args env))
         k (space_left (running k call e.value f args env b.is.page index n.mem) lent e.value.space h) call.pid Replied
@@ -151,13 +151,13 @@ module _ (k n : Kept) (regular : Regular k) (call : Call) (task : Task) (kind : 
 
 abbrev pub ExecServes : Kind → ℕ → Values → (args env : List (List ℕ)) → Call → (old new : Kept) → Result Served AllocError → Type 0
 ExecServes kind index f args env call old new result =
-    (a : About) → a.kind ≡ kind → (e : Entry Task) → (h : Held) → RunsIn old call.pid e h → IsCall old.mem e h call →
+    (a : About) → a.kind ≡ kind → (e : Entry Task) → (h : Held) → RunsIn old call.pid e h → IsCall e call →
     Serves a (exec_fitting (world_of a old) (ask_in a old e h call) (record { index = index; original = flat_original f }) (record { args = args; env = env }) (frame_fits (flat_original f) args env))
     old new call.pid result
 
 abbrev pub RefusalServes : Errno → Call → (old new : Kept) → Result Served AllocError → Type 0
 RefusalServes errno call old new result =
-    (a : About) → (e : Entry Task) → (h : Held) → RunsIn old call.pid e h → IsCall old.mem e h call →
+    (a : About) → (e : Entry Task) → (h : Held) → RunsIn old call.pid e h → IsCall e call →
     Serves a (answered (world_of a old) (ask_in a old e h call) (refuses (ask_in a old e h call) errno)) old new call.pid result
 
 module _ (k n new : Kept) (regular : Regular k) (call : Call) (kind : Kind) (index : ℕ) (f : Values) (args env : List (List ℕ)) (result : Result Served AllocError)

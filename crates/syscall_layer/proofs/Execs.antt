@@ -44,13 +44,13 @@ module _ (a : About) (k : Kept) (regular : Regular k) (kind : Kind) (same : a.ki
     pub too_big : fits ≡ false → exec_fitting (world_of a k) ask f s fits ≡ answered (world_of a k) ask (refuses ask E2big)
     too_big big = ap (exec_fitting (world_of a k) ask f s) big
 
-    exec_is_at : (o : Option ℕ) → fits ≡ true → block_page kind k.regions (block_pages f.original) ≡ o → exec_fitting (world_of a k) ask f s fits ≡ exec_at (world_of a k) ask f s o
+    pub exec_is_at : (o : Option ℕ) → fits ≡ true → block_page kind k.regions (block_pages f.original) ≡ o → exec_fitting (world_of a k) ask f s fits ≡ exec_at (world_of a k) ask f s o
     exec_is_at o fit is = ap (exec_fitting (world_of a k) ask f s) fit ∙ ap (exec_at (world_of a k) ask f s) (taken_is a k regular kind same (block_pages f.original) ∙ is)
 
     pub no_run : fits ≡ true → block_page kind k.regions (block_pages f.original) ≡ None → exec_fitting (world_of a k) ask f s fits ≡ answered (world_of a k) ask (refuses ask Enomem)
     no_run fit none = exec_is_at None fit none
 
-executed_when : (w : World) (ask : Ask) (index : ℕ) (l : Loading) → has_room w.notes (weight_of ask.sent []) ≡ true →
+pub executed_when : (w : World) (ask : Ask) (index : ℕ) (l : Loading) → has_room w.notes (weight_of ask.sent []) ≡ true →
     executed w ask index l
     ≡ went (noted (load_of ask.process index l) (noted (call_note (entry_of ask 0 [])) (counted (with_exec w ask.process l))))
     (record {
@@ -103,7 +103,7 @@ module _ (k : Kept) (regular : Regular k) (e : Entry Task) (h : Held) (call : Ca
   lives_behind true = some_lives _ _ (own_switched k regular call.pid e runs.lives (begin_regs loading))
   lives_behind false = some_lives _ _ (own_switched k regular call.pid e runs.lives (begin_regs loading))
 
-  module _ (a : About) (is : IsCall k.mem e h call) (loaded : Placed k regular f args env page mem) where
+  module _ (a : About) (is : IsCall e call) (loaded : Placed k regular f args env page mem) where
     abbrev ask : Ask
     ask = ask_in a k e h call
 
@@ -146,11 +146,12 @@ module _ (k : Kept) (regular : Regular k) (e : Entry Task) (h : Held) (call : Ca
     lent_world lent lends =
         ap (λ (b : Bool). then_world (begun ∷ (if b then live_spaces k.mem k.spaces else without id_of e.value.space (live_spaces k.mem k.spaces)))) (sym lends)
 
-    world_behind : (lent : Bool) → entry_borrows k.procs e.pid ≡ lent → world_of (later 1 a) (space_left now lent e.value.space h)
-        ≡ noted (load_of (process_of e) index loading) (noted (call_note (entry_of ask 0 [])) (counted (with_exec (world_of a k) (process_of e) loading)))
+    pub world_behind : (lent : Bool) → entry_borrows k.procs e.pid ≡ lent → world_of (later 1 a) (space_left (running k call e.value f args env page index mem) lent e.value.space h)
+        ≡ noted (load_of (process_of e) index (page_loading f page args env))
+        (noted (call_note (entry_of (ask_in a k e h call) 0 [])) (counted (with_exec (world_of a k) (process_of e) (page_loading f page args env))))
     world_behind lent lends = left_world lent ∙ lent_world lent (borrows_is k.procs e ∙ lends)
 
-    room_in : has_room k.notes (length call.sent.items) ≡ true → has_room (world_of a k).notes (weight_of call.sent.items []) ≡ true
+    pub room_in : has_room k.notes (length call.sent.items) ≡ true → has_room (world_of a k).notes (weight_of call.sent.items []) ≡ true
     unfolding world_of
     room_in room = ap (has_room k.notes) (add-zero (length call.sent.items)) ∙ room
 

@@ -1,13 +1,11 @@
 -- What is kept after a call that has its reply, by what the code did.
-use Rattle.std.proofs.Common.{◌≡◌, ℕ, true, false, List, [], ◌∷◌, length, Some, Ok, refl, sym, ap, subst, ◌∙◌}
-use Rattle.std.specs.Prelude.{Bool, ◌≤◌, not, option_map, Option, slice_get, slice_set}
+use Rattle.std.proofs.Common.{◌≡◌, ℕ, false, List, [], ◌∷◌, length, Some, None, Ok, refl, sym, ap, ◌∙◌}
+use Rattle.std.specs.Prelude.{◌≤◌, option_map, Option, slice_get, slice_set}
 use Rattle.call_log.specs.Notes.{Note}
-use Rattle.mmap_rules.specs.declared.owners.PageOwner.{PageOwner}
 use Rattle.nommu_regions.specs.declared.region.Region.{Region}
 use Rattle.mmap_rules.specs.Space.{Space, own_in, writable_in}
 use Rattle.mmap_rules.specs.Held.{Held, next_brk}
-use Rattle.mmap_rules.specs.Owners.{owns}
-use Rattle.region_watch.specs.Private.{only, physical}
+use Rattle.region_watch.specs.Private.{physical}
 use Rattle.mem_files.specs.Inodes.{Inodes}
 use Rattle.fd_tables.specs.Files.{OpenFiles}
 use Rattle.fd_tables.specs.Kept.{Kept as FilesKept}
@@ -27,9 +25,11 @@ use Rattle.syscall_layer.specs.declared.effect.Effect.TheVariants.{Answer, Yield
 use Rattle.syscall_layer.specs.Kept.{Kept}
 use Rattle.syscall_layer.specs.Regular.{Regular}
 use Rattle.syscall_layer.specs.Stands.{About, private_bytes, private_of, world_of, OthersSame}
-use Rattle.syscall_layer.specs.Puts.{Put}
-use Rattle.syscall_layer.specs.Calls.{RunsIn, IsCall, ask_in, reply_of, value_of, brk_of, noted_call, held_as, after_reply, Changed, Gave}
+use Rattle.syscall_layer.specs.Puts.{first_stray}
+use Rattle.syscall_layer.specs.Reach.{in_pages}
+use Rattle.syscall_layer.specs.Calls.{RunsIn, IsCall, ask_in, reply_of, value_of, brk_of, noted_call, held_as, after_reply, Changed, given, Gave, GaveIn}
 use Rattle.syscall_layer.proofs.Apart.{others_keep}
+use Rattle.syscall_layer.proofs.Puts.{part_put, part_frozen, writable_own}
 use Rattle.syscall_layer.proofs.Runs.{runs_in, has_space}
 use Rattle.syscall_layer.proofs.Settled.{regular_replied}
 use Rattle.syscall_layer.proofs.Stays.{set_kept}
@@ -105,7 +105,7 @@ module _ (a : About) (k : Kept) (e : Entry Task) (h : Held) (call : Call) (runs 
 
   -- ---- by a change of files
 
-  module _ (is : IsCall k.mem e h call) where
+  module _ (is : IsCall e call) where
     pub is_rest : (files : FilesKept) → files.open_files ≡ k.files → IsRest (ask_in a k e h call).rest k.tree files k.console
     unfolding world_of
     is_rest files open_now = record { tree = refl; files = sym open_now; console = refl }
@@ -154,21 +154,30 @@ module _ (a : About) (k : Kept) (e : Entry Task) (h : Held) (call : Call) (runs 
 
     -- ---- by an output
 
-    pub gave_by : Regular k → (o : Output) (table : List PageOwner) (mem : List ℕ) (files : OpenFiles) (procs : Listed Task) (notes : List Note) →
-        owns table false ≡ own_in h.maps → owns table true ≡ writable_in h.maps → Put table k.mem mem (written_of o) → files ≡ after o.then call.table k.files →
+    gave_after : (o : Output) (mem : List ℕ) (files : OpenFiles) (procs : Listed Task) (notes : List Note) → files ≡ after o.then call.table k.files →
         Finishes k call.pid o.value procs → notes ≡ noted_call call o.value (written_of o) ∷ k.notes →
-        Gave a k e h call o (record k { mem = mem; files = files; procs = procs; notes = notes })
-    unfolding world_of private_bytes
-    gave_by regular o table mem files procs notes own writes p follows finishes noted = record {
-      put = subst (λ (w : ℕ → Bool). put_got (only (own_in h.maps) (physical k.mem)) w (written_of o) ≡ Ok (only (own_in h.maps) (physical mem))) writes
-          (subst (λ (t : ℕ → Bool). put_got (only t (physical k.mem)) (owns table true) (written_of o) ≡ Ok (only t (physical mem))) own p.put);
-      others = λ j x other there. others_keep k regular e.value.space h runs.home mem
-          (subst (λ (w : ℕ → Bool). only (λ at. not (w at)) (physical mem) ≡ only (λ at. not (w at)) (physical k.mem)) writes p.frozen) j x other there;
-      after = λ i. record k {
-        mem = mem;
-        spaces = space_stays i;
-        files = (follows ∙ ap (λ (t : ℕ). after o.then t k.files) is.table) i;
-        procs = finishes e.value kept_value i;
-        notes = noted i;
-      };
+        record k { mem = mem; files = files; procs = procs; notes = notes } ≡ after_reply k e h call (given (ask_in a k e h call) o) mem
+    unfolding world_of
+    gave_after o mem files procs notes follows finishes noted = λ i. record k {
+      mem = mem;
+      spaces = space_stays i;
+      files = (follows ∙ ap (λ (t : ℕ). after o.then t k.files) is.table) i;
+      procs = finishes e.value kept_value i;
+      notes = noted i;
     }
+
+    module _ (o : Output) (mem : List ℕ) (puts : put_got (physical k.mem) (in_pages (length k.regions)) (written_of o) ≡ Ok (physical mem)) (files : OpenFiles) (procs : Listed Task) (notes : List Note)
+        (follows : files ≡ after o.then call.table k.files) (finishes : Finishes k call.pid o.value procs) (noted : notes ≡ noted_call call o.value (written_of o) ∷ k.notes) where
+      -- into the space of its caller
+      pub gave_by : Regular k → first_stray (writable_in h.maps) (written_of o) ≡ None → Gave a k e h call o (record k { mem = mem; files = files; procs = procs; notes = notes })
+      unfolding private_bytes
+      gave_by regular fits = record {
+        put = part_put (own_in h.maps) (writable_in h.maps) (in_pages (length k.regions)) (writable_own h.maps) (physical mem) (written_of o) (physical k.mem) fits puts;
+        others = λ j x other there. others_keep k regular e.value.space h runs.home mem
+            (part_frozen (own_in h.maps) (writable_in h.maps) (in_pages (length k.regions)) (writable_own h.maps) (physical mem) (written_of o) (physical k.mem) fits puts) j x other there;
+        after = gave_after o mem files procs notes follows finishes noted;
+      }
+
+      -- into memory, whoever owns the places
+      pub gave_in_by : length mem ≡ length k.mem → GaveIn a k e h call o (record k { mem = mem; files = files; procs = procs; notes = notes })
+      gave_in_by len = record { put = puts; len = len; after = gave_after o mem files procs notes follows finishes noted }

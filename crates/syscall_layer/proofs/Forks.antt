@@ -262,7 +262,7 @@ module _ (w : World) (a : Ask) where
   unfolding forked
   fork_full room = rw room refl
 
-module _ (a : About) (k : Kept) (e : Entry Task) (h : Held) (call : Call) (is : IsCall k.mem e h call) where
+module _ (a : About) (k : Kept) (e : Entry Task) (h : Held) (call : Call) (is : IsCall e call) where
   abbrev ask : Ask
   ask = ask_in a k e h call
 

@@ -100,7 +100,7 @@ module _ (k : Kept) (regular : Regular k) (page : ℕ) where
       let has = page_of_region r.region names.region m.mapping page r.id same first m.names names.run r.has in
       at_any (space_holds page) k.spaces s.number (Some s.held) s.there (at_any (has_page page) s.held.maps m.place m.mapping m.there has)
 
-  same_held : is_held_in (live_from k.mem 0 k.spaces) page ≡ is_held k.regions page
+  pub same_held : is_held_in (live_from k.mem 0 k.spaces) page ≡ is_held k.regions page
   same_held =
       held_from k.mem 0 k.spaces page ∙ same_tests (list_any (space_holds page) k.spaces) (is_held k.regions page) region_holds space_does
 

@@ -1,10 +1,13 @@
 -- Begins  the parts before the first program
 -- Worlds  the world of the parts, where one space or one process is found, changed or taken out
+-- GivenMemory  what a call that gives bytes leaves of the one memory
+-- ToldMemory  and a waitid
 -- Finishes  what is kept after a call that has its reply, by what the code did
 -- ReadRanges  what a call reads in one memory, range by range
 -- QuietRows  the calls that change files give no bytes
 -- OutputRanges  the ranges that a call gives are ranges that an access can have
 -- Puts      ranges written into memory, one behind the other
+-- Reached   the table that owns all of memory
 -- ReadPath  the path that a call reads, byte by byte, and which reading is whose
 -- ReadStrings  the strings that an execve reads, each one behind its pointer
 -- StringLists  the strings of a list, parsed from the front
@@ -19,6 +22,8 @@
 -- MapChoice  mmap2 finds the run that the world's row finds
 -- MapBytes   the bytes of a space with one mapping more
 -- MapAgrees  what the code maps is what the world's row maps
+-- FreeBytes  at a free address no live space has a byte
+-- MapMemory  what an mmap2 leaves of the one memory
 -- MapRegular  the parts stay regular where pages are mapped
 -- MapCopies  copies still hold their file then
 -- Unmapped   what munmap leaves of a space is what the world's row says
@@ -30,6 +35,7 @@
 -- Settled   small facts of a call's reply
 -- Moves     the world after one process went on, and after one is gone
 -- Outcomes  what comes of a call and of an end, in the world and in the parts
+-- Shows      what the live spaces show of the one memory
 -- Families   the list of processes, as the world has it
 -- Counts     places of lists, and how many mappings name a region
 -- Apart      what one space may write no other one has
@@ -38,15 +44,21 @@
 -- Started    the parts after the start of a program are regular
 -- Loaded     a program that is loaded beside the live spaces
 -- Boots      they stand for the world that starts it
+-- StartMemory  what the start of a program leaves of the one memory
 -- ExecRegular  the parts are regular where a program stands in the place of another one
 -- Execs      they stand for the world in which it does
 -- ExecSteps  the same by what the steps of an execve leave
+-- BlockBytes  what a program that is loaded leaves of memory
+-- ExecMemory  what an execve leaves of the one memory
 -- ExecCalls  which way an execve goes, by its path and its strings
 -- Forks      the parts after a process had a child, and what comes of a clone
 -- Waits      what a process is told of its children, in the world and in the parts
 -- Wakes      the parts once those go on that wait on a pipe which changed
+-- PlainMemory  what comes of a call and of an end that write nothing, in the one memory
+-- CallsIn    a call by its class, and what goes on behind it, in the one memory
 mod Begins
 pub mod Worlds
+pub mod Shows
 pub mod Families
 pub mod Counts
 pub mod Apart
@@ -55,9 +67,12 @@ pub mod FreePages
 mod Started
 mod Loaded
 mod Boots
+mod StartMemory
 mod ExecRegular
 mod Execs
 mod ExecSteps
+mod BlockBytes
+mod ExecMemory
 mod ExecCalls
 pub mod QuietRows
 pub mod OutputRanges
@@ -73,6 +88,8 @@ mod LiveMaps
 mod MapChoice
 mod MapBytes
 mod MapAgrees
+mod FreeBytes
+mod MapMemory
 mod MapRegular
 mod MapCopies
 mod Unmapped
@@ -85,6 +102,9 @@ pub mod Settled
 pub mod Moves
 pub mod Outcomes
 pub mod Finishes
+mod GivenMemory
+mod ToldMemory
+pub mod Reached
 pub mod ReadRanges
 pub mod ReadPath
 pub mod ReadStrings
@@ -92,3 +112,5 @@ pub mod StringLists
 pub mod Forks
 pub mod Waits
 pub mod Wakes
+pub mod PlainMemory
+pub mod CallsIn

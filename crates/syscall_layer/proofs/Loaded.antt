@@ -70,7 +70,7 @@ kept : (own : Bool) (x y : Option ℕ) → (own ≡ true → x ≡ y) → (if ow
 kept true x y same = same refl
 kept false x y same = refl
 
-some_pages : (o : Original) → 0 < block_pages o
+pub some_pages : (o : Original) → 0 < block_pages o
 unfolding block_pages
 some_pages o = omega arith
 

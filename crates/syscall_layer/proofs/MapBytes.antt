@@ -25,10 +25,10 @@ use Rattle.syscall_layer.proofs.Apart.{page_of, page_there, has_held}
 -- ---- bytes in a map
 
 -- beside the range
-abbrev Beside : ℕ → ℕ → ℕ → Type 0
+abbrev pub Beside : ℕ → ℕ → ℕ → Type 0
 Beside at len a = (a < at) ⊎ (at + len ≤ a)
 
-with_inside : (x y : Bytes) (at : ℕ) (bytes : List ℕ) (a : ℕ) → at ≤ a → a < at + length bytes → with_bytes x at bytes a ≡ with_bytes y at bytes a
+pub with_inside : (x y : Bytes) (at : ℕ) (bytes : List ℕ) (a : ℕ) → at ≤ a → a < at + length bytes → with_bytes x at bytes a ≡ with_bytes y at bytes a
 with_inside x y at [] a low high = absurd (omega (arith, low, high))
 with_inside x y at (b ∷ bytes) a low high = elim (cases_lt at a) [
   | inl later ↦ ap (λ (v : Option ℕ). if a == at then Some b else v) (with_inside x y (at + 1) bytes a (omega (arith, later)) (omega (arith, high)))
@@ -38,7 +38,7 @@ with_inside x y at (b ∷ bytes) a low high = elim (cases_lt at a) [
       ∙ sym (ap (λ (t : Bool). if t then Some b else with_bytes y (at + 1) bytes a) same)
 ]
 
-with_beside : (x : Bytes) (at : ℕ) (bytes : List ℕ) (a : ℕ) → Beside at (length bytes) a → with_bytes x at bytes a ≡ x a
+pub with_beside : (x : Bytes) (at : ℕ) (bytes : List ℕ) (a : ℕ) → Beside at (length bytes) a → with_bytes x at bytes a ≡ x a
 with_beside x at [] a beside = refl
 with_beside x at (b ∷ bytes) a beside =
     let other : (a == at) ≡ false = elim beside [

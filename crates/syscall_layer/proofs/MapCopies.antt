@@ -21,6 +21,7 @@ use Rattle.syscall_layer.specs.Kept.{Kept}
 use Rattle.syscall_layer.specs.Regular.{Regular}
 use Rattle.syscall_layer.specs.Copies.{HoldsSource, CopiesHold}
 use Rattle.machine_world.specs.Ages.{kept_calls}
+use Rattle.physical_turns.specs.Physical.{has_stray}
 use Rattle.mmap_rules.specs.Copies.{bytes_of, IsKnown}
 use Rattle.syscall_layer.proofs.Counts.{after_set}
 use Rattle.syscall_layer.proofs.CopiesKept.{holds_as}
@@ -62,13 +63,14 @@ fresh_holds nodes now content v want (inr copied) known is = copy_holds nodes no
 -- ---- both of what `map` leaves
 
 module _ (k : Kept) (regular : Regular k) (copies : CopiesHold k.regions k.mem k.tree k.notes) (h : Held) (want : Want)
-    (known : IsKnown k.tree want) (m : Mapped) (notes : List Note) (later : kept_calls k.notes + 1 ≤ kept_calls notes) where
+    (known : IsKnown k.tree want) (m : Mapped) (notes : List Note) (later : kept_calls k.notes + 1 ≤ kept_calls notes)
+    (strays : has_stray notes ≡ false → has_stray k.notes ≡ false) where
   fresh_copies : FreshRun (sides h k.regions k.mem) (bytes_of_file k.tree (file_in want)) want m → CopiesHold m.sides.regions m.sides.memory k.tree notes
   fresh_copies run =
       let v : Region = record { first = run.first; pages = run.count; source = run.source; uses = 1 } in
       let fits = run_inside k regular run.first run.count run.content run.free run.len in
       rw (run.regions, run.memory) (record {
-        hold = λ id r there live. elim (after_set k.regions run.first id v r there) [
+        hold = λ unstrayed id r there live. elim (after_set k.regions run.first id v r there) [
           | inl here ↦
               subst (λ (x : Region). HoldsSource (laid k.mem (4096 * run.first) run.content) k.tree x x.source) (sym here.1)
               (fresh_holds k.tree (laid k.mem (4096 * run.first) run.content) run.content v want run.origin known
@@ -76,7 +78,7 @@ module _ (k : Kept) (regular : Regular k) (copies : CopiesHold k.regions k.mem k
           | inr other ↦
               holds_as k.mem (laid k.mem (4096 * run.first) run.content) k.tree r r r.source
               (λ _. bytes_beside k.regions k.mem run.content run.first run.count id r regular.regions run.free run.some run.len fits other.1 live) refl
-              (copies.hold id r other.1 live)
+              (copies.hold (strays unstrayed) id r other.1 live)
         ];
         changes = λ id n there. (let old = copies.changes id n there in omega (arith, old, later));
         uses = λ id r there. elim (after_set k.regions run.first id v r there) [
@@ -89,11 +91,11 @@ module _ (k : Kept) (regular : Regular k) (copies : CopiesHold k.regions k.mem k
   more_copies one =
       let v : Region = used one.region in
       rw (one.regions, one.memory) (record {
-        hold = λ id r there live. elim (after_set k.regions one.region.first id v r there) [
+        hold = λ unstrayed id r there live. elim (after_set k.regions one.region.first id v r there) [
           | inl here ↦
               subst (λ (x : Region). HoldsSource k.mem k.tree x x.source) (sym here.1)
-              (holds_as k.mem k.mem k.tree one.region v one.region.source (λ _. refl) refl (copies.hold one.region.first one.region one.there one.live))
-          | inr other ↦ copies.hold id r other.1 live
+              (holds_as k.mem k.mem k.tree one.region v one.region.source (λ _. refl) refl (copies.hold (strays unstrayed) one.region.first one.region one.there one.live))
+          | inr other ↦ copies.hold (strays unstrayed) id r other.1 live
         ];
         changes = λ id n there. (let old = copies.changes id n there in omega (arith, old, later));
         uses = λ id r there. elim (after_set k.regions one.region.first id v r there) [
@@ -108,9 +110,9 @@ module _ (k : Kept) (regular : Regular k) (copies : CopiesHold k.regions k.mem k
 pub map_copies : (k : Kept) (regular : Regular k) (copies : CopiesHold k.regions k.mem k.tree k.notes) (number : ℕ) (h : Held)
     (home : slice_get k.spaces number ≡ Some (Some h)) (kind : Kind) (want : Want) (asks : AsksPages want) (known : IsKnown k.tree want) (m : Mapped)
     → mapped (sides h k.regions k.mem) kind (bytes_of_file k.tree (file_in want)) want ≡ Some m
-    → (notes : List Note) → kept_calls k.notes + 1 ≤ kept_calls notes → CopiesHold m.sides.regions m.sides.memory k.tree notes
-map_copies k regular copies number h home kind want asks known m is notes later =
+    → (notes : List Note) → kept_calls k.notes + 1 ≤ kept_calls notes → (has_stray notes ≡ false → has_stray k.notes ≡ false) → CopiesHold m.sides.regions m.sides.memory k.tree notes
+map_copies k regular copies number h home kind want asks known m is notes later strays =
     elim (change (sides h k.regions k.mem) kind (bytes_of_file k.tree (file_in want)) want m asks regular.regions is) [
-      | inl run ↦ fresh_copies k regular copies h want known m notes later run
-      | inr one ↦ more_copies k regular copies h want known m notes later one
+      | inl run ↦ fresh_copies k regular copies h want known m notes later strays run
+      | inr one ↦ more_copies k regular copies h want known m notes later strays one
     ]

@@ -131,6 +131,17 @@ quiet_mapped a want = at (or_own (in_copy a.spaces want) (in_free_run a.rest.kin
     at (Some m) = refl
     at None = refl
 
+quiet_ok : (a : Ask) (found : Result Want Errno) → Quiet (with_ok a found (mapped a))
+quiet_ok a (Ok want) = quiet_mapped a want
+quiet_ok a (Err errno) = refl
+
+pub quiet_mmap2 : (call : Call) (a : Ask) → MadeBy call a → call.number ≡ 222 → Quiet (row a)
+quiet_mmap2 call a made is =
+    subst Quiet (sym (is_mmap2 call a made is)) (quiet_ok a (wanted (arg a 0) (arg a 1) (arg a 2) (arg a 3) (arg a 5) (side_of a.rest.tree (view a.rest.files a.process.table (arg a 4)))))
+
 pub quiet_unmaps : (a : Ask) (o : Option Hit) → Quiet (unmaps a o)
 quiet_unmaps a (Some h) = refl
 quiet_unmaps a None = refl
+
+pub quiet_munmap : (call : Call) (a : Ask) → MadeBy call a → call.number ≡ 215 → Quiet (row a)
+quiet_munmap call a made is = subst Quiet (sym (row_munmap call a made is)) (quiet_unmaps a (hit a.space.maps (slice_index call.args 0) (slice_index call.args 1)))

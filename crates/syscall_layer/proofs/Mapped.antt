@@ -1,5 +1,5 @@
 -- The parts after an mmap2 and after a munmap.
-use Rattle.std.proofs.Common.{◌≡◌, ℕ, ◌+◌, ◌≤◌, List, [], ◌∷◌, length, Option, Some, None, Ok, Err, refl, sym, ap, subst, ◌∙◌, arith}
+use Rattle.std.proofs.Common.{◌≡◌, ℕ, ◌+◌, ◌≤◌, false, List, [], ◌∷◌, length, Option, Some, None, Ok, Err, refl, sym, ap, subst, ◌∙◌, arith}
 use Rattle.std.specs.Prelude.{Result, ⊤, slice_get, slice_set}
 use Rattle.std.specs.declared.alloc.AllocError.{AllocError}
 use Rattle.call_log.specs.declared.errno.Errno.{Errno}
@@ -26,6 +26,7 @@ use Rattle.syscall_layer.specs.Kept.{Kept}
 use Rattle.syscall_layer.specs.Regular.{Regular}
 use Rattle.syscall_layer.specs.Copies.{CopiesHold}
 use Rattle.machine_world.specs.Ages.{kept_calls}
+use Rattle.physical_turns.specs.Physical.{has_stray}
 use Rattle.mmap_rules.specs.Copies.{IsKnown}
 use Rattle.syscall_layer.specs.Stands.{About, private_of, OthersSame, world_of}
 use Rattle.syscall_layer.specs.Calls.{RunsIn, IsCall, ask_in, noted_call, Changed}
@@ -46,12 +47,12 @@ with_maps k mem rs spaces = record k { mem = mem; regions = rs; spaces = spaces 
 
 -- the parts are regular, and with so many calls more copies hold their file
 abbrev pub Keeps : ℕ → Kept → Kept → Type 0
-Keeps more k now = Regular now × ((notes : List Note) → kept_calls k.notes + more ≤ kept_calls notes → CopiesHold now.regions now.mem now.tree notes)
+Keeps more k now = Regular now × ((notes : List Note) → kept_calls k.notes + more ≤ kept_calls notes → (has_stray notes ≡ false → has_stray k.notes ≡ false) → CopiesHold now.regions now.mem now.tree notes)
 
 module _ (k : Kept) (regular : Regular k) (copies : CopiesHold k.regions k.mem k.tree k.notes) (number : ℕ) (h : Held) (home : slice_get k.spaces number ≡ Some (Some h)) where
   -- where all stays
   keeps_same : (more : ℕ) → Keeps more k k
-  keeps_same more = (regular, λ notes later. copies_noted k.regions k.mem k.tree k.notes notes copies (omega (arith, later)))
+  keeps_same more = (regular, λ notes later strays. copies_noted k.regions k.mem k.tree k.notes notes copies (omega (arith, later)) strays)
 
   same_maps : (mem : List ℕ) (rs : List Region) (spaces : List (Option Held)) (held : Held) → mem ≡ k.mem → rs ≡ k.regions → held ≡ h → spaces ≡ slice_set k.spaces number (Some held)
       → k ≡ with_maps k mem rs spaces
@@ -111,7 +112,7 @@ module _ (k : Kept) (regular : Regular k) (copies : CopiesHold k.regions k.mem k
           (λ i. with_maps k k.mem (sym all i).regions (slice_set k.spaces number (Some (sym all i).held))) ∙ (λ i. with_maps k k.mem rs (sym left.spaces i)) in
           subst (Keeps 0 k) now (
             unmap_regular k regular number h home left.shaped addr len f is,
-            λ notes later. unmap_copies k regular copies number h home left.shaped addr len f is notes (omega (arith, later)),
+            λ notes later strays. unmap_copies k regular copies number h home left.shaped addr len f is notes (omega (arith, later)) strays,
           )
       by_freed (Some f) is (Err errno) all = absurd all
       by_freed None is (Ok done) all = absurd all
@@ -120,23 +121,23 @@ module _ (k : Kept) (regular : Regular k) (copies : CopiesHold k.regions k.mem k
 
 -- ---- the replies
 
-module _ (a : About) (k : Kept) (e : Entry Task) (h : Held) (call : Call) (runs : RunsIn k call.pid e h) (is_call : IsCall k.mem e h call)
+module _ (a : About) (k : Kept) (e : Entry Task) (h : Held) (call : Call) (runs : RunsIn k call.pid e h) (is_call : IsCall e call)
     (value : ℕ) (spaces : List (Option Held)) (rs : List Region) (procs : Listed Task) (notes : List Note)
     (finishes : Finishes k call.pid value procs) (noted : notes ≡ noted_call call value [] ∷ k.notes) where
   abbrev ask : Ask
   ask = ask_in a k e h call
 
-  pub changed_mapped : Regular k → CopiesHold k.regions k.mem k.tree k.notes → (want : Want) → AsksPages want → IsKnown k.tree want → (mem : List ℕ) (result : Result ℕ MapFault) →
+  pub changed_mapped : Regular k → CopiesHold k.regions k.mem k.tree k.notes → has_stray k.notes ≡ false → (want : Want) → AsksPages want → IsKnown k.tree want → (mem : List ℕ) (result : Result ℕ MapFault) →
       MapsIn a.kind (bytes_of k.tree (file_in want)) want e.value.space h k.spaces spaces k.regions rs k.mem mem result → IsAddress result (Ok value) →
       Changed a k e h call (mapped_row (ask_in a k e h call) want) (record k { mem = mem; regions = rs; spaces = spaces; procs = procs; notes = notes })
   unfolding world_of
-  changed_mapped regular copies want asks known mem result left says = by_mapped (mapped (sides h k.regions k.mem) a.kind (bytes_of k.tree (file_in want)) want) refl result left.maps says
+  changed_mapped regular copies unstrayed want asks known mem result left says = by_mapped (mapped (sides h k.regions k.mem) a.kind (bytes_of k.tree (file_in want)) want) refl result left.maps says
     where
       by_mapped : (o : Option Mapped) → mapped (sides h k.regions k.mem) a.kind (bytes_of k.tree (file_in want)) want ≡ o → (r : Result ℕ MapFault) →
           Maps o (sides h k.regions k.mem) (sides left.held rs mem) r → IsAddress r (Ok value) →
           Changed a k e h call (mapped_row ask want) (record k { mem = mem; regions = rs; spaces = spaces; procs = procs; notes = notes })
       by_mapped (Some m) is (Ok addr) all says =
-          let g : Agrees k e.value.space h want (chosen a k want) m = map_agrees a k regular copies e.value.space h runs.home want asks known m is in
+          let g : Agrees k e.value.space h want (chosen a k want) m = map_agrees a k regular copies e.value.space h runs.home unstrayed want asks known m is in
           let space = with_mapping (private_of k.mem h) g.mapping (first_bytes k.tree want) in
           let at : value ≡ g.mapping.range.from = says ∙ all.0 ∙ g.addr in
           let held_is : left.held ≡ m.sides.held = ap (λ (s : Sides). s.held) all.1 in

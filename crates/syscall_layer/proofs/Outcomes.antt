@@ -37,7 +37,8 @@ use Rattle.syscall_layer.specs.Stands.{About, later, private_bytes, private_of, 
 use Rattle.syscall_layer.specs.Puts.{first_stray, access_at}
 use Rattle.syscall_layer.specs.Serves.{Went, Answered, Serves, Died}
 use Rattle.syscall_layer.specs.Gone.{gone}
-use Rattle.syscall_layer.specs.Calls.{RunsIn, IsCall, Changed, given, Gave, reply_of, ask_in, served_by, noted_call, held_as, after_reply, exit_of, after_exit}
+use Rattle.syscall_layer.specs.declared.reading.Unread.TheVariants as unread
+use Rattle.syscall_layer.specs.Calls.{RunsIn, IsCall, Made, Changed, given, Gave, reply_of, ask_in, served_by, noted_call, held_as, after_reply, exit_of, after_exit}
 use Rattle.std.proofs.lemmas.Option.{same_Some}
 use Rattle.syscall_layer.proofs.Puts.{put_all, put_strays}
 use Rattle.syscall_layer.proofs.QuietRows.{Quiet}
@@ -51,11 +52,11 @@ use Rattle.syscall_layer.proofs.Moves.{moved_world, moved_lives, gone_world, gon
 -- ---- the process and its space in the world
 
 module _ (a : About) (k : Kept) (pid : ℕ) (e : Entry Task) (h : Held) (runs : RunsIn k pid e h) where
-  process_there : find pid_of pid (world_of a k).procs ≡ Some (process_of e)
+  pub process_there : find pid_of pid (world_of a k).procs ≡ Some (process_of e)
   unfolding world_of
   process_there = find_process pid k.procs.entries ∙ ap (option_map process_of) runs.lives
 
-  space_there : find id_of e.value.space (world_of a k).spaces ≡ Some (record { id = e.value.space; space = private_of k.mem h })
+  pub space_there : find id_of e.value.space (world_of a k).spaces ≡ Some (record { id = e.value.space; space = private_of k.mem h })
   unfolding world_of
   space_there = find_space k.mem k.spaces e.value.space h runs.home
 
@@ -127,7 +128,7 @@ module _ (n : ℕ) (goes : is_exit n ≡ false) where
   number_row m is n95 n220 n221 = record { exits = goes; n95 = ap (λ x. x == 95) is ∙ n95; n220 = ap (λ x. x == 220) is ∙ n220; n221 = ap (λ x. x == 221) is ∙ n221 }
 
 -- a call that waits on a pipe is one
-waits_is : (r : Row) (pipe : ℕ) → WaitsOn r (Some pipe) → r ≡ waits (OnPipe pipe)
+pub waits_is : (r : Row) (pipe : ℕ) → WaitsOn r (Some pipe) → r ≡ waits (OnPipe pipe)
 waits_is (replies r) pipe is = absurd is
 waits_is (waits state) pipe is = ap waits is
 
@@ -135,7 +136,7 @@ module _ (a : Ask) (pipe : ℕ) (is : WaitsOn (row a) (Some pipe)) where
   waits_at : (n : ℕ) → a.number ≡ n → WaitsOn (row (record a { number = n })) (Some pipe)
   waits_at n same = subst (λ (m : ℕ). WaitsOn (row (record a { number = m })) (Some pipe)) same is
 
-  wait_row : is_exit a.number ≡ false → IsRow a.number
+  pub wait_row : is_exit a.number ≡ false → IsRow a.number
   unfolding row
   wait_row goes = plain_row a.number goes (λ same. waits_at 95 same) (λ same. waits_at 220 same) (λ same. waits_at 221 same)
 
@@ -191,7 +192,7 @@ pub tree_in : (a : About) (k : Kept) (e : Entry Task) (h : Held) (call : Call) {
 unfolding world_of
 tree_in a k e h call is = is
 
-module _ (a : About) (k : Kept) (e : Entry Task) (h : Held) (call : Call) (runs : RunsIn k call.pid e h) (is : IsCall k.mem e h call) where
+module _ (a : About) (k : Kept) (e : Entry Task) (h : Held) (call : Call) (runs : RunsIn k call.pid e h) (is : IsCall e call) where
   -- a call without bytes weighs what it sends
   weighs : (bytes : List ℕ) (b : Bool) → has_room k.notes (length bytes) ≡ b → has_room k.notes (weight_of bytes []) ≡ b
   weighs bytes b room = ap (has_room k.notes) (add-zero (length bytes)) ∙ room
@@ -199,8 +200,9 @@ module _ (a : About) (k : Kept) (e : Entry Task) (h : Held) (call : Call) (runs 
   note_is : (value : ℕ) (got : List Written) → noted_call call value got ≡ call_note (entry_of (ask_in a k e h call) value got)
   note_is value got = same_entry call.pid e.pid call.number (number_of e.value.regs) call.args (args_of e.value.regs) call.sent.items value got is.pid is.number is.args
 
-  pub call_answer : called (world_of a k) call.pid ≡ settled (classed (world_of a k) (ask_in a k e h call))
-  call_answer = called_is a k call.pid e h runs ∙ ap settled (answer_is (world_of a k) (process_of e) (private_of k.mem h) (Ok call.sent.items) is.sent)
+  pub call_answer : sent (number_of e.value.regs) (args_of e.value.regs) (private_bytes k.mem h) ≡ Ok call.sent.items →
+      called (world_of a k) call.pid ≡ settled (classed (world_of a k) (ask_in a k e h call))
+  call_answer reads = called_is a k call.pid e h runs ∙ ap settled (answer_is (world_of a k) (process_of e) (private_of k.mem h) (Ok call.sent.items) reads)
 
   -- ---- a reply
 
@@ -432,29 +434,29 @@ module _ (a : About) (k : Kept) (e : Entry Task) (h : Held) (call : Call) (runs 
 -- ---- the whole call
 
 module _ (a : About) (k : Kept) (pid : ℕ) (regular : Regular k) (lives : Lives k.procs pid) where
-  pub serve_call : (call : Call) → call.pid ≡ pid → ((e : Entry Task) → (h : Held) → RunsIn k pid e h → IsCall k.mem e h call) → (new : Kept) (result : Result Served AllocError) →
-      ((e : Entry Task) → (h : Held) → RunsIn k call.pid e h → IsCall k.mem e h call → Serves a (settled (classed (world_of a k) (ask_in a k e h call))) k new call.pid result) →
+  pub serve_call : (call : Call) → call.pid ≡ pid → ((e : Entry Task) → (h : Held) → RunsIn k pid e h → Made (private_bytes k.mem h) e (Ok call)) → (new : Kept) (result : Result Served AllocError) →
+      ((e : Entry Task) → (h : Held) → RunsIn k call.pid e h → IsCall e call → Serves a (settled (classed (world_of a k) (ask_in a k e h call))) k new call.pid result) →
       Serves a (called (world_of a k) pid) k new pid result
   serve_call call same made new result serves =
       let r = runs_in k pid regular lives in
       let e : Entry Task = r.0 in
       let h : Held = r.1.0 in
-      let is : IsCall k.mem e h call = made e h r.1.1 in
+      let at = made e h r.1.1 in
       let runs : RunsIn k call.pid e h = subst (λ (p : ℕ). RunsIn k p e h) (sym same) r.1.1 in
-      let done = subst (λ (o : Outcome). Serves a o k new call.pid result) (sym (call_answer a k e h call runs is)) (serves e h runs is) in
+      let done = subst (λ (o : Outcome). Serves a o k new call.pid result) (sym (call_answer a k e h call runs at.0 at.1)) (serves e h runs at.0) in
       subst (λ (p : ℕ). Serves a (called (world_of a k) p) k new p result) same done
 
   pub serve_stray : (t : Task) → value_at k.procs pid ≡ Some t → (span : Span) →
-      ((e : Entry Task) → (h : Held) → RunsIn k pid e h → sent (number_of e.value.regs) (args_of e.value.regs) (private_bytes k.mem h) ≡ Err span) →
+      ((e : Entry Task) → (h : Held) → RunsIn k pid e h → Made (private_bytes k.mem h) e (Err (unread.Stray span.addr span.len))) →
       Answered a (called (world_of a k) pid) k k pid (Stray (record { pc = t.regs.pc; addr = span.addr; len = span.len; kind = access_kind.Call }))
-  serve_stray t kept span unread =
+  serve_stray t kept span made =
       let r = runs_in k pid regular lives in
       let e : Entry Task = r.0 in
       let h : Held = r.1.0 in
       let seen : Access = record { pc = t.regs.pc; addr = span.addr; len = span.len; kind = access_kind.Call } in
       let at : seen ≡ call_access (process_of e) span =
       ap (λ (x : Task). record { pc = x.regs.pc; addr = span.addr; len = span.len; kind = access_kind.Call }) (value_found k.procs pid e r.1.1.lives t kept) in
-      subst (λ (o : Outcome). Answered a o k k pid (Stray seen)) (sym (stray_serves a k pid e h r.1.1 span (unread e h r.1.1))) (at, refl)
+      subst (λ (o : Outcome). Answered a o k k pid (Stray seen)) (sym (stray_serves a k pid e h r.1.1 span (made e h r.1.1))) (at, refl)
 
 -- ---- an end by a signal
 

@@ -22,7 +22,7 @@ use Rattle.file_calls.specs.Calls.{IsChange, WaitsOn, is_change}
 use Rattle.syscall_layer.proofs.Counts.{decide, eqb_is}
 
 -- a reply without bytes, or a wait
-abbrev IsMute : Row → Type 0
+abbrev pub IsMute : Row → Type 0
 IsMute (replies r) = r.got ≡ []
 IsMute (waits state) = Unit {0}
 
@@ -30,6 +30,10 @@ IsMute (waits state) = Unit {0}
 abbrev pub Quiet : Row → Type 0
 Quiet (replies r) = r.got ≡ []
 Quiet (waits state) = ⊥
+
+pub quiet_mute : (r : Row) → Quiet r → IsMute r
+quiet_mute (replies r) quiet = quiet
+quiet_mute (waits state) quiet = absurd quiet
 
 -- which a call gives that doesn't wait
 quiet_reply : (r : Row) → WaitsOn r None → IsMute r → Quiet r
@@ -175,7 +179,7 @@ module _ (a : Ask) where
       → (a.number == 64) ≡ false → (a.number == 66) ≡ false → is_change a.number ≡ false
   no_other n23 n24 n34 n35 n56 n57 n64 n66 = rw (n23, n24, n34, n35, n56, n57, n64, n66) refl
 
-  mute_row : IsChange a.number → IsMute (row a)
+  pub mute_row : IsChange a.number → IsMute (row a)
   mute_row change = elim (decide (a.number == 23)) [
     | inl is ↦ quiet_23 (eqb_is a.number 23 is)
     | inr n23 ↦ elim (decide (a.number == 24)) [

@@ -1,10 +1,12 @@
 -- A process that runs in its space, and the call at which it stands.
 use Rattle.std.proofs.Common.{◌≡◌, ℕ, List, [], ◌∷◌, true, false, inl, inr, Some, Global, sym, ap, ◌∙◌}
-use Rattle.std.specs.Prelude.{◌==◌, ◌*◌, length, Vec, Ok, Err, option_map, slice_get, slice_index}
+use Rattle.std.specs.Prelude.{◌==◌, ◌*◌, length, Vec, Err, option_map, slice_get, slice_index}
 use Rattle.std.proofs.lemmas.Option.{same_Some}
 use Rattle.byte_words.specs.ByteMap.{Bytes}
 use Rattle.call_log.specs.Sent.{sent}
+use Rattle.mmap_rules.specs.declared.owners.PageOwner.{PageOwner}
 use Rattle.mmap_rules.specs.Held.{Held}
+use Rattle.region_watch.specs.Private.{only, physical, own_bytes}
 use Rattle.rv32im_step.specs.Registers.{register}
 use Rattle.vfork_exec.specs.declared.entry.Entry.{Entry}
 use Rattle.vfork_exec.specs.Keyed.{find}
@@ -15,12 +17,14 @@ use Rattle.machine_world.specs.Event.{number_of, args_of}
 use Rattle.syscall_layer.specs.declared.task.Task.{Task}
 use Rattle.syscall_layer.specs.Kept.{Kept}
 use Rattle.syscall_layer.specs.Regular.{Regular, HasSpace}
-use Rattle.syscall_layer.specs.Stands.{private_bytes}
 use Rattle.syscall_layer.specs.Calls.{RunsIn, IsCall, Made}
 use Rattle.syscall_layer.specs.Reading.{Reads}
 use Rattle.syscall_layer.specs.declared.reading.Unread.{Unread}
 use Rattle.syscall_layer.specs.declared.reading.Unread.TheVariants.{Stray, Memory}
+use Rattle.syscall_layer.specs.declared.reach.Reach.{Reach}
+use Rattle.syscall_layer.specs.Reach.{readable, whole_table, Reaches}
 use Rattle.syscall_layer.proofs.Counts.{decide, eqb_is}
+use Rattle.syscall_layer.proofs.Reached.{reached_bytes, whole_pages}
 
 -- what is found has the number
 pub found_key : {A : Type 0} (key : A → ℕ) (k : ℕ) (xs : List A) (x : A) → find key k xs ≡ Some x → key x ≡ k
@@ -55,8 +59,15 @@ has_space k pid t regular lives is =
     let home = regular.runs pid f.0 f.1 in
     record { held = home.held; there = ap (λ (x : Task). slice_get k.spaces x.space) (value_found k.procs pid f.0 f.1 t is) ∙ home.there }
 
-pub memory_fits : (k : Kept) (i : ℕ) (h : Held) → Regular k → slice_get k.spaces i ≡ Some (Some h) → length k.mem ≡ 4096 * h.pages
-memory_fits k i h regular there = regular.memory ∙ ap (λ n. 4096 * n) (sym (regular.pages i h there))
+-- the bytes that a process reaches, by their table
+module _ (k : Kept) (reach : Reach) (whole : List PageOwner) (is : whole ≡ whole_table (length k.regions)) (h : Held) (table : List PageOwner) (reached : Reaches reach (length whole) h table) where
+  pub memory_reached : Regular k → length k.mem ≡ 4096 * length table
+  memory_reached regular = regular.memory ∙ ap (λ (n : ℕ). 4096 * n) (sym (reached.long ∙ (whole_pages (length k.regions) whole is).0))
+
+  pub bytes_reached : own_bytes table k.mem ≡ only (readable reach (length k.regions) h) (physical k.mem)
+  bytes_reached =
+      reached_bytes reach (length whole) h table k.mem reached
+      ∙ ap (λ (pages : ℕ). only (readable reach pages h) (physical k.mem)) (whole_pages (length k.regions) whole is).0
 
 -- the space of a process is the one that stands at its number
 pub home_is : (k : Kept) (pid : ℕ) (e : Entry Task) (h : Held) → RunsIn k pid e h → (t : Task) → value_at k.procs pid ≡ Some t → (g : Held) → slice_get k.spaces t.space ≡ Some (Some g) → g ≡ h
@@ -69,35 +80,35 @@ home_is k pid e h runs t kept g home =
 sent_same : (n m : ℕ) (xs ys : List ℕ) (b c : Bytes) → n ≡ m → xs ≡ ys → b ≡ c → sent n xs b ≡ sent m ys c
 sent_same n m xs ys b c p q r = cc
 
-module _ (k : Kept) (pid : ℕ) (e : Entry Task) (h : Held) (runs : RunsIn k pid e h) (t : Task) (kept : value_at k.procs pid ≡ Some t) (g : Held)
-    (home : slice_get k.spaces t.space ≡ Some (Some g)) (args : List ℕ) (made : args ≡ args_of t.regs) where
+module _ (k : Kept) (pid : ℕ) (e : Entry Task) (h : Held) (runs : RunsIn k pid e h) (t : Task) (kept : value_at k.procs pid ≡ Some t) where
   same_task : t ≡ e.value
   same_task = value_found k.procs pid e runs.lives t kept
 
-  same_space : g ≡ h
-  same_space = home_is k pid e h runs t kept g home
+  -- its space stands at the number that was kept
+  pub home_at : slice_get k.spaces t.space ≡ Some (Some h)
+  home_at = ap (λ (x : Task). slice_get k.spaces x.space) same_task ∙ runs.home
 
-  same_number : slice_index t.regs.x 17 ≡ number_of e.value.regs
-  unfolding register
-  same_number = ap (λ (x : Task). slice_index x.regs.x 17) same_task
+  module _ (args : List ℕ) (made : args ≡ args_of t.regs) where
+    same_number : slice_index t.regs.x 17 ≡ number_of e.value.regs
+    unfolding register
+    same_number = ap (λ (x : Task). slice_index x.regs.x 17) same_task
 
-  same_args : args ≡ args_of e.value.regs
-  same_args = made ∙ ap (λ (x : Task). args_of x.regs) same_task
+    same_args : args ≡ args_of e.value.regs
+    same_args = made ∙ ap (λ (x : Task). args_of x.regs) same_task
 
-  pub sent_is : sent (number_of e.value.regs) (args_of e.value.regs) (private_bytes k.mem h) ≡ sent (slice_index t.regs.x 17) args (private_bytes k.mem g)
-  sent_is = sent_same _ _ _ _ _ _ (sym same_number) (sym same_args) (ap (private_bytes k.mem) (sym same_space))
+    pub sent_is : (read bytes : Bytes) → read ≡ bytes → sent (number_of e.value.regs) (args_of e.value.regs) bytes ≡ sent (slice_index t.regs.x 17) args read
+    sent_is read bytes same = sent_same _ _ _ _ _ _ (sym same_number) (sym same_args) (sym same)
 
-  pub call_is : (parent : ℕ) → parent_at k.procs pid ≡ Some parent → (bytes : Vec ℕ _) → sent (slice_index t.regs.x 17) args (private_bytes k.mem g) ≡ Ok bytes.items →
-      IsCall k.mem e h (record { pid = pid; parent = parent; table = t.table; number = slice_index t.regs.x 17; args = args; sent = bytes })
-  call_is parent is bytes reads = record {
-    pid = pid_found k.procs pid e runs.lives;
-    parent = parent_found k.procs pid e runs.lives parent is;
-    table = ap (λ (x : Task). x.table) same_task;
-    number = same_number;
-    args = same_args;
-    sent = sent_is ∙ reads;
-  }
+    pub call_is : (parent : ℕ) → parent_at k.procs pid ≡ Some parent → (bytes : Vec ℕ _) →
+        IsCall e (record { pid = pid; parent = parent; table = t.table; number = slice_index t.regs.x 17; args = args; sent = bytes })
+    call_is parent is bytes = record {
+      pid = pid_found k.procs pid e runs.lives;
+      parent = parent_found k.procs pid e runs.lives parent is;
+      table = ap (λ (x : Task). x.table) same_task;
+      number = same_number;
+      args = same_args;
+    }
 
-  pub unread_is : (unread : Unread) → Reads {Y = Global} (sent (slice_index t.regs.x 17) args (private_bytes k.mem g)) (Err unread) → Made k.mem e h (Err unread)
-  unread_is (Stray addr len) reads = sent_is ∙ reads
-  unread_is Memory reads = tt
+    pub unread_is : (read bytes : Bytes) → read ≡ bytes → (unread : Unread) → Reads {Y = Global} (sent (slice_index t.regs.x 17) args read) (Err unread) → Made bytes e (Err unread)
+    unread_is read bytes same (Stray addr len) reads = sent_is read bytes same ∙ reads
+    unread_is read bytes same Memory reads = tt

@@ -1,5 +1,5 @@
 -- Copies hold their file after a call that is noted, and after an end.
-use Rattle.std.proofs.Common.{◌≡◌, ℕ, ◌+◌, true, List, [], ◌∷◌, length, None, arith, sym, ap, subst, ◌∙◌}
+use Rattle.std.proofs.Common.{◌≡◌, ℕ, ◌+◌, true, false, List, [], ◌∷◌, length, None, arith, sym, ap, subst, ◌∙◌}
 use Rattle.page_runs.specs.declared.place.Kind.TheVariants.{First}
 use Rattle.nommu_regions.specs.declared.region.Region.{Region}
 use Rattle.mmap_rules.specs.declared.mapping.Mapping.{Mapping}
@@ -17,6 +17,7 @@ use Rattle.file_calls.specs.Calls.{with_all}
 use Rattle.syscall_layer.specs.Kept.{Kept}
 use Rattle.syscall_layer.specs.Copies.{CopiesHold}
 use Rattle.machine_world.specs.Ages.{kept_calls, most_at_boot}
+use Rattle.physical_turns.specs.Physical.{has_stray}
 use Rattle.syscall_layer.specs.Calls.{noted_call}
 use Rattle.syscall_layer.proofs.CopiesStay.{copies_noted, copies_aged, copies_released, room_counts, call_counts}
 
@@ -26,10 +27,14 @@ counts call value got old notes is =
     ap kept_calls is
     ∙ call_counts (record { pid = call.pid; call = call.number; args = call.args; sent = call.sent.items; reply = value; got = got }) old
 
+-- and it is no stray access
+pub call_strays : (call : Call) (value : ℕ) (got : List Written) (old notes : List Note) → notes ≡ noted_call call value got ∷ old → has_stray notes ≡ false → has_stray old ≡ false
+call_strays call value got old notes is unstrayed = sym (ap has_stray is) ∙ unstrayed
+
 -- it has its reply
 pub copies_called : (k : Kept) → CopiesHold k.regions k.mem k.tree k.notes → (notes : List Note) → kept_calls notes ≡ kept_calls k.notes + 1
-    → CopiesHold k.regions k.mem k.tree notes
-copies_called k copies notes counted = copies_noted k.regions k.mem k.tree k.notes notes copies (omega (arith, counted))
+    → (has_stray notes ≡ false → has_stray k.notes ≡ false) → CopiesHold k.regions k.mem k.tree notes
+copies_called k copies notes counted strays = copies_noted k.regions k.mem k.tree k.notes notes copies (omega (arith, counted)) strays
 
 -- the call over the files of the parts, whoever makes it
 abbrev pub plain_ask : Kept → Call → Ask
@@ -47,11 +52,11 @@ plain_ask k call = record {
 pub copies_changed : (k : Kept) → CopiesHold k.regions k.mem k.tree k.notes → (call : Call) (value : ℕ) (tree : Inodes) (files : OpenFiles) (console : List ℕ) (notes : List Note) →
     has_room k.notes (length call.sent.items) ≡ true →
     row (plain_ask k call) ≡ gives (plain_ask k call) value [] (with_all (plain_ask k call).rest tree files console) →
-    kept_calls notes ≡ kept_calls k.notes + 1 → CopiesHold k.regions k.mem tree notes
-copies_changed k copies call value tree files console notes room is counted =
+    kept_calls notes ≡ kept_calls k.notes + 1 → (has_stray notes ≡ false → has_stray k.notes ≡ false) → CopiesHold k.regions k.mem tree notes
+copies_changed k copies call value tree files console notes room is counted strays =
     let few = room_counts k.notes (length call.sent.items) room in
     let ages = rows_age (plain_ask k call) _ (most_at_boot + kept_calls k.notes) is copies.changes (omega (arith, few)) in
-    copies_aged k.regions k.mem k.tree tree k.notes notes copies ages.0 (λ id n there. omega (arith, ages.1 id n there, counted)) (omega (arith, counted))
+    copies_aged k.regions k.mem k.tree tree k.notes notes copies ages.0 (λ id n there. omega (arith, ages.1 id n there, counted)) (omega (arith, counted)) strays
 
 -- a space went, with its mappings
 pub copies_without : (k : Kept) → CopiesHold k.regions k.mem k.tree k.notes → (maps : List Mapping) (rs : List Region) → rs ≡ released k.regions maps → CopiesHold rs k.mem k.tree k.notes
@@ -63,4 +68,4 @@ pub copies_ended : (k : Kept) → CopiesHold k.regions k.mem k.tree k.notes → 
 copies_ended k copies nodes files table closed =
     let ages = table_ages (storage k.tree k.files) table (most_at_boot + kept_calls k.notes) copies.changes in
     subst (λ (x : Inodes). CopiesHold k.regions k.mem x k.notes) (ap (λ (s : Storage). s.nodes) (sym closed))
-    (copies_aged k.regions k.mem k.tree (without_table (storage k.tree k.files) table).nodes k.notes k.notes copies ages.0 ages.1 (omega arith))
+    (copies_aged k.regions k.mem k.tree (without_table (storage k.tree k.files) table).nodes k.notes k.notes copies ages.0 ages.1 (omega arith) (λ unstrayed. unstrayed))

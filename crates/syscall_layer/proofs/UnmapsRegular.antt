@@ -1,5 +1,5 @@
 -- The parts after a munmap are regular, and copies hold their file.
-use Rattle.std.proofs.Common.{◌≡◌, ◌≢◌, ℕ, ◌+◌, ◌-◌, ◌*◌, ◌<◌, ◌≤◌, inl, inr, List, [], ◌∷◌, Some, refl, sym, ap, subst, ◌∙◌, arith, length-set}
+use Rattle.std.proofs.Common.{◌≡◌, ◌≢◌, ℕ, ◌+◌, ◌-◌, ◌*◌, ◌<◌, ◌≤◌, inl, inr, false, List, [], ◌∷◌, Some, refl, sym, ap, subst, ◌∙◌, arith, length-set}
 use Rattle.std.specs.Prelude.{slice_get, slice_set}
 use Rattle.std.specs.List.{remove}
 use Rattle.std.proofs.lemmas.Bool.{cases_eq}
@@ -27,6 +27,7 @@ use Rattle.syscall_layer.specs.Kept.{Kept}
 use Rattle.syscall_layer.specs.Regular.{Names, Regular, HasSpace, named_in, uses_in}
 use Rattle.syscall_layer.specs.Copies.{HoldsSource, CopiesHold}
 use Rattle.machine_world.specs.Ages.{kept_calls}
+use Rattle.physical_turns.specs.Physical.{has_stray}
 use Rattle.syscall_layer.proofs.Counts.{get_set, get_other, after_set, named, counted, counted_both}
 use Rattle.syscall_layer.proofs.Gone.{released_at, regions_released}
 use Rattle.syscall_layer.proofs.Unmapped.{same_pages}
@@ -186,13 +187,13 @@ holds_on mem nodes r uses (Copy file change first) holds = record { given = hold
 
 pub unmap_copies : (k : Kept) → Regular k → CopiesHold k.regions k.mem k.tree k.notes → (number : ℕ) (h : Held)
     → slice_get k.spaces number ≡ Some (Some h) → AreMappings h.pages h.maps → (addr len : ℕ) (f : Freed) → unmapped h k.regions addr len ≡ Some f
-    → (notes : List Note) → kept_calls k.notes ≤ kept_calls notes → CopiesHold f.regions k.mem k.tree notes
-unmap_copies k regular copies number h home shaped addr len f is notes more =
+    → (notes : List Note) → kept_calls k.notes ≤ kept_calls notes → (has_stray notes ≡ false → has_stray k.notes ≡ false) → CopiesHold f.regions k.mem k.tree notes
+unmap_copies k regular copies number h home shaped addr len f is notes more strays =
     let left = left_is k regular number h home shaped addr len f is in
     record {
-      hold = λ id s there live. elim (left.was id s there) [
+      hold = λ unstrayed id s there live. elim (left.was id s there) [
         | inl w ↦ subst (λ (q : Region). HoldsSource k.mem k.tree q q.source) (sym w.same)
-            (holds_on k.mem k.tree w.old s.uses w.old.source (copies.hold id w.old w.there (omega (arith, w.fewer, live))))
+            (holds_on k.mem k.tree w.old s.uses w.old.source (copies.hold (strays unstrayed) id w.old w.there (omega (arith, w.fewer, live))))
         | inr part ↦ subst (λ (source : Source). HoldsSource k.mem k.tree s source) (sym part.0) tt
       ];
       changes = λ id n there. (let few = copies.changes id n there in omega (arith, few, more));

@@ -105,12 +105,12 @@ pub looked_same : (s : Listed Task) (pid : ℕ) (who : Who) (may : Bool) (t : Wa
 looked_same s pid who may t tells is = same_told (first_ended pid who s.ended) (entry_has_child s pid who) may t tells is
 
 -- those that have ended, once it is told
-abbrev left_of : ℕ → Who → Waited → List Ended → List Ended
+abbrev pub left_of : ℕ → Who → Waited → List Ended → List Ended
 left_of pid who (Child child how) ended = without_first pid who ended
 left_of pid who NoneYet ended = ended
 left_of pid who Waits ended = ended
 
-wait_is : (s : Listed Task) (pid : ℕ) (who : Who) (t : Waited) → IsTold t → with_wait s pid who (Ok t) ≡ record s { ended = left_of pid who t s.ended }
+pub wait_is : (s : Listed Task) (pid : ℕ) (who : Who) (t : Waited) → IsTold t → with_wait s pid who (Ok t) ≡ record s { ended = left_of pid who t s.ended }
 wait_is s pid who (Child child how) tells = refl
 wait_is s pid who NoneYet tells = refl
 wait_is s pid who Waits tells = absurd tells
@@ -204,7 +204,7 @@ module _ (k : Kept) (pid : ℕ) (e : Entry Task) (state : State) (own : is_lent 
 
 module _ (w : World) (a : Ask) (ended : List Ended) (r : Reply) where
   -- what a reply leaves of the processes
-  abbrev Behind : World → Type 0
+  abbrev pub Behind : World → Type 0
   Behind now = (now.ended ≡ w.ended) × (now.procs ≡ change pid_of a.process.pid (λ (q : Process). record q { regs = replied a.process.regs r.value }) w.procs)
 
   module _ (P : Outcome → Outcome → Type 0) (goes : (now : World) (t : Trace) → t.over ≡ r.over → Behind now → P (went now t) (went (record now { ended = ended }) t))
@@ -223,7 +223,7 @@ module _ (w : World) (a : Ask) (ended : List Ended) (r : Reply) where
 
 -- ---- a process is told of its children
 
-module _ (a : About) (k : Kept) (e : Entry Task) (h : Held) (call : Call) (is : IsCall k.mem e h call) (who : Who) (t : Waited) (o : Output)
+module _ (a : About) (k : Kept) (e : Entry Task) (h : Held) (call : Call) (is : IsCall e call) (who : Who) (t : Waited) (o : Output)
     (tells : looked k.procs call.pid who false ≡ Ok t) (zero_is : o.value ≡ 0) (got_is : written_of o ≡ info_at (slice_index call.args 2) (info_of t)) (then_is : o.then ≡ Nothing) where
   abbrev ask : Ask
   ask = ask_in a k e h call
@@ -231,7 +231,7 @@ module _ (a : About) (k : Kept) (e : Entry Task) (h : Held) (call : Call) (is : 
   abbrev left : List Ended
   left = left_of e.pid who t k.procs.ended
 
-  given_is : replies (given ask o) ≡ gives ask 0 (info_at (arg ask 2) (info_of t)) ask.rest
+  pub given_is : replies (given ask o) ≡ gives ask 0 (info_at (arg ask 2) (info_of t)) ask.rest
   given_is = λ i. replies (record {
     value = zero_is i;
     got = (got_is ∙ ap (λ (args : List ℕ). info_at (slice_index args 2) (info_of t)) is.args) i;
@@ -267,34 +267,43 @@ module _ (a : About) (k : Kept) (e : Entry Task) (h : Held) (call : Call) (is : 
       never result.LogFull trace over not_so was = was
 
   -- it is told, and then the child goes
-  pub told_serves : (mid : Kept) → Answered a (answered (world_of a k) ask (replies (given ask o))) k mid call.pid result.Replied → (answer : Result Waited Errno) →
-      answer ≡ looked mid.procs call.pid who false → Answered a (reaped (world_of a k) ask who (Ok t)) k (record mid { procs = with_wait mid.procs call.pid who answer }) call.pid result.Replied
-  unfolding world_of has_child
-  told_serves mid serves answer looks =
-      subst (λ (x : Outcome). Answered a x k new call.pid result.Replied) (sym reaped_is)
-      (answered_beside (world_of a k) ask left (given ask o) (λ x y. Answered a x k mid call.pid result.Replied → Answered a y k new call.pid result.Replied)
-      replies_so (λ access was. was) (λ was. was) serves)
-    where
-      new : Kept
-      new = record mid { procs = with_wait mid.procs call.pid who answer }
+  module _ (mid : Kept) (answer : Result Waited Errno) (looks : answer ≡ looked mid.procs call.pid who false) where
+    abbrev now_told : Kept
+    now_told = record mid { procs = with_wait mid.procs call.pid who answer }
 
-      replies_so : (now : World) (trace : Trace) → trace.over ≡ false → Behind (world_of a k) ask left (given ask o) now → Answered a (went now trace) k mid call.pid result.Replied →
-          Answered a (went (record now { ended = left }) trace) k new call.pid result.Replied
-      replies_so now trace over behind was =
+    module _ (now : World) (behind : Behind (world_of a k) ask left (given ask o) now) (was : now ≡ world_of (later 1 a) mid) where
+      same_ended : k.procs.ended ≡ mid.procs.ended
+      unfolding world_of
+      same_ended = sym behind.0 ∙ ap (λ (x : World). x.ended) was
+
+      told_procs : with_wait mid.procs call.pid who answer ≡ record mid.procs { ended = left_of call.pid who t mid.procs.ended }
+      unfolding world_of has_child
+      told_procs =
           let pid : ℕ = call.pid in
-          let same_ended : k.procs.ended ≡ mid.procs.ended = sym behind.0 ∙ ap (λ (x : World). x.ended) was.0 in
           let same_child : entry_has_child mid.procs pid who ≡ entry_has_child k.procs pid who =
           sym (has_child_is mid.procs pid who)
-          ∙ sym (ap (λ (x : World). has_child pid who x.procs) was.0)
+          ∙ sym (ap (λ (x : World). has_child pid who x.procs) was)
           ∙ ap (has_child pid who) behind.1
           ∙ any_change pid_of e.pid (λ (q : Process). is_child pid who q.pid q.parent) (λ (q : Process). record q { regs = replied e.value.regs o.value }) (λ q. refl) (map process_of k.procs.entries)
           ∙ has_child_is k.procs pid who in
           let told_so : answer ≡ Ok t = looks ∙ (λ i. told (first_ended pid who (sym same_ended i)) (same_child i) false) ∙ tells in
-          let procs_are : with_wait mid.procs pid who answer ≡ record mid.procs { ended = left_of pid who t mid.procs.ended } =
-          ap (with_wait mid.procs pid who) told_so ∙ wait_is mid.procs pid who t (looked_told k.procs pid who t tells) in
-          let world_is : record now { ended = left } ≡ world_of (later 1 a) new =
-          (λ i. record (was.0 i) { ended = left_of (sym is.pid i) who t (same_ended i) }) ∙ ap (λ (s : Listed Task). world_of (later 1 a) (record mid { procs = s })) (sym procs_are) in
-          (world_is, (was.1.0, was.1.1, subst (λ (s : Listed Task). Lives s pid) (sym procs_are) was.1.2))
+          ap (with_wait mid.procs pid who) told_so ∙ wait_is mid.procs pid who t (looked_told k.procs pid who t tells)
+
+      pub told_world : record now { ended = left } ≡ world_of (later 1 a) now_told
+      unfolding world_of
+      told_world =
+          (λ i. record (was i) { ended = left_of (sym is.pid i) who t (same_ended i) }) ∙ ap (λ (s : Listed Task). world_of (later 1 a) (record mid { procs = s })) (sym told_procs)
+
+      pub told_lives : Lives mid.procs call.pid → Lives now_told.procs call.pid
+      told_lives lives = subst (λ (s : Listed Task). Lives s call.pid) (sym told_procs) lives
+
+    pub told_serves : Answered a (answered (world_of a k) ask (replies (given ask o))) k mid call.pid result.Replied →
+        Answered a (reaped (world_of a k) ask who (Ok t)) k now_told call.pid result.Replied
+    told_serves serves =
+        subst (λ (x : Outcome). Answered a x k now_told call.pid result.Replied) (sym reaped_is)
+        (answered_beside (world_of a k) ask left (given ask o) (λ x y. Answered a x k mid call.pid result.Replied → Answered a y k now_told call.pid result.Replied)
+        (λ now trace over behind was. (told_world now behind was.0, (was.1.0, was.1.1, told_lives now behind was.0 was.1.2)))
+        (λ access was. was) (λ was. was) serves)
 
 -- ---- a process waits
 
@@ -315,7 +324,7 @@ module _ (a : About) (k : Kept) (pid : ℕ) (e : Entry Task) (lives : process k.
 
 -- ---- a waitid, by what it asks
 
-module _ (a : About) (k : Kept) (e : Entry Task) (h : Held) (call : Call) (lives : process k.procs call.pid ≡ Some e) (is : IsCall k.mem e h call) where
+module _ (a : About) (k : Kept) (e : Entry Task) (h : Held) (call : Call) (lives : process k.procs call.pid ≡ Some e) (is : IsCall e call) where
   abbrev asks : Ask
   asks = ask_in a k e h call
 
@@ -323,7 +332,7 @@ module _ (a : About) (k : Kept) (e : Entry Task) (h : Held) (call : Call) (lives
   unfolding waitid
   behind_is fault same = ap (waitid_behind (world_of a k) asks) same
 
-  told_is : (who : Who) (may : Bool) → who ≡ who_of asks → may ≡ may_wait (slice_index call.args 3) → told_in (world_of a k) asks ≡ looked k.procs call.pid who may
+  pub told_is : (who : Who) (may : Bool) → who ≡ who_of asks → may ≡ may_wait (slice_index call.args 3) → told_in (world_of a k) asks ≡ looked k.procs call.pid who may
   unfolding world_of
   told_is who may meant waits =
       let pid_is : e.pid ≡ call.pid = own_pid k.procs call.pid e lives in

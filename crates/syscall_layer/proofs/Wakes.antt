@@ -152,13 +152,13 @@ regular_awake k regular = (regular_files (record k { procs = with_wakes k.files.
 -- ---- what comes of a call
 
 module _ (a : About) (pid : ℕ) (mid new : Kept) (kept : new ≡ awake_in mid) where
-  world_now : world_of (later 1 a) new ≡ awake (world_of (later 1 a) mid)
+  pub world_now : world_of (later 1 a) new ≡ awake (world_of (later 1 a) mid)
   world_now = ap (world_of (later 1 a)) kept ∙ awake_world (later 1 a) mid
 
-  lives_now : Lives mid.procs pid → Lives new.procs pid
+  pub lives_now : Lives mid.procs pid → Lives new.procs pid
   lives_now lives = subst (λ (k : Kept). Lives k.procs pid) (sym kept) (wakes_live mid.files.changed mid.procs pid ∙ lives)
 
-  gone_now : process mid.procs pid ≡ None → process new.procs pid ≡ None
+  pub gone_now : process mid.procs pid ≡ None → process new.procs pid ≡ None
   gone_now gone = subst (λ (k : Kept). process k.procs pid ≡ None) (sym kept) (wakes_gone mid.files.changed mid.procs pid gone)
 
   went_now : (t : Trace) (s : Served) → Went t mid pid s → Went t new pid s

@@ -1,6 +1,7 @@
 -- A system call by its parts, and what the parts of a run are after it.
 use Rattle.std.specs.Prelude.{◌≡◌, ℕ, true, false, List, [], ◌∷◌, length, Some, Result, Ok, Err, ⊤, ◌%◌, slice_index, slice_get, slice_set}
 use Rattle.std.specs.declared.alloc.AllocError.{AllocError}
+use Rattle.byte_words.specs.ByteMap.{Bytes}
 use Rattle.call_log.specs.Notes.{Written, Note, call_note, end_note}
 use Rattle.call_log.specs.Sent.{sent}
 use Rattle.call_log.specs.declared.how.How.{How}
@@ -10,6 +11,7 @@ use Rattle.fd_tables.specs.Changes.{with_copy}
 use Rattle.flat_loader.specs.Alone.{child_regs}
 use Rattle.mmap_rules.specs.Held.{Held}
 use Rattle.mmap_rules.specs.Space.{Space, writable_in}
+use Rattle.region_watch.specs.Private.{physical}
 use Rattle.rv32im_step.specs.declared.regs.Regs.{Regs}
 use Rattle.vfork_exec.specs.declared.entry.Entry.{Entry}
 use Rattle.vfork_exec.specs.Procs.{process, with_value_at, with_child}
@@ -30,6 +32,7 @@ use Rattle.syscall_layer.specs.declared.answer.Served.TheVariants.{Replied, Turn
 use Rattle.syscall_layer.specs.Kept.{Kept}
 use Rattle.syscall_layer.specs.Stands.{About, private_bytes, private_of, process_of, world_of, OthersSame}
 use Rattle.syscall_layer.specs.Gone.{gone}
+use Rattle.syscall_layer.specs.Reach.{in_pages}
 
 -- a process lives, in a live space
 pub record RunsIn (k : Kept) (pid : ℕ) (e : Entry Task) (h : Held) : Type 0 where
@@ -38,20 +41,19 @@ pub record RunsIn (k : Kept) (pid : ℕ) (e : Entry Task) (h : Held) : Type 0 wh
 
 -- ---- a call
 
--- it is the one at which the process stands, with the bytes that it reads
-pub record IsCall (mem : List ℕ) (e : Entry Task) (h : Held) (call : Call) : Type 0 where
+-- it is the one at which the process stands
+pub record IsCall (e : Entry Task) (call : Call) : Type 0 where
   pub pid : call.pid ≡ e.pid
   pub parent : call.parent ≡ e.parent
   pub table : call.table ≡ e.value.table
   pub number : call.number ≡ number_of e.value.regs
   pub args : call.args ≡ args_of e.value.regs
-  pub sent : sent (number_of e.value.regs) (args_of e.value.regs) (private_bytes mem h) ≡ Ok call.sent.items
 
--- or the range that strays; out of memory says nothing
-abbrev pub Made : List ℕ → Entry Task → Held → Result Call Unread → Type 0
-Made mem e h (Ok call) = IsCall mem e h call
-Made mem e h (Err (Stray addr len)) = sent (number_of e.value.regs) (args_of e.value.regs) (private_bytes mem h) ≡ Err (record { addr = addr; len = len })
-Made mem e h (Err Memory) = Unit {0}
+-- with what it reads of these bytes, or the range of which it may not read each byte; out of memory says nothing
+abbrev pub Made : Bytes → Entry Task → Result Call Unread → Type 0
+Made bytes e (Ok call) = IsCall e call × (sent (number_of e.value.regs) (args_of e.value.regs) bytes ≡ Ok call.sent.items)
+Made bytes e (Err (Stray addr len)) = sent (number_of e.value.regs) (args_of e.value.regs) bytes ≡ Err (record { addr = addr; len = len })
+Made bytes e (Err Memory) = Unit {0}
 
 -- the call as the world has it
 abbrev pub ask_in : About → Kept → Entry Task → Held → Call → Ask
@@ -151,6 +153,16 @@ pub record Gave (a : About) (old : Kept) (e : Entry Task) (h : Held) (call : Cal
 abbrev pub Gives : About → Kept → Entry Task → Held → Call → Outcome → Kept → Result ⊤ AllocError → Type 0
 Gives a old e h call o new (Ok done) = Gave a old e h call o new
 Gives a old e h call o new (Err error) = new ≡ old
+
+-- the bytes are in the one memory, whoever owns the places
+pub record GaveIn (a : About) (old : Kept) (e : Entry Task) (h : Held) (call : Call) (o : Outcome) (new : Kept) : Type 0 where
+  pub put : put_got (physical old.mem) (in_pages (length old.regions)) (written_of o) ≡ Ok (physical new.mem)
+  pub len : length new.mem ≡ length old.mem
+  pub after : new ≡ after_reply old e h call (given (ask_in a old e h call) o) new.mem
+
+abbrev pub GivesIn : About → Kept → Entry Task → Held → Call → Outcome → Kept → Result ⊤ AllocError → Type 0
+GivesIn a old e h call o new (Ok done) = GaveIn a old e h call o new
+GivesIn a old e h call o new (Err error) = new ≡ old
 
 -- the lowest eight bits of the code
 abbrev pub exit_of : Call → How

@@ -1,11 +1,12 @@
 -- A live copy holds its file, as long as that wasn't changed.
-use Rattle.std.specs.Prelude.{◌≡◌, ℕ, ◌+◌, ◌<◌, ◌≤◌, List, length, Some, slice_get}
+use Rattle.std.specs.Prelude.{◌≡◌, ℕ, ◌+◌, ◌<◌, ◌≤◌, false, List, length, Some, slice_get}
 use Rattle.call_log.specs.Notes.{Note}
 use Rattle.nommu_regions.specs.declared.region.Region.{Region}
 use Rattle.nommu_regions.specs.declared.region.Source.{Source}
 use Rattle.nommu_regions.specs.declared.region.Source.TheVariants.{Own, Copy}
 use Rattle.mem_files.specs.Inodes.{Inode, Inodes, inode_at}
 use Rattle.mmap_rules.specs.Copies.{HasFile}
+use Rattle.physical_turns.specs.Physical.{has_stray}
 use Rattle.machine_world.specs.Ages.{AreChanged, kept_calls, most_at_boot}
 
 -- a region with the pages of a file from its page `first` on, as the file was at a count of changes: the file's number was given, its
@@ -19,8 +20,8 @@ abbrev pub HoldsSource : List ℕ → Inodes → Region → Source → Type 0
 HoldsSource mem nodes r Own = Unit {0}
 HoldsSource mem nodes r (Copy file change first) = HoldsFile mem nodes r file change first
 
--- each change and each use but a start's has its kept call
+-- as long as no stray access was noted; each change and each use but a start's has its kept call
 pub record CopiesHold (regions : List Region) (mem : List ℕ) (nodes : Inodes) (notes : List Note) : Type 0 where
-  pub hold : (id : ℕ) (r : Region) → slice_get regions id ≡ Some r → 0 < r.uses → HoldsSource mem nodes r r.source
+  pub hold : has_stray notes ≡ false → (id : ℕ) (r : Region) → slice_get regions id ≡ Some r → 0 < r.uses → HoldsSource mem nodes r r.source
   pub changes : AreChanged (most_at_boot + kept_calls notes) nodes
   pub uses : (id : ℕ) (r : Region) → slice_get regions id ≡ Some r → r.uses ≤ 1 + kept_calls notes

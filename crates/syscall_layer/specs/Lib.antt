@@ -14,6 +14,8 @@
 -- Calls    a system call by its parts, and what is kept after it
 -- MapsIn   what mmap2 and munmap leave of the spaces
 -- Puts     what a call writes into its caller's memory, range by range
+-- Reach    what a system call may read and write: its process's own bytes, or all of memory
+-- InMemory  the one memory that the parts stand for, and what a call and a signal leave of it
 -- Refusals  why a program doesn't start, by the loader's reason
 pub mod Kept
 pub mod Regular
@@ -32,3 +34,5 @@ pub mod Calls
 pub mod Refusals
 pub mod MapsIn
 pub mod Puts
+pub mod Reach
+pub mod InMemory

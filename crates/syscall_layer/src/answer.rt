@@ -1,13 +1,12 @@
 //! A system call.
 
-ghost use Rattle.std.specs.Prelude.{◌≡◌, ◌<◌, ◌^◌, All, IfOk, length, slice_index, map, option_map};
+ghost use Rattle.std.specs.Prelude.{◌≡◌, ◌≢◌, ℕ, ◌<◌, ◌^◌, All, IfOk, false, true, List, length, slice_index, map, option_map, Ok};
 ghost use Rattle.call_log.specs.Notes.{has_room, weight_of};
 ghost use Rattle.call_log.specs.Values.{written_value};
 ghost use Rattle.page_runs.specs.Choosers.{IsChooser, kind_of};
 ghost use Rattle.mmap_rules.specs.Held.{Held};
 ghost use Rattle.vfork_exec.specs.declared.entry.Entry.{Entry};
 ghost use Rattle.vfork_exec.specs.Procs.{CanRun, Lives};
-ghost use Rattle.mmap_rules.specs.Space.{writable_in};
 ghost use Rattle.mmap_rules.specs.Want.{AsksPages};
 ghost use Rattle.machine_world.specs.Asks.{replies};
 ghost use Rattle.machine_world.specs.MapCalls.{mapped};
@@ -18,27 +17,37 @@ ghost use Rattle.file_calls.specs.Calls.{IsChange, IsOutput, Replies, written_of
 ghost use Rattle.file_calls.specs.Outcomes.{GivesRow, CanTake, HasEnds};
 ghost use Rattle.syscall_layer.specs.declared.task.Task.{Task};
 ghost use Rattle.syscall_layer.specs.Stands.{About, process_of, world_of};
+ghost use Rattle.region_watch.specs.Private.{physical};
+ghost use Rattle.physical_turns.specs.Physical.{outside, has_stray, carried, killed, settled_in, answered_in, classed_in, called_in};
+ghost use Rattle.syscall_layer.specs.declared.reach.Reach.TheVariants.{Own, Whole};
+ghost use Rattle.syscall_layer.specs.declared.answer.Served.TheVariants.{Replied, Stray};
+ghost use Rattle.syscall_layer.specs.InMemory.{headers_of, physical_of, ServesIn, InReach};
+ghost use Rattle.syscall_layer.specs.Reach.{writable, whole_table};
 ghost use Rattle.syscall_layer.specs.Serves.{Answered, Serves, went_by};
 ghost use Rattle.mmap_rules.specs.Copies.{IsKnown};
 ghost use Rattle.syscall_layer.specs.Puts.{first_stray, access_at, IsRange};
 ghost use Rattle.syscall_layer.specs.Calls.{RunsIn, IsCall, ask_in, reply_of, given, served_by};
 ghost use Rattle.syscall_layer.specs.Flats.{AreFlats};
 
-use crate::call::{call_of, home};
+use crate::call::call_of;
 use crate::classes::{is_change, is_exit, is_output};
 use crate::effect::{Effect, effect_of};
 use crate::family::{answer_clone, answer_exec, answer_waitid};
 use crate::maps::want_of;
 use crate::output::{got_len, stray_put};
 use crate::parts::Parts;
+use crate::reach::{Reach, table_of};
 use crate::reading::Unread;
 use bflt_format::Flat;
 use call_log::{Got, Log};
 use file_calls::{Call, Outcome, output, wait_of};
-use mmap_rules::Want;
+use mmap_rules::{Owners, Want};
 use page_runs::{Chooser, Run};
 use rv32im_step::{Access, AccessKind};
 use std::alloc::AllocError;
+
+/// The signal of an access outside memory.
+const SIGSEGV: u8 = 11;
 
 /// What came of a system call.
 #[derive(Clone, Copy, Debug, PartialEq, Eq)]
@@ -51,7 +60,7 @@ pub enum Served {
     Waits,
     /// The process ended.
     Ended,
-    /// It would read or write what isn't the program's own, and nothing was done.
+    /// It would read or write what its process's space doesn't own, and nothing was done.
     Stray(Access),
     /// The log has no room for it, and nothing was done.
     LogFull,
@@ -84,8 +93,9 @@ fn has_room_with(log: &Log, call: &Call, got: &[Got]) -> bool
 /// Carries out an exit, where the log has room for it.
 fn answer_exit(parts: &mut Parts, call: Call) -> Result<Served, AllocError>
     requires { CanRun parts.old.procs call.pid }
-    ensures { (a : About) → (e : Entry Task) → (h : Held) → RunsIn parts.old call.pid e h → IsCall parts.old.mem e h call →
+    ensures serves { (a : About) → (e : Entry Task) → (h : Held) → RunsIn parts.old call.pid e h → IsCall e call →
         Serves a (exited (world_of a parts.old) (ask_in a parts.old e h call)) parts.old parts.new call.pid result }
+    ensures memory { parts.new.mem ≡ parts.old.mem }
 {
     if !has_room(&parts.log, &call) {
         return Ok(Served::LogFull);
@@ -101,8 +111,9 @@ pub(crate) fn answer_effect(
     effect: Effect,
 ) -> Result<Served, AllocError>
     requires { Lives parts.old.procs call.pid }
-    ensures { (a : About) → (e : Entry Task) → (h : Held) → RunsIn parts.old call.pid e h → IsCall parts.old.mem e h call →
+    ensures serves { (a : About) → (e : Entry Task) → (h : Held) → RunsIn parts.old call.pid e h → IsCall e call →
         Serves a (answered (world_of a parts.old) (ask_in a parts.old e h call) (replies (reply_of (ask_in a parts.old e h call) effect))) parts.old parts.new call.pid result }
+    ensures memory { parts.new.mem ≡ parts.old.mem }
 {
     if !has_room(&parts.log, &call) {
         return Ok(Served::LogFull);
@@ -116,8 +127,9 @@ fn answer_change(parts: &mut Parts, call: Call) -> Result<Served, AllocError>
     requires lives { Lives parts.old.procs call.pid }
     requires change { IsChange call.number }
     requires replies { Replies call parts.old.files }
-    ensures { (a : About) → (e : Entry Task) → (h : Held) → RunsIn parts.old call.pid e h → IsCall parts.old.mem e h call →
+    ensures serves { (a : About) → (e : Entry Task) → (h : Held) → RunsIn parts.old call.pid e h → IsCall e call →
         Serves a (answered (world_of a parts.old) (ask_in a parts.old e h call) (row (ask_in a parts.old e h call))) parts.old parts.new call.pid result }
+    ensures memory { parts.new.mem ≡ parts.old.mem }
 {
     if !has_room(&parts.log, &call) {
         return Ok(Served::LogFull);
@@ -126,16 +138,39 @@ fn answer_change(parts: &mut Parts, call: Call) -> Result<Served, AllocError>
     Ok(Served::Replied)
 }
 
-/// The first range that a process may not write.
-fn stray_of(parts: &Parts, pid: u32, got: &[Got]) -> Option<Access>
+/// The first range that the bytes of a call may not be written to.
+fn stray_of(parts: &Parts, pid: u32, got: &[Got], reach: Reach, whole: &Owners) -> Option<Access>
     requires lives { Lives parts.now.procs pid }
+    requires whole { whole.now ≡ whole_table (length parts.now.regions) }
     requires ranges { All IsRange (map written_value got.now) }
     ensures { (e : Entry Task) → (h : Held) → RunsIn parts.now pid e h →
-        result ≡ option_map (access_at e.value.regs.pc) (first_stray (writable_in h.maps) (map written_value got.now)) }
+        result ≡ option_map (access_at e.value.regs.pc) (first_stray (writable reach (length parts.now.regions) h) (map written_value got.now)) }
 {
     let task = parts.procs.get(pid);
-    let owners = home(&parts.spaces, task.space).owners();
+    let owners = table_of(&parts.spaces, task.space, reach, whole);
     stray_put(owners, task.regs.pc, got)
+}
+
+/// What comes of an access beyond reach: it strays, and nothing is done; or it lies outside memory, and the process ends by SIGSEGV.
+fn beyond_reach(
+    parts: &mut Parts,
+    pid: u32,
+    access: Access,
+    reach: Reach,
+) -> Result<Served, AllocError>
+    requires { CanRun parts.old.procs pid }
+    ensures strays { reach ≡ Own → (result ≡ Ok (Stray access)) × (parts.new ≡ parts.old) }
+    ensures silent { result ≢ Ok Replied }
+    ensures memory { reach ≡ Whole → (headers : List (List ℕ)) → (a : About) → (e : Entry Task) → (h : Held) → RunsIn parts.old pid e h →
+        ServesIn headers a (killed (physical_of headers a parts.old) (process_of e) outside) parts.old parts.new pid result }
+{
+    match reach {
+        Reach::Own => Ok(Served::Stray(access)),
+        Reach::Whole => {
+            parts.die(pid, SIGSEGV)?;
+            Ok(Served::Ended)
+        }
+    }
 }
 
 /// What a call gives. Each of its ranges is one that an access can have.
@@ -152,22 +187,28 @@ fn outcome_of(parts: &Parts, call: &Call) -> Result<Outcome, AllocError>
     output(alloc, &parts.tree, &parts.files, call)
 }
 
-/// A call that gives these bytes, where they may be written and the log has room for them.
+/// A call that gives these bytes, where they are within reach and the log has room for them.
 pub(crate) fn answer_given(
     parts: &mut Parts,
     call: Call,
     outcome: Outcome,
+    reach: Reach,
+    whole: &Owners,
 ) -> Result<Served, AllocError>
-    requires lives { Lives parts.old.procs call.pid }
+    requires ready { CanRun parts.old.procs call.pid }
+    requires whole { whole.now ≡ whole_table (length parts.old.regions) }
+    requires strayed { reach ≡ Whole → has_stray parts.old.notes ≡ true }
     requires fits { CanTake parts.old.files outcome.then }
     requires ends { HasEnds parts.old.files call.table outcome.then }
     requires ranges { All IsRange (written_of outcome) }
-    ensures serves { (a : About) → (e : Entry Task) → (h : Held) → RunsIn parts.old call.pid e h → IsCall parts.old.mem e h call →
+    ensures serves { reach ≡ Own → (a : About) → (e : Entry Task) → (h : Held) → RunsIn parts.old call.pid e h → IsCall e call →
         Serves a (answered (world_of a parts.old) (ask_in a parts.old e h call) (replies (given (ask_in a parts.old e h call) outcome))) parts.old parts.new call.pid result }
-    ensures lives { Lives parts.new.procs call.pid }
+    ensures memory { (headers : List (List ℕ)) → (a : About) → (e : Entry Task) → (h : Held) → RunsIn parts.old call.pid e h → IsCall e call →
+        InReach reach headers a (answered_in (physical_of headers a parts.old) (ask_in a parts.old e h call) (replies (given (ask_in a parts.old e h call) outcome))) parts.old parts.new call.pid result }
+    ensures lives { result ≡ Ok Replied → Lives parts.new.procs call.pid }
 {
-    if let Some(access) = stray_of(parts, call.pid, &outcome.got) {
-        return Ok(Served::Stray(access));
+    if let Some(access) = stray_of(parts, call.pid, &outcome.got, reach, whole) {
+        return beyond_reach(parts, call.pid, access, reach);
     }
     if !has_room_with(&parts.log, &call, &outcome.got) {
         return Ok(Served::LogFull);
@@ -176,17 +217,26 @@ pub(crate) fn answer_given(
     Ok(Served::Replied)
 }
 
-/// Carries out a call that gives bytes and doesn't wait, where they may be written and the log has room for them.
-fn answer_output(parts: &mut Parts, call: Call) -> Result<Served, AllocError>
-    requires lives { Lives parts.old.procs call.pid }
+/// Carries out a call that gives bytes and doesn't wait, where they are within reach and the log has room for them.
+fn answer_output(
+    parts: &mut Parts,
+    call: Call,
+    reach: Reach,
+    whole: &Owners,
+) -> Result<Served, AllocError>
+    requires ready { CanRun parts.old.procs call.pid }
+    requires whole { whole.now ≡ whole_table (length parts.old.regions) }
+    requires strayed { reach ≡ Whole → has_stray parts.old.notes ≡ true }
     requires output { IsOutput call.number }
     requires replies { Replies call parts.old.files }
     requires room { slice_index call.args 2 < 2 ^ 32 }
-    ensures { (a : About) → (e : Entry Task) → (h : Held) → RunsIn parts.old call.pid e h → IsCall parts.old.mem e h call →
+    ensures serves { reach ≡ Own → (a : About) → (e : Entry Task) → (h : Held) → RunsIn parts.old call.pid e h → IsCall e call →
         Serves a (answered (world_of a parts.old) (ask_in a parts.old e h call) (row (ask_in a parts.old e h call))) parts.old parts.new call.pid result }
+    ensures memory { (headers : List (List ℕ)) → (a : About) → (e : Entry Task) → (h : Held) → RunsIn parts.old call.pid e h → IsCall e call →
+        InReach reach headers a (answered_in (physical_of headers a parts.old) (ask_in a parts.old e h call) (row (ask_in a parts.old e h call))) parts.old parts.new call.pid result }
 {
     let outcome = outcome_of(parts, &call)?;
-    answer_given(parts, call, outcome)
+    answer_given(parts, call, outcome, reach, whole)
 }
 
 /// Maps what an mmap2 asks for, where the log has room for the call.
@@ -200,8 +250,10 @@ fn answer_want<F: Fn(&[Run], u32) -> Option<usize>>(
     requires lives { Lives parts.old.procs call.pid }
     requires known { IsKnown parts.old.tree want }
     requires pages { AsksPages want }
-    ensures { (a : About) → a.kind ≡ kind_of chooser.now → (e : Entry Task) → (h : Held) → RunsIn parts.old call.pid e h → IsCall parts.old.mem e h call →
+    ensures serves { (a : About) → a.kind ≡ kind_of chooser.now → has_stray parts.old.notes ≡ false → (e : Entry Task) → (h : Held) → RunsIn parts.old call.pid e h → IsCall e call →
         Serves a (answered (world_of a parts.old) (ask_in a parts.old e h call) (mapped (ask_in a parts.old e h call) want)) parts.old parts.new call.pid result }
+    ensures memory { (headers : List (List ℕ)) → (a : About) → a.kind ≡ kind_of chooser.now → (e : Entry Task) → (h : Held) → RunsIn parts.old call.pid e h → IsCall e call →
+        ServesIn headers a (carried (physical_of headers a parts.old) (physical parts.old.mem) (answered (world_of a parts.old) (ask_in a parts.old e h call) (mapped (ask_in a parts.old e h call) want))) parts.old parts.new call.pid result }
 {
     if !has_room(&parts.log, &call) {
         return Ok(Served::LogFull);
@@ -219,8 +271,10 @@ fn answer_map<F: Fn(&[Run], u32) -> Option<usize>>(
     requires chooser { IsChooser F.pre F.post chooser.now }
     requires lives { Lives parts.old.procs call.pid }
     requires mmap2 { call.number ≡ 222 }
-    ensures { (a : About) → a.kind ≡ kind_of chooser.now → (e : Entry Task) → (h : Held) → RunsIn parts.old call.pid e h → IsCall parts.old.mem e h call →
+    ensures serves { (a : About) → a.kind ≡ kind_of chooser.now → has_stray parts.old.notes ≡ false → (e : Entry Task) → (h : Held) → RunsIn parts.old call.pid e h → IsCall e call →
         Serves a (answered (world_of a parts.old) (ask_in a parts.old e h call) (row (ask_in a parts.old e h call))) parts.old parts.new call.pid result }
+    ensures memory { (headers : List (List ℕ)) → (a : About) → a.kind ≡ kind_of chooser.now → (e : Entry Task) → (h : Held) → RunsIn parts.old call.pid e h → IsCall e call →
+        ServesIn headers a (carried (physical_of headers a parts.old) (physical parts.old.mem) (answered (world_of a parts.old) (ask_in a parts.old e h call) (row (ask_in a parts.old e h call)))) parts.old parts.new call.pid result }
 {
     match want_of(&parts.tree, &parts.files, call.table, &call.args) {
         Ok(want) => answer_want(parts, call, want, chooser),
@@ -232,8 +286,9 @@ fn answer_map<F: Fn(&[Run], u32) -> Option<usize>>(
 fn answer_unmap(parts: &mut Parts, call: Call) -> Result<Served, AllocError>
     requires lives { Lives parts.old.procs call.pid }
     requires munmap { call.number ≡ 215 }
-    ensures { (a : About) → (e : Entry Task) → (h : Held) → RunsIn parts.old call.pid e h → IsCall parts.old.mem e h call →
+    ensures serves { (a : About) → (e : Entry Task) → (h : Held) → RunsIn parts.old call.pid e h → IsCall e call →
         Serves a (answered (world_of a parts.old) (ask_in a parts.old e h call) (row (ask_in a parts.old e h call))) parts.old parts.new call.pid result }
+    ensures memory { parts.new.mem ≡ parts.old.mem }
 {
     if !has_room(&parts.log, &call) {
         return Ok(Served::LogFull);
@@ -245,8 +300,9 @@ fn answer_unmap(parts: &mut Parts, call: Call) -> Result<Served, AllocError>
 /// The process of a call waits on a pipe, without a note.
 fn answer_wait(parts: &mut Parts, call: &Call, pipe: u32) -> Served
     requires { CanRun parts.old.procs call.now.pid }
-    ensures { (a : About) → (e : Entry Task) → (h : Held) → RunsIn parts.old call.now.pid e h → IsCall parts.old.mem e h call.now →
+    ensures waits { (a : About) → (e : Entry Task) → (h : Held) → RunsIn parts.old call.now.pid e h → IsCall e call.now →
         Answered a (waited (world_of a parts.old) (process_of e) (OnPipe pipe)) parts.old parts.new call.now.pid result }
+    ensures memory { parts.new.mem ≡ parts.old.mem }
 {
     parts.procs.wait_on(call.pid, pipe);
     Served::Waits
@@ -258,12 +314,19 @@ fn answer<F: Fn(&[Run], u32) -> Option<usize>>(
     call: Call,
     programs: &[Flat],
     chooser: &Chooser<F>,
+    reach: Reach,
+    whole: &Owners,
 ) -> Result<Served, AllocError>
     requires chooser { IsChooser F.pre F.post chooser.now }
     requires ready { CanRun parts.old.procs call.pid }
+    requires whole { whole.now ≡ whole_table (length parts.old.regions) }
+    requires strayed { reach ≡ Whole → has_stray parts.old.notes ≡ true }
     requires room { slice_index call.args 2 < 2 ^ 32 }
-    ensures { (a : About) → a.kind ≡ kind_of chooser.now → AreFlats a.programs programs.now → (e : Entry Task) → (h : Held) → RunsIn parts.old call.pid e h → IsCall parts.old.mem e h call →
+    ensures serves { reach ≡ Own → (a : About) → a.kind ≡ kind_of chooser.now → AreFlats a.programs programs.now → has_stray parts.old.notes ≡ false →
+        (e : Entry Task) → (h : Held) → RunsIn parts.old call.pid e h → IsCall e call →
         Serves a (classed (world_of a parts.old) (ask_in a parts.old e h call)) parts.old parts.new call.pid result }
+    ensures memory { (a : About) → a.kind ≡ kind_of chooser.now → AreFlats a.programs programs.now → (e : Entry Task) → (h : Held) → RunsIn parts.old call.pid e h → IsCall e call →
+        InReach reach (headers_of programs.now) a (classed_in (physical_of (headers_of programs.now) a parts.old) (ask_in a parts.old e h call)) parts.old parts.new call.pid result }
 {
     if is_exit(call.number) {
         return answer_exit(parts, call);
@@ -275,10 +338,10 @@ fn answer<F: Fn(&[Run], u32) -> Option<usize>>(
         return answer_change(parts, call);
     }
     if is_output(call.number) {
-        return answer_output(parts, call);
+        return answer_output(parts, call, reach, whole);
     }
     match call.number {
-        95 => answer_waitid(parts, call),
+        95 => answer_waitid(parts, call, reach, whole),
         215 => answer_unmap(parts, call),
         220 => answer_clone(parts, call),
         221 => answer_exec(parts, call, programs, chooser),
@@ -306,40 +369,64 @@ fn answer_and_wake<F: Fn(&[Run], u32) -> Option<usize>>(
     call: Call,
     programs: &[Flat],
     chooser: &Chooser<F>,
+    reach: Reach,
+    whole: &Owners,
 ) -> Result<Served, AllocError>
     requires chooser { IsChooser F.pre F.post chooser.now }
     requires ready { CanRun parts.old.procs call.pid }
+    requires whole { whole.now ≡ whole_table (length parts.old.regions) }
+    requires strayed { reach ≡ Whole → has_stray parts.old.notes ≡ true }
     requires room { slice_index call.args 2 < 2 ^ 32 }
-    ensures { (a : About) → a.kind ≡ kind_of chooser.now → AreFlats a.programs programs.now → (e : Entry Task) → (h : Held) → RunsIn parts.old call.pid e h → IsCall parts.old.mem e h call →
+    ensures serves { reach ≡ Own → (a : About) → a.kind ≡ kind_of chooser.now → AreFlats a.programs programs.now → has_stray parts.old.notes ≡ false →
+        (e : Entry Task) → (h : Held) → RunsIn parts.old call.pid e h → IsCall e call →
         Serves a (settled (classed (world_of a parts.old) (ask_in a parts.old e h call))) parts.old parts.new call.pid result }
+    ensures memory { (a : About) → a.kind ≡ kind_of chooser.now → AreFlats a.programs programs.now → (e : Entry Task) → (h : Held) → RunsIn parts.old call.pid e h → IsCall e call →
+        InReach reach (headers_of programs.now) a (settled_in (classed_in (physical_of (headers_of programs.now) a parts.old) (ask_in a parts.old e h call))) parts.old parts.new call.pid result }
 {
-    let served = answer(parts, call, programs, chooser)?;
+    let served = answer(parts, call, programs, chooser, reach, whole)?;
     if went(served) {
         parts.wake_changed();
     }
     Ok(served)
 }
 
-/// Carries out the system call that a process stands at, which may run; those go on that wait on a pipe which it changed. A run of pages that it needs is the chooser's, and the
-/// programs that it may run are these.
+/// Carries out the system call that a process stands at, which may run, within this reach; those go on that wait on a pipe which it
+/// changed. A run of pages that it needs is the chooser's, and the programs that it may run are these. A range beyond its process's own
+/// bytes strays, and nothing is done; one outside memory ends the process by SIGSEGV.
 pub fn serve<F: Fn(&[Run], u32) -> Option<usize>>(
     parts: &mut Parts,
     pid: u32,
     programs: &[Flat],
     chooser: &Chooser<F>,
+    reach: Reach,
+    whole: &Owners,
 ) -> Result<Served, AllocError>
     requires chooser { IsChooser F.pre F.post chooser.now }
     requires ready { CanRun parts.old.procs pid }
-    ensures { (a : About) → a.kind ≡ kind_of chooser.now → AreFlats a.programs programs.now → Serves a (called (world_of a parts.old) pid) parts.old parts.new pid result }
+    requires whole { whole.now ≡ whole_table (length parts.old.regions) }
+    requires strayed { reach ≡ Whole → has_stray parts.old.notes ≡ true }
+    ensures serves { reach ≡ Own → (a : About) → a.kind ≡ kind_of chooser.now → AreFlats a.programs programs.now → has_stray parts.old.notes ≡ false →
+        Serves a (called (world_of a parts.old) pid) parts.old parts.new pid result }
+    ensures memory { (a : About) → a.kind ≡ kind_of chooser.now → AreFlats a.programs programs.now →
+        InReach reach (headers_of programs.now) a (called_in (physical_of (headers_of programs.now) a parts.old) pid) parts.old parts.new pid result }
 {
-    match call_of(parts, pid) {
-        Ok(call) => answer_and_wake(parts, call, programs, chooser),
-        Err(Unread::Stray { addr, len }) => Ok(Served::Stray(Access {
-            pc: parts.procs.get(pid).regs.pc,
-            addr,
-            len,
-            kind: AccessKind::Call,
-        })),
+    match call_of(parts, pid, reach, whole) {
+        Ok(call) => answer_and_wake(parts, call, programs, chooser, reach, whole),
+        Err(Unread::Stray { addr, len }) => {
+            let access = Access {
+                pc: parts.procs.get(pid).regs.pc,
+                addr,
+                len,
+                kind: AccessKind::Call,
+            };
+            match reach {
+                Reach::Own => Ok(Served::Stray(access)),
+                Reach::Whole => {
+                    parts.end_by_signal(pid, SIGSEGV)?;
+                    Ok(Served::Ended)
+                }
+            }
+        }
         Err(Unread::Memory) => Err(AllocError),
     }
 }

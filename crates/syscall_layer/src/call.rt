@@ -1,18 +1,21 @@
 //! A system call, as a process makes it.
 
-ghost use Rattle.std.specs.Prelude.{◌≡◌, ◌<◌, ◌^◌, IfOk, slice_get, slice_index, Some};
+ghost use Rattle.std.specs.Prelude.{◌≡◌, ◌<◌, ◌^◌, IfOk, length, slice_get, slice_index, Some};
 ghost use Rattle.mmap_rules.specs.Held.{Held};
 ghost use Rattle.vfork_exec.specs.declared.entry.Entry.{Entry};
 ghost use Rattle.vfork_exec.specs.Procs.{Lives};
 ghost use Rattle.machine_world.specs.Event.{args_of};
 ghost use Rattle.syscall_layer.specs.declared.task.Task.{Task};
+ghost use Rattle.region_watch.specs.Private.{only, physical};
 ghost use Rattle.syscall_layer.specs.Calls.{RunsIn, Made};
+ghost use Rattle.syscall_layer.specs.Reach.{readable, whole_table};
 ghost use Rattle.syscall_layer.specs.Regular.{HasSpace};
 
 use crate::parts::Parts;
+use crate::reach::{Reach, table_of};
 use crate::reading::{Unread, read_sent};
 use file_calls::Call;
-use mmap_rules::Space;
+use mmap_rules::{Owners, Space};
 use rv32im_step::Regs;
 
 /// The arguments of the call at which these registers stand.
@@ -35,10 +38,11 @@ pub fn home(spaces: &[Option<Space>], number: u32) -> &Space
     }
 }
 
-/// The call at which a process stands, with the bytes that it reads.
-pub fn call_of(parts: &Parts, pid: u32) -> Result<Call, Unread>
-    requires { Lives parts.now.procs pid }
-    ensures made { (e : Entry Task) → (h : Held) → RunsIn parts.now pid e h → Made parts.now.mem e h result }
+/// The call at which a process stands, with the bytes that it reads within this reach.
+pub fn call_of(parts: &Parts, pid: u32, reach: Reach, whole: &Owners) -> Result<Call, Unread>
+    requires lives { Lives parts.now.procs pid }
+    requires whole { whole.now ≡ whole_table (length parts.now.regions) }
+    ensures made { (e : Entry Task) → (h : Held) → RunsIn parts.now pid e h → Made (only (readable reach (length parts.now.regions) h) (physical parts.now.mem)) e result }
     ensures pid { IfOk result (λ call. call.pid ≡ pid) }
     ensures args { IfOk result (λ call. slice_index call.args 2 < 2 ^ 32) }
 {
@@ -46,8 +50,8 @@ pub fn call_of(parts: &Parts, pid: u32) -> Result<Call, Unread>
     let number = task.regs.x[17];
     let args = args_of(&task.regs);
     let alloc = *parts.console.allocator();
-    let space = home(&parts.spaces, task.space);
-    match read_sent(alloc, &parts.mem, space, number, &args) {
+    let owners = table_of(&parts.spaces, task.space, reach, whole);
+    match read_sent(alloc, &parts.mem, owners, number, &args) {
         Ok(sent) => Ok(Call {
             pid,
             parent: parts.procs.parent(pid),

@@ -54,8 +54,9 @@ fn set_call(parts: &mut Parts, pid: u32, number: u32, args: [u32; 3])
     task.regs.x[12] = args[2];
 }
 
-/// What comes of a call of process 1, and what a0 is then; None where it doesn't live.
+/// What comes of a call of process 1 within its own bytes, and what a0 is then; None where it doesn't live.
 fn call(
+    rt: HostRuntime,
     parts: &mut Parts,
     number: u32,
     args: [u32; 3],
@@ -71,7 +72,8 @@ fn call(
     let chooser = Chooser::new(Kind::First, |runs: &[Run], need: u32| {
         first_fit(runs, need)
     });
-    let served = serve(parts, pid, &[], &chooser)?;
+    let whole = whole_table(rt.alloc(), parts.regions.pages())?;
+    let served = serve(parts, pid, &[], &chooser, Reach::Own, &whole)?;
     if !parts.procs.lives(1) {
         return Ok((Some(served), None));
     }
@@ -98,7 +100,7 @@ fn calls_are_answered(rt: HostRuntime) -> Result<(), Fail> {
         (94, [7, 0, 0], Served::Ended, None),
     ] {
         assert_eq!(rt;
-            call(&mut parts, number, args)?,
+            call(rt, &mut parts, number, args)?,
             (Some(served), value),
             "{number}"
         );
@@ -133,7 +135,7 @@ fn files_are_written_and_read(rt: HostRuntime) -> Result<(), Fail> {
         (63, [0, 64, 1], Served::Stray(stray), Some(0)),
     ] {
         assert_eq!(rt;
-            call(&mut parts, number, args)?,
+            call(rt, &mut parts, number, args)?,
             (Some(served), value),
             "{number}"
         );
@@ -156,7 +158,7 @@ fn an_execve_reads_strings(rt: HostRuntime) -> Result<(), Fail> {
     let path = sp.wrapping_add(16);
     let args = sp.wrapping_add(4);
     let env = sp.wrapping_add(12);
-    let answer = call(&mut parts, 221, [path, args, env])?;
+    let answer = call(rt, &mut parts, 221, [path, args, env])?;
     assert_eq!(rt; answer, (Some(Served::Replied), Some(0xffff_fffe)));
     let Some(Note::Call(entry)) = parts.log.notes().last() else {
         return Err(Fail::from("no call is noted"));

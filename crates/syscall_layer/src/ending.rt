@@ -1,6 +1,6 @@
 //! The end of a process.
 
-ghost use Rattle.std.specs.Prelude.{◌≡◌, ◌≢◌, ℕ, true, length, None, Some, slice_get, slice_set};
+ghost use Rattle.std.specs.Prelude.{◌≡◌, ◌≢◌, ℕ, true, List, length, None, Some, slice_get, slice_set};
 ghost use Rattle.call_log.specs.Notes.{has_room};
 ghost use Rattle.mmap_rules.specs.Held.{Held};
 ghost use Rattle.vfork_exec.specs.declared.entry.Entry.{Entry as Listed};
@@ -9,6 +9,8 @@ ghost use Rattle.machine_world.specs.Event.{at_process, trapped, died};
 ghost use Rattle.syscall_layer.specs.declared.task.Task.{Task};
 ghost use Rattle.syscall_layer.specs.Regular.{HasSpace};
 ghost use Rattle.syscall_layer.specs.Stands.{About, world_of};
+ghost use Rattle.physical_turns.specs.Physical.{died_in};
+ghost use Rattle.syscall_layer.specs.InMemory.{physical_of, DiesIn};
 ghost use Rattle.syscall_layer.specs.Serves.{Dies};
 ghost use Rattle.syscall_layer.specs.Gone.{gone, without_space};
 ghost use Rattle.syscall_layer.specs.Calls.{RunsIn, Exits};
@@ -63,7 +65,8 @@ impl Parts {
     pub(crate) fn exit(&mut self, call: Call) -> Result<(), AllocError>
         requires ready { CanRun self.old.procs call.pid }
         requires room { has_room self.old.notes (length call.sent.items) ≡ true }
-        ensures { (e : Listed Task) → (h : Held) → RunsIn self.old call.pid e h → Exits self.old e h call self.new result }
+        ensures exits { (e : Listed Task) → (h : Held) → RunsIn self.old call.pid e h → Exits self.old e h call self.new result }
+        ensures memory { self.new.mem ≡ self.old.mem }
     {
         self.log.reserve(2)?;
         let got = Vec::new(*self.console.allocator());
@@ -92,9 +95,10 @@ impl Parts {
     }
 
     /// Ends a process by a signal: its own space goes, and a note is kept.
-    fn die(&mut self, pid: u32, signal: u8) -> Result<(), AllocError>
+    pub(crate) fn die(&mut self, pid: u32, signal: u8) -> Result<(), AllocError>
         requires { CanRun self.old.procs pid }
-        ensures { (a : About) → Dies a (at_process (world_of a self.old) pid (λ p s. trapped (world_of a self.old) p signal)) self.old self.new pid result }
+        ensures memory { self.new.mem ≡ self.old.mem }
+        ensures dies { (a : About) → Dies a (at_process (world_of a self.old) pid (λ p s. trapped (world_of a self.old) p signal)) self.old self.new pid result }
     {
         self.log.reserve(1)?;
         let how = How::Signal(signal);
@@ -106,7 +110,8 @@ impl Parts {
     /// Ends a process by a signal: its own space goes, and a note is kept. Those go on that wait on a pipe of which an end closes.
     pub fn end_by_signal(&mut self, pid: u32, signal: u8) -> Result<(), AllocError>
         requires { CanRun self.old.procs pid }
-        ensures { (a : About) → Dies a (died (world_of a self.old) pid signal) self.old self.new pid result }
+        ensures dies { (a : About) → Dies a (died (world_of a self.old) pid signal) self.old self.new pid result }
+        ensures memory { (headers : List (List ℕ)) → (a : About) → DiesIn headers a (died_in (physical_of headers a self.old) pid signal) self.old self.new pid result }
     {
         self.die(pid, signal)?;
         self.wake_changed();

@@ -1,6 +1,6 @@
 //! A program in the place of another one (Linux, execve(2), in this project's profile).
 
-ghost use Rattle.std.specs.Prelude.{◌≡◌, ◌≤◌, ◌∷◌, [], true, length};
+ghost use Rattle.std.specs.Prelude.{◌≡◌, ◌≤◌, ℕ, ◌∷◌, [], true, List, length, slice_get, Some};
 ghost use Rattle.page_runs.specs.Choosers.{IsChooser, kind_of};
 ghost use Rattle.call_log.specs.Notes.{has_room, load_note};
 ghost use Rattle.mmap_rules.specs.Held.{Held};
@@ -12,6 +12,9 @@ ghost use Rattle.machine_world.specs.Asks.{refuses};
 ghost use Rattle.machine_world.specs.Event.{answered, exec_fitting};
 ghost use Rattle.syscall_layer.specs.declared.task.Task.{Task};
 ghost use Rattle.syscall_layer.specs.Stands.{About, world_of};
+ghost use Rattle.region_watch.specs.Private.{physical};
+ghost use Rattle.physical_turns.specs.Physical.{carried};
+ghost use Rattle.syscall_layer.specs.InMemory.{header_of, physical_of, ServesIn};
 ghost use Rattle.syscall_layer.specs.Serves.{Serves};
 ghost use Rattle.syscall_layer.specs.Calls.{RunsIn, IsCall, ask_in, noted_call};
 
@@ -92,10 +95,15 @@ impl Parts {
         requires chooser { IsChooser F.pre F.post chooser.now }
         requires ready { CanRun self.old.procs call.pid }
         requires room { has_room self.old.notes (length call.sent.items) ≡ true }
-        ensures { (a : About) → a.kind ≡ kind_of chooser.now → (e : Listed Task) → (h : Held) → RunsIn self.old call.pid e h → IsCall self.old.mem e h call →
+        ensures serves { (a : About) → a.kind ≡ kind_of chooser.now → (e : Listed Task) → (h : Held) → RunsIn self.old call.pid e h → IsCall e call →
             Serves a
             (exec_fitting (world_of a self.old) (ask_in a self.old e h call) (record { index = index; original = flat_original flat.now }) (record { args = texts strings.now.args.items; env = texts strings.now.env.items })
             (frame_fits (flat_original flat.now) (texts strings.now.args.items) (texts strings.now.env.items)))
+            self.old self.new call.pid result }
+        ensures memory { (headers : List (List ℕ)) → (a : About) → a.kind ≡ kind_of chooser.now → slice_get headers index ≡ Some (header_of flat.now) → (e : Listed Task) → (h : Held) → RunsIn self.old call.pid e h → IsCall e call →
+            ServesIn headers a (carried (physical_of headers a self.old) (physical self.old.mem)
+            (exec_fitting (world_of a self.old) (ask_in a self.old e h call) (record { index = index; original = flat_original flat.now }) (record { args = texts strings.now.args.items; env = texts strings.now.env.items })
+            (frame_fits (flat_original flat.now) (texts strings.now.args.items) (texts strings.now.env.items))))
             self.old self.new call.pid result }
     {
         self.spaces.reserve(1)?;
@@ -144,7 +152,8 @@ impl Parts {
     fn refuse(&mut self, call: Call, errno: Errno) -> Result<Served, AllocError>
         requires lives { Lives self.old.procs call.pid }
         requires room { has_room self.old.notes (length call.sent.items) ≡ true }
-        ensures { (a : About) → (e : Listed Task) → (h : Held) → RunsIn self.old call.pid e h → IsCall self.old.mem e h call →
+        ensures memory { self.new.mem ≡ self.old.mem }
+        ensures serves { (a : About) → (e : Listed Task) → (h : Held) → RunsIn self.old call.pid e h → IsCall e call →
             Serves a (answered (world_of a self.old) (ask_in a self.old e h call) (refuses (ask_in a self.old e h call) errno)) self.old self.new call.pid result }
     {
         self.reply(call, Effect::Answer(errno.refusal()))?;

@@ -1,12 +1,12 @@
 //! waitid, clone and execve (Linux, wait(2), vfork(2), execve(2), in this project's profile).
 
-ghost use Rattle.std.specs.Prelude.{◌≡◌, false, IfOk, Ok, flat_map};
+ghost use Rattle.std.specs.Prelude.{◌≡◌, ℕ, false, true, IfOk, List, Ok, length, flat_map};
 ghost use Rattle.byteorder.specs.Endian.{little_bytes};
 ghost use Rattle.page_runs.specs.Choosers.{IsChooser, kind_of};
 ghost use Rattle.mmap_rules.specs.Held.{Held};
 ghost use Rattle.vfork_exec.specs.declared.entry.Entry.{Entry};
 ghost use Rattle.vfork_exec.specs.Procs.{CanRun};
-ghost use Rattle.vfork_exec.specs.Procs.{Lives, looked};
+ghost use Rattle.vfork_exec.specs.Procs.{looked};
 ghost use Rattle.mem_files.specs.Paths.{lookup};
 ghost use Rattle.machine_world.specs.Asks.{Ask};
 ghost use Rattle.machine_world.specs.FamilyCalls.{who_of, waitid_fault, info_at};
@@ -16,6 +16,11 @@ ghost use Rattle.file_calls.specs.declared.outcome.Then.TheVariants.{Nothing};
 ghost use Rattle.syscall_layer.specs.Families.{info_of, mark_at};
 ghost use Rattle.syscall_layer.specs.declared.task.Task.{Task};
 ghost use Rattle.syscall_layer.specs.Stands.{About, world_of};
+ghost use Rattle.region_watch.specs.Private.{physical};
+ghost use Rattle.physical_turns.specs.Physical.{has_stray, carried, reaped_in, waitid_in};
+ghost use Rattle.syscall_layer.specs.declared.reach.Reach.TheVariants.{Own, Whole};
+ghost use Rattle.syscall_layer.specs.InMemory.{headers_of, physical_of, ServesIn, InReach};
+ghost use Rattle.syscall_layer.specs.Reach.{whole_table};
 ghost use Rattle.syscall_layer.specs.Serves.{Serves};
 ghost use Rattle.syscall_layer.specs.Flats.{AreFlats};
 ghost use Rattle.syscall_layer.specs.Calls.{RunsIn, IsCall, ask_in};
@@ -23,11 +28,13 @@ ghost use Rattle.syscall_layer.specs.Calls.{RunsIn, IsCall, ask_in};
 use crate::answer::{Served, answer_effect, answer_given, has_room};
 use crate::effect::Effect;
 use crate::parts::Parts;
+use crate::reach::Reach;
 use crate::strings::{at_zero, program_strings};
 use bflt_format::Flat;
 use call_log::{Errno, Got, How};
 use file_calls::{Call, Outcome, Then};
 use mem_files::Tree;
+use mmap_rules::Owners;
 use page_runs::{Chooser, Run};
 use std::alloc::{AllocError, Global};
 use vfork_exec::{Waited, Who};
@@ -118,27 +125,47 @@ fn told_outcome(alloc: Global, at: u32, told: Waited) -> Result<Outcome, AllocEr
 }
 
 /// Tells a process of a child that has ended, which goes from the list, or that none has.
-fn answer_told(parts: &mut Parts, call: Call, who: Who, told: Waited) -> Result<Served, AllocError>
-    requires lives { Lives parts.old.procs call.pid }
+fn answer_told(
+    parts: &mut Parts,
+    call: Call,
+    who: Who,
+    told: Waited,
+    reach: Reach,
+    whole: &Owners,
+) -> Result<Served, AllocError>
+    requires ready { CanRun parts.old.procs call.pid }
+    requires whole { whole.now ≡ whole_table (length parts.old.regions) }
+    requires strayed { reach ≡ Whole → has_stray parts.old.notes ≡ true }
     requires told { looked parts.old.procs call.pid who false ≡ Ok told }
-    ensures { (a : About) → (e : Entry Task) → (h : Held) → RunsIn parts.old call.pid e h → IsCall parts.old.mem e h call →
+    ensures serves { reach ≡ Own → (a : About) → (e : Entry Task) → (h : Held) → RunsIn parts.old call.pid e h → IsCall e call →
         Serves a (reaped (world_of a parts.old) (ask_in a parts.old e h call) who (Ok told)) parts.old parts.new call.pid result }
+    ensures memory { (headers : List (List ℕ)) → (a : About) → (e : Entry Task) → (h : Held) → RunsIn parts.old call.pid e h → IsCall e call →
+        InReach reach headers a (reaped_in (physical_of headers a parts.old) (ask_in a parts.old e h call) who (Ok told)) parts.old parts.new call.pid result }
 {
     let alloc = *parts.console.allocator();
     let pid = call.pid;
     let outcome = told_outcome(alloc, call.args[2], told)?;
-    let served = answer_given(parts, call, outcome)?;
+    let served = answer_given(parts, call, outcome, reach, whole)?;
     if let Served::Replied = served {
         let _ = parts.procs.wait(pid, who, false);
     }
     Ok(served)
 }
 
-/// Carries out waitid, where its output may be written and the log has room for it.
-pub(crate) fn answer_waitid(parts: &mut Parts, call: Call) -> Result<Served, AllocError>
-    requires { CanRun parts.old.procs call.pid }
-    ensures { (a : About) → (e : Entry Task) → (h : Held) → RunsIn parts.old call.pid e h → IsCall parts.old.mem e h call →
+/// Carries out waitid, where its output is within reach and the log has room for it.
+pub(crate) fn answer_waitid(
+    parts: &mut Parts,
+    call: Call,
+    reach: Reach,
+    whole: &Owners,
+) -> Result<Served, AllocError>
+    requires ready { CanRun parts.old.procs call.pid }
+    requires whole { whole.now ≡ whole_table (length parts.old.regions) }
+    requires strayed { reach ≡ Whole → has_stray parts.old.notes ≡ true }
+    ensures serves { reach ≡ Own → (a : About) → (e : Entry Task) → (h : Held) → RunsIn parts.old call.pid e h → IsCall e call →
         Serves a (waitid (world_of a parts.old) (ask_in a parts.old e h call)) parts.old parts.new call.pid result }
+    ensures memory { (headers : List (List ℕ)) → (a : About) → (e : Entry Task) → (h : Held) → RunsIn parts.old call.pid e h → IsCall e call →
+        InReach reach headers a (waitid_in (physical_of headers a parts.old) (ask_in a parts.old e h call)) parts.old parts.new call.pid result }
 {
     if let Some(errno) = fault_of(&call.args) {
         return answer_effect(parts, call, Effect::Answer(errno.refusal()));
@@ -153,13 +180,14 @@ pub(crate) fn answer_waitid(parts: &mut Parts, call: Call) -> Result<Served, All
         let _ = parts.procs.wait(call.pid, who, may_wait);
         return Ok(Served::Waits);
     }
-    answer_told(parts, call, who, told)
+    answer_told(parts, call, who, told, reach, whole)
 }
 
 /// Carries out clone, where the log has room for it.
 pub(crate) fn answer_clone(parts: &mut Parts, call: Call) -> Result<Served, AllocError>
     requires { CanRun parts.old.procs call.pid }
-    ensures { (a : About) → (e : Entry Task) → (h : Held) → RunsIn parts.old call.pid e h → IsCall parts.old.mem e h call →
+    ensures memory { parts.new.mem ≡ parts.old.mem }
+    ensures serves { (a : About) → (e : Entry Task) → (h : Held) → RunsIn parts.old call.pid e h → IsCall e call →
         Serves a (cloned (world_of a parts.old) (ask_in a parts.old e h call)) parts.old parts.new call.pid result }
 {
     if call.args[0] != VFORK_FLAGS {
@@ -198,8 +226,10 @@ pub(crate) fn answer_exec<F: Fn(&[Run], u32) -> Option<usize>>(
 ) -> Result<Served, AllocError>
     requires chooser { IsChooser F.pre F.post chooser.now }
     requires ready { CanRun parts.old.procs call.pid }
-    ensures { (a : About) → a.kind ≡ kind_of chooser.now → AreFlats a.programs programs.now → (e : Entry Task) → (h : Held) → RunsIn parts.old call.pid e h → IsCall parts.old.mem e h call →
+    ensures serves { (a : About) → a.kind ≡ kind_of chooser.now → AreFlats a.programs programs.now → (e : Entry Task) → (h : Held) → RunsIn parts.old call.pid e h → IsCall e call →
         Serves a (exec (world_of a parts.old) (ask_in a parts.old e h call)) parts.old parts.new call.pid result }
+    ensures memory { (a : About) → a.kind ≡ kind_of chooser.now → AreFlats a.programs programs.now → (e : Entry Task) → (h : Held) → RunsIn parts.old call.pid e h → IsCall e call →
+        ServesIn (headers_of programs.now) a (carried (physical_of (headers_of programs.now) a parts.old) (physical parts.old.mem) (exec (world_of a parts.old) (ask_in a parts.old e h call))) parts.old parts.new call.pid result }
 {
     let Some((path, _)) = at_zero(&call.sent) else {
         return answer_effect(parts, call, Effect::Answer(Errno::Enametoolong.refusal()));

@@ -35,7 +35,8 @@ impl Parts {
         requires ready { CanRun self.old.procs call.pid }
         requires few { count self.old.procs < most_entries }
         requires room { has_room self.old.notes (length call.sent.items) ≡ true }
-        ensures { (e : Listed Task) → (h : Held) → RunsIn self.old call.pid e h → Forks self.old e call self.new result }
+        ensures forks { (e : Listed Task) → (h : Held) → RunsIn self.old call.pid e h → Forks self.old e call self.new result }
+        ensures memory { self.new.mem ≡ self.old.mem }
     {
         self.log.reserve(1)?;
         let got = Vec::new(*self.console.allocator());

@@ -17,6 +17,7 @@ mod keep;
 mod maps;
 mod output;
 mod parts;
+mod reach;
 mod reading;
 mod reply;
 mod start;
@@ -27,6 +28,7 @@ mod wake;
 
 pub use answer::{Served, serve};
 pub use parts::Parts;
+pub use reach::{Reach, table_of, whole_table};
 pub use reading::{Unread, read_range};
 pub use start::StartRefusal;
 pub use strings::{ProgramStrings, program_strings};

@@ -1,6 +1,6 @@
 //! Pages that are mapped and unmapped (Linux, mmap(2), munmap(2), in this project's profile).
 
-ghost use Rattle.std.specs.Prelude.{◌≡◌, ◌*◌, IfOk, true, length, slice_get, slice_index, Some};
+ghost use Rattle.std.specs.Prelude.{◌≡◌, ℕ, ◌*◌, IfOk, true, false, List, length, slice_get, slice_index, Some};
 ghost use Rattle.page_runs.specs.Choosers.{IsChooser, kind_of};
 ghost use Rattle.call_log.specs.Notes.{has_room};
 ghost use Rattle.mem_files.specs.Inodes.{bytes_of};
@@ -15,7 +15,10 @@ ghost use Rattle.mmap_rules.specs.Mappings.{hit};
 ghost use Rattle.machine_world.specs.MapCalls.{side_of, mapped, unmaps};
 ghost use Rattle.syscall_layer.specs.declared.task.Task.{Task};
 ghost use Rattle.syscall_layer.specs.Regular.{HasSpace};
-ghost use Rattle.syscall_layer.specs.Stands.{About};
+ghost use Rattle.machine_world.specs.Event.{answered};
+ghost use Rattle.physical_turns.specs.Physical.{has_stray};
+ghost use Rattle.syscall_layer.specs.InMemory.{ChangesIn};
+ghost use Rattle.syscall_layer.specs.Stands.{About, world_of};
 ghost use Rattle.syscall_layer.specs.Calls.{RunsIn, IsCall, ask_in, Changes};
 ghost use Rattle.syscall_layer.specs.MapsIn.{MapsIn, UnmapsIn, IsAddress, status_of};
 
@@ -147,8 +150,11 @@ impl Parts {
         requires room { has_room self.old.notes (length call.sent.items) ≡ true }
         requires known { IsKnown self.old.tree want }
         requires pages { AsksPages want }
-        ensures { (a : About) → a.kind ≡ kind_of chooser.now → (e : Entry Task) → (h : Held) → RunsIn self.old call.pid e h → IsCall self.old.mem e h call →
+        ensures changes { (a : About) → a.kind ≡ kind_of chooser.now → has_stray self.old.notes ≡ false → (e : Entry Task) → (h : Held) → RunsIn self.old call.pid e h → IsCall e call →
             Changes a self.old e h call (mapped (ask_in a self.old e h call) want) self.new result }
+        ensures memory { (headers : List (List ℕ)) → (a : About) → a.kind ≡ kind_of chooser.now → (e : Entry Task) → (h : Held) → RunsIn self.old call.pid e h → IsCall e call →
+            ChangesIn headers a (answered (world_of a self.old) (ask_in a self.old e h call) (mapped (ask_in a self.old e h call) want)) self.old self.new result }
+        ensures lives { Lives self.new.procs call.pid }
     {
         self.log.reserve(1)?;
         let number = self.procs.get(call.pid).space;
@@ -171,7 +177,8 @@ impl Parts {
     pub(crate) fn unmap(&mut self, call: Call) -> Result<(), AllocError>
         requires lives { Lives self.old.procs call.pid }
         requires room { has_room self.old.notes (length call.sent.items) ≡ true }
-        ensures { (a : About) → (e : Entry Task) → (h : Held) → RunsIn self.old call.pid e h → IsCall self.old.mem e h call →
+        ensures memory { self.new.mem ≡ self.old.mem }
+        ensures changes { (a : About) → (e : Entry Task) → (h : Held) → RunsIn self.old call.pid e h → IsCall e call →
             Changes a self.old e h call (unmaps (ask_in a self.old e h call) (hit h.maps (slice_index call.args 0) (slice_index call.args 1))) self.new result }
     {
         self.log.reserve(1)?;

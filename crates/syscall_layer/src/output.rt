@@ -1,8 +1,12 @@
 //! The bytes that a call gives.
 
-ghost use Rattle.std.specs.Prelude.{◌≡◌, ◌*◌, ◌^◌, ◌-◌, All, None, Some, IsSome, IfOk, OnErr, true, length, map, min, option_map};
+ghost use Rattle.std.specs.Prelude.{◌≡◌, ℕ, ◌*◌, ◌^◌, ◌-◌, All, None, Some, IsSome, IfOk, OnErr, true, List, length, map, min, option_map, Ok};
 ghost use Rattle.call_log.specs.Values.{written_value};
+ghost use Rattle.mmap_rules.specs.declared.owners.PageOwner.{PageOwner};
 ghost use Rattle.mmap_rules.specs.Owners.{owns};
+ghost use Rattle.region_watch.specs.Private.{physical};
+ghost use Rattle.machine_world.specs.Event.{put_got};
+ghost use Rattle.syscall_layer.specs.Reach.{in_pages};
 ghost use Rattle.file_calls.specs.Calls.{after};
 ghost use Rattle.file_calls.specs.Outcomes.{CanTake, HasEnds};
 ghost use Rattle.fd_tables.specs.declared.pipe_view.Ends.{Ends};
@@ -48,12 +52,13 @@ pub fn stray_put(owners: &Owners, pc: u32, got: &[Got]) -> Option<Access>
     None
 }
 
-/// Writes all ranges, in order.
-pub fn put(mem: &mut PhysMem, owners: &Owners, got: &[Got])
-    requires memory { length mem.old ≡ 4096 * length owners.now }
+/// Writes all ranges, in order. They lie in memory.
+pub fn put(mem: &mut PhysMem, got: &[Got])
     requires ranges { All IsRange (map written_value got.now) }
-    requires own { first_stray (owns owners.now true) (map written_value got.now) ≡ None }
-    ensures { Put owners.now mem.old mem.new (map written_value got.now) }
+    requires inside { (pages : ℕ) × (length mem.old ≡ 4096 * pages) × (first_stray (in_pages pages) (map written_value got.now) ≡ None) }
+    ensures all { (pages : ℕ) → length mem.old ≡ 4096 * pages → put_got (physical mem.old) (in_pages pages) (map written_value got.now) ≡ Ok (physical mem.new) }
+    ensures own { (table : List PageOwner) → length mem.old ≡ 4096 * length table → first_stray (owns table true) (map written_value got.now) ≡ None → Put table mem.old mem.new (map written_value got.now) }
+    ensures len { length mem.new ≡ length mem.old }
 {
     for range in got {
         mem.copy_in(range.addr, &range.bytes);

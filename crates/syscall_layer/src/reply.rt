@@ -1,12 +1,13 @@
 //! The reply of a system call after which its process lives.
 
-ghost use Rattle.std.specs.Prelude.{◌≡◌, ◌≤◌, ◌∷◌, All, None, Some, true, length, map, slice_get, slice_set};
+ghost use Rattle.std.specs.Prelude.{◌≡◌, ◌≤◌, ◌∷◌, All, None, Some, false, true, length, map, slice_get, slice_set};
 ghost use Rattle.call_log.specs.Notes.{has_room, weight_of};
 ghost use Rattle.call_log.specs.Values.{written_value};
 ghost use Rattle.mmap_rules.specs.Held.{Held, next_brk};
 ghost use Rattle.mmap_rules.specs.Space.{writable_in};
 ghost use Rattle.vfork_exec.specs.declared.entry.Entry.{Entry as Listed};
 ghost use Rattle.vfork_exec.specs.Procs.{Lives, value_at, with_value_at};
+ghost use Rattle.physical_turns.specs.Physical.{has_stray};
 ghost use Rattle.machine_world.specs.Rows.{row};
 ghost use Rattle.machine_world.specs.Event.{replied};
 ghost use Rattle.file_calls.specs.Calls.{IsChange, Replies as RepliesOnly, written_of};
@@ -15,7 +16,8 @@ ghost use Rattle.syscall_layer.specs.declared.task.Task.{Task};
 ghost use Rattle.syscall_layer.specs.Regular.{HasSpace};
 ghost use Rattle.syscall_layer.specs.Stands.{About};
 ghost use Rattle.syscall_layer.specs.Puts.{first_stray, IsRange};
-ghost use Rattle.syscall_layer.specs.Calls.{RunsIn, IsCall, ask_in, value_of, brk_of, noted_call, Replies, Changes, Gives};
+ghost use Rattle.syscall_layer.specs.Reach.{in_pages};
+ghost use Rattle.syscall_layer.specs.Calls.{RunsIn, IsCall, ask_in, value_of, brk_of, noted_call, Replies, Changes, Gives, GivesIn};
 
 use crate::call::home;
 use crate::effect::Effect;
@@ -99,7 +101,8 @@ impl Parts {
     pub(crate) fn reply(&mut self, call: Call, effect: Effect) -> Result<(), AllocError>
         requires lives { Lives self.old.procs call.pid }
         requires room { has_room self.old.notes (length call.sent.items) ≡ true }
-        ensures { (a : About) → (e : Listed Task) → (h : Held) → RunsIn self.old call.pid e h → Replies a self.old e h call effect self.new result }
+        ensures replies { (a : About) → (e : Listed Task) → (h : Held) → RunsIn self.old call.pid e h → Replies a self.old e h call effect self.new result }
+        ensures memory { self.new.mem ≡ self.old.mem }
     {
         self.log.reserve(1)?;
         let got = Vec::new(*self.console.allocator());
@@ -115,7 +118,8 @@ impl Parts {
         requires room { has_room self.old.notes (length call.sent.items) ≡ true }
         requires change { IsChange call.number }
         requires replies { RepliesOnly call self.old.files }
-        ensures { (a : About) → (e : Listed Task) → (h : Held) → RunsIn self.old call.pid e h → IsCall self.old.mem e h call → Changes a self.old e h call (row (ask_in a self.old e h call)) self.new result }
+        ensures changes { (a : About) → (e : Listed Task) → (h : Held) → RunsIn self.old call.pid e h → IsCall e call → Changes a self.old e h call (row (ask_in a self.old e h call)) self.new result }
+        ensures memory { self.new.mem ≡ self.old.mem }
     {
         self.log.reserve(1)?;
         let value = file_calls::change(&mut self.tree, &mut self.files, &mut self.console, &call)?;
@@ -124,22 +128,23 @@ impl Parts {
         Ok(())
     }
 
-    /// Gives a call its reply and its bytes, and notes it. There is room for its note.
+    /// Gives a call its reply and its bytes, which all lie in memory, and notes it. There is room for its note.
     pub(crate) fn give(&mut self, call: Call, outcome: Outcome) -> Result<(), AllocError>
         requires lives { Lives self.old.procs call.pid }
         requires room { has_room self.old.notes (weight_of call.sent.items (written_of outcome)) ≡ true }
         requires fits { CanTake self.old.files outcome.then }
         requires ends { HasEnds self.old.files call.table outcome.then }
         requires ranges { All IsRange (written_of outcome) }
-        requires own { (e : Listed Task) → (h : Held) → RunsIn self.old call.pid e h → first_stray (writable_in h.maps) (written_of outcome) ≡ None }
-        ensures gives { (a : About) → (e : Listed Task) → (h : Held) → RunsIn self.old call.pid e h → IsCall self.old.mem e h call → Gives a self.old e h call outcome self.new result }
+        requires inside { first_stray (in_pages (length self.old.regions)) (written_of outcome) ≡ None }
+        requires kept { has_stray self.old.notes ≡ false → (e : Listed Task) → (h : Held) → RunsIn self.old call.pid e h → first_stray (writable_in h.maps) (written_of outcome) ≡ None }
+        ensures gives { (a : About) → (e : Listed Task) → (h : Held) → RunsIn self.old call.pid e h → IsCall e call →
+            first_stray (writable_in h.maps) (written_of outcome) ≡ None → Gives a self.old e h call outcome self.new result }
+        ensures memory { (a : About) → (e : Listed Task) → (h : Held) → RunsIn self.old call.pid e h → IsCall e call → GivesIn a self.old e h call outcome self.new result }
         ensures lives { Lives self.new.procs call.pid }
     {
         self.log.reserve(1)?;
         follow(&mut self.files, call.table, outcome.then)?;
-        let number = self.procs.get(call.pid).space;
-        let owners = home(&self.spaces, number).owners();
-        put(&mut self.mem, owners, &outcome.got);
+        put(&mut self.mem, &outcome.got);
         finish(
             &mut self.procs,
             &mut self.log,

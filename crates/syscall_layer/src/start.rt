@@ -1,12 +1,13 @@
 //! The start of a program.
 
-ghost use Rattle.std.specs.Prelude.{◌≡◌, ◌<◌, ◌^◌, length};
+ghost use Rattle.std.specs.Prelude.{◌≡◌, ℕ, ◌<◌, ◌^◌, IfOk, List, Some, length, slice_get};
 ghost use Rattle.page_runs.specs.Choosers.{IsChooser, kind_of};
 ghost use Rattle.flat_loader.specs.Frame.{texts};
 ghost use Rattle.flat_loader.specs.Original.{flat_original};
 ghost use Rattle.vfork_exec.specs.Procs.{count, most_entries};
 ghost use Rattle.syscall_layer.specs.Regular.{most_first};
 ghost use Rattle.syscall_layer.specs.Refusals.{refusal_of};
+ghost use Rattle.syscall_layer.specs.InMemory.{header_of, LaysOn};
 ghost use Rattle.syscall_layer.specs.Starts.{Starts};
 
 use crate::parts::Parts;
@@ -52,7 +53,8 @@ impl Parts {
         requires few { count self.old.procs < most_entries }
         requires pids { self.old.procs.next_pid < most_first }
         requires spaces { length self.old.spaces < most_first }
-        ensures { Starts (kind_of chooser.now) index (flat_original flat.now) (texts args.now) self.old self.new result }
+        ensures starts { Starts (kind_of chooser.now) index (flat_original flat.now) (texts args.now) self.old self.new result }
+        ensures memory { (headers : List (List ℕ)) → slice_get headers index ≡ Some (header_of flat.now) → IfOk result (λ _. LaysOn headers self.old self.new) }
     {
         if self.spaces.reserve(1).is_err()
             || self.log.reserve(1).is_err()

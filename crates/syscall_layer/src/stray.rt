@@ -31,7 +31,8 @@ fn seen(access: Access) -> Seen
 impl Parts {
     /// Notes the access of a process that strays.
     pub fn note_stray(&mut self, pid: u32, access: Access) -> Result<(), AllocError>
-        ensures { NotesStray pid access self.old self.new result }
+        ensures strays { NotesStray pid access self.old self.new result }
+        ensures memory { self.new.mem ≡ self.old.mem }
     {
         self.log.reserve(1)?;
         keep(

@@ -9,22 +9,22 @@ use Rattle.syscall_layer.proofs.QuietRows.{quiet_row}
 use Rattle.syscall_layer.proofs.Outcomes.{made_by, files_in, change_serves, quiet_full}
 use Rattle.syscall_layer.proofs.answer.answer_change.Goals as goal
 
-pub returns-then-not-has_room : goal.returns-then-not-has_room
-returns-then-not-has_room c = λ a e h runs is.
+pub returns-then-not-has_room-clause-serves : goal.returns-then-not-has_room-clause-serves
+returns-then-not-has_room-clause-serves c = λ a e h runs is.
     let k = c.args.parts.now in
     let call = c.args.call in
     quiet_full a k e h call runs is _ (quiet_row (ask_in a k e h call) (ap is_change (sym is.number) ∙ c.requires.change)
     (c.requires.replies (ask_in a k e h call) (made_by a k e h call runs is) (files_in a k e h call refl)))
     (room_is (kept_of c.parts.inside) k c.parts.view_is (length call.sent.items) c.has_room.result false c.has_room.ensures c.if-not-has_room.true)
 
-pub returns-in_err-change : goal.returns-in_err-change
-returns-in_err-change c = λ a e h runs is.
+pub returns-in_err-change-clause-serves : goal.returns-in_err-change-clause-serves
+returns-in_err-change-clause-serves c = λ a e h runs is.
     let p = err_from_is_err_and c.from_residual.result c.from_residual.ensures.1 in
-    rw p.1 (c.in_err-change.ensures a e h runs is)
+    rw p.1 (c.in_err-change.ensures.changes a e h runs is)
 
-pub returns : goal.returns
-returns c = λ a e h runs is.
+pub returns-clause-serves : goal.returns-clause-serves
+returns-clause-serves c = λ a e h runs is.
     let k = c.args.parts.now in
     let call = c.args.call in
     let room = room_is (kept_of c.parts.inside) k c.parts.view_is (length call.sent.items) c.has_room.result true c.has_room.ensures c.if-not-has_room.false in
-    change_serves a k e h call runs is _ c.change.new.self (c.in_ok-change.ensures a e h runs is) room
+    change_serves a k e h call runs is _ c.change.new.self (c.in_ok-change.ensures.changes a e h runs is) room

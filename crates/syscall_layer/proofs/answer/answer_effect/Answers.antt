@@ -13,19 +13,19 @@ use Rattle.syscall_layer.proofs.Settled.{room_is}
 use Rattle.syscall_layer.proofs.Outcomes.{effect_serves, effect_full}
 use Rattle.syscall_layer.proofs.answer.answer_effect.Goals as goal
 
-pub returns-then-not-has_room : goal.returns-then-not-has_room
-returns-then-not-has_room c = λ a e h runs is.
+pub returns-then-not-has_room-clause-serves : goal.returns-then-not-has_room-clause-serves
+returns-then-not-has_room-clause-serves c = λ a e h runs is.
     let k = c.args.parts.now in
     let call = c.args.call in
     effect_full a k e h call runs is c.args.effect (room_is (kept_of c.parts.inside) k c.parts.view_is (length call.sent.items) c.has_room.result false c.has_room.ensures c.if-not-has_room.true)
 
-pub returns-in_err-reply : goal.returns-in_err-reply
-returns-in_err-reply c = λ a e h runs is.
+pub returns-in_err-reply-clause-serves : goal.returns-in_err-reply-clause-serves
+returns-in_err-reply-clause-serves c = λ a e h runs is.
     let p = err_from_is_err_and c.from_residual.result c.from_residual.ensures.1 in
-    rw p.1 (c.in_err-reply.ensures a e h runs)
+    rw p.1 (c.in_err-reply.ensures.replies a e h runs)
 
-pub returns : goal.returns
-returns c = λ a e h runs is.
+pub returns-clause-serves : goal.returns-clause-serves
+returns-clause-serves c = λ a e h runs is.
     let k = c.args.parts.now in
     let call = c.args.call in
     let f = c.args.effect in
@@ -33,4 +33,4 @@ returns c = λ a e h runs is.
     let done = effect_serves a k e h call runs is f room in
     let outcome = answered (world_of a k) (ask_in a k e h call) (replies (reply_of (ask_in a k e h call) f)) in
     subst (λ (served : Served). Answered a outcome k c.reply.new.self call.pid served) (sym c.served_by.ensures)
-    (subst (λ (new : Kept). Answered a outcome k new call.pid (served_by f)) (sym (c.in_ok-reply.ensures a e h runs)) done)
+    (subst (λ (new : Kept). Answered a outcome k new call.pid (served_by f)) (sym (c.in_ok-reply.ensures.replies a e h runs)) done)

@@ -11,15 +11,15 @@ use Rattle.syscall_layer.proofs.Settled.{room_is}
 use Rattle.syscall_layer.proofs.Outcomes.{exit_serves, exit_full}
 use Rattle.syscall_layer.proofs.answer.answer_exit.Goals as goal
 
-pub returns-then-not-has_room : goal.returns-then-not-has_room
-returns-then-not-has_room c = λ a e h runs is.
+pub returns-then-not-has_room-clause-serves : goal.returns-then-not-has_room-clause-serves
+returns-then-not-has_room-clause-serves c = λ a e h runs is.
     let k = c.args.parts.now in
     let call = c.args.call in
     exit_full a k e h call runs is (room_is (kept_of c.parts.inside) k c.parts.view_is (length call.sent.items) c.has_room.result false c.has_room.ensures c.if-not-has_room.true)
 
-pub returns : goal.returns
-returns c = λ a e h runs is.
+pub returns-clause-serves : goal.returns-clause-serves
+returns-clause-serves c = λ a e h runs is.
     let k = c.args.parts.now in
     let call = c.args.call in
     let room = room_is (kept_of c.parts.inside) k c.parts.view_is (length call.sent.items) c.has_room.result true c.has_room.ensures c.if-not-has_room.false in
-    subst (λ (new : Kept). Answered a (exited (world_of a k) (ask_in a k e h call)) k new call.pid Ended) (sym (c.in_ok-exit.ensures e h runs)) (exit_serves a k e h call runs is room)
+    subst (λ (new : Kept). Answered a (exited (world_of a k) (ask_in a k e h call)) k new call.pid Ended) (sym (c.in_ok-exit.ensures.exits e h runs)) (exit_serves a k e h call runs is room)

@@ -1,55 +1,100 @@
--- The bytes stray, find no room, or are given.
-use Rattle.std.proofs.Common.{List, true, false, sym, ap, ◌∙◌}
-use Rattle.std.specs.Prelude.{map, option_map}
+-- The bytes are beyond reach, find no room, or are given.
+use Rattle.std.proofs.Common.{◌≡◌, Some, None, true, false, sym, subst, ◌∙◌}
+use Rattle.std.specs.Prelude.{option_map, length, Ok, Err}
 use Rattle.std.proofs.lemmas.Result.{err_from_is_err_and}
-use Rattle.call_log.specs.declared.note.Got.{Got}
-use Rattle.call_log.specs.Notes.{weight_of, has_room}
-use Rattle.call_log.specs.Values.{written_value}
-use Rattle.mmap_rules.specs.Space.{writable_in}
 use Rattle.file_calls.specs.Calls.{written_of}
+use Rattle.machine_world.specs.Asks.{replies}
+use Rattle.physical_turns.specs.Physical.{After, answered_in}
+use Rattle.syscall_layer.specs.declared.reach.Reach.{Reach}
+use Rattle.syscall_layer.specs.declared.answer.Served.TheVariants.{Replied, LogFull}
+use Rattle.syscall_layer.specs.Regular.{Regular}
 use Rattle.syscall_layer.specs.Inside.{kept_of}
+use Rattle.syscall_layer.specs.Reach.{writable}
 use Rattle.syscall_layer.specs.Puts.{first_stray, access_at}
-use Rattle.syscall_layer.proofs.Settled.{room_is}
-use Rattle.syscall_layer.proofs.Puts.{none_strays}
-use Rattle.syscall_layer.proofs.Outcomes.{output_serves, output_full, output_strays}
+use Rattle.syscall_layer.specs.InMemory.{physical_of, ServesIn}
+use Rattle.syscall_layer.specs.Calls.{ask_in, given}
+use Rattle.syscall_layer.proofs.Runs.{runs_in}
+use Rattle.syscall_layer.proofs.Families.{can_run_lives}
+use Rattle.syscall_layer.proofs.Outcomes.{output_serves, output_full}
+use Rattle.syscall_layer.proofs.CallsIn.{in_reach}
+use Rattle.syscall_layer.proofs.GivenMemory.{given_serves_in, given_full_in, given_strays_in, beyond, reach_inside, fits_unstrayed, strays_serve, found_by, none_beyond, room_by}
 use Rattle.syscall_layer.proofs.answer.answer_given.Goals as goal
 
 pub returns-in-Some-clause-serves : goal.returns-in-Some-clause-serves
-returns-in-Some-clause-serves c = λ a e h runs is.
+returns-in-Some-clause-serves c = λ own a e h runs is.
     let k = c.args.parts.now in
-    let call = c.args.call in
     let o = c.args.outcome in
-    let found = sym c.in-Some.is ∙ c.stray_of.ensures e h runs
-    ∙ ap (λ (xs : List Got). option_map (access_at e.value.regs.pc) (first_stray (writable_in h.maps) (map written_value xs))) c.deref.ensures.value in
-    output_strays a k e h call runs is o c.in-Some.access found
+    let found = subst (λ (r : Reach). Some c.in-Some.access ≡ option_map (access_at e.value.regs.pc) (first_stray (writable r (length k.regions) h) (written_of o))) own (sym c.in-Some.is ∙ found_by o _ c.deref.ensures.value c.args.reach k c.args.call.pid c.stray_of.result c.stray_of.ensures e h runs) in
+    let strays = c.beyond_reach.ensures.strays own in
+    strays_serve a k e h c.args.call runs is o c.in-Some.access found c.beyond_reach.new.parts c.beyond_reach.result strays.0 strays.1
+
+pub returns-in-Some-clause-memory : goal.returns-in-Some-clause-memory
+returns-in-Some-clause-memory c = λ headers a e h runs is.
+    let k = c.args.parts.now in
+    let o = c.args.outcome in
+    beyond headers a (answered_in (physical_of headers a k) (ask_in a k e h c.args.call) (replies (given (ask_in a k e h c.args.call) o))) k c.beyond_reach.new.parts c.args.call.pid
+    c.args.reach c.in-Some.access c.beyond_reach.result c.beyond_reach.ensures.strays (λ whole.
+    let found = subst (λ (r : Reach). Some c.in-Some.access ≡ option_map (access_at e.value.regs.pc) (first_stray (writable r (length k.regions) h) (written_of o))) whole (sym c.in-Some.is ∙ found_by o _ c.deref.ensures.value c.args.reach k c.args.call.pid c.stray_of.result c.stray_of.ensures e h runs) in
+    subst (λ (x : After). ServesIn headers a x k c.beyond_reach.new.parts c.args.call.pid c.beyond_reach.result) (given_strays_in headers a k e h c.args.call runs is o c.in-Some.access found)
+    (c.beyond_reach.ensures.memory whole headers a e h runs))
 
 pub returns-then-not-has_room_with-clause-serves : goal.returns-then-not-has_room_with-clause-serves
-returns-then-not-has_room_with-clause-serves c = λ a e h runs is.
+returns-then-not-has_room_with-clause-serves c = λ own a e h runs is.
     let k = c.args.parts.now in
-    let call = c.args.call in
     let o = c.args.outcome in
-    let found = c.stray_of.ensures e h runs
-    ∙ ap (λ (xs : List Got). option_map (access_at e.value.regs.pc) (first_stray (writable_in h.maps) (map written_value xs))) c.deref.ensures.value in
-    let asked = c.has_room_with.ensures ∙ ap (λ (xs : List Got). has_room c.parts.inside.log.notes (weight_of call.sent.items (map written_value xs))) c.deref-2.ensures.value in
-    let room = room_is (kept_of c.parts.inside) k c.parts.view_is (weight_of call.sent.items (written_of o)) c.has_room_with.result false asked c.if-not-has_room_with.true in
-    output_full a k e h call runs is o (none_strays e.value.regs.pc _ _ found c.in_default.is) room
+    let fits = subst (λ (r : Reach). first_stray (writable r (length k.regions) h) (written_of o) ≡ None) own (none_beyond o _ c.deref.ensures.value c.args.reach k c.args.call.pid c.stray_of.result c.stray_of.ensures e h runs c.in_default.is) in
+    output_full a k e h c.args.call runs is o fits (room_by o _ c.deref-2.ensures.value (kept_of c.parts.inside) k c.parts.view_is c.args.call.sent.items c.has_room_with.result false c.has_room_with.ensures c.if-not-has_room_with.true)
 
-pub give-requires-clause-own : goal.give-requires-clause-own
-give-requires-clause-own c = λ e h runs.
-    let found = c.stray_of.ensures e h runs
-    ∙ ap (λ (xs : List Got). option_map (access_at e.value.regs.pc) (first_stray (writable_in h.maps) (map written_value xs))) c.deref.ensures.value in
-    none_strays e.value.regs.pc _ _ found c.in_default.is
+pub returns-then-not-has_room_with-clause-memory : goal.returns-then-not-has_room_with-clause-memory
+returns-then-not-has_room_with-clause-memory c = λ headers a e h runs is.
+    let k = c.args.parts.now in
+    let regular = subst Regular c.parts.view_is c.parts.invariant.0 in
+    let o = c.args.outcome in
+    let fits = reach_inside k regular e.value.space h runs.home c.args.reach (written_of o) (none_beyond o _ c.deref.ensures.value c.args.reach k c.args.call.pid c.stray_of.result c.stray_of.ensures e h runs c.in_default.is) in
+    in_reach headers a (answered_in (physical_of headers a k) (ask_in a k e h c.args.call) (replies (given (ask_in a k e h c.args.call) o))) k k c.args.call.pid c.args.reach (Ok LogFull)
+    (given_full_in headers a k e h c.args.call runs is o fits (room_by o _ c.deref-2.ensures.value (kept_of c.parts.inside) k c.parts.view_is c.args.call.sent.items c.has_room_with.result false c.has_room_with.ensures c.if-not-has_room_with.true))
+
+pub give-requires-clause-inside : goal.give-requires-clause-inside
+give-requires-clause-inside c =
+    let k = c.args.parts.now in
+    let o = c.args.outcome in
+    let regular = subst Regular c.parts.view_is c.parts.invariant.0 in
+    let r = runs_in k c.args.call.pid regular (can_run_lives k.procs c.args.call.pid c.requires.ready) in
+    reach_inside k regular r.0.value.space r.1.0 r.1.1.home c.args.reach (written_of c.args.outcome) (none_beyond o _ c.deref.ensures.value c.args.reach k c.args.call.pid c.stray_of.result c.stray_of.ensures r.0 r.1.0 r.1.1 c.in_default.is)
+
+pub give-requires-clause-kept : goal.give-requires-clause-kept
+give-requires-clause-kept c = λ unstrayed e h runs.
+    let k = c.args.parts.now in
+    let o = c.args.outcome in
+    fits_unstrayed c.args.reach c.args.parts.now.notes (length c.args.parts.now.regions) h (written_of c.args.outcome) c.requires.strayed (none_beyond o _ c.deref.ensures.value c.args.reach k c.args.call.pid c.stray_of.result c.stray_of.ensures e h runs c.in_default.is) unstrayed
 
 pub returns-in_err-give-clause-serves : goal.returns-in_err-give-clause-serves
-returns-in_err-give-clause-serves c = λ a e h runs is.
+returns-in_err-give-clause-serves c = λ own a e h runs is.
+    let k = c.args.parts.now in
+    let o = c.args.outcome in
     let p = err_from_is_err_and c.from_residual.result c.from_residual.ensures.1 in
-    rw p.1 (c.in_err-give.ensures.gives a e h runs is)
+    let fits = subst (λ (r : Reach). first_stray (writable r (length c.args.parts.now.regions) h) (written_of c.args.outcome) ≡ None) own (none_beyond o _ c.deref.ensures.value c.args.reach k c.args.call.pid c.stray_of.result c.stray_of.ensures e h runs c.in_default.is) in
+    rw p.1 (c.in_err-give.ensures.gives a e h runs is fits)
+
+pub returns-in_err-give-clause-memory : goal.returns-in_err-give-clause-memory
+returns-in_err-give-clause-memory c = λ headers a e h runs is.
+    let p = err_from_is_err_and c.from_residual.result c.from_residual.ensures.1 in
+    let k = c.args.parts.now in
+    rw p.1
+    (in_reach headers a (answered_in (physical_of headers a k) (ask_in a k e h c.args.call) (replies (given (ask_in a k e h c.args.call) c.args.outcome))) k c.give.new.self c.args.call.pid
+    c.args.reach (Err p.0) (c.in_err-give.ensures.memory a e h runs is))
 
 pub returns-clause-serves : goal.returns-clause-serves
-returns-clause-serves c = λ a e h runs is.
+returns-clause-serves c = λ own a e h runs is.
     let k = c.args.parts.now in
-    let call = c.args.call in
     let o = c.args.outcome in
-    let asked = c.has_room_with.ensures ∙ ap (λ (xs : List Got). has_room c.parts.inside.log.notes (weight_of call.sent.items (map written_value xs))) c.deref-2.ensures.value in
-    let room = room_is (kept_of c.parts.inside) k c.parts.view_is (weight_of call.sent.items (written_of o)) c.has_room_with.result true asked c.if-not-has_room_with.false in
-    output_serves a k e h call runs is o c.give.new.self (c.in_ok-give.ensures.gives a e h runs is) room
+    let fits = subst (λ (r : Reach). first_stray (writable r (length k.regions) h) (written_of o) ≡ None) own (none_beyond o _ c.deref.ensures.value c.args.reach k c.args.call.pid c.stray_of.result c.stray_of.ensures e h runs c.in_default.is) in
+    output_serves a k e h c.args.call runs is o c.give.new.self (c.in_ok-give.ensures.gives a e h runs is fits) (room_by o _ c.deref-2.ensures.value (kept_of c.parts.inside) k c.parts.view_is c.args.call.sent.items c.has_room_with.result true c.has_room_with.ensures c.if-not-has_room_with.false)
+
+pub returns-clause-memory : goal.returns-clause-memory
+returns-clause-memory c = λ headers a e h runs is.
+    let k = c.args.parts.now in
+    let regular = subst Regular c.parts.view_is c.parts.invariant.0 in
+    let o = c.args.outcome in
+    in_reach headers a (answered_in (physical_of headers a k) (ask_in a k e h c.args.call) (replies (given (ask_in a k e h c.args.call) o))) k c.give.new.self c.args.call.pid c.args.reach (Ok Replied)
+    (given_serves_in headers a k e h c.args.call runs is o regular c.give.new.self (c.in_ok-give.ensures.memory a e h runs is) (room_by o _ c.deref-2.ensures.value (kept_of c.parts.inside) k c.parts.view_is c.args.call.sent.items c.has_room_with.result true c.has_room_with.ensures c.if-not-has_room_with.false) c.in_ok-give.ensures.lives)

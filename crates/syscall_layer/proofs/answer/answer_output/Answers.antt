@@ -1,14 +1,36 @@
 -- What is given is the row of the call.
-use Rattle.std.proofs.Common.{refl}
+use Rattle.std.proofs.Common.{refl, sym, subst}
+use Rattle.std.specs.Prelude.{Err}
+use Rattle.std.proofs.lemmas.Result.{err_from_is_err_and}
+use Rattle.machine_world.specs.Asks.{Row}
+use Rattle.machine_world.specs.Rows.{row}
+use Rattle.physical_turns.specs.Physical.{answered_in}
+use Rattle.syscall_layer.specs.InMemory.{physical_of, InReach}
 use Rattle.syscall_layer.specs.Calls.{ask_in}
 use Rattle.syscall_layer.proofs.Outcomes.{made_by, files_in, tree_in, output_answers}
+use Rattle.syscall_layer.proofs.CallsIn.{in_reach}
 use Rattle.syscall_layer.proofs.answer.answer_output.Goals as goal
 
-pub returns : goal.returns
-returns c = λ a e h runs is.
+pub returns-in_err-outcome-clause-memory : goal.returns-in_err-outcome-clause-memory
+returns-in_err-outcome-clause-memory c = λ headers a e h runs is.
+    let p = err_from_is_err_and c.from_residual.result c.from_residual.ensures.1 in
+    let k = c.args.parts.now in
+    rw p.1 (in_reach headers a (answered_in (physical_of headers a k) (ask_in a k e h c.args.call) (row (ask_in a k e h c.args.call))) k k c.args.call.pid c.args.reach (Err p.0) refl)
+
+pub returns-clause-serves : goal.returns-clause-serves
+returns-clause-serves c = λ own a e h runs is.
     let k = c.args.parts.now in
     let call = c.args.call in
     let o = c.in_ok-outcome.outcome in
     let gives = c.in_ok-outcome.ensures.gives (ask_in a k e h call) (made_by a k e h call runs is)
     (tree_in a k e h call refl) (files_in a k e h call refl) in
-    output_answers a k e h call runs is o c.answer_given.result c.answer_given.new.parts gives (c.answer_given.ensures.serves a e h runs is)
+    output_answers a k e h call runs is o c.answer_given.result c.answer_given.new.parts gives (c.answer_given.ensures.serves own a e h runs is)
+
+pub returns-clause-memory : goal.returns-clause-memory
+returns-clause-memory c = λ headers a e h runs is.
+    let k = c.args.parts.now in
+    let call = c.args.call in
+    let gives = c.in_ok-outcome.ensures.gives (ask_in a k e h call) (made_by a k e h call runs is)
+    (tree_in a k e h call refl) (files_in a k e h call refl) in
+    subst (λ (r : Row). InReach c.args.reach headers a (answered_in (physical_of headers a k) (ask_in a k e h call) r) k c.answer_given.new.parts call.pid c.answer_given.result) (sym gives)
+    (c.answer_given.ensures.memory headers a e h runs is)

@@ -16,8 +16,8 @@ use Rattle.syscall_layer.proofs.MapRows.{row_munmap, quiet_unmaps}
 use Rattle.syscall_layer.proofs.Outcomes.{made_by, change_serves, quiet_full}
 use Rattle.syscall_layer.proofs.answer.answer_unmap.Goals as goal
 
-pub returns-then-not-has_room : goal.returns-then-not-has_room
-returns-then-not-has_room c = λ a e h runs is.
+pub returns-then-not-has_room-clause-serves : goal.returns-then-not-has_room-clause-serves
+returns-then-not-has_room-clause-serves c = λ a e h runs is.
     let k = c.args.parts.now in
     let call = c.args.call in
     let rows = row_munmap call (ask_in a k e h call) (made_by a k e h call runs is) c.requires.munmap in
@@ -25,16 +25,16 @@ returns-then-not-has_room c = λ a e h runs is.
     (subst Quiet (sym rows) (quiet_unmaps (ask_in a k e h call) (hit h.maps (slice_index call.args 0) (slice_index call.args 1))))
     (room_is (kept_of c.parts.inside) k c.parts.view_is (length call.sent.items) c.has_room.result false c.has_room.ensures c.if-not-has_room.true)
 
-pub returns-in_err-unmap : goal.returns-in_err-unmap
-returns-in_err-unmap c = λ a e h runs is.
+pub returns-in_err-unmap-clause-serves : goal.returns-in_err-unmap-clause-serves
+returns-in_err-unmap-clause-serves c = λ a e h runs is.
     let p = err_from_is_err_and c.from_residual.result c.from_residual.ensures.1 in
-    rw p.1 (c.in_err-unmap.ensures a e h runs is)
+    rw p.1 (c.in_err-unmap.ensures.changes a e h runs is)
 
-pub returns : goal.returns
-returns c = λ a e h runs is.
+pub returns-clause-serves : goal.returns-clause-serves
+returns-clause-serves c = λ a e h runs is.
     let k = c.args.parts.now in
     let call = c.args.call in
     let room = room_is (kept_of c.parts.inside) k c.parts.view_is (length call.sent.items) c.has_room.result true c.has_room.ensures c.if-not-has_room.false in
     let rows = row_munmap call (ask_in a k e h call) (made_by a k e h call runs is) c.requires.munmap in
     subst (λ (r : Row). Answered a (answered (world_of a k) (ask_in a k e h call) r) k c.unmap.new.self call.pid Replied) (sym rows)
-    (change_serves a k e h call runs is _ c.unmap.new.self (c.in_ok-unmap.ensures a e h runs is) room)
+    (change_serves a k e h call runs is _ c.unmap.new.self (c.in_ok-unmap.ensures.changes a e h runs is) room)

@@ -26,8 +26,8 @@ invariant_of-parts c =
       c.parts.invariant.1,
     )
 
-pub returns : goal.returns
-returns c = λ a e h runs is.
+pub returns-clause-waits : goal.returns-clause-waits
+returns-clause-waits c = λ a e h runs is.
     let k = c.args.parts.now in
     let old = kept_of c.parts.inside in
     let pid = c.args.call.now.pid in

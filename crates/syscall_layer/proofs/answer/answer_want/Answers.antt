@@ -1,28 +1,57 @@
 -- What is mapped, or a log without room.
-use Rattle.std.proofs.Common.{true, false, length}
+use Rattle.std.proofs.Common.{true, false, length, refl}
 use Rattle.std.proofs.lemmas.Result.{err_from_is_err_and}
+use Rattle.machine_world.specs.MapCalls.{mapped}
+use Rattle.machine_world.specs.Event.{answered}
+use Rattle.physical_turns.proofs.InMemory.{answered_begins}
+use Rattle.syscall_layer.specs.declared.answer.Served.TheVariants.{LogFull}
 use Rattle.syscall_layer.specs.Inside.{kept_of}
+use Rattle.syscall_layer.specs.Stands.{world_of}
 use Rattle.syscall_layer.specs.Calls.{ask_in}
 use Rattle.syscall_layer.proofs.Settled.{room_is}
+use Rattle.syscall_layer.proofs.QuietRows.{quiet_mute}
 use Rattle.syscall_layer.proofs.MapRows.{quiet_mapped}
+use Rattle.syscall_layer.proofs.MapMemory.{changed_goes}
 use Rattle.syscall_layer.proofs.Outcomes.{change_serves, quiet_full}
+use Rattle.syscall_layer.proofs.PlainMemory.{answered_never, plain_goes}
 use Rattle.syscall_layer.proofs.answer.answer_want.Goals as goal
 
-pub returns-then-not-has_room : goal.returns-then-not-has_room
-returns-then-not-has_room g c = λ a kind e h runs is.
+pub returns-then-not-has_room-clause-serves : goal.returns-then-not-has_room-clause-serves
+returns-then-not-has_room-clause-serves g c = λ a kind unstrayed e h runs is.
     let k = c.args.parts.now in
     let call = c.args.call in
     quiet_full a k e h call runs is _ (quiet_mapped (ask_in a k e h call) c.args.want)
     (room_is (kept_of c.parts.inside) k c.parts.view_is (length call.sent.items) c.has_room.result false c.has_room.ensures c.if-not-has_room.true)
 
-pub returns-in_err-map : goal.returns-in_err-map
-returns-in_err-map g c = λ a kind e h runs is.
-    let p = err_from_is_err_and c.from_residual.result c.from_residual.ensures.1 in
-    rw p.1 (c.in_err-map.ensures a kind e h runs is)
+pub returns-then-not-has_room-clause-memory : goal.returns-then-not-has_room-clause-memory
+returns-then-not-has_room-clause-memory g c = λ headers a kind e h runs is.
+    let k = c.args.parts.now in
+    let call = c.args.call in
+    let ask = ask_in a k e h call in
+    let rows = mapped ask c.args.want in
+    let quiet = quiet_mapped ask c.args.want in
+    plain_goes headers a k k refl call.pid (answered (world_of a k) ask rows) LogFull
+    (quiet_full a k e h call runs is rows quiet
+    (room_is (kept_of c.parts.inside) k c.parts.view_is (length call.sent.items) c.has_room.result false c.has_room.ensures c.if-not-has_room.true))
+    (answered_begins (world_of a k) ask rows) (answered_never (world_of a k) ask rows (quiet_mute rows quiet))
 
-pub returns : goal.returns
-returns g c = λ a kind e h runs is.
+pub returns-in_err-map-clause-serves : goal.returns-in_err-map-clause-serves
+returns-in_err-map-clause-serves g c = λ a kind unstrayed e h runs is.
+    let p = err_from_is_err_and c.from_residual.result c.from_residual.ensures.1 in
+    rw p.1 (c.in_err-map.ensures.changes a kind unstrayed e h runs is)
+
+pub returns-in_err-map-clause-memory : goal.returns-in_err-map-clause-memory
+returns-in_err-map-clause-memory g c = λ headers a kind e h runs is.
+    let p = err_from_is_err_and c.from_residual.result c.from_residual.ensures.1 in
+    rw p.1 (c.in_err-map.ensures.memory headers a kind e h runs is)
+
+pub returns-clause-serves : goal.returns-clause-serves
+returns-clause-serves g c = λ a kind unstrayed e h runs is.
     let k = c.args.parts.now in
     let call = c.args.call in
     let room = room_is (kept_of c.parts.inside) k c.parts.view_is (length call.sent.items) c.has_room.result true c.has_room.ensures c.if-not-has_room.false in
-    change_serves a k e h call runs is _ c.map.new.self (c.in_ok-map.ensures a kind e h runs is) room
+    change_serves a k e h call runs is _ c.map.new.self (c.in_ok-map.ensures.changes a kind unstrayed e h runs is) room
+
+pub returns-clause-memory : goal.returns-clause-memory
+returns-clause-memory g c = λ headers a kind e h runs is.
+    changed_goes headers a _ c.args.parts.now c.map.new.self c.args.call.pid (c.in_ok-map.ensures.memory headers a kind e h runs is) c.in_ok-map.ensures.lives

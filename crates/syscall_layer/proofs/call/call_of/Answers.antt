@@ -1,18 +1,37 @@
 -- The call's parts are those of the process.
-use Rattle.std.proofs.Common.{sym, ap, subst, ◌∙◌, List, Option, Err}
+use Rattle.std.proofs.Common.{◌≡◌, length, sym, ap, subst, ◌∙◌, List, Option, Ok, Err}
 use Rattle.std.specs.Prelude.{slice_get, slice_index}
+use Rattle.call_log.specs.Sent.{sent}
 use Rattle.mmap_rules.specs.Held.{Held}
+use Rattle.mmap_rules.specs.declared.owners.PageOwner.{PageOwner}
+use Rattle.region_watch.specs.Private.{only, physical, own_bytes}
+use Rattle.vfork_exec.specs.Procs.{Lives}
+use Rattle.machine_world.specs.Event.{number_of, args_of}
 use Rattle.file_calls.specs.declared.call.Call.{Call}
 use Rattle.syscall_layer.specs.Kept.{Kept}
 use Rattle.syscall_layer.specs.Inside.{kept_of}
 use Rattle.syscall_layer.specs.Calls.{RunsIn, IsCall, Made}
-use Rattle.syscall_layer.proofs.Runs.{call_is, unread_is}
+use Rattle.syscall_layer.specs.Reach.{readable, whole_table}
+use Rattle.syscall_layer.proofs.Runs.{has_space, memory_reached, bytes_reached, home_at, sent_is, call_is, unread_is}
 use Rattle.syscall_layer.proofs.call.call_of.Goals as goal
+
+pub read_sent-requires : goal.read_sent-requires
+read_sent-requires c =
+    let k = kept_of c.parts.inside in
+    let number = c.get-task.result.now.space in
+    let whole = subst (λ (s : Kept). c.args.whole.now ≡ whole_table (length s.regions)) (sym c.parts.view_is) c.requires.whole in
+    let lives = subst (λ (s : Kept). Lives s.procs c.args.pid) (sym c.parts.view_is) c.requires.lives in
+    let live = has_space k c.args.pid c.get-task.result.now c.parts.invariant.0 lives c.get-task.ensures in
+    let reached = c.table_of-owners.ensures live.held (ap (λ (ss : List (Option Held)). slice_get ss number) c.deref.ensures.value ∙ live.there) in
+    record { memory = memory_reached k c.args.reach c.args.whole.now whole live.held c.table_of-owners.result.now reached c.parts.invariant.0 }
 
 pub returns-in-Ok-clause-made : goal.returns-in-Ok-clause-made
 returns-in-Ok-clause-made c = λ e h runs.
     let k = kept_of c.parts.inside in
-    let home = sym (ap (λ (ss : List (Option Held)). slice_get ss c.get-task.result.now.space) c.deref.ensures.value) ∙ c.home-space.ensures in
+    let t = c.get-task.result.now in
+    let args = c.args_of-args.result in
+    let whole = subst (λ (s : Kept). c.args.whole.now ≡ whole_table (length s.regions)) (sym c.parts.view_is) c.requires.whole in
+    let table : List PageOwner = c.table_of-owners.result.now in
     let from : Call = record {
       pid = c.args.pid;
       parent = c.parent.result;
@@ -21,14 +40,27 @@ returns-in-Ok-clause-made c = λ e h runs.
       args = c.args_of-args.result;
       sent = c.in-Ok.sent;
     } in
-    subst (λ (now : Kept). RunsIn now c.args.pid e h → IsCall now.mem e h from) c.parts.view_is
-    (λ r. call_is k c.args.pid e h r c.get-task.result.now c.get-task.ensures c.home-space.result.now home c.args_of-args.result c.args_of-args.ensures c.parent.result c.parent.ensures c.in-Ok.sent c.in-Ok.ensures)
+    subst (λ (now : Kept). RunsIn now c.args.pid e h → IsCall e from
+    × (sent (number_of e.value.regs) (args_of e.value.regs) (only (readable c.args.reach (length now.regions) h) (physical now.mem)) ≡ Ok c.in-Ok.sent.items)) c.parts.view_is
+    (λ r.
+    let there = ap (λ (ss : List (Option Held)). slice_get ss t.space) c.deref.ensures.value ∙ home_at k c.args.pid e h r t c.get-task.ensures in
+    let bytes = bytes_reached k c.args.reach c.args.whole.now whole h table (c.table_of-owners.ensures h there) in
+    let read : sent (slice_index t.regs.x 17) args (own_bytes table k.mem) ≡ Ok c.in-Ok.sent.items = c.in-Ok.ensures in (
+      call_is k c.args.pid e h r t c.get-task.ensures args c.args_of-args.ensures c.parent.result c.parent.ensures c.in-Ok.sent,
+      sent_is k c.args.pid e h r t c.get-task.ensures args c.args_of-args.ensures _ _ bytes ∙ read,
+    ))
     runs
 
 pub returns-in-Err-clause-made : goal.returns-in-Err-clause-made
 returns-in-Err-clause-made c = λ e h runs.
     let k = kept_of c.parts.inside in
-    let home = sym (ap (λ (ss : List (Option Held)). slice_get ss c.get-task.result.now.space) c.deref.ensures.value) ∙ c.home-space.ensures in
-    subst (λ (now : Kept). RunsIn now c.args.pid e h → Made now.mem e h (Err c.in-Err.unread)) c.parts.view_is
-    (λ r. unread_is k c.args.pid e h r c.get-task.result.now c.get-task.ensures c.home-space.result.now home c.args_of-args.result c.args_of-args.ensures c.in-Err.unread c.in-Err.ensures)
+    let t = c.get-task.result.now in
+    let args = c.args_of-args.result in
+    let whole = subst (λ (s : Kept). c.args.whole.now ≡ whole_table (length s.regions)) (sym c.parts.view_is) c.requires.whole in
+    let table : List PageOwner = c.table_of-owners.result.now in
+    subst (λ (now : Kept). RunsIn now c.args.pid e h → Made (only (readable c.args.reach (length now.regions) h) (physical now.mem)) e (Err c.in-Err.unread)) c.parts.view_is
+    (λ r.
+    let there = ap (λ (ss : List (Option Held)). slice_get ss t.space) c.deref.ensures.value ∙ home_at k c.args.pid e h r t c.get-task.ensures in
+    let bytes = bytes_reached k c.args.reach c.args.whole.now whole h table (c.table_of-owners.ensures h there) in
+    unread_is k c.args.pid e h r t c.get-task.ensures args c.args_of-args.ensures _ _ bytes c.in-Err.unread c.in-Err.ensures)
     runs

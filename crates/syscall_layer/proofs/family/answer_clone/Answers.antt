@@ -9,29 +9,29 @@ use Rattle.syscall_layer.proofs.Settled.{room_is}
 use Rattle.syscall_layer.proofs.Forks.{flags_serve, full_serves, fork_has_no_room, fork_serves}
 use Rattle.syscall_layer.proofs.family.answer_clone.Goals as goal
 
-pub returns-then-call-ne-VFORK_FLAGS : goal.returns-then-call-ne-VFORK_FLAGS
-returns-then-call-ne-VFORK_FLAGS c = λ a e h runs is.
+pub returns-then-call-ne-VFORK_FLAGS-clause-serves : goal.returns-then-call-ne-VFORK_FLAGS-clause-serves
+returns-then-call-ne-VFORK_FLAGS-clause-serves c = λ a e h runs is.
     flags_serve a c.args.parts.now e h c.args.call is c.if-call-ne-VFORK_FLAGS.true c.refusal.result c.refusal.ensures c.answer_effect.new.parts c.answer_effect.result
-    (c.answer_effect.ensures a e h runs is)
+    (c.answer_effect.ensures.serves a e h runs is)
 
-pub returns-then-full : goal.returns-then-full
-returns-then-full c = λ a e h runs is.
+pub returns-then-full-clause-serves : goal.returns-then-full-clause-serves
+returns-then-full-clause-serves c = λ a e h runs is.
     let many = ap (λ (x : Kept). nat_le most_entries (count x.procs)) (sym c.parts.view_is) ∙ sym c.full.ensures.full ∙ c.if-full.true in
     full_serves a c.args.parts.now e h c.args.call is c.if-call-ne-VFORK_FLAGS.false many c.refusal-then-full.result c.refusal-then-full.ensures
-    c.answer_effect-then-full.new.parts c.answer_effect-then-full.result (c.answer_effect-then-full.ensures a e h runs is)
+    c.answer_effect-then-full.new.parts c.answer_effect-then-full.result (c.answer_effect-then-full.ensures.serves a e h runs is)
 
-pub returns-then-not-has_room : goal.returns-then-not-has_room
-returns-then-not-has_room c = λ a e h runs is.
+pub returns-then-not-has_room-clause-serves : goal.returns-then-not-has_room-clause-serves
+returns-then-not-has_room-clause-serves c = λ a e h runs is.
     let k = c.args.parts.now in
     let call = c.args.call in
     let few = ap (λ (x : Kept). nat_le most_entries (count x.procs)) (sym c.parts.view_is) ∙ sym c.full.ensures.full ∙ c.if-full.false in
     fork_has_no_room a k e h call is c.if-call-ne-VFORK_FLAGS.false few
     (room_is (kept_of c.parts.inside) k c.parts.view_is (length call.sent.items) c.has_room.result false c.has_room.ensures c.if-not-has_room.true)
 
-pub returns : goal.returns
-returns c = λ a e h runs is.
+pub returns-clause-serves : goal.returns-clause-serves
+returns-clause-serves c = λ a e h runs is.
     let k = c.args.parts.now in
     let call = c.args.call in
     let few = ap (λ (x : Kept). nat_le most_entries (count x.procs)) (sym c.parts.view_is) ∙ sym c.full.ensures.full ∙ c.if-full.false in
     let room = room_is (kept_of c.parts.inside) k c.parts.view_is (length call.sent.items) c.has_room.result true c.has_room.ensures c.if-not-has_room.false in
-    fork_serves a k e h call is c.if-call-ne-VFORK_FLAGS.false few (subst IsRegular c.parts.view_is c.parts.invariant).0 runs.lives room c.fork.new.self (c.in_ok-fork.ensures e h runs)
+    fork_serves a k e h call is c.if-call-ne-VFORK_FLAGS.false few (subst IsRegular c.parts.view_is c.parts.invariant).0 runs.lives room c.fork.new.self (c.in_ok-fork.ensures.forks e h runs)

@@ -2,14 +2,14 @@
 use Rattle.std.proofs.Common.{ℕ, ◌+◌, List, arith}
 use Rattle.std.proofs.lemmas.Result.{err_from_is_err_and}
 use Rattle.call_log.specs.Sent.{read_span, string_from}
-use Rattle.syscall_layer.specs.Stands.{private_bytes}
+use Rattle.region_watch.specs.Private.{own_bytes}
 use Rattle.syscall_layer.proofs.ReadStrings.{byte_span, byte_in, string_full, string_strays, string_passes, string_ends, string_on, unread_number}
 use Rattle.syscall_layer.proofs.reading.add_string.Goals as goal
 
 pub returns-in_err-byte : goal.returns-in_err-byte
 returns-in_err-byte c =
     let p = err_from_is_err_and c.from_residual.result c.from_residual.ensures.1 in
-    let m = private_bytes c.args.mem.now c.args.space.now in
+    let m = own_bytes c.args.owners.now c.args.mem.now in
     let at : ℕ = c.args.at in
     let old : List ℕ = c.args.into.now.items in
     let s = c.loop-i in
@@ -19,21 +19,21 @@ returns-in_err-byte c =
 
 pub returns-then-left-eq0 : goal.returns-then-left-eq0
 returns-then-left-eq0 c =
-    let m = private_bytes c.args.mem.now c.args.space.now in
+    let m = own_bytes c.args.owners.now c.args.mem.now in
     let s = c.loop-i in
     string_passes m c.args.at c.args.left c.args.into.now.items s.i s.left s.into.items s.invariant (omega (arith, c.loop-i-test.true)) c.add_byte.new.into.items c.in_ok-byte.byte c.in_ok-byte.ensures
     c.if-left-eq0.true
 
 pub returns-then-byte-eq0 : goal.returns-then-byte-eq0
 returns-then-byte-eq0 c =
-    let m = private_bytes c.args.mem.now c.args.space.now in
+    let m = own_bytes c.args.owners.now c.args.mem.now in
     let s = c.loop-i in
     string_ends m c.args.at c.args.left c.args.into.now.items s.i s.left s.into.items s.invariant (omega (arith, c.loop-i-test.true)) c.add_byte.new.into.items c.in_ok-byte.byte c.in_ok-byte.ensures
     c.if-left-eq0.false c.if-byte-eq0.true
 
 pub loop-i-preserved : goal.loop-i-preserved
 loop-i-preserved c =
-    let m = private_bytes c.args.mem.now c.args.space.now in
+    let m = own_bytes c.args.owners.now c.args.mem.now in
     let s = c.loop-i in
     string_on m c.args.at c.args.left c.args.into.now.items s.i s.left s.into.items s.invariant (omega (arith, c.loop-i-test.true)) c.add_byte.new.into.items c.in_ok-byte.byte c.in_ok-byte.ensures
     c.if-left-eq0.false c.if-byte-eq0.false
@@ -41,4 +41,4 @@ loop-i-preserved c =
 pub returns : goal.returns
 returns c =
     let s = c.loop-i in
-    string_full (private_bytes c.args.mem.now c.args.space.now) c.args.at c.args.left c.args.into.now.items s.i s.left s.into.items s.invariant (omega arith)
+    string_full (own_bytes c.args.owners.now c.args.mem.now) c.args.at c.args.left c.args.into.now.items s.i s.left s.into.items s.invariant (omega arith)

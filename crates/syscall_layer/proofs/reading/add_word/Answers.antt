@@ -2,14 +2,14 @@
 use Rattle.std.proofs.Common.{◌≡◌, ◌+◌, ℕ, List, length, ap, ◌∙◌, arith, length-append}
 use Rattle.byte_words.specs.Numbers.{low_first, number_at}
 use Rattle.call_log.specs.Sent.{read_span}
-use Rattle.syscall_layer.specs.Stands.{private_bytes}
+use Rattle.region_watch.specs.Private.{own_bytes}
 use Rattle.syscall_layer.proofs.ReadRanges.{read_length}
 use Rattle.syscall_layer.proofs.ReadStrings.{word_added}
 use Rattle.syscall_layer.proofs.reading.add_word.Goals as goal
 
 pub word-requires : goal.word-requires
 word-requires c =
-    let m = private_bytes c.args.mem.now c.args.space.now in
+    let m = own_bytes c.args.owners.now c.args.mem.now in
     let old : List ℕ = c.args.into.now.items in
     let w = word_added (read_span m (record { addr = c.args.addr; len = 4 })) old c.read_range.new.into.items c.in_ok-read_range.ensures.bytes in
     let four : length w.0 ≡ 4 = read_length m (record { addr = c.args.addr; len = 4 }) w.0 w.1 in
@@ -18,7 +18,7 @@ word-requires c =
 
 pub returns : goal.returns
 returns c =
-    let m = private_bytes c.args.mem.now c.args.space.now in
+    let m = own_bytes c.args.owners.now c.args.mem.now in
     let w = word_added (read_span m (record { addr = c.args.addr; len = 4 })) c.args.into.now.items c.read_range.new.into.items c.in_ok-read_range.ensures.bytes in
     let from : c.len-from.result ≡ length c.args.into.now.items = omega arith in (
       w.0,

@@ -3,7 +3,7 @@ use Rattle.std.proofs.Common.{ℕ, sym, ap, ◌∙◌}
 use Rattle.std.specs.Prelude.{min}
 use Rattle.std.proofs.lemmas.Result.{err_from_is_err_and}
 use Rattle.call_log.specs.Sent.{Span, read_span, cut, piece_at}
-use Rattle.syscall_layer.specs.Stands.{private_bytes}
+use Rattle.region_watch.specs.Private.{own_bytes}
 use Rattle.syscall_layer.specs.Reading.{appended}
 use Rattle.syscall_layer.proofs.ReadRanges.{first_left, same_span, next_read, next_strays, appended_strays, unread_on}
 use Rattle.syscall_layer.proofs.reading.read_data.Goals as goal
@@ -11,7 +11,7 @@ use Rattle.syscall_layer.proofs.reading.read_data.Goals as goal
 pub returns-in_err-read_range : goal.returns-in_err-read_range
 returns-in_err-read_range c =
     let p = err_from_is_err_and c.from_residual.result c.from_residual.ensures.1 in
-    let m = private_bytes c.args.mem.now c.args.space.now in
+    let m = own_bytes c.args.owners.now c.args.mem.now in
     let piece = piece_at c.args.pieces.now in
     let parts = ap (cut c.loop-i.left) (first_left piece c.loop-i.i c.args.count c.loop-i-test.true) in
     let span = same_span _ _ _ _ c.word.ensures (c.min.ensures ∙ ap (λ (n : ℕ). min n c.loop-i.left) c.word-len.ensures) in
@@ -21,7 +21,7 @@ returns-in_err-read_range c =
 
 pub loop-i-preserved : goal.loop-i-preserved
 loop-i-preserved c =
-    let m = private_bytes c.args.mem.now c.args.space.now in
+    let m = own_bytes c.args.owners.now c.args.mem.now in
     let piece = piece_at c.args.pieces.now in
     let parts = ap (cut c.loop-i.left) (first_left piece c.loop-i.i c.args.count c.loop-i-test.true) in
     let span = same_span _ _ _ _ c.word.ensures (c.min.ensures ∙ ap (λ (n : ℕ). min n c.loop-i.left) c.word-len.ensures) in

@@ -3,26 +3,26 @@ use Rattle.std.proofs.Common.{ℕ, List, sym, ap, ◌∙◌}
 use Rattle.std.specs.declared.alloc.Global.{Global}
 use Rattle.std.proofs.lemmas.Result.{err_from_is_err_and}
 use Rattle.call_log.specs.Sent.{path_sent, list_sent, exec_sent, has_zero}
-use Rattle.syscall_layer.specs.Stands.{private_bytes}
+use Rattle.region_watch.specs.Private.{own_bytes}
 use Rattle.syscall_layer.proofs.ReadStrings.{path_strays, path_too_long, args_stray, args_pass, env_strays, env_read, unread_path, unread_list}
 use Rattle.syscall_layer.proofs.reading.read_exec.Goals as goal
 
 pub returns-in_err-bytes : goal.returns-in_err-bytes
 returns-in_err-bytes c =
     let p = err_from_is_err_and c.from_residual.result c.from_residual.ensures.1 in
-    let m = private_bytes c.args.mem.now c.args.space.now in
+    let m = own_bytes c.args.owners.now c.args.mem.now in
     rw (p.1, p.2) (unread_path Global (exec_sent m c.args.path c.args.args c.args.env) (path_sent m c.args.path) _ (path_strays m c.args.path c.args.args c.args.env) c.in_err-bytes.ensures)
 
 pub returns-then-not-has_zero : goal.returns-then-not-has_zero
 returns-then-not-has_zero c =
-    let m = private_bytes c.args.mem.now c.args.space.now in
+    let m = own_bytes c.args.owners.now c.args.mem.now in
     path_too_long m c.args.path c.args.args c.args.env c.in_ok-bytes.bytes.items c.in_ok-bytes.ensures
     (ap has_zero (sym c.deref.ensures.value) ∙ sym c.has_zero.ensures ∙ c.if-not-has_zero.true)
 
 pub returns-in_err-left : goal.returns-in_err-left
 returns-in_err-left c =
     let p = err_from_is_err_and c.from_residual-in_err-left.result c.from_residual-in_err-left.ensures.1 in
-    let m = private_bytes c.args.mem.now c.args.space.now in
+    let m = own_bytes c.args.owners.now c.args.mem.now in
     let path : List ℕ = c.in_ok-bytes.bytes.items in
     let whole = ap has_zero (sym c.deref.ensures.value) ∙ sym c.has_zero.ensures ∙ c.if-not-has_zero.false in
     rw (p.1, p.2) (unread_list Global (exec_sent m c.args.path c.args.args c.args.env) (list_sent m c.args.args 1048576) path c.add_list.new.into.items _
@@ -30,7 +30,7 @@ returns-in_err-left c =
 
 pub returns-in_default : goal.returns-in_default
 returns-in_default c =
-    let m = private_bytes c.args.mem.now c.args.space.now in
+    let m = own_bytes c.args.owners.now c.args.mem.now in
     let whole = ap has_zero (sym c.deref.ensures.value) ∙ sym c.has_zero.ensures ∙ c.if-not-has_zero.false in
     let read = rw c.in_default.is at c.in_ok-left.ensures in
     args_pass m c.args.path c.args.args c.args.env c.in_ok-bytes.bytes.items c.in_ok-bytes.ensures whole c.add_list.new.into.items read
@@ -38,7 +38,7 @@ returns-in_default c =
 pub returns-in_err-add_list : goal.returns-in_err-add_list
 returns-in_err-add_list c =
     let p = err_from_is_err_and c.from_residual-in_err-add_list.result c.from_residual-in_err-add_list.ensures.1 in
-    let m = private_bytes c.args.mem.now c.args.space.now in
+    let m = own_bytes c.args.owners.now c.args.mem.now in
     let path : List ℕ = c.in_ok-bytes.bytes.items in
     let args : List ℕ = c.add_list.new.into.items in
     let whole = ap has_zero (sym c.deref.ensures.value) ∙ sym c.has_zero.ensures ∙ c.if-not-has_zero.false in
@@ -48,7 +48,7 @@ returns-in_err-add_list c =
 
 pub returns : goal.returns
 returns c =
-    let m = private_bytes c.args.mem.now c.args.space.now in
+    let m = own_bytes c.args.owners.now c.args.mem.now in
     let whole = ap has_zero (sym c.deref.ensures.value) ∙ sym c.has_zero.ensures ∙ c.if-not-has_zero.false in
     let read = rw c.in-Some.is at c.in_ok-left.ensures in
     env_read m c.args.path c.args.args c.args.env c.in_ok-bytes.bytes.items c.in_ok-bytes.ensures whole c.in-Some.left c.add_list.new.into.items read

@@ -12,7 +12,7 @@ use Rattle.syscall_layer.specs.Inside.{kept_of}
 use Rattle.syscall_layer.specs.Regular.{IsRegular}
 use Rattle.syscall_layer.specs.Calls.{RunsIn, IsCall, ask_in, noted_call, Changed, Changes}
 use Rattle.syscall_layer.proofs.Outcomes.{made_by}
-use Rattle.syscall_layer.proofs.Sound.{plain_ask, counts, copies_changed}
+use Rattle.syscall_layer.proofs.Sound.{plain_ask, counts, call_strays, copies_changed}
 use Rattle.syscall_layer.proofs.Finishes.{regular_finished, is_rest, changed_by}
 use Rattle.syscall_layer.proofs.parts.Parts.change.Goals as goal
 
@@ -36,12 +36,12 @@ invariant_of-self-in_err-value c =
     let stays : k ≡ left c = λ i. record k { tree = sym same.0 i; files = sym same.1 i; console = sym same.2 i; notes = sym c.reserve.ensures.same i } in
     subst IsRegular stays c.self.invariant
 
-pub returns-in_err-value : goal.returns-in_err-value
-returns-in_err-value c = λ a e h.
+pub returns-in_err-value-clause-changes : goal.returns-in_err-value-clause-changes
+returns-in_err-value-clause-changes c = λ a e h.
     let k = kept_of c.self.inside in
     let call = c.args.call in
     let p = err_from_is_err_and c.from_residual-in_err-value.result c.from_residual-in_err-value.ensures.1 in
-    subst (λ (old : Kept). RunsIn old call.pid e h → IsCall old.mem e h call → Changes a old e h call (row (ask_in a old e h call)) (left c) c.from_residual-in_err-value.result) c.self.view_is
+    subst (λ (old : Kept). RunsIn old call.pid e h → IsCall e call → Changes a old e h call (row (ask_in a old e h call)) (left c) c.from_residual-in_err-value.result) c.self.view_is
     (λ runs is.
     let same = c.in_err-value.ensures (ask_in a k e h call) (made_by a k e h call runs is) (is_rest a k e h call runs is c.self.inside.files refl) in
     rw p.1 (λ i. record k { tree = same.0 i; files = same.1 i; console = same.2 i; notes = c.reserve.ensures.same i }))
@@ -58,16 +58,16 @@ invariant_of-self-2 c =
       regular_finished k call.pid c.self.invariant.0 lives c.in_ok-value.value k.mem c.change.new.tree c.change.new.files.open_files c.finish.new.procs c.finish.new.log.notes c.change.new.console.items
           refl c.finish.ensures.procs (omega (arith, counted)),
       copies_changed k c.self.invariant.1 call c.in_ok-value.value c.change.new.tree c.change.new.files.open_files c.change.new.console.items c.finish.new.log.notes room
-          (c.in_ok-value.ensures (plain_ask k call) made (record { tree = refl; files = refl; console = refl })) counted,
+          (c.in_ok-value.ensures (plain_ask k call) made (record { tree = refl; files = refl; console = refl })) counted (call_strays call c.in_ok-value.value _ k.notes _ noted),
     )
 
-pub returns : goal.returns
-returns c = λ a e h.
+pub returns-clause-changes : goal.returns-clause-changes
+returns-clause-changes c = λ a e h.
     let k = kept_of c.self.inside in
     let call = c.args.call in
     let noted = c.finish.ensures.notes
     ∙ (λ i. noted_call call c.in_ok-value.value (map written_value (c.new-got.ensures.items i)) ∷ c.reserve.ensures.same i) in
-    subst (λ (old : Kept). RunsIn old call.pid e h → IsCall old.mem e h call → Changed a old e h call (row (ask_in a old e h call)) (new_parts c)) c.self.view_is
+    subst (λ (old : Kept). RunsIn old call.pid e h → IsCall e call → Changed a old e h call (row (ask_in a old e h call)) (new_parts c)) c.self.view_is
     (λ runs is. changed_by a k e h call runs is c.change.new.tree c.change.new.files.open_files c.change.new.console.items c.in_ok-value.value c.finish.new.procs c.finish.new.log.notes
     (c.in_ok-value.ensures (ask_in a k e h call) (made_by a k e h call runs is) (is_rest a k e h call runs is c.self.inside.files refl))
     c.finish.ensures.procs noted)

@@ -10,10 +10,11 @@ use Rattle.syscall_layer.specs.Stands.{world_of}
 use Rattle.syscall_layer.specs.Serves.{Died}
 use Rattle.syscall_layer.proofs.Families.{can_run_lives}
 use Rattle.syscall_layer.proofs.Outcomes.{end_done}
+use Rattle.syscall_layer.proofs.PlainMemory.{end_mem}
 use Rattle.syscall_layer.proofs.parts.Parts.die.Goals as goal
 
-pub returns : goal.returns
-returns c = λ a.
+pub returns-clause-dies : goal.returns-clause-dies
+returns-clause-dies c = λ a.
     let pid = c.args.pid in
     let signal = c.args.signal in
     let k = kept_of c.self.inside in
@@ -21,3 +22,10 @@ returns c = λ a.
     let noted = c.keep.ensures.notes ∙ ap (λ (ns : List Note). end_note pid (Signal signal) ∷ ns) c.reserve.ensures.same in
     subst (λ (old : Kept). Died a (at_process (world_of a old) pid (λ p s. trapped (world_of a old) p signal)) c.depart.new.self pid) c.self.view_is
     (end_done a k pid signal c.self.invariant.0 lives c.depart.new.self c.keep.new.log.notes noted c.depart.ensures)
+
+pub returns-clause-memory : goal.returns-clause-memory
+returns-clause-memory c =
+    let pid = c.args.pid in
+    let k = kept_of c.self.inside in
+    let lives = can_run_lives k.procs pid (subst (λ (s : Kept). CanRun s.procs pid) (sym c.self.view_is) c.requires) in
+    end_mem k pid c.self.invariant.0 lives c.keep.new.log.notes (Signal c.args.signal) c.depart.new.self c.depart.ensures ∙ ap (λ (s : Kept). s.mem) c.self.view_is

@@ -12,6 +12,7 @@ use Rattle.syscall_layer.specs.Calls.{noted_call}
 use Rattle.syscall_layer.proofs.Families.{can_run_lives}
 use Rattle.syscall_layer.proofs.Boots.{same_parts}
 use Rattle.syscall_layer.proofs.ExecSteps.{Begun, begun_by, number_fits, sound_by, there_by, nobody_by, serves_lent, serves_own, ExecServes, refused_big, refused_run}
+use Rattle.syscall_layer.proofs.ExecMemory.{ExecServesIn, memory_lent, memory_own, refused_big_in, refused_run_in}
 use Rattle.syscall_layer.proofs.parts.Parts.exec.Given.{Over}
 use Rattle.syscall_layer.proofs.parts.Parts.exec.Goals.{After-load, After-note_exec}
 use Rattle.syscall_layer.proofs.parts.Parts.exec.Goals as goal
@@ -79,9 +80,9 @@ invariant_of-self-else-not-lent g c =
     let at = goal.at.invariant_of-self-else-not-lent g c in
     sound_by (kept_of c.self.inside) (new_parts g at.After-note_exec) c.self.invariant.0 c.args.call c.get.result.now _ c.args.index c.args.flat.now _ _ (begun g at.After-note_exec) c.self.invariant.1 (ready_in g at.After-load)
 
-pub returns-then-not-lent : goal.returns-then-not-lent
-returns-then-not-lent g c =
-    let at = goal.at.returns-then-not-lent g c in
+pub returns-then-not-lent-clause-serves : goal.returns-then-not-lent-clause-serves
+returns-then-not-lent-clause-serves g c =
+    let at = goal.at.returns-then-not-lent-clause-serves g c in
     let k = kept_of c.self.inside in
     let kind = kind_of c.args.chooser.now in
     subst (λ (old : Kept). ExecServes kind c.args.index c.args.flat.now (texts c.args.strings.now.args.items) (texts c.args.strings.now.env.items) c.args.call old c.give_up.new.self (Ok Replied))
@@ -89,9 +90,9 @@ returns-then-not-lent g c =
     (λ a same e h runs is. serves_own k (new_parts g at.After-note_exec) c.self.invariant.0 c.args.call c.get.result.now kind c.args.index c.args.flat.now _ _ (begun g at.After-note_exec) a same e h runs is
     (room_in g at.After-load) c.give_up.new.self c.give_up.ensures (sym c.borrows-lent.ensures ∙ c.if-not-lent.true))
 
-pub returns-else-not-lent : goal.returns-else-not-lent
-returns-else-not-lent g c =
-    let at = goal.at.returns-else-not-lent g c in
+pub returns-else-not-lent-clause-serves : goal.returns-else-not-lent-clause-serves
+returns-else-not-lent-clause-serves g c =
+    let at = goal.at.returns-else-not-lent-clause-serves g c in
     let k = kept_of c.self.inside in
     let kind = kind_of c.args.chooser.now in
     subst (λ (old : Kept). ExecServes kind c.args.index c.args.flat.now (texts c.args.strings.now.args.items) (texts c.args.strings.now.env.items) c.args.call old (new_parts g at.After-note_exec) (Ok Replied))
@@ -99,19 +100,39 @@ returns-else-not-lent g c =
     (λ a same e h runs is. serves_lent k (new_parts g at.After-note_exec) c.self.invariant.0 c.args.call c.get.result.now kind c.args.index c.args.flat.now _ _ (begun g at.After-note_exec) a same e h runs is
     (room_in g at.After-load) (sym c.borrows-lent.ensures ∙ c.if-not-lent.false))
 
+pub returns-then-not-lent-clause-memory : goal.returns-then-not-lent-clause-memory
+returns-then-not-lent-clause-memory g c =
+    let at = goal.at.returns-then-not-lent-clause-memory g c in
+    let k = kept_of c.self.inside in
+    let kind = kind_of c.args.chooser.now in
+    subst (λ (old : Kept). ExecServesIn kind c.args.index c.args.flat.now (texts c.args.strings.now.args.items) (texts c.args.strings.now.env.items) c.args.call old c.give_up.new.self (Ok Replied))
+    c.self.view_is
+    (memory_own k (new_parts g at.After-note_exec) c.self.invariant.0 c.args.call c.get.result.now kind c.args.index c.args.flat.now _ _ (begun g at.After-note_exec) (room_in g at.After-load)
+    c.give_up.new.self c.give_up.ensures (sym c.borrows-lent.ensures ∙ c.if-not-lent.true))
+
+pub returns-else-not-lent-clause-memory : goal.returns-else-not-lent-clause-memory
+returns-else-not-lent-clause-memory g c =
+    let at = goal.at.returns-else-not-lent-clause-memory g c in
+    let k = kept_of c.self.inside in
+    let kind = kind_of c.args.chooser.now in
+    subst (λ (old : Kept). ExecServesIn kind c.args.index c.args.flat.now (texts c.args.strings.now.args.items) (texts c.args.strings.now.env.items) c.args.call old (new_parts g at.After-note_exec) (Ok Replied))
+    c.self.view_is
+    (memory_lent k (new_parts g at.After-note_exec) c.self.invariant.0 c.args.call c.get.result.now kind c.args.index c.args.flat.now _ _ (begun g at.After-note_exec) (room_in g at.After-load)
+    (sym c.borrows-lent.ensures ∙ c.if-not-lent.false))
+
 -- ---- it is refused
 
-pub returns-in-Err-E2big : goal.returns-in-Err-E2big
-returns-in-Err-E2big g c =
+pub returns-in-Err-E2big-clause-serves : goal.returns-in-Err-E2big-clause-serves
+returns-in-Err-E2big-clause-serves g c =
     let k = kept_of c.self.inside in
     let n : Kept = record k { mem = c.load.new.mem; regions = c.load.new.regions.regions; spaces = c.reserve.new.self.items; notes = c.reserve-2.new.self.notes } in
     subst (λ (old : Kept). ExecServes (kind_of c.args.chooser.now) c.args.index c.args.flat.now (texts c.args.strings.now.args.items) (texts c.args.strings.now.env.items) c.args.call old c.refuse.new.self c.refuse.result)
     c.self.view_is
     (refused_big k n c.refuse.new.self c.self.invariant.0 c.args.call (kind_of c.args.chooser.now) c.args.index c.args.flat.now _ _ c.refuse.result
-    (λ regions mem. same_parts k n mem regions c.reserve.ensures.items refl refl refl c.reserve-2.ensures.same refl) (search rules) c.refuse.ensures)
+    (λ regions mem. same_parts k n mem regions c.reserve.ensures.items refl refl refl c.reserve-2.ensures.same refl) (search rules) c.refuse.ensures.serves)
 
-pub returns-in-Err-NoRun : goal.returns-in-Err-NoRun
-returns-in-Err-NoRun g c =
+pub returns-in-Err-NoRun-clause-serves : goal.returns-in-Err-NoRun-clause-serves
+returns-in-Err-NoRun-clause-serves g c =
     let k = kept_of c.self.inside in
     let n : Kept = record k { mem = c.load.new.mem; regions = c.load.new.regions.regions; spaces = c.reserve.new.self.items; notes = c.reserve-2.new.self.notes } in
     let new = c.refuse-in-Err-NoRun.new.self in
@@ -119,4 +140,24 @@ returns-in-Err-NoRun g c =
     subst (λ (old : Kept). ExecServes (kind_of c.args.chooser.now) c.args.index c.args.flat.now (texts c.args.strings.now.args.items) (texts c.args.strings.now.env.items) c.args.call old new result)
     c.self.view_is
     (refused_run k n new c.self.invariant.0 c.args.call (kind_of c.args.chooser.now) c.args.index c.args.flat.now _ _ result
-    (λ regions mem. same_parts k n mem regions c.reserve.ensures.items refl refl refl c.reserve-2.ensures.same refl) (search rules) c.refuse-in-Err-NoRun.ensures)
+    (λ regions mem. same_parts k n mem regions c.reserve.ensures.items refl refl refl c.reserve-2.ensures.same refl) (search rules) c.refuse-in-Err-NoRun.ensures.serves)
+
+pub returns-in-Err-E2big-clause-memory : goal.returns-in-Err-E2big-clause-memory
+returns-in-Err-E2big-clause-memory g c =
+    let k = kept_of c.self.inside in
+    let n : Kept = record k { mem = c.load.new.mem; regions = c.load.new.regions.regions; spaces = c.reserve.new.self.items; notes = c.reserve-2.new.self.notes } in
+    subst (λ (old : Kept). ExecServesIn (kind_of c.args.chooser.now) c.args.index c.args.flat.now (texts c.args.strings.now.args.items) (texts c.args.strings.now.env.items) c.args.call old c.refuse.new.self c.refuse.result)
+    c.self.view_is
+    (refused_big_in k n c.refuse.new.self c.self.invariant.0 c.args.call (kind_of c.args.chooser.now) c.args.index c.args.flat.now _ _ c.refuse.result
+    (λ regions mem. same_parts k n mem regions c.reserve.ensures.items refl refl refl c.reserve-2.ensures.same refl) c.refuse.ensures.memory (search rules) c.refuse.ensures.serves)
+
+pub returns-in-Err-NoRun-clause-memory : goal.returns-in-Err-NoRun-clause-memory
+returns-in-Err-NoRun-clause-memory g c =
+    let k = kept_of c.self.inside in
+    let n : Kept = record k { mem = c.load.new.mem; regions = c.load.new.regions.regions; spaces = c.reserve.new.self.items; notes = c.reserve-2.new.self.notes } in
+    let new = c.refuse-in-Err-NoRun.new.self in
+    let result = c.refuse-in-Err-NoRun.result in
+    subst (λ (old : Kept). ExecServesIn (kind_of c.args.chooser.now) c.args.index c.args.flat.now (texts c.args.strings.now.args.items) (texts c.args.strings.now.env.items) c.args.call old new result)
+    c.self.view_is
+    (refused_run_in k n new c.self.invariant.0 c.args.call (kind_of c.args.chooser.now) c.args.index c.args.flat.now _ _ result
+    (λ regions mem. same_parts k n mem regions c.reserve.ensures.items refl refl refl c.reserve-2.ensures.same refl) c.refuse-in-Err-NoRun.ensures.memory (search rules) c.refuse-in-Err-NoRun.ensures.serves)

@@ -13,7 +13,7 @@ use Rattle.syscall_layer.specs.Inside.{kept_of}
 use Rattle.syscall_layer.specs.Calls.{RunsIn, after_fork, noted_call}
 use Rattle.syscall_layer.proofs.Runs.{runs_in, value_found}
 use Rattle.syscall_layer.proofs.Families.{can_run_lives}
-use Rattle.syscall_layer.proofs.Sound.{counts, copies_called}
+use Rattle.syscall_layer.proofs.Sound.{counts, call_strays, copies_called}
 use Rattle.syscall_layer.proofs.Forks.{pids_fit, lives_still, procs_by, regular_forked}
 use Rattle.syscall_layer.proofs.parts.Parts.fork.Goals as goal
 
@@ -43,15 +43,15 @@ invariant_of-self-in-Ok c =
     let ready = subst (λ (s : Kept). CanRun s.procs call.pid) (sym c.self.view_is) c.requires.ready in
     let few = subst (λ (s : Kept). count s.procs < most_entries) (sym c.self.view_is) c.requires.few in
     let r = runs_in k call.pid c.self.invariant.0 (can_run_lives k.procs call.pid ready) in
-    let counted = counts call c.in-Ok.pid _ k.notes c.finish.new.log.notes
-    (c.finish.ensures.notes ∙ ap (λ (ns : List Note). noted_call call c.in-Ok.pid (map written_value c.new-got.result.items) ∷ ns) c.reserve.ensures.same) in (
+    let noted = c.finish.ensures.notes ∙ ap (λ (ns : List Note). noted_call call c.in-Ok.pid (map written_value c.new-got.result.items) ∷ ns) c.reserve.ensures.same in
+    let counted = counts call c.in-Ok.pid _ k.notes c.finish.new.log.notes noted in (
       subst (λ (s : Listed Task). Regular (record k { procs = s; files = c.copy_table.new.self.open_files; notes = c.finish.new.log.notes })) (sym (procs_are c r.0 r.1.1.lives))
           (regular_forked k r.0 call c.self.invariant.0 r.1.1.lives ready few c.copy_table.new.self.open_files c.finish.new.log.notes counted),
-      copies_called k c.self.invariant.1 c.finish.new.log.notes counted,
+      copies_called k c.self.invariant.1 c.finish.new.log.notes counted (call_strays call c.in-Ok.pid _ k.notes c.finish.new.log.notes noted),
     )
 
-pub returns : goal.returns
-returns c = λ e h.
+pub returns-clause-forks : goal.returns-clause-forks
+returns-clause-forks c = λ e h.
     let k = kept_of c.self.inside in
     let call = c.args.call in
     let noted = c.finish.ensures.notes

@@ -1,23 +1,25 @@
 -- The bytes are given, and the call has its reply.
-use Rattle.std.proofs.Common.{◌≡◌, arith, List, Option, ◌∷◌, sym, ap, subst, ◌∙◌}
-use Rattle.std.specs.Prelude.{ℕ, Bool, not, map, slice_get}
-use Rattle.region_watch.specs.Private.{only, physical}
-use Rattle.mmap_rules.specs.Held.{Held}
-use Rattle.mmap_rules.specs.Space.{own_in, writable_in}
+use Rattle.std.proofs.Common.{◌≡◌, arith, List, length, None, ◌∷◌, sym, ap, subst, ◌∙◌}
+use Rattle.std.specs.Prelude.{map, Ok, false}
+use Rattle.region_watch.specs.Private.{physical}
 use Rattle.call_log.specs.declared.note.Got.{Got}
 use Rattle.call_log.specs.Notes.{Note}
 use Rattle.call_log.specs.Values.{written_value}
 use Rattle.vfork_exec.specs.Procs.{Lives}
+use Rattle.mmap_rules.specs.Space.{writable_in}
+use Rattle.machine_world.specs.Event.{put_got}
 use Rattle.file_calls.specs.Calls.{written_of}
+use Rattle.physical_turns.specs.Physical.{has_stray}
 use Rattle.syscall_layer.specs.Kept.{Kept}
 use Rattle.syscall_layer.specs.Inside.{kept_of}
-use Rattle.syscall_layer.specs.Puts.{Put}
-use Rattle.syscall_layer.specs.Calls.{RunsIn, IsCall, noted_call, Gave}
-use Rattle.syscall_layer.proofs.Runs.{home_is}
-use Rattle.syscall_layer.proofs.CopiesKept.{copies_frozen}
-use Rattle.syscall_layer.proofs.Sound.{counts, copies_called}
+use Rattle.syscall_layer.specs.Puts.{first_stray}
+use Rattle.syscall_layer.specs.Reach.{in_pages}
+use Rattle.syscall_layer.specs.Calls.{RunsIn, IsCall, noted_call, Gave, GaveIn}
+use Rattle.syscall_layer.proofs.Runs.{runs_in}
+use Rattle.syscall_layer.proofs.Sound.{counts, call_strays, copies_called}
 use Rattle.syscall_layer.proofs.Waits.{replied_lives}
-use Rattle.syscall_layer.proofs.Finishes.{regular_finished, gave_by}
+use Rattle.syscall_layer.proofs.Finishes.{regular_finished, gave_by, gave_in_by}
+use Rattle.syscall_layer.proofs.GivenMemory.{copies_given}
 use Rattle.syscall_layer.proofs.parts.Parts.give.Goals as goal
 
 abbrev new_parts : goal.After-finish → Kept
@@ -28,19 +30,36 @@ new_parts c = record (kept_of c.self.inside) {
   notes = c.finish.new.log.notes;
 }
 
+-- all bytes were written
+puts_all : (c : goal.After-finish) → put_got (physical (kept_of c.self.inside).mem) (in_pages (length (kept_of c.self.inside).regions)) (written_of c.args.outcome) ≡ Ok (physical c.put.new.mem)
+puts_all c =
+    let k = kept_of c.self.inside in
+    subst (λ (xs : List Got). put_got (physical k.mem) (in_pages (length k.regions)) (map written_value xs) ≡ Ok (physical c.put.new.mem)) c.deref.ensures.value
+    (c.put.ensures.all (length k.regions) c.self.invariant.0.memory)
+
+noted_so : (c : goal.After-finish) → c.finish.new.log.notes ≡ noted_call c.args.call c.args.outcome.value (written_of c.args.outcome) ∷ (kept_of c.self.inside).notes
+noted_so c = c.finish.ensures.notes ∙ ap (λ (ns : List Note). noted_call c.args.call c.args.outcome.value (written_of c.args.outcome) ∷ ns) c.reserve.ensures.same
+
+pub put-requires-clause-inside : goal.put-requires-clause-inside
+put-requires-clause-inside c =
+    let inside = subst (λ (s : Kept). first_stray (in_pages (length s.regions)) (written_of c.args.outcome) ≡ None) (sym c.self.view_is) c.requires.inside in
+    let same = ap (λ (xs : List Got). first_stray (in_pages (length (kept_of c.self.inside).regions)) (map written_value xs)) c.deref.ensures.value in
+    (length (kept_of c.self.inside).regions, c.self.invariant.0.memory, same ∙ inside)
+
 pub invariant_of-self-2 : goal.invariant_of-self-2
 invariant_of-self-2 c =
     let k = kept_of c.self.inside in
-    let lives = subst (λ (s : Kept). Lives s.procs c.args.call.pid) (sym c.self.view_is) c.requires.lives in
-    let home = sym (ap (λ (ss : List (Option Held)). slice_get ss c.get.result.now.space) c.deref.ensures.value) ∙ c.home.ensures in
-    let frozen = subst (λ (w : ℕ → Bool). only (λ at. not (w at)) (physical c.put.new.mem) ≡ only (λ at. not (w at)) (physical k.mem)) c.owners-owners.ensures.writable c.put.ensures.frozen in
-    let noted = c.finish.ensures.notes ∙ ap (λ (ns : List Note). noted_call c.args.call c.args.outcome.value (written_of c.args.outcome) ∷ ns) c.reserve.ensures.same in
-    let counted = counts c.args.call c.args.outcome.value _ k.notes _ noted in (
-      regular_finished k c.args.call.pid c.self.invariant.0 lives c.args.outcome.value c.put.new.mem k.tree c.follow.new.files.open_files c.finish.new.procs c.finish.new.log.notes k.console
+    let call = c.args.call in
+    let gots = written_of c.args.outcome in
+    let lives = subst (λ (s : Kept). Lives s.procs call.pid) (sym c.self.view_is) c.requires.lives in
+    let r = runs_in k call.pid c.self.invariant.0 lives in
+    let fits = subst (λ (s : Kept). has_stray s.notes ≡ false → (e : _) → (h : _) → RunsIn s call.pid e h → first_stray (writable_in h.maps) gots ≡ None) (sym c.self.view_is) c.requires.kept in
+    let counted = counts call c.args.outcome.value gots k.notes _ (noted_so c) in (
+      regular_finished k call.pid c.self.invariant.0 lives c.args.outcome.value c.put.new.mem k.tree c.follow.new.files.open_files c.finish.new.procs c.finish.new.log.notes k.console
           c.put.ensures.len c.finish.ensures.procs (omega (arith, counted)),
       copies_called (record k { mem = c.put.new.mem })
-          (copies_frozen k c.self.invariant.0 c.self.invariant.1 c.get.result.now.space c.home.result.now home c.put.new.mem c.put.ensures.len frozen)
-          c.finish.new.log.notes counted,
+          (copies_given k c.self.invariant.0 r.0.value.space r.1.0 r.1.1.home c.self.invariant.1 c.put.new.mem c.put.ensures.len gots (puts_all c) (λ unstrayed. fits unstrayed r.0 r.1.0 r.1.1))
+          c.finish.new.log.notes counted (call_strays call c.args.outcome.value gots k.notes c.finish.new.log.notes (noted_so c)),
     )
 
 pub returns-clause-gives : goal.returns-clause-gives
@@ -48,16 +67,20 @@ returns-clause-gives c = λ a e h.
     let k = kept_of c.self.inside in
     let call = c.args.call in
     let o = c.args.outcome in
-    let noted = c.finish.ensures.notes ∙ ap (λ (ns : List Note). noted_call call o.value (written_of o) ∷ ns) c.reserve.ensures.same in
-    let home = sym (ap (λ (ss : List (Option Held)). slice_get ss c.get.result.now.space) c.deref.ensures.value) ∙ c.home.ensures in
-    subst (λ (old : Kept). RunsIn old call.pid e h → IsCall old.mem e h call → Gave a old e h call o (new_parts c)) c.self.view_is
+    subst (λ (old : Kept). RunsIn old call.pid e h → IsCall e call → first_stray (writable_in h.maps) (written_of o) ≡ None → Gave a old e h call o (new_parts c)) c.self.view_is
+    (λ runs is fits.
+    gave_by a k e h call runs is o c.put.new.mem (puts_all c) c.follow.new.files.open_files c.finish.new.procs c.finish.new.log.notes
+    c.in_ok-follow.ensures.after c.finish.ensures.procs (noted_so c) c.self.invariant.0 fits)
+
+pub returns-clause-memory : goal.returns-clause-memory
+returns-clause-memory c = λ a e h.
+    let k = kept_of c.self.inside in
+    let call = c.args.call in
+    let o = c.args.outcome in
+    subst (λ (old : Kept). RunsIn old call.pid e h → IsCall e call → GaveIn a old e h call o (new_parts c)) c.self.view_is
     (λ runs is.
-    let same : c.home.result.now ≡ h = home_is k call.pid e h runs c.get.result.now c.get.ensures c.home.result.now home in
-    let puts = subst (λ (xs : List Got). Put c.owners-owners.result.now k.mem c.put.new.mem (map written_value xs)) c.deref-2.ensures.value c.put.ensures in
-    let own = c.owners-owners.ensures.own ∙ ap (λ (x : Held). own_in x.maps) same in
-    let writes = c.owners-owners.ensures.writable ∙ ap (λ (x : Held). writable_in x.maps) same in
-    gave_by a k e h call runs is c.self.invariant.0 o c.owners-owners.result.now c.put.new.mem c.follow.new.files.open_files c.finish.new.procs c.finish.new.log.notes
-    own writes puts (c.in_ok-follow.ensures.after) c.finish.ensures.procs noted)
+    gave_in_by a k e h call runs is o c.put.new.mem (puts_all c) c.follow.new.files.open_files c.finish.new.procs c.finish.new.log.notes
+    c.in_ok-follow.ensures.after c.finish.ensures.procs (noted_so c) c.put.ensures.len)
 
 pub returns-clause-lives : goal.returns-clause-lives
 returns-clause-lives c =

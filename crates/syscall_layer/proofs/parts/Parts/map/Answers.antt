@@ -1,5 +1,5 @@
 -- Pages are mapped, and the call has its reply.
-use Rattle.std.proofs.Common.{◌≡◌, true, List, [], Option, ◌∷◌, length, refl, sym, ap, subst, arith, ◌∙◌}
+use Rattle.std.proofs.Common.{◌≡◌, true, false, List, [], Option, ◌∷◌, length, refl, sym, ap, subst, arith, ◌∙◌}
 use Rattle.std.specs.Prelude.{Some, map, slice_get, slice_set}
 use Rattle.std.specs.Vec.{with_items}
 use Rattle.std.proofs.lemmas.Result.{err_from_is_err_and}
@@ -10,12 +10,18 @@ use Rattle.call_log.specs.Values.{written_value}
 use Rattle.mem_files.specs.Inodes.{bytes_of}
 use Rattle.mmap_rules.specs.Held.{Held}
 use Rattle.mmap_rules.specs.Sides.{file_in}
+use Rattle.region_watch.specs.Private.{physical}
+use Rattle.vfork_exec.specs.declared.entry.Entry.{Entry}
 use Rattle.vfork_exec.specs.Procs.{Lives}
 use Rattle.machine_world.specs.MapCalls.{mapped}
+use Rattle.machine_world.specs.Event.{answered}
+use Rattle.physical_turns.specs.Physical.{after, has_stray, carried}
 use Rattle.syscall_layer.specs.declared.task.Task.{Task}
 use Rattle.syscall_layer.specs.Kept.{Kept}
 use Rattle.syscall_layer.specs.Inside.{kept_of}
 use Rattle.syscall_layer.specs.Regular.{IsRegular}
+use Rattle.syscall_layer.specs.Stands.{later, world_of}
+use Rattle.syscall_layer.specs.InMemory.{physical_of}
 use Rattle.mmap_rules.specs.Copies.{IsKnown}
 use Rattle.syscall_layer.specs.Calls.{RunsIn, IsCall, ask_in, noted_call, Changed}
 use Rattle.syscall_layer.specs.MapsIn.{MapsIn}
@@ -23,9 +29,10 @@ use Rattle.syscall_layer.proofs.Runs.{value_found, has_space}
 use Rattle.syscall_layer.proofs.Settled.{items_set}
 use Rattle.syscall_layer.proofs.Finishes.{regular_finished}
 use Rattle.syscall_layer.proofs.CopiesStay.{room_counts}
-use Rattle.syscall_layer.proofs.Sound.{counts}
+use Rattle.syscall_layer.proofs.Sound.{counts, call_strays}
 use Rattle.syscall_layer.proofs.NamesOf.{name_regions, few_uses}
 use Rattle.syscall_layer.proofs.Mapped.{with_maps, keeps_mapped, same_mapped, changed_mapped}
+use Rattle.syscall_layer.proofs.MapMemory.{lives_finished, memory_mapped}
 use Rattle.syscall_layer.proofs.parts.Parts.map.Given.{Over}
 use Rattle.syscall_layer.proofs.parts.Parts.map.Goals as goal
 
@@ -71,8 +78,13 @@ stays g c =
 pub invariant_of-self-in_err-value : goal.invariant_of-self-in_err-value
 invariant_of-self-in_err-value g c = subst IsRegular (stays g c) c.self.invariant
 
-pub returns-in_err-value : goal.returns-in_err-value
-returns-in_err-value g c = λ a kind e h runs is.
+pub returns-in_err-value-clause-changes : goal.returns-in_err-value-clause-changes
+returns-in_err-value-clause-changes g c = λ a kind unstrayed e h runs is.
+    let p = err_from_is_err_and c.from_residual-in_err-value.result c.from_residual-in_err-value.ensures.1 in
+    rw p.1 (sym (stays g c) ∙ c.self.view_is)
+
+pub returns-in_err-value-clause-memory : goal.returns-in_err-value-clause-memory
+returns-in_err-value-clause-memory g c = λ headers a kind e h runs is.
     let p = err_from_is_err_and c.from_residual-in_err-value.result c.from_residual-in_err-value.ensures.1 in
     rw p.1 (sym (stays g c) ∙ c.self.view_is)
 
@@ -116,22 +128,50 @@ invariant_of-self-2 g c =
     let now = with_maps k c.map_in-mapped.new.mem c.map_in-mapped.new.regions.regions (new_parts g c).spaces in
     let counted = counts c.args.call c.in_ok-value.value [] k.notes c.finish.new.log.notes (noted g c) in (
       regular_finished now c.args.call.pid keeps.0 lives c.in_ok-value.value now.mem k.tree k.files c.finish.new.procs c.finish.new.log.notes k.console refl c.finish.ensures.procs (omega (arith, counted)),
-      keeps.1 c.finish.new.log.notes (omega (arith, counted)),
+      keeps.1 c.finish.new.log.notes (omega (arith, counted)) (call_strays c.args.call c.in_ok-value.value [] k.notes c.finish.new.log.notes (noted g c)),
     )
 
-pub returns : goal.returns
-returns g c = λ a kind e h.
+-- the same by the entry of the process
+left_at : (g : Over) (c : goal.After-finish g) (kind : Kind) → kind ≡ kind_of c.args.chooser.now → (e : Entry Task) (h : Held) → RunsIn (kept_of c.self.inside) c.args.call.pid e h →
+    MapsIn kind (bytes_of c.self.inside.tree (file_in c.args.want)) c.args.want e.value.space h c.self.inside.spaces.items (new_parts g c).spaces c.self.inside.regions.regions
+    c.map_in-mapped.new.regions.regions c.self.inside.mem c.map_in-mapped.new.mem c.map_in-mapped.result
+left_at g c kind same e h runs =
+    let k = kept_of c.self.inside in
+    let want = c.args.want in
+    let task : c.get.result.now ≡ e.value = value_found k.procs c.args.call.pid e runs.lives c.get.result.now c.get.ensures in
+    subst (λ (t : Task). MapsIn kind (bytes_of k.tree (file_in want)) want t.space h k.spaces (new_parts g c).spaces k.regions c.map_in-mapped.new.regions.regions k.mem c.map_in-mapped.new.mem
+    c.map_in-mapped.result) task
+    (left g c kind same h (ap (λ (t : Task). slice_get k.spaces t.space) task ∙ runs.home))
+
+pub returns-clause-changes : goal.returns-clause-changes
+returns-clause-changes g c = λ a kind unstrayed e h.
     let k = kept_of c.self.inside in
     let call = c.args.call in
     let want = c.args.want in
     let known = subst (λ (s : Kept). IsKnown s.tree want) (sym c.self.view_is) c.requires.known in
-    subst (λ (old : Kept). RunsIn old call.pid e h → IsCall old.mem e h call → Changed a old e h call (mapped (ask_in a old e h call) want) (new_parts g c)) c.self.view_is
+    let clean : has_stray k.notes ≡ false = ap (λ (s : Kept). has_stray s.notes) c.self.view_is ∙ unstrayed in
+    subst (λ (old : Kept). RunsIn old call.pid e h → IsCall e call → Changed a old e h call (mapped (ask_in a old e h call) want) (new_parts g c)) c.self.view_is
     (λ runs is_call.
-    let same : c.get.result.now ≡ e.value = value_found k.procs call.pid e runs.lives c.get.result.now c.get.ensures in
-    let is = left g c a.kind kind h (ap (λ (t : Task). slice_get k.spaces t.space) same ∙ runs.home) in
-    let at : MapsIn a.kind (bytes_of k.tree (file_in want)) want e.value.space h k.spaces (new_parts g c).spaces k.regions c.map_in-mapped.new.regions.regions k.mem c.map_in-mapped.new.mem
-    c.map_in-mapped.result =
-    subst (λ (t : Task). MapsIn a.kind (bytes_of k.tree (file_in want)) want t.space h k.spaces (new_parts g c).spaces k.regions c.map_in-mapped.new.regions.regions k.mem c.map_in-mapped.new.mem
-    c.map_in-mapped.result) same is in
     changed_mapped a k e h call runs is_call c.in_ok-value.value (new_parts g c).spaces c.map_in-mapped.new.regions.regions c.finish.new.procs c.finish.new.log.notes
-    c.finish.ensures.procs (noted g c) c.self.invariant.0 c.self.invariant.1 want c.requires.pages known c.map_in-mapped.new.mem c.map_in-mapped.result at c.in_ok-value.ensures)
+    c.finish.ensures.procs (noted g c) c.self.invariant.0 c.self.invariant.1 clean want c.requires.pages known c.map_in-mapped.new.mem c.map_in-mapped.result
+    (left_at g c a.kind kind e h runs) c.in_ok-value.ensures)
+
+pub returns-clause-memory : goal.returns-clause-memory
+returns-clause-memory g c = λ headers a kind e h.
+    let k = kept_of c.self.inside in
+    let call = c.args.call in
+    let want = c.args.want in
+    let known = subst (λ (s : Kept). IsKnown s.tree want) (sym c.self.view_is) c.requires.known in
+    let room = subst (λ (s : Kept). has_room s.notes (length call.sent.items) ≡ true) (sym c.self.view_is) c.requires.room in
+    subst (λ (old : Kept). RunsIn old call.pid e h → IsCall e call →
+    carried (physical_of headers a old) (physical old.mem) (answered (world_of a old) (ask_in a old e h call) (mapped (ask_in a old e h call) want)) ≡ after (physical_of headers (later 1 a) (new_parts g c)) false)
+    c.self.view_is
+    (λ runs is_call.
+    memory_mapped headers a k e h call runs is_call c.in_ok-value.value (new_parts g c).spaces c.map_in-mapped.new.regions.regions c.finish.new.procs c.finish.new.log.notes
+    c.finish.ensures.procs (noted g c) room c.self.invariant.0 c.self.invariant.1 want c.requires.pages known c.map_in-mapped.new.mem c.map_in-mapped.result
+    (left_at g c a.kind kind e h runs) c.in_ok-value.ensures)
+
+pub returns-clause-lives : goal.returns-clause-lives
+returns-clause-lives g c =
+    let lives = subst (λ (s : Kept). Lives s.procs c.args.call.pid) (sym c.self.view_is) c.requires.lives in
+    lives_finished (kept_of c.self.inside) c.args.call.pid c.self.invariant.0 lives c.in_ok-value.value c.finish.new.procs c.finish.ensures.procs

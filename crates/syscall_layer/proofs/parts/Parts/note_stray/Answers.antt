@@ -7,8 +7,8 @@ use Rattle.syscall_layer.specs.Inside.{kept_of}
 use Rattle.syscall_layer.proofs.Outcomes.{noted_world}
 use Rattle.syscall_layer.proofs.parts.Parts.note_stray.Goals as goal
 
-pub returns : goal.returns
-returns c = λ a.
+pub returns-clause-strays : goal.returns-clause-strays
+returns-clause-strays c = λ a.
     let v = c.self.view_is in
     let note = stray_note c.args.pid (seen_of c.args.access) in
     let is =

@@ -12,16 +12,16 @@ use Rattle.syscall_layer.specs.Calls.{ask_in}
 use Rattle.syscall_layer.proofs.Outcomes.{effect_serves}
 use Rattle.syscall_layer.proofs.parts.Parts.refuse.Goals as goal
 
-pub returns-in_err-reply : goal.returns-in_err-reply
-returns-in_err-reply c = λ a e h runs is.
+pub returns-in_err-reply-clause-serves : goal.returns-in_err-reply-clause-serves
+returns-in_err-reply-clause-serves c = λ a e h runs is.
     let p = err_from_is_err_and c.from_residual.result c.from_residual.ensures.1 in
-    rw p.1 (c.in_err-reply.ensures a e h runs)
+    rw p.1 (c.in_err-reply.ensures.replies a e h runs)
 
-pub returns : goal.returns
-returns c = λ a e h runs is.
+pub returns-clause-serves : goal.returns-clause-serves
+returns-clause-serves c = λ a e h runs is.
     let k = c.args.self.now in
     let call = c.args.call in
     let outcome = λ (value : ℕ). answered (world_of a k) (ask_in a k e h call) (answers (ask_in a k e h call) value) in
     let done = effect_serves a k e h call runs is (Answer c.refusal.result) c.requires.room in
     subst (λ (value : ℕ). Answered a (outcome value) k c.reply.new.self call.pid Replied) c.refusal.ensures
-    (subst (λ (new : Kept). Answered a (outcome c.refusal.result) k new call.pid Replied) (sym (c.in_ok-reply.ensures a e h runs)) done)
+    (subst (λ (new : Kept). Answered a (outcome c.refusal.result) k new call.pid Replied) (sym (c.in_ok-reply.ensures.replies a e h runs)) done)

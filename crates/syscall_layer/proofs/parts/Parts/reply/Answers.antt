@@ -12,7 +12,7 @@ use Rattle.syscall_layer.specs.Inside.{kept_of}
 use Rattle.syscall_layer.specs.Calls.{RunsIn, value_of, brk_of, noted_call, Replies}
 use Rattle.syscall_layer.proofs.Runs.{value_found}
 use Rattle.syscall_layer.proofs.Settled.{items_set}
-use Rattle.syscall_layer.proofs.Sound.{counts, copies_called}
+use Rattle.syscall_layer.proofs.Sound.{counts, call_strays, copies_called}
 use Rattle.syscall_layer.proofs.Finishes.{regular_settled, replied_by}
 use Rattle.syscall_layer.proofs.parts.Parts.reply.Goals as goal
 
@@ -43,11 +43,11 @@ invariant_of-self-2 c =
     let counted = counts c.args.call c.settle-value.result _ k.notes _ noted in (
       regular_settled k c.args.call.pid c.self.invariant.0 lives c.get.result.now c.get.ensures c.settle-value.result (λ h. brk_of (next_brk h) h.brk c.args.effect)
           (new_parts c).spaces c.finish.new.procs c.finish.new.log.notes (λ h there. (settled c h there).1) c.finish.ensures.procs (omega (arith, counted)),
-      copies_called k c.self.invariant.1 c.finish.new.log.notes counted,
+      copies_called k c.self.invariant.1 c.finish.new.log.notes counted (call_strays c.args.call c.settle-value.result _ k.notes _ noted),
     )
 
-pub returns : goal.returns
-returns c = λ a e h.
+pub returns-clause-replies : goal.returns-clause-replies
+returns-clause-replies c = λ a e h.
     let k = kept_of c.self.inside in
     let call = c.args.call in
     let noted = c.finish.ensures.notes

@@ -10,10 +10,11 @@ use Rattle.fd_tables.specs.Changes.{with_table}
 use Rattle.syscall_layer.specs.Kept.{Kept}
 use Rattle.syscall_layer.specs.Inside.{kept_of}
 use Rattle.syscall_layer.proofs.Boots.{refuses_by, Begun, begun_by, regular_by, copies_by, starts_by, process_started, note_pushed}
+use Rattle.syscall_layer.proofs.StartMemory.{lays_by}
 use Rattle.syscall_layer.proofs.parts.Parts.start.Goals as goal
 
-pub returns-in_err-space : goal.returns-in_err-space
-returns-in_err-space g c =
+pub returns-in_err-space-clause-starts : goal.returns-in_err-space-clause-starts
+returns-in_err-space-clause-starts g c =
     refuses_by _ (kept_of c.self.inside) _ _ (search rules) c.self.invariant.0 _ _ _ _ c.in_err-space.field-0.0 c.in_err-space.ensures
     c.reserve.ensures.items refl c.ready.ensures.same refl c.reserve-else-is_err.ensures.same refl (search rules)
 
@@ -53,5 +54,8 @@ invariant_of-self-2 g c = (
   copies_by (kept_of c.self.inside) (new_parts g c) c.self.invariant.0 c.self.invariant.1 _ _ _ _ (begun g c),
 )
 
-pub returns : goal.returns
-returns g c = starts_by c.args.self.now (kept_of c.self.inside) (new_parts g c) (search rules) c.self.invariant.0 _ _ _ _ (begun g c)
+pub returns-clause-starts : goal.returns-clause-starts
+returns-clause-starts g c = starts_by c.args.self.now (kept_of c.self.inside) (new_parts g c) (search rules) c.self.invariant.0 _ _ _ _ (begun g c)
+
+pub returns-clause-memory : goal.returns-clause-memory
+returns-clause-memory g c = lays_by c.args.self.now (kept_of c.self.inside) (new_parts g c) (search rules) c.self.invariant.0 _ _ _ _ (begun g c)

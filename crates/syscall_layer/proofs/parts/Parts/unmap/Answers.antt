@@ -15,7 +15,7 @@ use Rattle.syscall_layer.specs.MapsIn.{UnmapsIn}
 use Rattle.syscall_layer.proofs.Runs.{value_found, has_space}
 use Rattle.syscall_layer.proofs.Settled.{items_set}
 use Rattle.syscall_layer.proofs.Finishes.{regular_finished}
-use Rattle.syscall_layer.proofs.Sound.{counts}
+use Rattle.syscall_layer.proofs.Sound.{counts, call_strays}
 use Rattle.syscall_layer.proofs.NamesOf.{name_regions}
 use Rattle.syscall_layer.proofs.Mapped.{with_maps, keeps_unmapped, changed_unmapped}
 use Rattle.syscall_layer.proofs.parts.Parts.unmap.Goals as goal
@@ -63,16 +63,16 @@ invariant_of-self-2 c =
     let now = with_maps k k.mem c.unmap_in-unmapped.new.regions.regions (new_parts c).spaces in
     let counted = counts c.args.call c.status-value.result [] k.notes c.finish.new.log.notes (noted c) in (
       regular_finished now c.args.call.pid keeps.0 lives c.status-value.result k.mem k.tree k.files c.finish.new.procs c.finish.new.log.notes k.console refl c.finish.ensures.procs (omega (arith, counted)),
-      keeps.1 c.finish.new.log.notes (omega (arith, counted)),
+      keeps.1 c.finish.new.log.notes (omega (arith, counted)) (call_strays c.args.call c.status-value.result [] k.notes c.finish.new.log.notes (noted c)),
     )
 
-pub returns : goal.returns
-returns c = λ a e h.
+pub returns-clause-changes : goal.returns-clause-changes
+returns-clause-changes c = λ a e h.
     let k = kept_of c.self.inside in
     let call = c.args.call in
     let addr = slice_index call.args 0 in
     let len = slice_index call.args 1 in
-    subst (λ (old : Kept). RunsIn old call.pid e h → IsCall old.mem e h call → Changed a old e h call (unmaps (ask_in a old e h call) (hit h.maps addr len)) (new_parts c)) c.self.view_is
+    subst (λ (old : Kept). RunsIn old call.pid e h → IsCall e call → Changed a old e h call (unmaps (ask_in a old e h call) (hit h.maps addr len)) (new_parts c)) c.self.view_is
     (λ runs is_call.
     let same : c.get.result.now ≡ e.value = value_found k.procs call.pid e runs.lives c.get.result.now c.get.ensures in
     let is = left c h (ap (λ (t : Task). slice_get k.spaces t.space) same ∙ runs.home) in

@@ -1,0 +1,13 @@
+-- The process ends by SIGSEGV.
+use Rattle.std.proofs.lemmas.Result.{err_from_is_err_and}
+use Rattle.syscall_layer.proofs.GivenMemory.{killed_by}
+use Rattle.syscall_layer.proofs.answer.beyond_reach.Goals as goal
+
+pub returns-in_err-die-in-Whole-clause-memory : goal.returns-in_err-die-in-Whole-clause-memory
+returns-in_err-die-in-Whole-clause-memory c = λ whole headers a e h runs.
+    let p = err_from_is_err_and c.from_residual.result c.from_residual.ensures.1 in
+    rw p.1 (c.in_err-die-in-Whole.ensures.dies a)
+
+pub returns-in_ok-die-in-Whole-clause-memory : goal.returns-in_ok-die-in-Whole-clause-memory
+returns-in_ok-die-in-Whole-clause-memory c = λ whole headers a e h runs.
+    killed_by headers a c.args.parts.now c.die.new.self c.in_ok-die-in-Whole.ensures.memory c.args.pid e h runs 11 (c.in_ok-die-in-Whole.ensures.dies a)

@@ -1,0 +1,90 @@
+-- The one memory that the parts stand for, and what a system call and a signal leave of it.
+use Rattle.std.specs.Prelude.{◌≡◌, ℕ, Bool, true, false, List, take, map, None, Result, Ok, Err, ⊤}
+use Rattle.std.specs.declared.alloc.AllocError.{AllocError}
+use Rattle.bflt_format.specs.Values.{Values}
+use Rattle.bflt_format.specs.Spelling.{spell}
+use Rattle.flat_loader.specs.Original.{header_len}
+use Rattle.region_watch.specs.Private.{physical}
+use Rattle.vfork_exec.specs.Procs.{process, Lives}
+use Rattle.machine_world.specs.Event.{Outcome}
+use Rattle.physical_turns.specs.Physical.{Physical, After, after, no_room, nobody, carried, first_memory}
+use Rattle.syscall_layer.specs.declared.reach.Reach.{Reach}
+use Rattle.syscall_layer.specs.declared.reach.Reach.TheVariants.{Own, Whole}
+use Rattle.syscall_layer.specs.declared.answer.Served.{Served}
+use Rattle.syscall_layer.specs.declared.answer.Served.TheVariants as served
+use Rattle.syscall_layer.specs.Kept.{Kept}
+use Rattle.syscall_layer.specs.Stands.{About, later, world_of}
+
+-- the header of a program: the first bytes of its flat file
+abbrev pub header_of : Values → List ℕ
+header_of f = take header_len (spell f)
+
+abbrev pub headers_of : List Values → List (List ℕ)
+headers_of programs = map header_of programs
+
+-- the memory, and the world whose spaces show it
+unfoldable pub physical_of : List (List ℕ) → About → Kept → Physical
+physical_of headers a k = record { world = world_of a k; memory = physical k.mem; headers = headers }
+
+-- whether the turn is over, and whether the process lives
+abbrev pub Over : Bool → Kept → ℕ → Served → Type 0
+Over over new pid served.Replied = (over ≡ false) × Lives new.procs pid
+Over over new pid served.TurnEnds = (over ≡ true) × Lives new.procs pid
+Over over new pid served.Waits = (over ≡ true) × Lives new.procs pid
+Over over new pid served.Ended = (over ≡ true) × (process new.procs pid ≡ None)
+Over over new pid (served.Stray access) = ⊥
+Over over new pid served.LogFull = ⊥
+
+abbrev pub IsLogFull : Served → Type 0
+IsLogFull served.LogFull = Unit {0}
+IsLogFull served.Replied = ⊥
+IsLogFull served.TurnEnds = ⊥
+IsLogFull served.Waits = ⊥
+IsLogFull served.Ended = ⊥
+IsLogFull (served.Stray access) = ⊥
+
+-- by what comes of the call in the one memory
+abbrev pub GoesIn : List (List ℕ) → About → After → Kept → Kept → ℕ → Served → Type 0
+GoesIn headers a (after p over) old new pid s = (p ≡ physical_of headers (later 1 a) new) × Over over new pid s
+GoesIn headers a (no_room p) old new pid s = (p ≡ physical_of headers a old) × (new ≡ old) × IsLogFull s
+GoesIn headers a nobody old new pid s = ⊥
+
+-- out of memory nothing changed
+abbrev pub ServesIn : List (List ℕ) → About → After → Kept → Kept → ℕ → Result Served AllocError → Type 0
+ServesIn headers a outcome old new pid (Ok s) = GoesIn headers a outcome old new pid s
+ServesIn headers a outcome old new pid (Err error) = new ≡ old
+
+-- within its own bytes a call may stray, which says nothing
+abbrev pub UnlessStray : Served → Type 0 → Type 0
+UnlessStray (served.Stray access) T = Unit {0}
+UnlessStray served.Replied T = T
+UnlessStray served.TurnEnds T = T
+UnlessStray served.Waits T = T
+UnlessStray served.Ended T = T
+UnlessStray served.LogFull T = T
+
+abbrev pub InReach : Reach → List (List ℕ) → About → After → Kept → Kept → ℕ → Result Served AllocError → Type 0
+InReach Own headers a outcome old new pid (Ok s) = UnlessStray s (GoesIn headers a outcome old new pid s)
+InReach Whole headers a outcome old new pid (Ok s) = GoesIn headers a outcome old new pid s
+InReach reach headers a outcome old new pid (Err error) = new ≡ old
+
+-- a process died in the one memory: it is gone, and the turn is over
+abbrev pub DiedIn : List (List ℕ) → About → After → Kept → ℕ → Type 0
+DiedIn headers a (after p over) new pid = (p ≡ physical_of headers (later 1 a) new) × (over ≡ true) × (process new.procs pid ≡ None)
+DiedIn headers a (no_room p) new pid = ⊥
+DiedIn headers a nobody new pid = ⊥
+
+abbrev pub DiesIn : List (List ℕ) → About → After → Kept → Kept → ℕ → Result ⊤ AllocError → Type 0
+DiesIn headers a outcome old new pid (Ok done) = DiedIn headers a outcome new pid
+DiesIn headers a outcome old new pid (Err error) = new ≡ old
+
+-- a call that was carried out as in the world of private spaces, over the memory that it found
+abbrev pub ChangesIn : List (List ℕ) → About → Outcome → Kept → Kept → Result ⊤ AllocError → Type 0
+ChangesIn headers a outcome old new (Ok done) =
+    carried (physical_of headers a old) (physical old.mem) outcome ≡ after (physical_of headers (later 1 a) new) false
+ChangesIn headers a outcome old new (Err error) = new ≡ old
+
+-- where memory had the blocks of the programs that began, over their headers, and else zeros, it has those of one program more
+abbrev pub LaysOn : List (List ℕ) → Kept → Kept → Type 0
+LaysOn headers old new =
+    (a : About) → physical old.mem ≡ first_memory headers (world_of a old) → physical new.mem ≡ first_memory headers (world_of a new)

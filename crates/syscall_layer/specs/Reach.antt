@@ -1,0 +1,34 @@
+-- What a system call may read and write: its process's own bytes, or all of memory.
+use Rattle.std.specs.Prelude.{◌≡◌, ℕ, ◌+◌, ◌*◌, Bool, true, false, ◌&&◌, nat_le, nat_lt, List, length, replicate}
+use Rattle.mmap_rules.specs.declared.owners.PageOwner.{PageOwner}
+use Rattle.mmap_rules.specs.Space.{memory_base, page_size, own_in, writable_in}
+use Rattle.mmap_rules.specs.Owners.{owns}
+use Rattle.mmap_rules.specs.Held.{Held}
+use Rattle.syscall_layer.specs.declared.reach.Reach.{Reach}
+use Rattle.syscall_layer.specs.declared.reach.Reach.TheVariants.{Own, Whole}
+
+-- the addresses of a memory of so many pages
+abbrev pub in_pages : ℕ → ℕ → Bool
+in_pages pages a = nat_le memory_base a && nat_lt a (memory_base + page_size * pages)
+
+abbrev pub readable : Reach → ℕ → Held → ℕ → Bool
+readable Own pages h = own_in h.maps
+readable Whole pages h = in_pages pages
+
+abbrev pub writable : Reach → ℕ → Held → ℕ → Bool
+writable Own pages h = writable_in h.maps
+writable Whole pages h = in_pages pages
+
+-- each byte of a page may be read and written
+abbrev pub whole_page : PageOwner
+whole_page = record { from = 0; write = true; uses = 1 }
+
+-- the table that owns all of memory
+abbrev pub whole_table : ℕ → List PageOwner
+whole_table pages = replicate pages whole_page
+
+-- a table of just the bytes that may be read and written
+pub record Reaches (reach : Reach) (pages : ℕ) (h : Held) (table : List PageOwner) : Type 0 where
+  pub reads : owns table false ≡ readable reach pages h
+  pub writes : owns table true ≡ writable reach pages h
+  pub long : length table ≡ pages

@@ -1,0 +1,50 @@
+//! What a system call may read and write.
+
+ghost use Rattle.std.specs.Prelude.{◌≡◌, ◌≤◌, IfOk, length, slice_get, Some};
+ghost use Rattle.mmap_rules.specs.Held.{Held};
+ghost use Rattle.syscall_layer.specs.Reach.{Reaches, whole_table};
+ghost use Rattle.syscall_layer.specs.Regular.{HasSpace};
+
+use crate::call::home;
+use mmap_rules::{Owners, PageOwner, Space};
+use std::alloc::{AllocError, Global};
+
+/// Which bytes the instructions and the system calls of a process may read and write.
+#[derive(Clone, Copy, Debug, PartialEq, Eq)]
+pub enum Reach {
+    /// Those that its space owns: a run up to its first stray access.
+    Own,
+    /// All of memory: a run that goes on behind it.
+    Whole,
+}
+
+/// The table that owns each byte of a memory of so many pages.
+pub fn whole_table(alloc: Global, pages: u32) -> Result<Owners, AllocError>
+    requires { pages ≤ 16384 }
+    ensures { IfOk result (λ table. table ≡ whole_table pages) }
+{
+    let page = PageOwner {
+        from: 0,
+        write: true,
+        uses: 1,
+    };
+    Ok(Owners::of(vec![in alloc; page; pages as usize]?))
+}
+
+/// The table of the bytes that are reached from the space of a number, which lives.
+pub fn table_of<'a>(
+    spaces: &'a [Option<Space>],
+    number: u32,
+    reach: Reach,
+    whole: &'a Owners,
+) -> &'a Owners
+    requires home { HasSpace spaces.now number }
+    requires pages { (h : Held) → slice_get spaces.now number ≡ Some (Some h) → h.pages ≡ length whole.now }
+    requires whole { whole.now ≡ whole_table (length whole.now) }
+    ensures { (h : Held) → slice_get spaces.now number ≡ Some (Some h) → Reaches reach (length whole.now) h result.now }
+{
+    match reach {
+        Reach::Own => home(spaces, number).owners(),
+        Reach::Whole => whole,
+    }
+}
