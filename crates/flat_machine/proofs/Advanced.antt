@@ -1,5 +1,5 @@
 -- The parts after instructions of one process.
-use Rattle.std.proofs.Common.{get_or, ◌*◌, ◌<◌, ◌≡◌, ℕ, ◌≤◌, true, false, not, List, length, map, Option, Some, None, refl, sym, ap, subst, ◌∙◌, arith}
+use Rattle.std.proofs.Common.{get_or, ◌<◌, ◌≡◌, ℕ, ◌≤◌, true, not, List, length, map, Option, Some, None, refl, sym, ap, subst, ◌∙◌, arith}
 use Rattle.std.specs.Prelude.{slice_get, option_map}
 use Rattle.rv32im_step.specs.declared.regs.Regs.{Regs}
 use Rattle.rv32im_step.specs.declared.stop.Stop.{Stop}
@@ -23,14 +23,15 @@ use Rattle.machine_world.proofs.States.{find_has, change_alike, with_regs, with_
 use Rattle.machine_world.proofs.Steps.{RanOn, run_on}
 use Rattle.syscall_layer.specs.declared.task.Task.{Task}
 use Rattle.syscall_layer.specs.Kept.{Kept}
-use Rattle.syscall_layer.specs.Regular.{Regular, HasSpace, IsRegular}
+use Rattle.syscall_layer.specs.declared.reach.Reach.TheVariants.{Own}
+use Rattle.syscall_layer.specs.Reach.{Reaches}
+use Rattle.syscall_layer.specs.Regular.{Regular, HasSpace}
 use Rattle.syscall_layer.specs.Copies.{CopiesHold}
 use Rattle.syscall_layer.specs.Stands.{About, later, private_bytes, private_of, live_spaces, process_of, world_of}
 use Rattle.syscall_layer.proofs.Worlds.{find_space, change_space, find_process, change_process}
 use Rattle.syscall_layer.proofs.Apart.{others_keep}
 use Rattle.syscall_layer.proofs.Stays.{regular_stays, set_kept}
 use Rattle.syscall_layer.proofs.CopiesKept.{copies_frozen}
-use Rattle.flat_machine.proofs.Abouts.{some_about}
 
 -- a process with what is kept of it
 pub record Entered (s : Listed Task) (pid : ℕ) (task : Task) : Type 0 where
@@ -45,14 +46,12 @@ entered s pid task is = at (process s pid) refl is
     at None there e = absurd cc
     at (Some entry) there e = record { entry = entry; there = there; value = cc }
 
--- what instructions of a process in its space leave of memory and registers
+-- what instructions of a process leave of memory and registers, over the bytes that this table owns
 pub record Ranged (k : Kept) (pid count : ℕ) (e : Entry Task) (h : Held) (table : List PageOwner) (now : List ℕ) (regs : Regs) (done : ℕ) (stop : Stop) : Type 0 where
   pub regular : Regular k
   pub copies : CopiesHold k.regions k.mem k.tree k.notes
   pub lives : process k.procs pid ≡ Some e
   pub home : slice_get k.spaces e.value.space ≡ Some (Some h)
-  pub own : owns table false ≡ own_in h.maps
-  pub writable : owns table true ≡ writable_in h.maps
   pub leaves : ran regs (own_bytes table now) done stop ≡ instructions count (owns table true) e.value.regs (own_bytes table k.mem)
   pub frozen : frozen table now ≡ frozen table k.mem
   pub length : length now ≡ length k.mem
@@ -75,29 +74,16 @@ module _ (k : Kept) (pid count : ℕ) (e : Entry Task) (h : Held) (table : List 
       let state : Some e.state ≡ Some Ready = ap (option_map (λ (x : Entry Task). x.state)) (sym r.lives) ∙ ready in
       ap (option_map (λ (x : Entry Task). x.state)) is ∙ state
 
-  frozen_in : only (λ a. not (writable_in h.maps a)) (physical now) ≡ only (λ a. not (writable_in h.maps a)) (physical k.mem)
-  frozen_in = subst (λ (w : ℕ → _). only (λ a. not (w a)) (physical now) ≡ only (λ a. not (w a)) (physical k.mem)) r.writable r.frozen
-
-  -- copies are no writable bytes
-  pub after_copies : CopiesHold k.regions now k.tree k.notes
-  after_copies = copies_frozen k r.regular r.copies e.value.space h r.home now r.length frozen_in
-
-  left : ran regs (private_bytes now h) done stop ≡ instructions count (writable_in h.maps) e.value.regs (private_bytes k.mem h)
-  unfolding private_bytes
-  left =
-      subst (λ (w : ℕ → _). ran regs (only (own_in h.maps) (physical now)) done stop ≡ instructions count w e.value.regs (only (own_in h.maps) (physical k.mem))) r.writable
-      (subst (λ (o : ℕ → _). ran regs (only o (physical now)) done stop ≡ instructions count (owns table true) e.value.regs (only o (physical k.mem))) r.own r.leaves)
-
   module _ (a : About) where
-    lives_in : find pid_of pid (world_of a k).procs ≡ Some (process_of e)
+    pub lives_in : find pid_of pid (world_of a k).procs ≡ Some (process_of e)
     unfolding world_of
     lives_in = find_process pid k.procs.entries ∙ ap (option_map process_of) r.lives
 
-    has_in : find id_of e.value.space (world_of a k).spaces ≡ Some (record { id = e.value.space; space = private_of k.mem h })
+    pub has_in : find id_of e.value.space (world_of a k).spaces ≡ Some (record { id = e.value.space; space = private_of k.mem h })
     unfolding world_of
     has_in = find_space k.mem k.spaces e.value.space h r.home
 
-    procs_in : map process_of (change entry_pid pid (λ (x : Entry Task). with_value x (record e.value { regs = regs })) k.procs.entries)
+    pub procs_in : map process_of (change entry_pid pid (λ (x : Entry Task). with_value x (record e.value { regs = regs })) k.procs.entries)
         ≡ change pid_of e.pid (λ q. with_regs q regs) (map process_of k.procs.entries)
     procs_in =
         let same : e.pid ≡ pid = find_has entry_pid pid k.procs.entries e r.lives in
@@ -106,25 +92,42 @@ module _ (k : Kept) (pid count : ℕ) (e : Entry Task) (h : Held) (table : List 
         ∙ change_process pid (λ (x : Entry Task). with_value x (record x.value { regs = regs })) (λ q. with_regs q regs) k.procs.entries (λ x. refl)
         ∙ ap (λ (n : ℕ). change pid_of n (λ q. with_regs q regs) (map process_of k.procs.entries)) (sym same)
 
-    spaces_in : live_spaces now k.spaces ≡ change id_of e.value.space (λ l. with_own l (private_of now h)) (live_spaces k.mem k.spaces)
-    spaces_in = sym (change_space (λ l. with_own l (private_of now h)) k.mem now k.spaces e.value.space h h r.home refl
-        (others_keep k r.regular e.value.space h r.home now frozen_in)
-        ∙ ap (live_spaces now) (set_kept k.spaces e.value.space (Some h) r.home))
+  -- ---- over its own bytes
 
-    after_moved : world_of (later done a) (after k pid e.value regs now) ≡ moved (world_of a k) (process_of e) regs (private_of now h) done
-    unfolding world_of
-    after_moved = rw (procs_in, spaces_in) refl
+  module _ (pages : ℕ) (reaches : Reaches Own pages h table) where
+    pub frozen_in : only (λ a. not (writable_in h.maps a)) (physical now) ≡ only (λ a. not (writable_in h.maps a)) (physical k.mem)
+    frozen_in = subst (λ (w : ℕ → _). only (λ a. not (w a)) (physical now) ≡ only (λ a. not (w a)) (physical k.mem)) reaches.writes r.frozen
 
-    on : RanOn pid (world_of a k) (process_of e) (record { id = e.value.space; space = private_of k.mem h }) count (ran regs (private_bytes now h) done stop)
-    on =
-        let P : Ran → Type 0 = λ x. RanOn pid (world_of a k) (process_of e) (record { id = e.value.space; space = private_of k.mem h }) count x in
-        subst P (sym left) (run_on pid count (world_of a k) (process_of e) (record { id = e.value.space; space = private_of k.mem h }) lives_in has_in)
+    -- copies are no writable bytes
+    pub after_copies : CopiesHold k.regions now k.tree k.notes
+    after_copies = copies_frozen k r.regular r.copies e.value.space h r.home now r.length frozen_in
 
-    pub after_leads : Leads pid (world_of a k) done (world_of (later done a) (after k pid e.value regs now))
-    after_leads = subst (λ (w : World). Leads pid (world_of a k) done w) (sym after_moved) on.0
+    pub left : ran regs (private_bytes now h) done stop ≡ instructions count (writable_in h.maps) e.value.regs (private_bytes k.mem h)
+    unfolding private_bytes
+    left =
+        subst (λ (w : ℕ → _). ran regs (only (own_in h.maps) (physical now)) done stop ≡ instructions count w e.value.regs (only (own_in h.maps) (physical k.mem))) reaches.writes
+        (subst (λ (o : ℕ → _). ran regs (only o (physical now)) done stop ≡ instructions count (owns table true) e.value.regs (only o (physical k.mem))) reaches.reads r.leaves)
 
-    pub after_halts : Halts (world_of (later done a) (after k pid e.value regs now)) pid count done stop
-    after_halts = subst (λ (w : World). Halts w pid count done stop) (sym after_moved) on.1
+    module _ (a : About) where
+      spaces_in : live_spaces now k.spaces ≡ change id_of e.value.space (λ l. with_own l (private_of now h)) (live_spaces k.mem k.spaces)
+      spaces_in = sym (change_space (λ l. with_own l (private_of now h)) k.mem now k.spaces e.value.space h h r.home refl
+          (others_keep k r.regular e.value.space h r.home now frozen_in)
+          ∙ ap (live_spaces now) (set_kept k.spaces e.value.space (Some h) r.home))
+
+      after_moved : world_of (later done a) (after k pid e.value regs now) ≡ moved (world_of a k) (process_of e) regs (private_of now h) done
+      unfolding world_of
+      after_moved = rw (procs_in a, spaces_in) refl
+
+      on : RanOn pid (world_of a k) (process_of e) (record { id = e.value.space; space = private_of k.mem h }) count (ran regs (private_bytes now h) done stop)
+      on =
+          let P : Ran → Type 0 = λ x. RanOn pid (world_of a k) (process_of e) (record { id = e.value.space; space = private_of k.mem h }) count x in
+          subst P (sym left) (run_on pid count (world_of a k) (process_of e) (record { id = e.value.space; space = private_of k.mem h }) (lives_in a) (has_in a))
+
+      pub after_leads : Leads pid (world_of a k) done (world_of (later done a) (after k pid e.value regs now))
+      after_leads = subst (λ (w : World). Leads pid (world_of a k) done w) (sym after_moved) on.0
+
+      pub after_halts : Halts (world_of (later done a) (after k pid e.value regs now)) pid count done stop
+      after_halts = subst (λ (w : World). Halts w pid count done stop) (sym after_moved) on.1
 
 pub halts_within : (w : World) (pid count done : ℕ) (stop : Stop) → Halts w pid count done stop → done ≤ count
 halts_within w pid count done Next h = let e : done ≡ count = h in omega arith
@@ -153,49 +156,3 @@ pub has_space : (k : Kept) (pid : ℕ) (task : Task) → Regular k → value_at 
 has_space k pid task regular is =
     let e = entered k.procs pid task is in
     subst (λ (t : Task). HasSpace k.spaces t.space) e.value (regular.runs pid e.entry e.there)
-
--- up to so many instructions of a process
-pub record Advances (k now : Kept) (pid count done : ℕ) (stop : Stop) : Type 0 where
-  pub regular : IsRegular now
-  pub ready : CanRun now.procs pid
-  pub within : done ≤ count
-  pub leads : (a : About) → Leads pid (world_of a k) done (world_of (later done a) now)
-  pub halts : (a : About) → Halts (world_of (later done a) now) pid count done stop
-
-advances_in : (k : Kept) (pid count : ℕ) (e : Entry Task) (h : Held) (table : List PageOwner) (now : List ℕ) (regs : Regs) (done : ℕ) (stop : Stop)
-    → Ranged k pid count e h table now regs done stop → CanRun k.procs pid → Advances k (after k pid e.value regs now) pid count done stop
-advances_in k pid count e h table now regs done stop r ready = record {
-  regular = (after_regular k pid count e h table now regs done stop r, after_copies k pid count e h table now regs done stop r);
-  ready = after_ready k pid count e h table now regs done stop r ready;
-  within = halts_within (world_of (later done some_about) (after k pid e.value regs now)) pid count done stop
-      (after_halts k pid count e h table now regs done stop r some_about);
-  leads = after_leads k pid count e h table now regs done stop r;
-  halts = after_halts k pid count e h table now regs done stop r;
-}
-
-pub advances : (k : Kept) (pid count : ℕ) (task : Task) (x : Option Held) (h : Held) (table seen : List PageOwner) (was now : List ℕ) (regs : Regs) (done : ℕ) (stop : Stop)
-    → IsRegular k → CanRun k.procs pid → value_at k.procs pid ≡ Some task → x ≡ get_or k.spaces task.space x → x ≡ Some h
-    → owns table false ≡ own_in h.maps → owns table true ≡ writable_in h.maps → seen ≡ table → was ≡ k.mem
-    → ran regs (own_bytes seen now) done stop ≡ instructions count (owns seen true) task.regs (own_bytes seen was)
-    → frozen seen now ≡ frozen seen was → length now ≡ length was → Advances k (after k pid task regs now) pid count done stop
-advances k pid count task x h table seen was now regs done stop regular ready is at space own writable sees before leaves same long =
-    let e = entered k.procs pid task is in
-    let home = home_of k.spaces task.space x h (has_space k pid task regular.0 is) at space in
-    subst (λ (t : Task). Advances k (after k pid t regs now) pid count done stop) e.value (advances_in k pid count e.entry h table now regs done stop (record {
-      regular = regular.0;
-      copies = regular.1;
-      lives = e.there;
-      home = subst (λ (t : Task). slice_get k.spaces t.space ≡ Some (Some h)) (sym e.value) home;
-      own = own;
-      writable = writable;
-      leaves = subst (λ (t : Task). ran regs (own_bytes table now) done stop ≡ instructions count (owns table true) t.regs (own_bytes table k.mem)) (sym e.value)
-          (rw (sees, before) at leaves);
-      frozen = rw (sees, before) at same;
-      length = rw before at long;
-    }) ready)
-
--- the table has an entry for each page of memory
-pub paged : (k : Kept) (n : ℕ) (x : Option Held) (h : Held) (pages : ℕ) → Regular k → HasSpace k.spaces n → x ≡ get_or k.spaces n x → x ≡ Some h → pages ≡ h.pages → length k.mem ≡ 4096 * pages
-paged k n x h pages regular live at space all =
-    let same = regular.pages n h (home_of k.spaces n x h live at space) in
-    regular.memory ∙ ap (λ (m : ℕ). 4096 * m) (sym (all ∙ same))

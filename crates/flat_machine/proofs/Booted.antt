@@ -13,6 +13,7 @@ use Rattle.machine_world.specs.Free.{free}
 use Rattle.machine_world.specs.Boot.{StartLine, BootFault, bad_start, args_too_big, no_run, Found, found, path_of, taken, address_of, begun, placed, fitting, located, started, then_started, all_started, empty_world, boot}
 use Rattle.machine_world.specs.Programs.{LoadsPrograms}
 use Rattle.machine_world.proofs.Loads.{boot_loads_programs}
+use Rattle.physical_turns.specs.Physical.{has_stray}
 use Rattle.syscall_layer.specs.Kept.{Kept, nothing_yet}
 use Rattle.syscall_layer.specs.Stands.{About, process_of, live_spaces, world_of}
 use Rattle.flat_machine.specs.declared.boot.BootRefusal.{BootRefusal}
@@ -23,8 +24,10 @@ use Rattle.flat_machine.specs.Boots.{IsFault, Boots, Begins}
 
 -- ---- one start line
 
--- one process, one load note and one pid more
+-- one process, one load note and one pid more, as many pages, and no stray access noted
 pub record OneMore (w now : World) : Type 0 where
+  pub pages : now.rest.pages ≡ w.rest.pages
+  pub quiet : has_stray now.notes ≡ has_stray w.notes
   pub pids : now.next_pid ≡ w.next_pid + 1
   pub loads : now.loads ≡ w.loads + 1
   pub procs : length now.procs + length now.ended ≡ length w.procs + length w.ended + 1
@@ -40,7 +43,7 @@ module _ (w now : World) (s : StartLine) where
   more_placed f None is = absurd cc
   more_placed f (Some page) is =
       let new : World = begun w f.index (record { original = f.original; block = address_of page; args = s.args; env = [] }) in
-      subst (OneMore w) (same_world new now is) (record { pids = refl; loads = refl; procs = let one : suc (length w.procs) + length w.ended ≡ length w.procs + length w.ended + 1 = omega arith in one })
+      subst (OneMore w) (same_world new now is) (record { pages = refl; quiet = refl; pids = refl; loads = refl; procs = let one : suc (length w.procs) + length w.ended ≡ length w.procs + length w.ended + 1 = omega arith in one })
 
   more_fitting : (f : Found) (fits : Bool) → fitting w s f fits ≡ Ok now → OneMore w now
   more_fitting f true is = more_placed f (taken w (block_pages f.original) (free w)) is
@@ -75,6 +78,14 @@ module _ (a : About) (old new : Kept) (s : StartLine) where
     pub more_processes : count new.procs ≡ count old.procs + 1
     unfolding world_of
     more_processes = let c = counts.procs in omega (arith, c, length-map new.procs.entries process_of, length-map old.procs.entries process_of)
+
+    pub more_pages : length new.regions ≡ length old.regions
+    unfolding world_of
+    more_pages = counts.pages
+
+    pub more_quiet : has_stray new.notes ≡ has_stray old.notes
+    unfolding world_of
+    more_quiet = counts.quiet
 
     lines_on : (more : List StartLine) → all_started (world_of a old) (s ∷ more) ≡ all_started (world_of a new) more
     unfolding all_started

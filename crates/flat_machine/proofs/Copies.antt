@@ -1,29 +1,45 @@
--- The own bytes of a process, in the one memory.
-use Rattle.std.proofs.Common.{◌≡◌, ℕ, Bool, false, List, [], Option, Some, None, Result, Ok, Err, refl, sym, ap, ◌∙◌}
+-- The own bytes of a process, and those of all of memory.
+use Rattle.std.proofs.Common.{◌≡◌, ℕ, ◌*◌, Bool, false, List, [], length, Option, Some, None, Result, Ok, Err, refl, sym, ap, ◌∙◌}
 use Rattle.std.specs.Prelude.{slice_get, is_some, option_map}
+use Rattle.byte_words.specs.ByteMap.{Bytes}
+use Rattle.mmap_rules.specs.declared.owners.PageOwner.{PageOwner}
 use Rattle.mmap_rules.specs.Held.{Held}
+use Rattle.region_watch.specs.Private.{only, physical}
+use Rattle.region_watch.specs.Private.{own_bytes as own_bytes_in}
 use Rattle.call_log.specs.Sent.{Span, read_span}
 use Rattle.vfork_exec.specs.declared.entry.Entry.{Entry}
 use Rattle.vfork_exec.specs.Procs.{process, value_at}
 use Rattle.syscall_layer.specs.declared.task.Task.{Task}
 use Rattle.syscall_layer.specs.Kept.{Kept}
+use Rattle.syscall_layer.specs.declared.reach.Reach.{Reach}
+use Rattle.syscall_layer.specs.declared.reach.Reach.TheVariants.{Own, Whole}
+use Rattle.syscall_layer.specs.Reach.{Reaches, readable, whole_table}
+use Rattle.syscall_layer.specs.Regular.{Regular, HasSpace}
 use Rattle.syscall_layer.specs.Reading.{appended}
+use Rattle.syscall_layer.specs.InMemory.{physical_of}
 use Rattle.syscall_layer.specs.Stands.{About, private_bytes, process_of, world_of}
 use Rattle.syscall_layer.proofs.Worlds.{find_space, find_process}
-use Rattle.flat_machine.specs.OwnBytes.{read_or_none, bytes_in, bytes_of, own_bytes}
-use Rattle.flat_machine.proofs.Advanced.{entered}
+use Rattle.syscall_layer.proofs.Reached.{reached_bytes, whole_bytes, whole_pages}
+use Rattle.flat_machine.specs.OwnBytes.{read_or_none, bytes_in, bytes_of, own_bytes, bytes_for, memory_bytes}
+use Rattle.flat_machine.proofs.Advanced.{entered, has_space}
+use Rattle.flat_machine.proofs.AdvancedIn.{reach_paged}
+
+none_found : (o : Option (Entry Task)) → is_some o ≡ false → o ≡ None
+none_found None h = refl
+none_found (Some e) h = absurd cc
+
+-- bytes that were added to none
+read_all : (r : Result (List ℕ) Span) (old new : List ℕ) → old ≡ [] → appended old r ≡ Ok new → read_or_none r ≡ Some new
+read_all (Ok bytes) old new empty h = let same : bytes ≡ new = (let e = rw empty at h in cc) in ap Some same
+read_all (Err span) old new empty h = absurd cc
 
 module _ (a : About) (k : Kept) (pid addr len : ℕ) where
   -- no process of this number
   pub none_lives : (lives : Bool) → lives ≡ is_some (process k.procs pid) → lives ≡ false → None ≡ own_bytes (world_of a k) pid addr len
   unfolding own_bytes world_of
   none_lives lives is dead =
-      let none = none_of (process k.procs pid) (sym is ∙ dead) in
+      let none = none_found (process k.procs pid) (sym is ∙ dead) in
       sym (ap (bytes_of (world_of a k) addr len) (find_process pid k.procs.entries ∙ ap (option_map process_of) none))
-    where
-      none_of : (o : Option (Entry Task)) → is_some o ≡ false → o ≡ None
-      none_of None h = refl
-      none_of (Some e) h = absurd cc
 
   -- what it has at an address
   own_is : (task : Task) (h : Held) → value_at k.procs pid ≡ Some task → slice_get k.spaces task.space ≡ Some (Some h)
@@ -35,15 +51,71 @@ module _ (a : About) (k : Kept) (pid addr len : ℕ) where
       ap (bytes_of (world_of a k) addr len) (find_process pid k.procs.entries ∙ ap (option_map process_of) e.there)
       ∙ ap (bytes_in addr len) (find_space k.mem k.spaces e.entry.value.space h there)
 
-  pub own_read : (task : Task) (h : Held) (old new : List ℕ) → value_at k.procs pid ≡ Some task → slice_get k.spaces task.space ≡ Some (Some h) → old ≡ []
+  own_read : (task : Task) (h : Held) (old new : List ℕ) → value_at k.procs pid ≡ Some task → slice_get k.spaces task.space ≡ Some (Some h) → old ≡ []
       → appended old (read_span (private_bytes k.mem h) (record { addr = addr; len = len })) ≡ Ok new → Some new ≡ own_bytes (world_of a k) pid addr len
   own_read task h old new is home empty found =
-      sym (own_is task h is home ∙ read (read_span (private_bytes k.mem h) (record { addr = addr; len = len })) (rw empty at found))
-    where
-      read : (r : Result (List ℕ) Span) → appended [] r ≡ Ok new → read_or_none r ≡ Some new
-      read (Ok bytes) h = let same : bytes ≡ new = cc in ap Some same
-      read (Err span) h = absurd cc
+      sym (own_is task h is home ∙ read_all (read_span (private_bytes k.mem h) (record { addr = addr; len = len })) old new empty found)
 
-  pub own_strays : (task : Task) (h : Held) (span : Span) → value_at k.procs pid ≡ Some task → slice_get k.spaces task.space ≡ Some (Some h)
+  own_strays : (task : Task) (h : Held) (span : Span) → value_at k.procs pid ≡ Some task → slice_get k.spaces task.space ≡ Some (Some h)
       → read_span (private_bytes k.mem h) (record { addr = addr; len = len }) ≡ Err span → None ≡ own_bytes (world_of a k) pid addr len
   own_strays task h span is home found = sym (own_is task h is home ∙ ap read_or_none found)
+
+  -- ---- of all of memory
+
+  module _ (headers : List (List ℕ)) where
+    pub none_lives_in : (lives : Bool) → lives ≡ is_some (process k.procs pid) → lives ≡ false → None ≡ memory_bytes (physical_of headers a k) pid addr len
+    unfolding memory_bytes physical_of world_of
+    none_lives_in lives is dead =
+        let none = none_found (process k.procs pid) (sym is ∙ dead) in
+        sym (ap (bytes_for (physical_of headers a k) addr len) (find_process pid k.procs.entries ∙ ap (option_map process_of) none))
+
+    memory_is : (task : Task) → value_at k.procs pid ≡ Some task → memory_bytes (physical_of headers a k) pid addr len ≡ read_or_none (read_span (physical k.mem) (record { addr = addr; len = len }))
+    unfolding memory_bytes physical_of world_of
+    memory_is task is =
+        let e = entered k.procs pid task is in
+        ap (bytes_for (physical_of headers a k) addr len) (find_process pid k.procs.entries ∙ ap (option_map process_of) e.there)
+
+-- ---- within reach
+
+module _ (reach : Reach) (k : Kept) (pid addr len : ℕ) (whole table : List PageOwner) (task : Task) (regular : Regular k) (pages : whole ≡ whole_table (length k.regions))
+    (is : value_at k.procs pid ≡ Some task) (each : (h : Held) → slice_get k.spaces task.space ≡ Some (Some h) → Reaches reach (length whole) h table) where
+  live : HasSpace k.spaces task.space
+  live = has_space k pid task regular is
+
+  reaches : Reaches reach (length whole) live.held table
+  reaches = each live.held live.there
+
+  -- the table has an entry for each page of memory
+  pub copied_paged : length k.mem ≡ 4096 * length table
+  copied_paged = reach_paged reach k whole table live.held regular pages reaches
+
+  own_seen : reach ≡ Own → own_bytes_in table k.mem ≡ private_bytes k.mem live.held
+  unfolding private_bytes
+  own_seen own =
+      reached_bytes reach (length whole) live.held table k.mem reaches ∙ ap (λ (r : Reach). only (readable r (length whole) live.held) (physical k.mem)) own
+
+  whole_seen : reach ≡ Whole → own_bytes_in table k.mem ≡ physical k.mem
+  whole_seen all =
+      reached_bytes reach (length whole) live.held table k.mem reaches ∙ ap (λ (r : Reach). only (readable r (length whole) live.held) (physical k.mem)) all
+      ∙ whole_bytes (length whole) k.mem (regular.memory ∙ ap (λ (n : ℕ). 4096 * n) (sym (whole_pages (length k.regions) whole pages).0))
+
+  abbrev span : Span
+  span = record { addr = addr; len = len }
+
+  pub copied_own : (old new : List ℕ) → old ≡ [] → appended old (read_span (own_bytes_in table k.mem) span) ≡ Ok new → reach ≡ Own → (a : About) → Some new ≡ own_bytes (world_of a k) pid addr len
+  copied_own old new empty found own a =
+      own_read a k pid addr len task live.held old new is live.there empty (ap (λ (m : Bytes). appended old (read_span m span)) (sym (own_seen own)) ∙ found)
+
+  pub copied_whole : (old new : List ℕ) → old ≡ [] → appended old (read_span (own_bytes_in table k.mem) span) ≡ Ok new → reach ≡ Whole → (headers : List (List ℕ)) (a : About)
+      → Some new ≡ memory_bytes (physical_of headers a k) pid addr len
+  copied_whole old new empty found all headers a =
+      sym (memory_is a k pid addr len headers task is
+      ∙ read_all (read_span (physical k.mem) span) old new empty (ap (λ (m : Bytes). appended old (read_span m span)) (sym (whole_seen all)) ∙ found))
+
+  pub strays_own : (seen : Span) → read_span (own_bytes_in table k.mem) span ≡ Err seen → reach ≡ Own → (a : About) → None ≡ own_bytes (world_of a k) pid addr len
+  strays_own seen found own a = own_strays a k pid addr len task live.held seen is live.there (ap (λ (m : Bytes). read_span m span) (sym (own_seen own)) ∙ found)
+
+  pub strays_whole : (seen : Span) → read_span (own_bytes_in table k.mem) span ≡ Err seen → reach ≡ Whole → (headers : List (List ℕ)) (a : About)
+      → None ≡ memory_bytes (physical_of headers a k) pid addr len
+  strays_whole seen found all headers a =
+      sym (memory_is a k pid addr len headers task is ∙ ap read_or_none (ap (λ (m : Bytes). read_span m span) (sym (whole_seen all)) ∙ found))

@@ -1,25 +1,45 @@
 -- What is proved of a machine.
 -- Abouts    runs of which little is known
+-- Within    what may be written is own, and lies in memory
 -- Advanced  the parts after instructions of one process
+-- AdvancedIn  and the one memory
 -- Windows   the block's own range may be used whole
 -- Events    the next event of a process, by the step at which it stands
+-- StillIn   who may run is somebody to an event over one memory, and may run still
+-- EventsIn  the next event in the one memory
 -- Turned    a turn, by its events
+-- NotedIn   stray notes come and stay
+-- TurnsIn   a turn in the one memory
 -- Picks     the process of a turn
 -- Rounds    runs by quanta
+-- StraysOn  a turn goes on behind the note of its first stray access
+-- TurnsOf   what holds of a machine behind a turn
+-- RoundsIn  runs by quanta in the one memory, and up to their first stray access
 -- Waiting   who waits in a machine's world, and why where a run is stuck
 -- Readers   what the fields of a machine say of its world
 -- Copies    the own bytes of a process, in the one memory
 -- Found     the program of a path, and the start of a start line
 -- Booted    the start lines one after the other
+-- BootedIn  and the one memory behind them
 pub mod Abouts
 pub mod Readers
+pub mod Within
 pub mod Advanced
+pub mod AdvancedIn
 pub mod Windows
 pub mod Events
+pub mod StillIn
+pub mod EventsIn
 pub mod Turned
+pub mod NotedIn
+pub mod TurnsIn
 pub mod Picks
 pub mod Rounds
+pub mod StraysOn
+pub mod TurnsOf
+pub mod RoundsIn
 pub mod Waiting
 pub mod Copies
 pub mod Found
 pub mod Booted
+pub mod BootedIn

@@ -23,9 +23,9 @@ use Rattle.stays_laws.specs.Sound.{IsSound}
 use Rattle.stays_laws.proofs.SoundRuns.{turns_keep_sound}
 use Rattle.stays_laws.proofs.StaysRuns.{runs_keep_stays}
 use Rattle.flat_machine.specs.Runs.{repeated, Ends, Stops, Runs, KeepsStays}
-use Rattle.flat_machine.specs.State.{State, about_of, world}
+use Rattle.flat_machine.specs.State.{State, world}
 use Rattle.syscall_layer.specs.Kept.{Kept}
-use Rattle.syscall_layer.specs.Stands.{About, later, world_of}
+use Rattle.syscall_layer.specs.Stands.{About, world_of}
 use Rattle.flat_machine.specs.Leaves.{TurnLeaves, Leaves}
 use Rattle.flat_machine.proofs.Picks.{may_run}
 use Rattle.flat_machine.proofs.Readers.{loads_programs, loaded_notes}
@@ -66,12 +66,6 @@ module _ (q : Quantum) (w : World) where
       goes_on = x.goes_on;
       still = x.still;
     }
-
--- a machine whose process has its turn
-pub machine_leaves : (s : State) (q : Quantum) (pid done events : ℕ) (k : Kept) (r : Result (Option Told) AllocError) → Some pid ≡ picked q.pick (ready_pids (world s).procs)
-    → TurnLeaves pid q.count (world s) done (world_of (later done (about_of s)) k) r → events ≡ done → Leaves (q ∷ []) (world s) (world (record s { kept = k; events = s.events + events })) r
-machine_leaves s q pid done events k r chosen leaves all =
-    rw all (quantum_leaves q (world s) pid (sym chosen) done (world_of (later done (about_of s)) k) r leaves)
 
 -- the world that a turn leaves
 turn_has : (P : World → Type 0) (pid count : ℕ) (old : World) (done : ℕ) (new : World) (r : Result (Option Told) AllocError) → TurnLeaves pid count old done new r
@@ -145,28 +139,29 @@ leaves_failed front more old new error x = record {
 
 -- ---- the quantum of number i
 
-module _ (qs : List Quantum) (i : ℕ) (d : Quantum) (less : i < length qs) (old mid new : World) (comes : Comes (take i qs) old mid) where
-  next_is : take (i + 1) qs ≡ take i qs ++ (get_or qs i d ∷ [])
+module _ (qs : List Quantum) (i : ℕ) (d : Quantum) (less : i < length qs) where
+  pub next_is : take (i + 1) qs ≡ take i qs ++ (get_or qs i d ∷ [])
   next_is = let one : i + 1 ≡ suc i = omega arith in ap (λ n. take n qs) one ∙ take-suc qs i d less
 
-  all_are : qs ≡ (take i qs ++ (get_or qs i d ∷ [])) ++ drop (i + 1) qs
+  pub all_are : qs ≡ (take i qs ++ (get_or qs i d ∷ [])) ++ drop (i + 1) qs
   all_are = sym (take-append-drop (i + 1) qs) ∙ ap (λ rs. rs ++ drop (i + 1) qs) next_is
 
-  pub round_on : Leaves (get_or qs i d ∷ []) mid new (Ok None) → Comes (take (i + 1) qs) old new
-  round_on x = subst (λ rs. Comes rs old new) (sym next_is) (comes_on (take i qs) (get_or qs i d ∷ []) old mid new comes x)
+  module _ (old mid new : World) (comes : Comes (take i qs) old mid) where
+    pub round_on : Leaves (get_or qs i d ∷ []) mid new (Ok None) → Comes (take (i + 1) qs) old new
+    round_on x = subst (λ rs. Comes rs old new) (sym next_is) (comes_on (take i qs) (get_or qs i d ∷ []) old mid new comes x)
 
-  pub round_ends : (end : Told) → Leaves (get_or qs i d ∷ []) mid new (Ok (Some end)) → Leaves qs old new (Ok (Some end))
-  round_ends end x =
-      subst (λ rs. Leaves rs old new (Ok (Some end))) (sym all_are)
-      (leaves_ended (take i qs ++ (get_or qs i d ∷ [])) (drop (i + 1) qs) old new end
-      (leaves_front (take i qs) (get_or qs i d ∷ []) old mid new (Ok (Some end)) comes x))
+    pub round_ends : (end : Told) → Leaves (get_or qs i d ∷ []) mid new (Ok (Some end)) → Leaves qs old new (Ok (Some end))
+    round_ends end x =
+        subst (λ rs. Leaves rs old new (Ok (Some end))) (sym all_are)
+        (leaves_ended (take i qs ++ (get_or qs i d ∷ [])) (drop (i + 1) qs) old new end
+        (leaves_front (take i qs) (get_or qs i d ∷ []) old mid new (Ok (Some end)) comes x))
 
-  pub round_fails : (r : Result (Option Told) AllocError) → IsErr r → Stops (get_or qs i d ∷ []) mid new → Leaves qs old new r
-  round_fails (Ok end) is x = absurd cc
-  round_fails (Err error) is x =
-      subst (λ rs. Stops rs old new) (sym all_are)
-      (leaves_failed (take i qs ++ (get_or qs i d ∷ [])) (drop (i + 1) qs) old new error
-      (leaves_front (take i qs) (get_or qs i d ∷ []) old mid new (Err error) comes x))
+    pub round_fails : (r : Result (Option Told) AllocError) → IsErr r → Stops (get_or qs i d ∷ []) mid new → Leaves qs old new r
+    round_fails (Ok end) is x = absurd cc
+    round_fails (Err error) is x =
+        subst (λ rs. Stops rs old new) (sym all_are)
+        (leaves_failed (take i qs ++ (get_or qs i d ∷ [])) (drop (i + 1) qs) old new error
+        (leaves_front (take i qs) (get_or qs i d ∷ []) old mid new (Err error) comes x))
 
 -- ---- the quanta so many times
 
@@ -191,26 +186,27 @@ repeated_parts (suc i) n qs =
     ap (λ m. repeated m qs) sum ∙ ap (λ rs. qs ++ rs) (repeated_parts i n qs) ∙ sym (append_assoc qs (repeated i qs) (repeated n qs))
 
 -- in the time of number i
-module _ (qs : List Quantum) (i count : ℕ) (less : i < count) (old mid new : World) (comes : Comes (repeated i qs) old mid) where
-  split : repeated count qs ≡ (repeated i qs ++ qs) ++ repeated (count - (i + 1)) qs
+module _ (qs : List Quantum) (i count : ℕ) (less : i < count) where
+  pub split : repeated count qs ≡ (repeated i qs ++ qs) ++ repeated (count - (i + 1)) qs
   split =
       let sum : count ≡ (i + 1) + (count - (i + 1)) = omega arith in
       ap (λ m. repeated m qs) sum ∙ repeated_parts (i + 1) (count - (i + 1)) qs ∙ ap (λ rs. rs ++ repeated (count - (i + 1)) qs) (repeated_more i qs)
 
-  pub time_on : Leaves qs mid new (Ok None) → Comes (repeated (i + 1) qs) old new
-  time_on x = subst (λ rs. Comes rs old new) (sym (repeated_more i qs)) (comes_on (repeated i qs) qs old mid new comes x)
+  module _ (old mid new : World) (comes : Comes (repeated i qs) old mid) where
+    pub time_on : Leaves qs mid new (Ok None) → Comes (repeated (i + 1) qs) old new
+    time_on x = subst (λ rs. Comes rs old new) (sym (repeated_more i qs)) (comes_on (repeated i qs) qs old mid new comes x)
 
-  pub time_ends : (end : Told) → Leaves qs mid new (Ok (Some end)) → (new ≡ (turns (repeated count qs) old).world) × Ends (turns (repeated count qs) old).end end
-  time_ends end x =
-      let all = leaves_front (repeated i qs) qs old mid new (Ok (Some end)) comes x in
-      let here = all (repeated (count - (i + 1)) qs) in
-      rw split (sym here.0, here.1)
+    pub time_ends : (end : Told) → Leaves qs mid new (Ok (Some end)) → (new ≡ (turns (repeated count qs) old).world) × Ends (turns (repeated count qs) old).end end
+    time_ends end x =
+        let all = leaves_front (repeated i qs) qs old mid new (Ok (Some end)) comes x in
+        let here = all (repeated (count - (i + 1)) qs) in
+        rw split (sym here.0, here.1)
 
-  pub time_fails : Stops qs mid new → Stops (repeated count qs) old new
-  time_fails x =
-      subst (λ rs. Stops rs old new) (sym split)
-      (leaves_failed (repeated i qs ++ qs) (repeated (count - (i + 1)) qs) old new alloc_error
-      (leaves_front (repeated i qs) qs old mid new (Err alloc_error) comes x))
+    pub time_fails : Stops qs mid new → Stops (repeated count qs) old new
+    time_fails x =
+        subst (λ rs. Stops rs old new) (sym split)
+        (leaves_failed (repeated i qs ++ qs) (repeated (count - (i + 1)) qs) old new alloc_error
+        (leaves_front (repeated i qs) qs old mid new (Err alloc_error) comes x))
 
 -- behind the last quantum
 all_comes : (qs : List Quantum) (old new : World) (end : Told) → Comes qs old new → Ends (turns [] new).end end → (new ≡ (turns qs old).world) × Ends (turns qs old).end end

@@ -26,10 +26,10 @@ use Rattle.flat_machine.proofs.Abouts.{some_about, about_with, some_are_flats}
 abbrev pub Reached : Kind → List Values → ℕ → Kept → ℕ → Kept → Type 0
 Reached kind flats pid old n now = (a : About) → a.kind ≡ kind → AreFlats a.programs flats → Leads pid (world_of a old) n (world_of (later n a) now)
 
-later_none : (a : About) → later 0 a ≡ a
+pub later_none : (a : About) → later 0 a ≡ a
 later_none a = let sum : a.events + 0 ≡ a.events = omega arith in rw sum refl
 
-later_on : (i j : ℕ) (a : About) → later j (later i a) ≡ later (i + j) a
+pub later_on : (i j : ℕ) (a : About) → later j (later i a) ≡ later (i + j) a
 later_on i j a = let sum : a.events + i + j ≡ a.events + (i + j) = omega arith in rw sum refl
 
 pub reached_none : (kind : Kind) (flats : List Values) (pid : ℕ) (k : Kept) → Reached kind flats pid k 0 k

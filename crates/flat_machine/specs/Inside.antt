@@ -1,10 +1,12 @@
 -- The fields of `Machine` as what it keeps, and what holds of them.
-use Rattle.std.specs.Prelude.{◌≡◌, length}
+use Rattle.std.specs.Prelude.{◌≡◌, false, length}
 use Rattle.call_log.specs.Programs.{paths_of}
 use Rattle.machine_world.specs.Programs.{AreLoaded}
 use Rattle.flat_machine.specs.declared.machine.Machine.TheInside.{Inside}
 use Rattle.stays_laws.specs.Sound.{IsSound}
-use Rattle.flat_machine.specs.State.{State, world}
+use Rattle.physical_turns.specs.Physical.{has_stray}
+use Rattle.syscall_layer.specs.Reach.{whole_table}
+use Rattle.flat_machine.specs.State.{State, is_whole, world}
 
 abbrev pub state_of : Inside → State
 state_of m = record {
@@ -13,10 +15,15 @@ state_of m = record {
   paths = paths_of m.paths.items;
   programs = m.programs.items;
   events = m.events;
+  mode = m.mode;
+  reach = m.reach;
 }
 
--- each program has a path, each load note names a program that is there, and the world is a sound one
+-- each program has a path, each load note names a program that is there, the world is a sound one up to the first stray access, and
+-- all of memory is reached just behind that
 pub record Holds (m : Inside) : Type 0 where
   pub paths : length m.paths.items ≡ length m.programs.items
   pub loads : AreLoaded (length m.programs.items) m.parts.notes
-  pub sound : IsSound (world (state_of m))
+  pub sound : has_stray m.parts.notes ≡ false → IsSound (world (state_of m))
+  pub whole : m.whole ≡ whole_table (length m.parts.regions)
+  pub strayed : has_stray m.parts.notes ≡ is_whole m.reach

@@ -27,10 +27,10 @@ Carried a (strays access) old new pid (Ok (after.RunEnds (told.Stray seen))) =
 Carried a full old new pid (Ok (after.RunEnds told.LogFull)) = new ≡ old
 Carried a outcome old new pid (Ok other) = ⊥
 
--- a stray access ends the run, with its note
+-- a stray access ends the run, with its note and nothing else
 abbrev pub TellsStray : ℕ → Access → Kept → Kept → Result After AllocError → Type 0
 TellsStray pid access old new (Ok (after.RunEnds (told.Stray seen))) =
-    (seen ≡ access) × ((a : About) → world_of a new ≡ noted (stray_note pid (seen_of access)) (world_of a old))
+    (seen ≡ access) × ((a : About) → world_of a new ≡ noted (stray_note pid (seen_of access)) (world_of a old)) × (new.mem ≡ old.mem)
 TellsStray pid access old new (Ok other) = ⊥
 TellsStray pid access old new (Err error) = new ≡ old
 

@@ -2,11 +2,15 @@
 -- Boots     what a boot gives
 -- Runs      what a run leaves, and why it stops
 -- Leaves    what an event, a turn and some quanta leave
+-- RunsIn    the same of a run that goes on behind its first stray access, over one memory
+-- LeavesIn  and of its events and turns
 -- OwnBytes  bytes of a process
 -- Inside    the fields of `Machine` as what it keeps
 pub mod State
 pub mod Boots
 pub mod Runs
 pub mod Leaves
+pub mod LeavesIn
+pub mod RunsIn
 pub mod OwnBytes
 pub mod Inside

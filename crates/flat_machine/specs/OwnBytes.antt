@@ -2,6 +2,7 @@
 use Rattle.std.specs.Prelude.{ℕ, List, Option, Some, None, Result, Ok, Err}
 use Rattle.vfork_exec.specs.Keyed.{find}
 use Rattle.call_log.specs.Sent.{Span, read_span}
+use Rattle.physical_turns.specs.Physical.{Physical}
 use Rattle.machine_world.specs.World.{World, Process, LiveSpace, pid_of, id_of}
 
 abbrev pub read_or_none : Result (List ℕ) Span → Option (List ℕ)
@@ -19,3 +20,11 @@ bytes_of w addr len (Some p) = bytes_in addr len (find id_of p.space w.spaces)
 -- `len` bytes from `addr` on, where the process lives and each is its own
 unfoldable pub own_bytes : World → ℕ → ℕ → ℕ → Option (List ℕ)
 own_bytes w pid addr len = bytes_of w addr len (find pid_of pid w.procs)
+
+-- the same of all of memory
+abbrev pub bytes_for : Physical → ℕ → ℕ → Option Process → Option (List ℕ)
+bytes_for p addr len None = None
+bytes_for p addr len (Some q) = read_or_none (read_span p.memory (record { addr = addr; len = len }))
+
+unfoldable pub memory_bytes : Physical → ℕ → ℕ → ℕ → Option (List ℕ)
+memory_bytes p pid addr len = bytes_for p addr len (find pid_of pid p.world.procs)

@@ -1,6 +1,6 @@
 -- What a machine keeps, and the world that it stands for.
 pub use Rattle.machine_world.specs.Programs.{programs_of}
-use Rattle.std.specs.Prelude.{ℕ, List, [], map, Vec}
+use Rattle.std.specs.Prelude.{ℕ, Bool, true, false, List, [], map, Vec}
 use Rattle.page_runs.specs.declared.place.Kind.{Kind}
 use Rattle.bflt_format.specs.Values.{Values}
 use Rattle.call_log.specs.Programs.{paths_of}
@@ -12,20 +12,37 @@ use Rattle.machine_world.specs.World.{Rest, World}
 use Rattle.machine_world.specs.Boot.{StartLine}
 use Rattle.syscall_layer.specs.Kept.{Kept}
 use Rattle.syscall_layer.specs.Stands.{About, world_of}
+use Rattle.syscall_layer.specs.InMemory.{headers_of, physical_of}
+use Rattle.syscall_layer.specs.declared.reach.Reach.{Reach}
+use Rattle.syscall_layer.specs.declared.reach.Reach.TheVariants.{Own, Whole}
+use Rattle.physical_turns.specs.Physical.{Physical}
+use Rattle.flat_machine.specs.declared.machine.Mode.{Mode}
 
--- the parts; how free runs are chosen; the paths of the programs, and their flat files; and the number of events
+-- the parts; how free runs are chosen; the paths of the programs, and their flat files; the number of events; what becomes of the run
+-- at its first stray access; and what it reaches, all of memory behind that
 pub record State : Type 0 where
   pub kept : Kept
   pub kind : Kind
   pub paths : List (List ℕ)
   pub programs : List Values
   pub events : ℕ
+  pub mode : Mode
+  pub reach : Reach
+
+-- all of memory is reached
+abbrev pub is_whole : Reach → Bool
+is_whole Own = false
+is_whole Whole = true
 
 abbrev pub about_of : State → About
 about_of s = record { kind = s.kind; programs = programs_of s.paths s.programs; events = s.events }
 
 abbrev pub world : State → World
 world s = world_of (about_of s) s.kept
+
+-- the one memory, and the world that shows it
+abbrev pub one_memory : State → Physical
+one_memory s = physical_of (headers_of s.programs) (about_of s) s.kept
 
 -- before the first program, with what no space holds: these files, and this input of the console
 abbrev pub rest_of : {Y : Type 0} → ℕ → Kind → List (Vec ℕ Y) → List Values → Inodes → List ℕ → Rest

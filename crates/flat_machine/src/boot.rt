@@ -1,6 +1,6 @@
 //! The start of a machine.
 
-ghost use Rattle.std.specs.Prelude.{◌≡◌, ◌^◌, ◌<◌, ◌≤◌, ℕ, Some, slice_get, length};
+ghost use Rattle.std.specs.Prelude.{◌≡◌, ◌^◌, ◌<◌, ◌≤◌, ℕ, IfOk, false, Some, slice_get, length};
 ghost use Rattle.mem_files.specs.Paths.{lookup};
 ghost use Rattle.vfork_exec.specs.Procs.{count, most_entries};
 ghost use Rattle.syscall_layer.specs.Regular.{most_first};
@@ -9,17 +9,19 @@ ghost use Rattle.syscall_layer.specs.Stands.{world_of};
 ghost use Rattle.page_runs.specs.Choosers.{IsChooser, kind_of};
 ghost use Rattle.machine_world.specs.Boot.{boot, started};
 ghost use Rattle.manifest_text.specs.declared.manifest.Start.{Start as StartItem};
-ghost use Rattle.flat_machine.specs.State.{rest_of, line_of, lines_of, about_boot};
+ghost use Rattle.physical_turns.specs.Physical.{has_stray, opening};
+ghost use Rattle.syscall_layer.specs.InMemory.{headers_of, LaysOn};
+ghost use Rattle.flat_machine.specs.State.{world, one_memory, rest_of, line_of, lines_of, about_boot};
 ghost use Rattle.flat_machine.specs.Boots.{marked, Boots, Begins, BeginsStays, BeginsWaits};
 
-use crate::machine::Machine;
+use crate::machine::{Machine, Mode};
 use bflt_format::Flat;
 use fd_tables::Files;
 use manifest_text::Start;
 use mem_files::Tree;
 use page_runs::{Chooser, Run};
 use std::alloc::{AllocError, Global};
-use syscall_layer::{Parts, StartRefusal};
+use syscall_layer::{Parts, Reach, StartRefusal, whole_table};
 
 /// What a machine starts with.
 #[derive(Drop)]
@@ -35,6 +37,8 @@ pub struct Setup {
     pub starts: Vec<Start>,
     /// The console's input.
     pub stdin: Vec<u8>,
+    /// What becomes of the run at its first stray access.
+    pub mode: Mode,
 }
 
 /// Why a machine doesn't start: the number of the start line that failed.
@@ -86,7 +90,8 @@ fn begin<F: Fn(&[Run], u32) -> Option<usize>>(
     requires few { count parts.old.procs < most_entries }
     requires pids { parts.old.procs.next_pid < most_first }
     requires spaces { length parts.old.spaces < most_first }
-    ensures { let a = about_boot (kind_of chooser.now) paths.now programs.now in
+    ensures memory { IfOk result (λ _. LaysOn (headers_of programs.now) parts.old parts.new) }
+    ensures begins { let a = about_boot (kind_of chooser.now) paths.now programs.now in
         Begins a (started (world_of a parts.old) (line_of start.now)) parts.new result }
 {
     let Some(index) = program_at(&parts.tree, &start.args[0]) else {
@@ -120,6 +125,9 @@ impl Machine {
         requires starts { length setup.starts.items ≤ 64 }
         requires args { (i : ℕ) → (s : StartItem) → slice_get setup.starts.items i ≡ Some s → 0 < length s.args.items }
         ensures world { Boots (boot (rest_of setup.pages (kind_of chooser.now) setup.paths.items setup.programs.items setup.tree setup.stdin.items) (lines_of setup.starts.items)) result }
+        ensures memory { IfOk result (λ machine. one_memory machine ≡ opening (headers_of setup.programs.items) (world machine)) }
+        ensures mode { IfOk result (λ machine. machine.mode ≡ setup.mode) }
+        ensures quiet { IfOk result (λ machine. has_stray (world machine).notes ≡ false) }
         ensures waits { BeginsWaits (rest_of setup.pages (kind_of chooser.now) setup.paths.items setup.programs.items setup.tree setup.stdin.items) result }
         ensures alone { BeginsStays (rest_of setup.pages (kind_of chooser.now) setup.paths.items setup.programs.items setup.tree setup.stdin.items) (lines_of setup.starts.items) result }
     {
@@ -130,8 +138,10 @@ impl Machine {
             programs,
             starts,
             stdin,
+            mode,
         } = setup;
         let files = Files::new(alloc, stdin)?;
+        let whole = whole_table(alloc, pages)?;
         let mut parts = Parts::new(alloc, pages, tree, files)?;
         for start in &starts {
             begin(&mut parts, &paths, &programs, start, chooser)?;
@@ -142,6 +152,9 @@ impl Machine {
             paths,
             programs,
             events: 0,
+            mode,
+            reach: Reach::Own,
+            whole,
         })
     }
 }

@@ -1,41 +1,60 @@
 //! The bytes of a process.
 
-ghost use Rattle.std.specs.Prelude.{◌≡◌, IfOk, option_map};
+ghost use Rattle.std.specs.Prelude.{◌≡◌, List, ℕ, IfOk, length, option_map};
+ghost use Rattle.syscall_layer.specs.declared.reach.Reach.TheVariants.{Own, Whole};
+ghost use Rattle.syscall_layer.specs.InMemory.{physical_of};
+ghost use Rattle.syscall_layer.specs.Reach.{whole_table};
 ghost use Rattle.syscall_layer.specs.Stands.{About, world_of};
-ghost use Rattle.flat_machine.specs.State.{world};
-ghost use Rattle.flat_machine.specs.OwnBytes.{own_bytes};
+ghost use Rattle.flat_machine.specs.declared.machine.Mode.TheVariants.{Halt, GoOn};
+ghost use Rattle.flat_machine.specs.State.{world, one_memory};
+ghost use Rattle.flat_machine.specs.OwnBytes.{own_bytes, memory_bytes};
 
-use crate::machine::Machine;
+use crate::machine::{Machine, Mode};
+use mmap_rules::Owners;
 use std::alloc::{AllocError, Global};
-use syscall_layer::{Parts, Unread, read_range};
+use syscall_layer::{Parts, Reach, Unread, read_range, table_of};
 
-/// A copy of own bytes of a process that lives.
+/// A copy of the bytes of a process that lives, within this reach.
 fn copied(
     parts: &Parts,
     alloc: Global,
     pid: u32,
     addr: u32,
     len: u32,
+    reach: Reach,
+    whole: &Owners,
 ) -> Result<Option<Vec<u8>>, AllocError>
-    ensures { (a : About) → IfOk result (λ found. option_map (λ bytes. bytes.items) found ≡ own_bytes (world_of a parts.now) pid addr len) }
+    requires { whole.now ≡ whole_table (length parts.now.regions) }
+    ensures own { reach ≡ Own → (a : About) → IfOk result (λ found. option_map (λ bytes. bytes.items) found ≡ own_bytes (world_of a parts.now) pid addr len) }
+    ensures memory { reach ≡ Whole → (headers : List (List ℕ)) → (a : About) → IfOk result (λ found. option_map (λ bytes. bytes.items) found ≡ memory_bytes (physical_of headers a parts.now) pid addr len) }
 {
     if !parts.procs.lives(pid) {
         return Ok(None);
     }
     let task = parts.procs.get(pid);
-    let Some(space) = &parts.spaces[task.space as usize] else {
-        return Ok(None);
-    };
+    let owners = table_of(&parts.spaces, task.space, reach, whole);
     let mut bytes = Vec::new(alloc);
-    match read_range(&parts.mem, space, addr, len, &mut bytes) {
+    match read_range(&parts.mem, owners, addr, len, &mut bytes) {
         Ok(()) => Ok(Some(bytes)),
         Err(Unread::Stray { .. }) => Ok(None),
         Err(Unread::Memory) => Err(AllocError),
     }
 }
 
+/// A run that goes on shows all of memory.
+fn shown(mode: Mode) -> Reach
+    ensures own { mode ≡ Halt → result ≡ Own }
+    ensures whole { mode ≡ GoOn → result ≡ Whole }
+{
+    match mode {
+        Mode::Halt => Reach::Own,
+        Mode::GoOn => Reach::Whole,
+    }
+}
+
 impl Machine {
-    /// A copy of `len` bytes of a process from `addr` on; None where it doesn't live, or one of them isn't its own.
+    /// A copy of `len` bytes of a process from `addr` on; None where it doesn't live, or one of them isn't its own. Of a run that goes
+    /// on, those of memory; None where it doesn't live, or one of them lies outside memory.
     pub fn bytes(
         &self,
         alloc: Global,
@@ -43,8 +62,17 @@ impl Machine {
         addr: u32,
         len: u32,
     ) -> Result<Option<Vec<u8>>, AllocError>
-        ensures { IfOk result (λ found. option_map (λ bytes. bytes.items) found ≡ own_bytes (world self.now) pid addr len) }
+        ensures own { self.now.mode ≡ Halt → IfOk result (λ found. option_map (λ bytes. bytes.items) found ≡ own_bytes (world self.now) pid addr len) }
+        ensures memory { self.now.mode ≡ GoOn → IfOk result (λ found. option_map (λ bytes. bytes.items) found ≡ memory_bytes (one_memory self.now) pid addr len) }
     {
-        copied(&self.parts, alloc, pid, addr, len)
+        copied(
+            &self.parts,
+            alloc,
+            pid,
+            addr,
+            len,
+            shown(self.mode),
+            &self.whole,
+        )
     }
 }

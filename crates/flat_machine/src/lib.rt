@@ -12,5 +12,5 @@ mod run;
 mod turn;
 
 pub use boot::{BootRefusal, Setup};
-pub use machine::Machine;
+pub use machine::{Machine, Mode};
 pub use run::End;

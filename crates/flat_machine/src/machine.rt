@@ -1,18 +1,29 @@
 //! The machine, and what can be read of it.
 
-ghost use Rattle.std.specs.Prelude.{◌≡◌, length, map, reverse};
+ghost use Rattle.std.specs.Prelude.{◌≡◌, false, length, map, reverse};
 ghost use Rattle.call_log.specs.Values.{note_value};
 ghost use Rattle.call_log.specs.Programs.{paths_of};
 ghost use Rattle.machine_world.specs.World.{program_path};
 ghost use Rattle.machine_world.specs.Programs.{AreLoaded};
+ghost use Rattle.physical_turns.specs.Physical.{has_stray};
 ghost use Rattle.stays_laws.specs.Sound.{IsSound};
 ghost use Rattle.flat_machine.specs.State.{world};
 
 use bflt_format::Flat;
 use call_log::Note;
+use mmap_rules::Owners;
 use page_runs::Kind;
 use std::marker::Model;
-use syscall_layer::Parts;
+use syscall_layer::{Parts, Reach};
+
+/// What becomes of a run at its first stray access.
+#[derive(Clone, Copy, Debug, PartialEq, Eq)]
+pub enum Mode {
+    /// It ends there.
+    Halt,
+    /// It goes on over all of memory, as without an MMU. An access outside memory ends its process by SIGSEGV.
+    GoOn,
+}
 
 /// The programs of a run in one memory, and how far they came.
 #[derive(Drop)]
@@ -24,6 +35,11 @@ pub struct Machine {
     pub(crate) programs: Vec<Flat>,
     /// How many events were carried out.
     pub(crate) events: u64,
+    pub(crate) mode: Mode,
+    /// All of memory behind the first stray access of a run that goes on.
+    pub(crate) reach: Reach,
+    /// The table that owns all of memory.
+    pub(crate) whole: Owners,
 }
 
 impl Model for Machine {
@@ -43,9 +59,16 @@ impl Machine {
     #[tactic(auto, unfolding(syscall_layer::specs::Stands::world_of))]
     pub fn kind(&self) -> Kind
         ensures kind { result ≡ (world self.now).rest.kind }
-        ensures sound { IsSound (world self.now) }
+        ensures sound { has_stray (world self.now).notes ≡ false → IsSound (world self.now) }
     {
         self.kind
+    }
+
+    /// What becomes of it at its first stray access.
+    pub fn mode(&self) -> Mode
+        ensures { result ≡ self.now.mode }
+    {
+        self.mode
     }
 
     /// How many events were carried out.

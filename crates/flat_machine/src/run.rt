@@ -1,23 +1,30 @@
 //! A run by quanta.
 
-ghost use Rattle.std.specs.Prelude.{◌≡◌, ◌+◌, ◌*◌, ◌^◌, ◌<◌, ◌≤◌, [], ◌∷◌, sum_by, Some, IfSome};
+ghost use Rattle.std.specs.Prelude.{◌≡◌, ◌+◌, ◌*◌, ◌^◌, ◌<◌, ◌≤◌, false, [], ◌∷◌, sum_by, Some, None, IfSome, Ok};
 ghost use Rattle.page_runs.specs.Choosers.{IsChooser, kind_of};
 ghost use Rattle.vfork_exec.specs.Procs.{CanRun};
 ghost use Rattle.quantum_sched.specs.Picked.{picked};
 ghost use Rattle.machine_world.specs.Families.{ready_pids};
 ghost use Rattle.machine_world.specs.Turns.{none_runs, turns};
 ghost use Rattle.syscall_layer.specs.Stands.{About, world_of};
-ghost use Rattle.flat_machine.specs.State.{world};
+ghost use Rattle.rv32im_step.specs.declared.access.Access.{Access};
+ghost use Rattle.physical_turns.specs.Physical.{has_stray};
+ghost use Rattle.syscall_layer.specs.declared.reach.Reach.TheVariants.{Own};
+ghost use Rattle.flat_machine.specs.declared.machine.Mode.TheVariants.{GoOn};
+ghost use Rattle.flat_machine.specs.declared.run.End.TheVariants.{Stray};
+ghost use Rattle.flat_machine.specs.State.{is_whole, world, one_memory};
 ghost use Rattle.flat_machine.specs.Runs.{Ends, Runs, KeepsStays, KeepsWaits, WaitsWhereStuck, repeated};
-ghost use Rattle.flat_machine.specs.Leaves.{Leaves};
+ghost use Rattle.flat_machine.specs.RunsIn.{IsHalting, RunsIn, GoesOn};
+ghost use Rattle.flat_machine.specs.Leaves.{Leaves, TurnLeaves};
+ghost use Rattle.flat_machine.specs.LeavesIn.{LeavesIn, LeavesFirst, TurnLeavesIn, reach_behind, has_rest};
 
-use crate::machine::Machine;
+use crate::machine::{Machine, Mode};
 use crate::turn::{TurnEnd, turn};
 use page_runs::{Chooser, Run};
 use quantum_sched::{Quantum, pick};
 use rv32im_step::Access;
 use std::alloc::AllocError;
-use syscall_layer::Parts;
+use syscall_layer::{Parts, Reach};
 
 /// Why a run stops.
 #[derive(Clone, Copy, Debug, PartialEq, Eq)]
@@ -64,8 +71,64 @@ fn last_end(parts: &Parts) -> End
     }
 }
 
+/// What is reached behind a turn.
+fn reach_behind(reach: Reach, end: &Result<Option<End>, AllocError>) -> Reach
+    ensures { result ≡ reach_behind reach end.now }
+{
+    match end {
+        Ok(Some(End::Stray(_))) => Reach::Whole,
+        _ => reach,
+    }
+}
+
+/// Whether a run goes on with what is left of a turn: it came to a stray access that is noted and not yet carried out.
+fn has_rest(mode: Mode, end: &Result<Option<End>, AllocError>) -> bool
+    ensures { result ≡ has_rest mode end.now }
+{
+    match mode {
+        Mode::Halt => false,
+        Mode::GoOn => matches!(end, Ok(Some(End::Stray(_)))),
+    }
+}
+
 impl Machine {
-    /// Gives the process of a quantum its turn.
+    /// Gives a process its turn within reach of the machine.
+    fn turn_of<F: Fn(&[Run], u32) -> Option<usize>>(
+        &mut self,
+        pid: u32,
+        count: u32,
+        chooser: &Chooser<F>,
+    ) -> TurnEnd
+        requires chooser { IsChooser F.pre F.post chooser.now }
+        requires ready { CanRun self.old.kept.procs pid }
+        requires kind { kind_of chooser.now ≡ self.old.kind }
+        requires events { self.old.events + count < 2 ^ 64 }
+        ensures kind { self.new.kind ≡ self.old.kind }
+        ensures programs { self.new.programs ≡ self.old.programs }
+        ensures mode { self.new.mode ≡ self.old.mode }
+        ensures reach { self.new.reach ≡ reach_behind self.old.reach result.end }
+        ensures events { self.new.events ≡ self.old.events + result.events }
+        ensures within { result.events ≤ count }
+        ensures notes { has_stray (world self.new).notes ≡ is_whole self.new.reach }
+        ensures strays { (access : Access) → result.end ≡ Ok (Some (Stray access)) → result.events < count × CanRun self.new.kept.procs pid }
+        ensures leaves { self.old.reach ≡ Own → TurnLeaves pid count (world self.old) result.events (world self.new) result.end }
+        ensures memory { TurnLeavesIn self.old.reach pid count (one_memory self.old) result.events (one_memory self.new) result.end }
+    {
+        let TurnEnd { events, end } = turn(
+            &mut self.parts,
+            pid,
+            count,
+            &self.programs,
+            chooser,
+            self.reach,
+            &self.whole,
+        );
+        self.events += u64::from(events);
+        self.reach = reach_behind(self.reach, &end);
+        TurnEnd { events, end }
+    }
+
+    /// Gives the process of a quantum its turn. A run that goes on has what is left of the turn behind the first stray access too.
     fn take_turn<F: Fn(&[Run], u32) -> Option<usize>>(
         &mut self,
         quantum: Quantum,
@@ -75,20 +138,20 @@ impl Machine {
         requires kind { kind_of chooser.now ≡ self.old.kind }
         requires events { self.old.events + quantum.count < 2 ^ 64 }
         ensures kind { self.new.kind ≡ self.old.kind }
+        ensures mode { self.new.mode ≡ self.old.mode }
         ensures events { self.new.events ≤ self.old.events + quantum.count }
-        ensures leaves { Leaves (quantum ∷ []) (world self.old) (world self.new) result }
+        ensures quiet { IsHalting self.old → result ≡ Ok None → IsHalting self.new }
+        ensures leaves { IsHalting self.old → Leaves (quantum ∷ []) (world self.old) (world self.new) result }
+        ensures memory { self.old.mode ≡ GoOn → LeavesIn (quantum ∷ []) (one_memory self.old) (one_memory self.new) result }
+        ensures first { self.old.mode ≡ GoOn → has_stray (world self.old).notes ≡ false → LeavesFirst (quantum ∷ []) (world self.old) (world self.new) result }
     {
         let Some(pid) = chosen(&self.parts, quantum) else {
             return Ok(Some(none_runs(&self.parts)));
         };
-        let TurnEnd { events, end } = turn(
-            &mut self.parts,
-            pid,
-            quantum.count,
-            &self.programs,
-            chooser,
-        );
-        self.events += u64::from(events);
+        let TurnEnd { events, end } = self.turn_of(pid, quantum.count, chooser);
+        if has_rest(self.mode, &end) {
+            return self.turn_of(pid, quantum.count - events, chooser).end;
+        }
         end
     }
 
@@ -102,8 +165,12 @@ impl Machine {
         requires kind { kind_of chooser.now ≡ self.old.kind }
         requires events { self.old.events + sum_by (λ q. q.count) quanta.now < 2 ^ 64 }
         ensures kind { self.new.kind ≡ self.old.kind }
+        ensures mode { self.new.mode ≡ self.old.mode }
         ensures events { self.new.events ≤ self.old.events + sum_by (λ q. q.count) quanta.now }
-        ensures leaves { Leaves quanta.now (world self.old) (world self.new) result }
+        ensures quiet { IsHalting self.old → result ≡ Ok None → IsHalting self.new }
+        ensures leaves { IsHalting self.old → Leaves quanta.now (world self.old) (world self.new) result }
+        ensures memory { self.old.mode ≡ GoOn → LeavesIn quanta.now (one_memory self.old) (one_memory self.new) result }
+        ensures first { self.old.mode ≡ GoOn → has_stray (world self.old).notes ≡ false → LeavesFirst quanta.now (world self.old) (world self.new) result }
     {
         for quantum in quanta {
             if let Some(end) = self.take_turn(*quantum, chooser)? {
@@ -124,10 +191,13 @@ impl Machine {
         requires chooser { IsChooser F.pre F.post chooser.now }
         requires kind { kind_of chooser.now ≡ self.old.kind }
         requires events { self.old.events + count * sum_by (λ q. q.count) quanta.now < 2 ^ 64 }
-        ensures turns { Runs (repeated count quanta.now) self.old self.new result }
-        ensures waits { KeepsWaits self.old self.new }
-        ensures stuck { WaitsWhereStuck self.old self.new result }
-        ensures alone { KeepsStays (repeated count quanta.now) self.old self.new result }
+        ensures mode { self.new.mode ≡ self.old.mode }
+        ensures turns { IsHalting self.old → Runs (repeated count quanta.now) self.old self.new result }
+        ensures memory { self.old.mode ≡ GoOn → RunsIn (repeated count quanta.now) self.old self.new result }
+        ensures first { self.old.mode ≡ GoOn → has_stray (world self.old).notes ≡ false → GoesOn (repeated count quanta.now) self.old self.new result }
+        ensures waits { IsHalting self.old → KeepsWaits self.old self.new }
+        ensures stuck { IsHalting self.old → WaitsWhereStuck self.old self.new result }
+        ensures alone { IsHalting self.old → KeepsStays (repeated count quanta.now) self.old self.new result }
     {
         let _kind = self.kind();
         for _time in 0..count {

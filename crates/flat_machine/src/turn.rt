@@ -1,21 +1,33 @@
 //! The turn of a process.
 
-ghost use Rattle.std.specs.Prelude.{◌≡◌, ◌≤◌};
+ghost use Rattle.std.specs.Prelude.{◌≡◌, ◌≤◌, ◌<◌, ℕ, Some, List, length, Ok};
 ghost use Rattle.page_runs.specs.Choosers.{IsChooser, kind_of};
 ghost use Rattle.vfork_exec.specs.Procs.{CanRun};
 ghost use Rattle.machine_world.specs.Event.{event};
 ghost use Rattle.machine_world.specs.Courses.{StandsAt};
+ghost use Rattle.rv32im_step.specs.declared.access.Access.{Access};
+ghost use Rattle.physical_turns.specs.Physical.{outside, has_stray, died_in};
+ghost use Rattle.syscall_layer.specs.declared.reach.Reach.TheVariants.{Own, Whole};
 ghost use Rattle.syscall_layer.specs.Flats.{AreFlats};
+ghost use Rattle.syscall_layer.specs.InMemory.{headers_of, physical_of};
+ghost use Rattle.syscall_layer.specs.Reach.{whole_table};
 ghost use Rattle.syscall_layer.specs.Stands.{About, later, world_of};
+ghost use Rattle.flat_machine.specs.declared.run.End.TheVariants.{Stray};
 ghost use Rattle.flat_machine.specs.Leaves.{Carried, TellsStray, TurnLeaves};
+ghost use Rattle.flat_machine.specs.State.{is_whole};
+ghost use Rattle.flat_machine.specs.LeavesIn.{CarriedIn, CarriedWithin, StandsWithin, TurnLeavesIn, reach_behind};
 
 use crate::advance::advance;
 use crate::run::End;
 use bflt_format::Flat;
+use mmap_rules::Owners;
 use page_runs::{Chooser, Run};
 use rv32im_step::{Access, Stop};
 use std::alloc::AllocError;
-use syscall_layer::{Parts, Served, serve};
+use syscall_layer::{Parts, Reach, Served, serve};
+
+/// The signal of an access outside memory.
+const SIGSEGV: u8 = 11;
 
 /// How a run goes on after an event.
 #[derive(Clone, Copy, Debug, PartialEq, Eq)]
@@ -36,22 +48,46 @@ fn stray(parts: &mut Parts, pid: u32, access: Access) -> Result<After, AllocErro
     Ok(After::RunEnds(End::Stray(access)))
 }
 
-/// The event of a process that may run and whose next step ends so.
+/// What comes of an instruction's access beyond reach: it strays, with its note; or it lies outside memory, and ends its process by
+/// SIGSEGV.
+fn refused(parts: &mut Parts, pid: u32, access: Access, reach: Reach) -> Result<After, AllocError>
+    requires { CanRun parts.old.procs pid }
+    ensures strays { reach ≡ Own → TellsStray pid access parts.old parts.new result }
+    ensures memory { reach ≡ Whole → (headers : List (List ℕ)) → (a : About) → CarriedIn headers a (died_in (physical_of headers a parts.old) pid outside) parts.old parts.new pid result }
+{
+    match reach {
+        Reach::Own => stray(parts, pid, access),
+        Reach::Whole => {
+            parts.end_by_signal(pid, SIGSEGV)?;
+            Ok(After::TurnEnds)
+        }
+    }
+}
+
+/// The event of a process that may run and whose next step ends so, within this reach.
 fn next_event<F: Fn(&[Run], u32) -> Option<usize>>(
     parts: &mut Parts,
     pid: u32,
     stop: Stop,
     programs: &[Flat],
     chooser: &Chooser<F>,
+    reach: Reach,
+    whole: &Owners,
 ) -> Result<After, AllocError>
     requires chooser { IsChooser F.pre F.post chooser.now }
     requires ready { CanRun parts.old.procs pid }
-    requires stands { (a : About) → StandsAt (world_of a parts.old) pid stop }
-    ensures { (a : About) → a.kind ≡ kind_of chooser.now → AreFlats a.programs programs.now → Carried a (event (world_of a parts.old) pid) parts.old parts.new pid result }
+    requires whole { whole.now ≡ whole_table (length parts.old.regions) }
+    requires strayed { has_stray parts.old.notes ≡ is_whole reach }
+    requires stands { reach ≡ Own → (a : About) → StandsAt (world_of a parts.old) pid stop }
+    requires stands_in { (headers : List (List ℕ)) → (a : About) → StandsWithin reach (physical_of headers a parts.old) pid stop }
+    ensures carried { reach ≡ Own → (a : About) → a.kind ≡ kind_of chooser.now → AreFlats a.programs programs.now →
+        Carried a (event (world_of a parts.old) pid) parts.old parts.new pid result }
+    ensures memory { (a : About) → a.kind ≡ kind_of chooser.now → AreFlats a.programs programs.now →
+        CarriedWithin reach (headers_of programs.now) a parts.old parts.new pid result }
 {
     match stop {
         Stop::Next => Ok(After::GoesOn),
-        Stop::Call => match serve(parts, pid, programs, chooser)? {
+        Stop::Call => match serve(parts, pid, programs, chooser, reach, whole)? {
             Served::Replied => Ok(After::GoesOn),
             Served::TurnEnds | Served::Waits | Served::Ended => Ok(After::TurnEnds),
             Served::Stray(access) => stray(parts, pid, access),
@@ -61,7 +97,7 @@ fn next_event<F: Fn(&[Run], u32) -> Option<usize>>(
             parts.end_by_signal(pid, signal as u8)?;
             Ok(After::TurnEnds)
         }
-        Stop::Refused(access) => stray(parts, pid, access),
+        Stop::Refused(access) => refused(parts, pid, access, reach),
     }
 }
 
@@ -74,22 +110,32 @@ pub(crate) struct TurnEnd {
     pub(crate) end: Result<Option<End>, AllocError>,
 }
 
-/// Up to `count` events of a process that may run.
+/// Up to `count` events of a process that may run, within this reach.
 pub(crate) fn turn<F: Fn(&[Run], u32) -> Option<usize>>(
     parts: &mut Parts,
     pid: u32,
     count: u32,
     programs: &[Flat],
     chooser: &Chooser<F>,
+    reach: Reach,
+    whole: &Owners,
 ) -> TurnEnd
     requires chooser { IsChooser F.pre F.post chooser.now }
     requires ready { CanRun parts.old.procs pid }
+    requires whole { whole.now ≡ whole_table (length parts.old.regions) }
+    requires strayed { has_stray parts.old.notes ≡ is_whole reach }
     ensures within { result.events ≤ count }
-    ensures leaves { (a : About) → a.kind ≡ kind_of chooser.now → AreFlats a.programs programs.now → TurnLeaves pid count (world_of a parts.old) result.events (world_of (later result.events a) parts.new) result.end }
+    ensures regions { length parts.new.regions ≡ length parts.old.regions }
+    ensures notes { has_stray parts.new.notes ≡ is_whole (reach_behind reach result.end) }
+    ensures strays { (access : Access) → result.end ≡ Ok (Some (Stray access)) → result.events < count × CanRun parts.new.procs pid }
+    ensures leaves { reach ≡ Own → (a : About) → a.kind ≡ kind_of chooser.now → AreFlats a.programs programs.now →
+        TurnLeaves pid count (world_of a parts.old) result.events (world_of (later result.events a) parts.new) result.end }
+    ensures memory { (a : About) → a.kind ≡ kind_of chooser.now → AreFlats a.programs programs.now →
+        TurnLeavesIn reach pid count (physical_of (headers_of programs.now) a parts.old) result.events (physical_of (headers_of programs.now) (later result.events a) parts.new) result.end }
 {
     let mut events = 0;
     while events < count {
-        let progress = advance(parts, pid, count - events);
+        let progress = advance(parts, pid, count - events, reach, whole);
         events += progress.done;
         if progress.stop == Stop::Next {
             return TurnEnd {
@@ -97,7 +143,7 @@ pub(crate) fn turn<F: Fn(&[Run], u32) -> Option<usize>>(
                 end: Ok(None),
             };
         }
-        match next_event(parts, pid, progress.stop, programs, chooser) {
+        match next_event(parts, pid, progress.stop, programs, chooser, reach, whole) {
             Ok(After::GoesOn) => events += 1,
             Ok(After::TurnEnds) => {
                 return TurnEnd {

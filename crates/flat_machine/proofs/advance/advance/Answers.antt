@@ -3,7 +3,8 @@ use Rattle.std.proofs.Common.{sym, subst, arith}
 use Rattle.vfork_exec.specs.Procs.{CanRun}
 use Rattle.syscall_layer.specs.Kept.{Kept}
 use Rattle.syscall_layer.specs.Inside.{kept_of}
-use Rattle.flat_machine.proofs.Advanced.{advances, has_space, never_none, below, paged}
+use Rattle.flat_machine.proofs.Advanced.{has_space, never_none, below}
+use Rattle.flat_machine.proofs.AdvancedIn.{whole_paged, home_paged, reach_paged, advances}
 use Rattle.flat_machine.proofs.advance.advance.Goals as goal
 
 pub index-requires : goal.index-requires
@@ -11,40 +12,102 @@ index-requires c =
     let h = has_space (kept_of c.parts.inside) c.args.pid c.get_mut-task.result.now c.parts.invariant.0 c.get_mut-task.ensures.value in
     omega (arith, below c.parts.inside.spaces.items c.get_mut-task.result.now.space h)
 
+pub window_within-window-requires : goal.window_within-window-requires
+window_within-window-requires c =
+    let pages = rw (← c.parts.view_is) at c.requires.whole in
+    let fits = whole_paged (kept_of c.parts.inside) c.args.whole.now c.parts.invariant.0 pages in
+    record { pages = fits.0; most = fits.1; whole = fits.2 }
+
+pub table_within-owners-requires : goal.table_within-owners-requires
+table_within-owners-requires c =
+    let pages = rw (← c.parts.view_is) at c.requires.whole in
+    let h = has_space (kept_of c.parts.inside) c.args.pid c.get_mut-task.result.now c.parts.invariant.0 c.get_mut-task.ensures.value in
+    record {
+      pages = home_paged (kept_of c.parts.inside) c.args.whole.now c.get_mut-task.result.now.space c.index.result.now c.in-Some.space c.parts.invariant.0 h c.index.ensures c.in-Some.is pages;
+      whole = (whole_paged (kept_of c.parts.inside) c.args.whole.now c.parts.invariant.0 pages).2;
+    }
+
 pub new-watch-requires-clause-paged : goal.new-watch-requires-clause-paged
 new-watch-requires-clause-paged c =
-    let h = has_space (kept_of c.parts.inside) c.args.pid c.get_mut-task.result.now c.parts.invariant.0 c.get_mut-task.ensures.value in
-    paged (kept_of c.parts.inside) c.get_mut-task.result.now.space c.index.result.now c.in-Some.space _ c.parts.invariant.0 h c.index.ensures c.in-Some.is c.owners.ensures.pages
+    let pages = rw (← c.parts.view_is) at c.requires.whole in
+    reach_paged c.args.reach (kept_of c.parts.inside) c.args.whole.now c.table_within-owners.result.now c.in-Some.space c.parts.invariant.0 pages c.table_within-owners.ensures
+
+pub new-watch-requires-clause-window : goal.new-watch-requires-clause-window
+new-watch-requires-clause-window c =
+    let writes = c.table_within-owners.ensures.writes in
+    rw writes c.window_within-window.ensures
 
 pub invariant_of-parts : goal.invariant_of-parts
-invariant_of-parts c = let ready = subst (λ (k : Kept). CanRun k.procs c.args.pid) (sym c.parts.view_is) c.requires in (advances (kept_of c.parts.inside) c.args.pid c.args.count c.get_mut-task.result.now c.index.result.now c.in-Some.space c.owners.result.now
+invariant_of-parts c =
+    let ready = subst (λ (k : Kept). CanRun k.procs c.args.pid) (sym c.parts.view_is) c.requires.ready in
+    let pages = rw (← c.parts.view_is) at c.requires.whole in
+    let strayed = rw (← c.parts.view_is) at c.requires.strayed in
+    (advances c.args.reach (kept_of c.parts.inside) c.args.whole.now c.args.pid c.args.count c.get_mut-task.result.now c.index.result.now c.in-Some.space c.table_within-owners.result.now
     c.new-watch.result.owners.now c.new-watch.result.mem.now c.run_steps.new.watch.mem.now c.run_steps.new.regs c.run_steps.result.done c.run_steps.result.stop
-    c.parts.invariant ready c.get_mut-task.ensures.value c.index.ensures c.in-Some.is c.owners.ensures.own c.owners.ensures.writable c.new-watch.ensures.owners c.new-watch.ensures.mem
+    c.parts.invariant ready pages strayed c.get_mut-task.ensures.value c.index.ensures c.in-Some.is c.table_within-owners.ensures c.new-watch.ensures.owners c.new-watch.ensures.mem
     c.run_steps.ensures.leaves c.run_steps.ensures.frozen c.run_steps.ensures.length).regular
 
 pub returns-in-Some-clause-ready : goal.returns-in-Some-clause-ready
-returns-in-Some-clause-ready c = let ready = subst (λ (k : Kept). CanRun k.procs c.args.pid) (sym c.parts.view_is) c.requires in (advances (kept_of c.parts.inside) c.args.pid c.args.count c.get_mut-task.result.now c.index.result.now c.in-Some.space c.owners.result.now
+returns-in-Some-clause-ready c =
+    let ready = subst (λ (k : Kept). CanRun k.procs c.args.pid) (sym c.parts.view_is) c.requires.ready in
+    let pages = rw (← c.parts.view_is) at c.requires.whole in
+    let strayed = rw (← c.parts.view_is) at c.requires.strayed in
+    (advances c.args.reach (kept_of c.parts.inside) c.args.whole.now c.args.pid c.args.count c.get_mut-task.result.now c.index.result.now c.in-Some.space c.table_within-owners.result.now
     c.new-watch.result.owners.now c.new-watch.result.mem.now c.run_steps.new.watch.mem.now c.run_steps.new.regs c.run_steps.result.done c.run_steps.result.stop
-    c.parts.invariant ready c.get_mut-task.ensures.value c.index.ensures c.in-Some.is c.owners.ensures.own c.owners.ensures.writable c.new-watch.ensures.owners c.new-watch.ensures.mem
+    c.parts.invariant ready pages strayed c.get_mut-task.ensures.value c.index.ensures c.in-Some.is c.table_within-owners.ensures c.new-watch.ensures.owners c.new-watch.ensures.mem
     c.run_steps.ensures.leaves c.run_steps.ensures.frozen c.run_steps.ensures.length).ready
 
 pub returns-in-Some-clause-within : goal.returns-in-Some-clause-within
-returns-in-Some-clause-within c = let ready = subst (λ (k : Kept). CanRun k.procs c.args.pid) (sym c.parts.view_is) c.requires in (advances (kept_of c.parts.inside) c.args.pid c.args.count c.get_mut-task.result.now c.index.result.now c.in-Some.space c.owners.result.now
+returns-in-Some-clause-within c =
+    let ready = subst (λ (k : Kept). CanRun k.procs c.args.pid) (sym c.parts.view_is) c.requires.ready in
+    let pages = rw (← c.parts.view_is) at c.requires.whole in
+    let strayed = rw (← c.parts.view_is) at c.requires.strayed in
+    (advances c.args.reach (kept_of c.parts.inside) c.args.whole.now c.args.pid c.args.count c.get_mut-task.result.now c.index.result.now c.in-Some.space c.table_within-owners.result.now
     c.new-watch.result.owners.now c.new-watch.result.mem.now c.run_steps.new.watch.mem.now c.run_steps.new.regs c.run_steps.result.done c.run_steps.result.stop
-    c.parts.invariant ready c.get_mut-task.ensures.value c.index.ensures c.in-Some.is c.owners.ensures.own c.owners.ensures.writable c.new-watch.ensures.owners c.new-watch.ensures.mem
+    c.parts.invariant ready pages strayed c.get_mut-task.ensures.value c.index.ensures c.in-Some.is c.table_within-owners.ensures c.new-watch.ensures.owners c.new-watch.ensures.mem
     c.run_steps.ensures.leaves c.run_steps.ensures.frozen c.run_steps.ensures.length).within
 
 pub returns-in-Some-clause-leads : goal.returns-in-Some-clause-leads
-returns-in-Some-clause-leads c = let v = c.parts.view_is in let ready = subst (λ (k : Kept). CanRun k.procs c.args.pid) (sym c.parts.view_is) c.requires in rw (← v) ((advances (kept_of c.parts.inside) c.args.pid c.args.count c.get_mut-task.result.now c.index.result.now c.in-Some.space c.owners.result.now
+returns-in-Some-clause-leads c =
+    let v = c.parts.view_is in
+    let ready = subst (λ (k : Kept). CanRun k.procs c.args.pid) (sym c.parts.view_is) c.requires.ready in
+    let pages = rw (← c.parts.view_is) at c.requires.whole in
+    let strayed = rw (← c.parts.view_is) at c.requires.strayed in
+    rw (← v) (advances c.args.reach (kept_of c.parts.inside) c.args.whole.now c.args.pid c.args.count c.get_mut-task.result.now c.index.result.now c.in-Some.space c.table_within-owners.result.now
     c.new-watch.result.owners.now c.new-watch.result.mem.now c.run_steps.new.watch.mem.now c.run_steps.new.regs c.run_steps.result.done c.run_steps.result.stop
-    c.parts.invariant ready c.get_mut-task.ensures.value c.index.ensures c.in-Some.is c.owners.ensures.own c.owners.ensures.writable c.new-watch.ensures.owners c.new-watch.ensures.mem
-    c.run_steps.ensures.leaves c.run_steps.ensures.frozen c.run_steps.ensures.length).leads)
+    c.parts.invariant ready pages strayed c.get_mut-task.ensures.value c.index.ensures c.in-Some.is c.table_within-owners.ensures c.new-watch.ensures.owners c.new-watch.ensures.mem
+    c.run_steps.ensures.leaves c.run_steps.ensures.frozen c.run_steps.ensures.length).leads
 
 pub returns-in-Some-clause-halts : goal.returns-in-Some-clause-halts
-returns-in-Some-clause-halts c = let ready = subst (λ (k : Kept). CanRun k.procs c.args.pid) (sym c.parts.view_is) c.requires in (advances (kept_of c.parts.inside) c.args.pid c.args.count c.get_mut-task.result.now c.index.result.now c.in-Some.space c.owners.result.now
+returns-in-Some-clause-halts c =
+    let ready = subst (λ (k : Kept). CanRun k.procs c.args.pid) (sym c.parts.view_is) c.requires.ready in
+    let pages = rw (← c.parts.view_is) at c.requires.whole in
+    let strayed = rw (← c.parts.view_is) at c.requires.strayed in
+    (advances c.args.reach (kept_of c.parts.inside) c.args.whole.now c.args.pid c.args.count c.get_mut-task.result.now c.index.result.now c.in-Some.space c.table_within-owners.result.now
     c.new-watch.result.owners.now c.new-watch.result.mem.now c.run_steps.new.watch.mem.now c.run_steps.new.regs c.run_steps.result.done c.run_steps.result.stop
-    c.parts.invariant ready c.get_mut-task.ensures.value c.index.ensures c.in-Some.is c.owners.ensures.own c.owners.ensures.writable c.new-watch.ensures.owners c.new-watch.ensures.mem
+    c.parts.invariant ready pages strayed c.get_mut-task.ensures.value c.index.ensures c.in-Some.is c.table_within-owners.ensures c.new-watch.ensures.owners c.new-watch.ensures.mem
     c.run_steps.ensures.leaves c.run_steps.ensures.frozen c.run_steps.ensures.length).halts
+
+pub returns-in-Some-clause-leads_in : goal.returns-in-Some-clause-leads_in
+returns-in-Some-clause-leads_in c =
+    let v = c.parts.view_is in
+    let ready = subst (λ (k : Kept). CanRun k.procs c.args.pid) (sym c.parts.view_is) c.requires.ready in
+    let pages = rw (← c.parts.view_is) at c.requires.whole in
+    let strayed = rw (← c.parts.view_is) at c.requires.strayed in
+    rw (← v) (advances c.args.reach (kept_of c.parts.inside) c.args.whole.now c.args.pid c.args.count c.get_mut-task.result.now c.index.result.now c.in-Some.space c.table_within-owners.result.now
+    c.new-watch.result.owners.now c.new-watch.result.mem.now c.run_steps.new.watch.mem.now c.run_steps.new.regs c.run_steps.result.done c.run_steps.result.stop
+    c.parts.invariant ready pages strayed c.get_mut-task.ensures.value c.index.ensures c.in-Some.is c.table_within-owners.ensures c.new-watch.ensures.owners c.new-watch.ensures.mem
+    c.run_steps.ensures.leaves c.run_steps.ensures.frozen c.run_steps.ensures.length).leads_in
+
+pub returns-in-Some-clause-halts_in : goal.returns-in-Some-clause-halts_in
+returns-in-Some-clause-halts_in c =
+    let ready = subst (λ (k : Kept). CanRun k.procs c.args.pid) (sym c.parts.view_is) c.requires.ready in
+    let pages = rw (← c.parts.view_is) at c.requires.whole in
+    let strayed = rw (← c.parts.view_is) at c.requires.strayed in
+    (advances c.args.reach (kept_of c.parts.inside) c.args.whole.now c.args.pid c.args.count c.get_mut-task.result.now c.index.result.now c.in-Some.space c.table_within-owners.result.now
+    c.new-watch.result.owners.now c.new-watch.result.mem.now c.run_steps.new.watch.mem.now c.run_steps.new.regs c.run_steps.result.done c.run_steps.result.stop
+    c.parts.invariant ready pages strayed c.get_mut-task.ensures.value c.index.ensures c.in-Some.is c.table_within-owners.ensures c.new-watch.ensures.owners c.new-watch.ensures.mem
+    c.run_steps.ensures.leaves c.run_steps.ensures.frozen c.run_steps.ensures.length).halts_in
 
 pub invariant_of-parts-in-None : goal.invariant_of-parts-in-None
 invariant_of-parts-in-None c = absurd (never_none c.parts.inside.spaces.items c.get_mut-task.result.now.space c.index.result.now
@@ -60,4 +123,12 @@ returns-in-None-clause-leads c = absurd (never_none c.parts.inside.spaces.items 
 
 pub returns-in-None-clause-halts : goal.returns-in-None-clause-halts
 returns-in-None-clause-halts c = absurd (never_none c.parts.inside.spaces.items c.get_mut-task.result.now.space c.index.result.now
+    (has_space (kept_of c.parts.inside) c.args.pid c.get_mut-task.result.now c.parts.invariant.0 c.get_mut-task.ensures.value) c.index.ensures c.in-None.is)
+
+pub returns-in-None-clause-leads_in : goal.returns-in-None-clause-leads_in
+returns-in-None-clause-leads_in c = absurd (never_none c.parts.inside.spaces.items c.get_mut-task.result.now.space c.index.result.now
+    (has_space (kept_of c.parts.inside) c.args.pid c.get_mut-task.result.now c.parts.invariant.0 c.get_mut-task.ensures.value) c.index.ensures c.in-None.is)
+
+pub returns-in-None-clause-halts_in : goal.returns-in-None-clause-halts_in
+returns-in-None-clause-halts_in c = absurd (never_none c.parts.inside.spaces.items c.get_mut-task.result.now.space c.index.result.now
     (has_space (kept_of c.parts.inside) c.args.pid c.get_mut-task.result.now c.parts.invariant.0 c.get_mut-task.ensures.value) c.index.ensures c.in-None.is)

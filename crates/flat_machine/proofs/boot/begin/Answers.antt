@@ -9,10 +9,12 @@ use Rattle.syscall_layer.specs.Kept.{Kept}
 use Rattle.syscall_layer.specs.Stands.{world_of}
 use Rattle.flat_machine.specs.State.{line_of, about_boot}
 use Rattle.flat_machine.proofs.Found.{rest_tree, rest_programs, program_found, program_past, program_none, path_is, stands_at, none_stands, no_program, program_begins, program_too_big, program_no_run}
+use Rattle.syscall_layer.specs.InMemory.{headers_of}
+use Rattle.flat_machine.proofs.BootedIn.{header_at}
 use Rattle.flat_machine.proofs.boot.begin.Goals as goal
 
-pub returns-in_default : goal.returns-in_default
-returns-in_default g c =
+pub returns-in_default-clause-begins : goal.returns-in_default-clause-begins
+returns-in_default-clause-begins g c =
     let a = about_boot (kind_of c.args.chooser.now) c.args.paths.now c.args.programs.now in
     let k = c.args.parts.now in
     let rest : Rest = (world_of a k).rest in
@@ -22,8 +24,8 @@ returns-in_default g c =
     let is = ap (found rest) at ∙ program_none rest c.deref.result.now c.args.paths.now c.args.programs.now c.requires.paths (rest_programs a k) none in
     no_program a k k (line_of c.args.start.now) c.args.start.now.line refl is
 
-pub returns-in_default-get : goal.returns-in_default-get
-returns-in_default-get g c =
+pub returns-in_default-get-clause-begins : goal.returns-in_default-get-clause-begins
+returns-in_default-get-clause-begins g c =
     let a = about_boot (kind_of c.args.chooser.now) c.args.paths.now c.args.programs.now in
     let k = c.args.parts.now in
     let rest : Rest = (world_of a k).rest in
@@ -34,8 +36,8 @@ returns-in_default-get g c =
     let is = ap (found rest) at ∙ program_past rest c.deref.result.now c.args.paths.now c.args.programs.now c.requires.paths (rest_programs a k) c.in-Some.index marks (none_stands c.args.programs.now c.in-Some.index past) in
     no_program a k k (line_of c.args.start.now) c.args.start.now.line refl is
 
-pub returns-in-Ok : goal.returns-in-Ok
-returns-in-Ok g c =
+pub returns-in-Ok-clause-begins : goal.returns-in-Ok-clause-begins
+returns-in-Ok-clause-begins g c =
     let a = about_boot (kind_of c.args.chooser.now) c.args.paths.now c.args.programs.now in
     let k = c.args.parts.now in
     let rest : Rest = (world_of a k).rest in
@@ -46,11 +48,11 @@ returns-in-Ok g c =
     let below : c.in-Some.index < length c.args.programs.now = let e = c.in-Some-get.ensures.lookup.0 in grind (arith, nat_tests, e) in
     let there = stands_at c.args.programs.now c.in-Some.index flat below c.in-Some-get.ensures.lookup.1 in
     let is = ap (found rest) at ∙ program_found rest c.deref.result.now c.args.paths.now c.args.programs.now c.requires.paths (rest_programs a k) c.in-Some.index flat marks there in
-    let starts = rw c.deref-2.ensures.value at c.in-Ok.ensures in
+    let starts = rw c.deref-2.ensures.value at c.in-Ok.ensures.starts in
     program_begins a k c.start.new.self (line_of c.args.start.now) (record { index = c.in-Some.index; original = flat_original flat }) is c.in-Ok.field-0 (starts.started a (line_of c.args.start.now) refl refl)
 
-pub returns-in-Err-E2big : goal.returns-in-Err-E2big
-returns-in-Err-E2big g c =
+pub returns-in-Err-E2big-clause-begins : goal.returns-in-Err-E2big-clause-begins
+returns-in-Err-E2big-clause-begins g c =
     let a = about_boot (kind_of c.args.chooser.now) c.args.paths.now c.args.programs.now in
     let k = c.args.parts.now in
     let rest : Rest = (world_of a k).rest in
@@ -61,11 +63,11 @@ returns-in-Err-E2big g c =
     let below : c.in-Some.index < length c.args.programs.now = let e = c.in-Some-get.ensures.lookup.0 in grind (arith, nat_tests, e) in
     let there = stands_at c.args.programs.now c.in-Some.index flat below c.in-Some-get.ensures.lookup.1 in
     let is = ap (found rest) at ∙ program_found rest c.deref.result.now c.args.paths.now c.args.programs.now c.requires.paths (rest_programs a k) c.in-Some.index flat marks there in
-    let starts = rw (c.deref-2.ensures.value, c.in-Err-E2big.field-0-is) at c.in-Err-E2big.ensures in
+    let starts = rw (c.deref-2.ensures.value, c.in-Err-E2big.field-0-is) at c.in-Err-E2big.ensures.starts in
     program_too_big a k c.start.new.self (line_of c.args.start.now) (record { index = c.in-Some.index; original = flat_original flat }) is (starts.started a (line_of c.args.start.now) refl refl)
 
-pub returns-in-Err-NoRun : goal.returns-in-Err-NoRun
-returns-in-Err-NoRun g c =
+pub returns-in-Err-NoRun-clause-begins : goal.returns-in-Err-NoRun-clause-begins
+returns-in-Err-NoRun-clause-begins g c =
     let a = about_boot (kind_of c.args.chooser.now) c.args.paths.now c.args.programs.now in
     let k = c.args.parts.now in
     let rest : Rest = (world_of a k).rest in
@@ -76,5 +78,12 @@ returns-in-Err-NoRun g c =
     let below : c.in-Some.index < length c.args.programs.now = let e = c.in-Some-get.ensures.lookup.0 in grind (arith, nat_tests, e) in
     let there = stands_at c.args.programs.now c.in-Some.index flat below c.in-Some-get.ensures.lookup.1 in
     let is = ap (found rest) at ∙ program_found rest c.deref.result.now c.args.paths.now c.args.programs.now c.requires.paths (rest_programs a k) c.in-Some.index flat marks there in
-    let starts = rw (c.deref-2.ensures.value, c.in-Err-NoRun.field-0-is) at c.in-Err-NoRun.ensures in
+    let starts = rw (c.deref-2.ensures.value, c.in-Err-NoRun.field-0-is) at c.in-Err-NoRun.ensures.starts in
     program_no_run a k c.start.new.self (line_of c.args.start.now) (record { index = c.in-Some.index; original = flat_original flat }) is (starts.started a (line_of c.args.start.now) refl refl)
+
+pub returns-in-Ok-clause-memory : goal.returns-in-Ok-clause-memory
+returns-in-Ok-clause-memory g c =
+    let flat = c.in-Some-get.flat.now in
+    let below : c.in-Some.index < length c.args.programs.now = let e = c.in-Some-get.ensures.lookup.0 in grind (arith, nat_tests, e) in
+    let there = stands_at c.args.programs.now c.in-Some.index flat below c.in-Some-get.ensures.lookup.1 in
+    c.in-Ok.ensures.memory (headers_of c.args.programs.now) (header_at c.args.programs.now c.in-Some.index flat there)

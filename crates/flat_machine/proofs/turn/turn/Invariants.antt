@@ -1,17 +1,22 @@
 -- Behind the events so far the turn goes on, and its process may run.
-use Rattle.std.proofs.Common.{◌≡◌, ◌-◌, ◌≤◌}
+use Rattle.std.proofs.Common.{◌≡◌, ◌-◌, ◌≤◌, length}
 use Rattle.page_runs.specs.Choosers.{kind_of}
 use Rattle.vfork_exec.specs.Procs.{CanRun}
-use Rattle.machine_world.specs.Courses.{Leads}
-use Rattle.syscall_layer.specs.Flats.{AreFlats}
-use Rattle.syscall_layer.specs.Stands.{About, later, world_of}
+use Rattle.physical_turns.specs.Physical.{has_stray}
+use Rattle.syscall_layer.specs.declared.reach.Reach.TheVariants.{Own}
+use Rattle.flat_machine.specs.State.{is_whole}
+use Rattle.flat_machine.proofs.Turned.{Reached}
+use Rattle.flat_machine.proofs.TurnsIn.{ReachedIn}
 use Rattle.flat_machine.proofs.turn.turn.Given as goal
 
 abbrev pub invariant-loop-events : goal.invariant-loop-events
 invariant-loop-events g l = record {
   ready : CanRun l.parts.procs l.pid;
   within : l.events ≤ l.count;
-  leads : (a : About) → a.kind ≡ kind_of l.chooser → AreFlats a.programs l.programs → Leads l.pid (world_of a l.fn.parts) l.events (world_of (later l.events a) l.parts);
+  notes : has_stray l.parts.notes ≡ is_whole l.reach;
+  regions : length l.parts.regions ≡ length l.fn.parts.regions;
+  leads : l.reach ≡ Own → Reached (kind_of l.chooser) l.programs l.pid l.fn.parts l.events l.parts;
+  leads_in : ReachedIn (kind_of l.chooser) l.programs l.pid l.fn.parts l.events l.parts;
 }
 
 abbrev pub decreases-loop-events : goal.decreases-loop-events

@@ -1,6 +1,6 @@
 -- Each start line in order.
 use Rattle.std.proofs.Common.{refl, sym, ap, ◌∙◌, ◌≡◌, ◌+◌, ◌≤◌, List, length, subst, arith}
-use Rattle.std.proofs.lemmas.List.{length-map}
+use Rattle.std.proofs.lemmas.List.{length-map, length-replicate}
 use Rattle.call_log.specs.Programs.{paths_of}
 use Rattle.machine_world.specs.Programs.{AreLoaded}
 use Rattle.flat_machine.proofs.Readers.{programs_count, loaded_notes}
@@ -10,22 +10,32 @@ use Rattle.machine_world.specs.Boot.{all_started, boot}
 use Rattle.vfork_exec.specs.Procs.{count, most_entries}
 use Rattle.fd_tables.specs.Files.{OpenFiles}
 use Rattle.syscall_layer.specs.Kept.{Kept}
+use Rattle.physical_turns.specs.Physical.{has_stray}
+use Rattle.syscall_layer.specs.declared.reach.Reach.TheVariants.{Own}
+use Rattle.syscall_layer.specs.InMemory.{headers_of}
+use Rattle.syscall_layer.specs.Reach.{whole_table}
 use Rattle.syscall_layer.specs.Stands.{world_of}
 use Rattle.stays_laws.proofs.SoundRuns.{boots_are_sound}
 use Rattle.stays_laws.proofs.StaysRuns.{boots_begin_stays}
 use Rattle.flat_machine.specs.State.{about_boot, line_of, lines_of, rest_of}
-use Rattle.flat_machine.proofs.Booted.{more_pids, more_spaces, more_processes, left_on, left_fails, left_none, fails_as, boots_from, machine_boots, machine_loads}
+use Rattle.flat_machine.proofs.Booted.{more_pids, more_spaces, more_processes, more_pages, more_quiet, left_on, left_fails, left_none, fails_as, boots_from, machine_boots, machine_loads}
+use Rattle.flat_machine.proofs.BootedIn.{lays_none, opened}
 use Rattle.flat_machine.proofs.Waiting.{boots_wait_well}
 use Rattle.flat_machine.proofs.machine.Machine.boot.Goals as goal
 
 pub loop-start-init : goal.loop-start-init
 loop-start-init g c =
+    let a = about_boot (kind_of c.args.chooser.now) c.args.setup.paths.items c.args.setup.programs.items in
+    let headers = headers_of c.args.setup.programs.items in
     let is = c.in_ok-parts.ensures in
     record {
       left = refl;
       pids = ap (λ (k : Kept). k.procs.next_pid) is;
       spaces = ap (λ (k : Kept). length k.spaces) is;
       processes = ap (λ (k : Kept). count k.procs) is;
+      regions = ap (λ (k : Kept). length k.regions) is ∙ length-replicate c.args.setup.pages _;
+      quiet = ap (λ (k : Kept). has_stray k.notes) is;
+      laid = rw is (lays_none headers a c.args.setup.pages c.args.setup.tree c.in_ok-files.files.open_files);
     }
 
 pub loop-start-preserved : goal.loop-start-preserved
@@ -33,13 +43,17 @@ loop-start-preserved g c =
     let a = about_boot (kind_of c.args.chooser.now) c.args.setup.paths.items c.args.setup.programs.items in
     let rest = rest_of c.args.setup.pages (kind_of c.args.chooser.now) c.args.setup.paths.items c.args.setup.programs.items c.args.setup.tree c.args.setup.stdin.items in
     let first_is = boots_from a c.args.setup.pages c.args.setup.tree c.in_ok-files.files.open_files rest c.in_ok-parts.parts (lines_of c.deref-start-items.result.now) c.in_ok-parts.ensures (ap (λ (files : OpenFiles). record rest { files = files }) c.in_ok-files.ensures) refl in
-    let begins = rw (c.deref.ensures.value, c.deref-in-loop-start.ensures.value) at c.in_ok-begin.ensures in
+    let begins = rw (c.deref.ensures.value, c.deref-in-loop-start.ensures.value) at c.in_ok-begin.ensures.begins in
     let s = line_of c.start-item.result in
+    let lays = rw c.deref-in-loop-start.ensures.value at c.in_ok-begin.ensures.memory in
     record {
       left = left_on c.deref-start-items.result.now c.loop-start.start-index c.start-item.result c.loop-start-test.true c.start-item.is a c.loop-start.parts c.begin.new.parts (all_started (world_of a c.in_ok-parts.parts) (lines_of c.deref-start-items.result.now)) c.loop-start.invariant.left c.in_ok-begin.field-0 begins;
       pids = more_pids a c.loop-start.parts c.begin.new.parts s c.in_ok-begin.field-0 begins ∙ ap (λ n. n + 1) c.loop-start.invariant.pids;
       spaces = more_spaces a c.loop-start.parts c.begin.new.parts s c.in_ok-begin.field-0 begins ∙ ap (λ n. n + 1) c.loop-start.invariant.spaces;
       processes = more_processes a c.loop-start.parts c.begin.new.parts s c.in_ok-begin.field-0 begins ∙ ap (λ n. n + 1) c.loop-start.invariant.processes;
+      regions = more_pages a c.loop-start.parts c.begin.new.parts s c.in_ok-begin.field-0 begins ∙ c.loop-start.invariant.regions;
+      quiet = more_quiet a c.loop-start.parts c.begin.new.parts s c.in_ok-begin.field-0 begins ∙ c.loop-start.invariant.quiet;
+      laid = lays a c.loop-start.invariant.laid;
     }
 
 pub returns-in_err-begin-clause-world : goal.returns-in_err-begin-clause-world
@@ -47,7 +61,7 @@ returns-in_err-begin-clause-world g c =
     let a = about_boot (kind_of c.args.chooser.now) c.args.setup.paths.items c.args.setup.programs.items in
     let rest = rest_of c.args.setup.pages (kind_of c.args.chooser.now) c.args.setup.paths.items c.args.setup.programs.items c.args.setup.tree c.args.setup.stdin.items in
     let first_is = boots_from a c.args.setup.pages c.args.setup.tree c.in_ok-files.files.open_files rest c.in_ok-parts.parts (lines_of c.deref-start-items.result.now) c.in_ok-parts.ensures (ap (λ (files : OpenFiles). record rest { files = files }) c.in_ok-files.ensures) refl in
-    let begins = rw (c.deref.ensures.value, c.deref-in-loop-start.ensures.value) at c.in_err-begin.ensures in
+    let begins = rw (c.deref.ensures.value, c.deref-in-loop-start.ensures.value) at c.in_err-begin.ensures.begins in
     let fails = left_fails c.deref-start-items.result.now c.loop-start.start-index c.start-item.result c.loop-start-test.true c.start-item.is a c.loop-start.parts c.begin.new.parts (all_started (world_of a c.in_ok-parts.parts) (lines_of c.deref-start-items.result.now)) c.loop-start.invariant.left c.in_err-begin.field-0.0 begins in
     let told = fails_as (all_started (world_of a c.in_ok-parts.parts) (lines_of c.deref-start-items.result.now)) c.from_residual-in_err-begin.result c.in_err-begin.field-0.0
     c.from_residual-in_err-begin.ensures.0 c.from_residual-in_err-begin.ensures.1 fails in
@@ -66,7 +80,9 @@ invariant_of-result g c =
     record {
       paths = c.requires.paths;
       loads = subst (λ n. AreLoaded n c.loop-start.parts.notes) (programs_count (paths_of c.args.setup.paths.items) c.args.setup.programs.items same) (loaded_notes a c.loop-start.parts (length rest.programs) loads);
-      sound = rw (c.kind.ensures) (boots_are_sound rest (lines_of c.deref-start-items.result.now) (world_of a c.loop-start.parts) (record { some = c.requires.some; most = c.requires.most; changes = c.requires.changes }) few (sym (all ∙ first_is)));
+      sound = λ quiet. rw (c.kind.ensures) (boots_are_sound rest (lines_of c.deref-start-items.result.now) (world_of a c.loop-start.parts) (record { some = c.requires.some; most = c.requires.most; changes = c.requires.changes }) few (sym (all ∙ first_is)));
+      whole = c.in_ok-whole.ensures ∙ ap whole_table (sym c.loop-start.invariant.regions);
+      strayed = c.loop-start.invariant.quiet;
     }
 
 pub returns-clause-world : goal.returns-clause-world
@@ -79,7 +95,7 @@ returns-clause-world g c =
     let kind = c.kind.ensures in
     rw (← c.deref-start-items.ensures.value, kind)
     (machine_boots (world_of a c.loop-start.parts)
-    (record { kept = c.loop-start.parts; kind = kind_of c.args.chooser.now; paths = paths_of c.args.setup.paths.items; programs = c.args.setup.programs.items; events = 0 })
+    (record { kept = c.loop-start.parts; kind = kind_of c.args.chooser.now; paths = paths_of c.args.setup.paths.items; programs = c.args.setup.programs.items; events = 0; mode = c.args.setup.mode; reach = Own })
     (boot rest (lines_of c.deref-start-items.result.now)) (all ∙ first_is) refl)
 
 pub returns-clause-alone : goal.returns-clause-alone
@@ -104,3 +120,13 @@ returns-clause-waits g c =
     let kind = c.kind.ensures in
     rw kind
     (λ fresh. boots_wait_well rest (lines_of c.deref-start-items.result.now) (world_of a c.loop-start.parts) (record { some = c.requires.some; most = c.requires.most; changes = c.requires.changes }) fresh few (sym (all ∙ first_is)))
+
+pub returns-clause-quiet : goal.returns-clause-quiet
+unfolding world_of
+returns-clause-quiet g c = c.loop-start.invariant.quiet
+
+pub returns-clause-memory : goal.returns-clause-memory
+returns-clause-memory g c =
+    let a = about_boot (kind_of c.args.chooser.now) c.args.setup.paths.items c.args.setup.programs.items in
+    let kind = c.kind.ensures in
+    rw kind (opened (headers_of c.args.setup.programs.items) a c.loop-start.parts c.loop-start.invariant.laid)

@@ -1,31 +1,75 @@
 -- The quanta so far, and the next.
-use Rattle.std.proofs.Common.{◌∙◌, arith}
+use Rattle.std.proofs.Common.{[], Some, None, Ok, refl, ap, ◌∙◌, arith}
 use Rattle.std.proofs.lemmas.List.Sums.{sum_by-drop_more}
 use Rattle.quantum_sched.specs.declared.Quantum.{Quantum}
-use Rattle.flat_machine.specs.State.{world}
+use Rattle.machine_world.proofs.RunLaws.{comes_none}
+use Rattle.physical_turns.proofs.TurnsIn.{comes_in_none}
+use Rattle.flat_machine.specs.State.{world, one_memory}
 use Rattle.flat_machine.proofs.Rounds.{round_on, round_ends, round_fails}
+use Rattle.flat_machine.proofs.RoundsIn.{first_quiet, round_on_in, round_ends_in, round_fails_in, round_first, round_first_over, first_fails}
 use Rattle.flat_machine.proofs.machine.Machine.round.Goals as goal
 
+pub loop-quantum-init : goal.loop-quantum-init
+loop-quantum-init g c = record {
+  kind = refl;
+  mode = refl;
+  halts = λ halting. halting;
+  comes = λ halting. comes_none (world c.args.self.now);
+  memory = λ go. comes_in_none (one_memory c.args.self.now);
+  first = λ go quiet. first_quiet [] (world c.args.self.now) (world c.args.self.now) (Ok None) quiet (comes_none (world c.args.self.now));
+  events = omega arith;
+}
+
 pub returns-in_err-end-clause-leaves : goal.returns-in_err-end-clause-leaves
-returns-in_err-end-clause-leaves g c =
-    round_fails c.args.quanta.now c.loop-quantum.quantum-index (record { pick = 0; count = 0 }) c.loop-quantum-test.true (world c.args.self.now) (world c.loop-quantum.self)
-    (world c.take_turn.new.self) c.loop-quantum.invariant.comes c.from_residual.result c.from_residual.ensures.0 c.in_err-end.ensures.leaves
+returns-in_err-end-clause-leaves g c halting =
+    round_fails c.args.quanta.now c.loop-quantum.quantum-index (record { pick = 0; count = 0 }) c.loop-quantum-test.true (world c.args.self.now) (world c.loop-quantum.self) (world c.take_turn.new.self)
+    (c.loop-quantum.invariant.comes halting) c.from_residual.result c.from_residual.ensures.0 (c.in_err-end.ensures.leaves (c.loop-quantum.invariant.halts halting))
+
+pub returns-in_err-end-clause-memory : goal.returns-in_err-end-clause-memory
+returns-in_err-end-clause-memory g c go =
+    round_fails_in c.args.quanta.now c.loop-quantum.quantum-index (record { pick = 0; count = 0 }) c.loop-quantum-test.true (one_memory c.args.self.now) (one_memory c.loop-quantum.self) (one_memory c.take_turn.new.self)
+    (c.loop-quantum.invariant.memory go) c.from_residual.result c.from_residual.ensures.0 (c.in_err-end.ensures.memory (c.loop-quantum.invariant.mode ∙ go))
+
+pub returns-in_err-end-clause-first : goal.returns-in_err-end-clause-first
+returns-in_err-end-clause-first g c go quiet =
+    first_fails c.args.quanta.now (world c.args.self.now) (world c.take_turn.new.self) c.from_residual.result c.from_residual.ensures.0
 
 pub returns-in-Some-clause-leaves : goal.returns-in-Some-clause-leaves
-returns-in-Some-clause-leaves g c =
-    let leaves = rw c.in-Some.is at c.in_ok-end.ensures.leaves in
-    round_ends c.args.quanta.now c.loop-quantum.quantum-index (record { pick = 0; count = 0 }) c.loop-quantum-test.true (world c.args.self.now) (world c.loop-quantum.self)
-    (world c.take_turn.new.self) c.loop-quantum.invariant.comes c.in-Some.end leaves
+returns-in-Some-clause-leaves g c halting =
+    let leaves = rw c.in-Some.is at (c.in_ok-end.ensures.leaves (c.loop-quantum.invariant.halts halting)) in
+    round_ends c.args.quanta.now c.loop-quantum.quantum-index (record { pick = 0; count = 0 }) c.loop-quantum-test.true (world c.args.self.now) (world c.loop-quantum.self) (world c.take_turn.new.self)
+    (c.loop-quantum.invariant.comes halting) c.in-Some.end leaves
+
+pub returns-in-Some-clause-memory : goal.returns-in-Some-clause-memory
+returns-in-Some-clause-memory g c go =
+    let memory = rw c.in-Some.is at (c.in_ok-end.ensures.memory (c.loop-quantum.invariant.mode ∙ go)) in
+    round_ends_in c.args.quanta.now c.loop-quantum.quantum-index (record { pick = 0; count = 0 }) c.loop-quantum-test.true (one_memory c.args.self.now) (one_memory c.loop-quantum.self) (one_memory c.take_turn.new.self)
+    (c.loop-quantum.invariant.memory go) c.in-Some.end memory
+
+pub returns-in-Some-clause-first : goal.returns-in-Some-clause-first
+returns-in-Some-clause-first g c go quiet =
+    let memory = rw c.in-Some.is at (c.in_ok-end.ensures.memory (c.loop-quantum.invariant.mode ∙ go)) in
+    let first = rw c.in-Some.is at (c.in_ok-end.ensures.first (c.loop-quantum.invariant.mode ∙ go)) in
+    round_first_over c.args.quanta.now c.loop-quantum.quantum-index (record { pick = 0; count = 0 }) c.loop-quantum-test.true (world c.args.self.now) c.loop-quantum.self c.take_turn.new.self
+    (c.loop-quantum.invariant.first go quiet) (Ok (Some c.in-Some.end)) memory first (λ is. absurd cc)
 
 pub loop-quantum-preserved : goal.loop-quantum-preserved
 loop-quantum-preserved g c =
-    let leaves = rw c.in_default.is at c.in_ok-end.ensures.leaves in
     let events = c.in_ok-end.ensures.events in
     let d : Quantum = record { pick = 0; count = 0 } in
     let more = sum_by-drop_more (λ (q : Quantum). q.count) c.args.quanta.now c.loop-quantum.quantum-index d c.loop-quantum-test.true in
+    let leaves = rw c.in_default.is at c.in_ok-end.ensures.leaves in
+    let memory = rw c.in_default.is at c.in_ok-end.ensures.memory in
+    let first = rw c.in_default.is at c.in_ok-end.ensures.first in
     record {
       kind = c.in_ok-end.ensures.kind ∙ c.loop-quantum.invariant.kind;
-      comes = round_on c.args.quanta.now c.loop-quantum.quantum-index d c.loop-quantum-test.true (world c.args.self.now) (world c.loop-quantum.self) (world c.take_turn.new.self)
-          c.loop-quantum.invariant.comes leaves;
+      mode = c.in_ok-end.ensures.mode ∙ c.loop-quantum.invariant.mode;
+      halts = λ halting. c.in_ok-end.ensures.quiet (c.loop-quantum.invariant.halts halting) (ap Ok c.in_default.is);
+      comes = λ halting. round_on c.args.quanta.now c.loop-quantum.quantum-index (record { pick = 0; count = 0 }) c.loop-quantum-test.true (world c.args.self.now) (world c.loop-quantum.self) (world c.take_turn.new.self)
+          (c.loop-quantum.invariant.comes halting) (leaves (c.loop-quantum.invariant.halts halting));
+      memory = λ go. round_on_in c.args.quanta.now c.loop-quantum.quantum-index (record { pick = 0; count = 0 }) c.loop-quantum-test.true (one_memory c.args.self.now) (one_memory c.loop-quantum.self) (one_memory c.take_turn.new.self)
+          (c.loop-quantum.invariant.memory go) (memory (c.loop-quantum.invariant.mode ∙ go));
+      first = λ go quiet. round_first c.args.quanta.now c.loop-quantum.quantum-index (record { pick = 0; count = 0 }) c.loop-quantum-test.true (world c.args.self.now) c.loop-quantum.self c.take_turn.new.self
+          (c.loop-quantum.invariant.first go quiet) (Ok None) (memory (c.loop-quantum.invariant.mode ∙ go)) (first (c.loop-quantum.invariant.mode ∙ go));
       events = omega (arith, c.loop-quantum.invariant.events);
     }

@@ -1,13 +1,22 @@
 -- Behind the turns so far the run goes on.
-use Rattle.std.proofs.Common.{◌≡◌, ◌+◌, ◌≤◌, take, drop}
+use Rattle.std.proofs.Common.{◌≡◌, ◌+◌, ◌≤◌, false, None, Ok, take, drop}
 use Rattle.std.specs.Prelude.{sum_by}
 use Rattle.machine_world.specs.Courses.{Comes}
-use Rattle.flat_machine.specs.State.{world}
+use Rattle.physical_turns.specs.Physical.{has_stray}
+use Rattle.physical_turns.specs.Courses.{ComesIn}
+use Rattle.flat_machine.specs.declared.machine.Mode.TheVariants.{GoOn}
+use Rattle.flat_machine.specs.State.{world, one_memory}
+use Rattle.flat_machine.specs.RunsIn.{IsHalting}
+use Rattle.flat_machine.specs.LeavesIn.{LeavesFirst}
 use Rattle.flat_machine.proofs.machine.Machine.round.Given as goal
 
 abbrev pub invariant-loop-quantum : goal.invariant-loop-quantum
 invariant-loop-quantum g l = record {
   kind : l.self.kind ≡ l.fn.self.kind;
-  comes : Comes (take l.quantum-index l.quanta) (world l.fn.self) (world l.self);
+  mode : l.self.mode ≡ l.fn.self.mode;
+  halts : IsHalting l.fn.self → IsHalting l.self;
+  comes : IsHalting l.fn.self → Comes (take l.quantum-index l.quanta) (world l.fn.self) (world l.self);
+  memory : l.fn.self.mode ≡ GoOn → ComesIn (take l.quantum-index l.quanta) (one_memory l.fn.self) (one_memory l.self);
+  first : l.fn.self.mode ≡ GoOn → has_stray (world l.fn.self).notes ≡ false → LeavesFirst (take l.quantum-index l.quanta) (world l.fn.self) (world l.self) (Ok None);
   events : l.self.events + sum_by (λ q. q.count) (drop l.quantum-index l.quanta) ≤ l.fn.self.events + sum_by (λ q. q.count) l.quanta;
 }

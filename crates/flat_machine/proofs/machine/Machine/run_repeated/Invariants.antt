@@ -1,14 +1,23 @@
 -- Behind the times so far the run goes on.
-use Rattle.std.proofs.Common.{◌≡◌, ◌+◌, ◌*◌, ◌≤◌}
+use Rattle.std.proofs.Common.{◌≡◌, ◌+◌, ◌*◌, ◌≤◌, false, None, Ok}
 use Rattle.std.specs.Prelude.{sum_by}
 use Rattle.machine_world.specs.Courses.{Comes}
-use Rattle.flat_machine.specs.State.{world}
+use Rattle.physical_turns.specs.Physical.{has_stray}
+use Rattle.physical_turns.specs.Courses.{ComesIn}
+use Rattle.flat_machine.specs.declared.machine.Mode.TheVariants.{GoOn}
+use Rattle.flat_machine.specs.State.{world, one_memory}
 use Rattle.flat_machine.specs.Runs.{repeated}
+use Rattle.flat_machine.specs.RunsIn.{IsHalting}
+use Rattle.flat_machine.specs.LeavesIn.{LeavesFirst}
 use Rattle.flat_machine.proofs.machine.Machine.run_repeated.Given as goal
 
 abbrev pub invariant-loop-time : goal.invariant-loop-time
 invariant-loop-time g l = record {
   kind : l.self.kind ≡ l.fn.self.kind;
-  comes : Comes (repeated l._time l.quanta) (world l.fn.self) (world l.self);
+  mode : l.self.mode ≡ l.fn.self.mode;
+  halts : IsHalting l.fn.self → IsHalting l.self;
+  comes : IsHalting l.fn.self → Comes (repeated l._time l.quanta) (world l.fn.self) (world l.self);
+  memory : l.fn.self.mode ≡ GoOn → ComesIn (repeated l._time l.quanta) (one_memory l.fn.self) (one_memory l.self);
+  first : l.fn.self.mode ≡ GoOn → has_stray (world l.fn.self).notes ≡ false → LeavesFirst (repeated l._time l.quanta) (world l.fn.self) (world l.self) (Ok None);
   events : l.self.events ≤ l.fn.self.events + l._time * sum_by (λ q. q.count) l.quanta;
 }

@@ -1,0 +1,61 @@
+-- The process has its turn, and the machine holds what it held.
+use Rattle.std.proofs.Common.{◌≡◌, length, sym, ap, subst, ◌∙◌}
+use Rattle.std.proofs.lemmas.List.{length-map}
+use Rattle.syscall_layer.specs.Flats.{AreFlats}
+use Rattle.syscall_layer.specs.InMemory.{headers_of}
+use Rattle.syscall_layer.specs.Reach.{whole_table}
+use Rattle.syscall_layer.specs.Stands.{world_of}
+use Rattle.flat_machine.specs.State.{State, about_of, is_whole}
+use Rattle.flat_machine.specs.Inside.{state_of}
+use Rattle.flat_machine.proofs.Readers.{are_flats, programs_count}
+use Rattle.flat_machine.proofs.TurnsOf.{loads_behind, sound_behind}
+use Rattle.flat_machine.proofs.machine.Machine.turn_of.Goals as goal
+
+pub invariant_of-self : goal.invariant_of-self
+invariant_of-self g c =
+    let m = c.self.inside in
+    let s = state_of m in
+    let a = about_of s in
+    let same : length s.paths ≡ length s.programs = length-map m.paths.items (λ path. path.items) ∙ c.self.invariant.paths in
+    let so = ap (λ (x : State). x.kind) c.self.view_is ∙ sym c.requires.kind in
+    let are = subst (AreFlats a.programs) (sym c.deref.ensures.value) (are_flats s.paths s.programs same) in
+    let memory = c.turn-events.ensures.memory a so are in
+    let ready = rw (← c.self.view_is) at c.requires.ready in
+    record {
+      paths = c.self.invariant.paths;
+      loads = loads_behind m.reach (headers_of c.deref.result.now) a (length m.programs.items) c.args.pid c.args.count c.turn-events.result.events m.parts c.turn-events.new.parts c.turn-events.result.end
+          (λ own. c.turn-events.ensures.leaves own a so are) memory (programs_count s.paths s.programs same) c.self.invariant.loads;
+      sound = rw (c.from.ensures) (sound_behind m.reach (headers_of c.deref.result.now) a (length m.programs.items) c.args.pid c.args.count c.turn-events.result.events m.parts c.turn-events.new.parts c.turn-events.result.end
+          (λ own. c.turn-events.ensures.leaves own a so are) memory ready c.self.invariant.strayed c.turn-events.ensures.notes c.self.invariant.sound);
+      whole = c.self.invariant.whole ∙ ap whole_table (sym c.turn-events.ensures.regions);
+      strayed = c.turn-events.ensures.notes ∙ ap is_whole (sym c.reach_behind-self-inside.ensures);
+    }
+
+pub returns-clause-notes : goal.returns-clause-notes
+unfolding world_of
+returns-clause-notes g c = c.turn-events.ensures.notes ∙ ap is_whole (sym c.reach_behind-self-inside.ensures)
+
+pub returns-clause-leaves : goal.returns-clause-leaves
+returns-clause-leaves g c own =
+    let m = c.self.inside in
+    let s = state_of m in
+    let a = about_of s in
+    let same : length s.paths ≡ length s.programs = length-map m.paths.items (λ path. path.items) ∙ c.self.invariant.paths in
+    let so = ap (λ (x : State). x.kind) c.self.view_is ∙ sym c.requires.kind in
+    let are = subst (AreFlats a.programs) (sym c.deref.ensures.value) (are_flats s.paths s.programs same) in
+    let v = c.self.view_is in
+    let here = ap (λ (x : State). x.reach) v ∙ own in
+    let leaves = c.turn-events.ensures.leaves here a so are in
+    rw (← v, c.from.ensures) leaves
+
+pub returns-clause-memory : goal.returns-clause-memory
+returns-clause-memory g c =
+    let m = c.self.inside in
+    let s = state_of m in
+    let a = about_of s in
+    let same : length s.paths ≡ length s.programs = length-map m.paths.items (λ path. path.items) ∙ c.self.invariant.paths in
+    let so = ap (λ (x : State). x.kind) c.self.view_is ∙ sym c.requires.kind in
+    let are = subst (AreFlats a.programs) (sym c.deref.ensures.value) (are_flats s.paths s.programs same) in
+    let v = c.self.view_is in
+    let memory = rw c.deref.ensures.value at (c.turn-events.ensures.memory a so are) in
+    rw (← v, c.from.ensures) memory

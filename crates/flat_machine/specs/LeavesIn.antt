@@ -1,0 +1,137 @@
+-- What the next event, a turn and the turns of some quanta leave in the one memory.
+use Rattle.std.specs.Prelude.{◌≡◌, ◌⊎◌, ℕ, ◌<◌, Bool, true, false, List, ◌∷◌, ◌++◌, Option, Some, None, Result, Ok, Err}
+use Rattle.std.specs.declared.alloc.AllocError.{AllocError}
+use Rattle.rv32im_step.specs.declared.access.Access.{Access}
+use Rattle.rv32im_step.specs.declared.stop.Stop.{Stop}
+use Rattle.rv32im_step.specs.declared.stop.Stop.TheVariants.{Next, Refused}
+use Rattle.quantum_sched.specs.declared.Quantum.{Quantum}
+use Rattle.quantum_sched.specs.Picked.{picked}
+use Rattle.vfork_exec.specs.Procs.{CanRun}
+use Rattle.machine_world.specs.Families.{ready_pids}
+use Rattle.machine_world.specs.World.{World}
+use Rattle.machine_world.specs.Turns.{End, Walk, stray_at, log_full, turns}
+use Rattle.physical_turns.specs.Physical.{Physical, After as Outcome, after as goes, no_room, has_stray, first_stray, with_stray, physical_event, physical_turn, physical_turns}
+use Rattle.physical_turns.specs.Courses.{LeadsIn, ComesIn, StandsIn}
+use Rattle.physical_turns.specs.Growth.{Adds}
+use Rattle.syscall_layer.specs.declared.reach.Reach.{Reach}
+use Rattle.syscall_layer.specs.declared.reach.Reach.TheVariants.{Own, Whole}
+use Rattle.syscall_layer.specs.Kept.{Kept}
+use Rattle.syscall_layer.specs.Stands.{About, later}
+use Rattle.syscall_layer.specs.InMemory.{physical_of}
+use Rattle.flat_machine.specs.declared.machine.Mode.{Mode}
+use Rattle.flat_machine.specs.declared.machine.Mode.TheVariants.{Halt, GoOn}
+use Rattle.flat_machine.specs.declared.run.End.{End as Told}
+use Rattle.flat_machine.specs.declared.run.End.TheVariants as told
+use Rattle.flat_machine.specs.declared.turn.After.{After}
+use Rattle.flat_machine.specs.declared.turn.After.TheVariants as after
+use Rattle.flat_machine.specs.Runs.{Ends}
+use Rattle.flat_machine.specs.Leaves.{Leaves}
+
+-- ---- an event
+
+-- by what comes of it in the one memory that the old parts stand for: out of memory nothing changed
+abbrev pub CarriedIn : List (List ℕ) → About → Outcome → Kept → Kept → ℕ → Result After AllocError → Type 0
+CarriedIn headers a outcome old new pid (Err error) = new ≡ old
+CarriedIn headers a (goes now over) old new pid (Ok after.GoesOn) = (now ≡ physical_of headers (later 1 a) new) × (over ≡ false) × CanRun new.procs pid
+CarriedIn headers a (goes now over) old new pid (Ok after.TurnEnds) = (now ≡ physical_of headers (later 1 a) new) × (over ≡ true)
+CarriedIn headers a (no_room now) old new pid (Ok (after.RunEnds told.LogFull)) = (now ≡ physical_of headers a old) × (new ≡ old)
+CarriedIn headers a outcome old new pid (Ok other) = ⊥
+
+-- the next event of a process is the first that strays: its access was noted, and nothing of it was carried out
+pub record StraysIn (pid : ℕ) (old new : Physical) : Type 0 where
+  pub access : Access
+  pub first : first_stray old pid ≡ Some access
+  pub noted : new ≡ with_stray pid (Some access) old
+
+-- within a process's own bytes its event may stray
+abbrev pub CarriedWithin : Reach → List (List ℕ) → About → Kept → Kept → ℕ → Result After AllocError → Type 0
+CarriedWithin Own headers a old new pid (Ok (after.RunEnds (told.Stray access))) = StraysIn pid (physical_of headers a old) (physical_of headers a new)
+CarriedWithin reach headers a old new pid result = CarriedIn headers a (physical_event (physical_of headers a old) pid) old new pid result
+
+-- where a process stands: within its own bytes an access that is refused says nothing of all of memory
+abbrev pub StandsWithin : Reach → Physical → ℕ → Stop → Type 0
+StandsWithin Own p pid (Refused access) = Unit {0}
+StandsWithin reach p pid stop = StandsIn p pid stop
+
+-- of at most so many instructions all were carried out, or the process stands at one that isn't
+abbrev pub HaltsWithin : Reach → Physical → (pid most done : ℕ) → Stop → Type 0
+HaltsWithin reach p pid most done Next = done ≡ most
+HaltsWithin reach p pid most done stop = (done < most) × StandsWithin reach p pid stop
+
+-- ---- a turn
+
+-- it comes to its end, or to that of the run
+abbrev pub TurnEndsIn : ℕ → ℕ → Physical → Physical → Option End → Type 0
+TurnEndsIn pid count old new end = physical_turn count pid old ≡ record { now = new; end = end }
+
+-- out of memory it stands behind some of its events, and maybe behind the note of the next one's stray access
+pub record TurnStopsIn (pid count : ℕ) (old : Physical) (done : ℕ) (new : Physical) : Type 0 where
+  pub less : done < count
+  pub at : Physical
+  pub walked : physical_turn done pid old ≡ record { now = at; end = None }
+  pub stands : (new ≡ at) ⊎ StraysIn pid at new
+
+-- up to the run's first stray access, which is noted and not yet carried out
+pub record TurnStraysIn (pid : ℕ) (old : Physical) (done : ℕ) (new : Physical) : Type 0 where
+  pub at : Physical
+  pub leads : LeadsIn pid old done at
+  pub strays : StraysIn pid at new
+
+abbrev pub TurnLeavesIn : Reach → ℕ → ℕ → Physical → ℕ → Physical → Result (Option Told) AllocError → Type 0
+TurnLeavesIn reach pid count old done new (Ok None) = TurnEndsIn pid count old new None
+TurnLeavesIn reach pid count old done new (Ok (Some told.LogFull)) = TurnEndsIn pid count old new (Some log_full)
+TurnLeavesIn Own pid count old done new (Ok (Some (told.Stray access))) = TurnStraysIn pid old done new
+TurnLeavesIn reach pid count old done new (Ok (Some other)) = ⊥
+TurnLeavesIn reach pid count old done new (Err error) = TurnStopsIn pid count old done new
+
+-- all of memory is reached behind the first stray access
+abbrev pub reach_behind : Reach → Result (Option Told) AllocError → Reach
+reach_behind reach (Ok (Some (told.Stray access))) = Whole
+reach_behind reach other = reach
+
+-- it came to a stray access that isn't carried out
+abbrev pub is_stray : Result (Option Told) AllocError → Bool
+is_stray (Ok (Some (told.Stray access))) = true
+is_stray other = false
+
+-- a run that goes on has what is left of it
+abbrev pub has_rest : Mode → Result (Option Told) AllocError → Bool
+has_rest Halt result = false
+has_rest GoOn result = is_stray result
+
+-- ---- a run
+
+-- out of memory it stands within the turn of a quantum
+pub record StopsIn (quanta : List Quantum) (old new : Physical) : Type 0 where
+  pub front : List Quantum
+  pub quantum : Quantum
+  pub back : List Quantum
+  pub are : quanta ≡ front ++ quantum ∷ back
+  -- where that turn begins
+  pub before : Physical
+  pub reached : ComesIn front old before
+  pub pid : ℕ
+  pub chosen : picked quantum.pick (ready_pids before.world.procs) ≡ Some pid
+  pub done : ℕ
+  pub stops : TurnStopsIn pid quantum.count before done new
+
+-- it goes on with any quanta, or has ended, whatever quanta are left
+abbrev pub LeavesIn : List Quantum → Physical → Physical → Result (Option Told) AllocError → Type 0
+LeavesIn quanta old new (Ok None) = ComesIn quanta old new
+LeavesIn quanta old new (Ok (Some end)) =
+    (back : List Quantum) → ((physical_turns (quanta ++ back) old).now ≡ new) × Ends (physical_turns (quanta ++ back) old).end end
+LeavesIn quanta old new (Err error) = StopsIn quanta old new
+
+-- the world of private spaces ends there with a stray access, and all that it noted and wrote stands before what came later
+pub record GoesPast (walk : Walk) (now : World) : Type 0 where
+  pub pid : ℕ
+  pub access : Access
+  pub ends : walk.end ≡ Some (stray_at pid access)
+  pub adds : Adds walk.world now
+
+-- what the turns of some quanta leave of a run that goes on and met no stray access yet: still none, and it is that of the private
+-- spaces; or one, and these end there, whatever quanta are left
+abbrev pub LeavesFirst : List Quantum → World → World → Result (Option Told) AllocError → Type 0
+LeavesFirst quanta old new (Err error) = Unit {0}
+LeavesFirst quanta old new (Ok end) =
+    (has_stray new.notes ≡ false → Leaves quanta old new (Ok end)) × (has_stray new.notes ≡ true → (back : List Quantum) → GoesPast (turns (quanta ++ back) old) new)
