@@ -1,5 +1,5 @@
 -- The program of one line.
-use Rattle.std.proofs.Common.{◌≡◌, ℕ, ◌≤◌, Fits, w8, get_or, List, Some, None, Ok, Err, sym, ap, subst, ◌∙◌, arith, inl, inr}
+use Rattle.std.proofs.Common.{◌≡◌, ℕ, ◌≤◌, Fits, w8, get_or, List, take, Some, None, Ok, Err, sym, ap, subst, ◌∙◌, arith, inl, inr}
 use Rattle.std.specs.Prelude.{◌⊎◌}
 use Rattle.byte_words.specs.Numbers.{IsBytes}
 use Rattle.bflt_format.specs.declared.fault.FlatFault.{FlatFault}
@@ -12,7 +12,7 @@ use Rattle.elf2flt_tool.specs.declared.refusal.Refusal.{Refusal}
 use Rattle.elf2flt_tool.specs.declared.refusal.Refusal.TheVariants as refusal
 use Rattle.elf2flt_tool.specs.Fault.{fault}
 use Rattle.elf2flt_tool.specs.Converted.{converted, flat}
-use Rattle.flat_loader.specs.Original.{Original, flat_original}
+use Rattle.flat_loader.specs.Original.{Original, header_len, flat_original}
 use Rattle.run_setup.specs.declared.fault.LineFault.TheVariants as line
 use Rattle.run_setup.specs.Originals.{elf_original}
 use Rattle.run_setup.specs.Brought.{elf_made, elf_made_of, flat_made, flat_made_of}
@@ -24,14 +24,15 @@ bytes_of e fits i = omega (arith, fits i)
 
 -- the flat file that an ELF file is converted to, and its bytes
 pub makes_elf : (e : List ℕ) (stack : ℕ) (f : Values) (bytes : List ℕ) → IsBytes e → stack ≤ 1048576 → fault e ≡ None → f ≡ converted e stack → bytes ≡ spell f
-    → elf_made_of e stack ≡ Ok (record { original = flat_original f; bytes = bytes })
+    → elf_made_of e stack ≡ Ok (record { original = flat_original f; header = take header_len (spell f); bytes = bytes })
 unfolding flat
 makes_elf e stack f bytes are limit none is written =
     let original : elf_original e stack ≡ flat_original f = converted_original e stack are none limit ∙ ap flat_original (sym is) in
-    let same : flat e stack ≡ bytes = ap (λ (g : Values). spell g) (sym is) ∙ sym written in
+    let spelled : flat e stack ≡ spell f = ap (λ (g : Values). spell g) (sym is) in
     ap (elf_made e stack) none
-    ∙ ap (λ (o : Original). Ok (record { original = o; bytes = flat e stack })) original
-    ∙ ap (λ (bs : List ℕ). Ok (record { original = flat_original f; bytes = bs })) same
+    ∙ ap (λ (o : Original). Ok (record { original = o; header = take header_len (flat e stack); bytes = flat e stack })) original
+    ∙ ap (λ (y : List ℕ). Ok (record { original = flat_original f; header = take header_len y; bytes = y })) spelled
+    ∙ ap (λ (bs : List ℕ). Ok (record { original = flat_original f; header = take header_len (spell f); bytes = bs })) (sym written)
 
 pub refuses_elf : (e : List ℕ) (stack : ℕ) (first : Refusal) → (first ≡ refusal.Memory) ⊎ (fault e ≡ Some first) → IsMemory (line.Elf first) ⊎ (elf_made_of e stack ≡ Err (line.Elf first))
 refuses_elf e stack first why = elim why [
@@ -39,8 +40,9 @@ refuses_elf e stack first why = elim why [
   | inr is ↦ inr (ap (elf_made e stack) is)
 ]
 
-pub makes_flat : (y : List ℕ) (f : Values) → fault_of y ≡ None → f ≡ flat_values y → flat_made_of y ≡ Ok (record { original = flat_original f; bytes = y })
-makes_flat y f none is = ap (flat_made y) none ∙ ap (λ (g : Values). Ok (record { original = flat_original g; bytes = y })) (sym is)
+pub makes_flat : (y : List ℕ) (f : Values) → fault_of y ≡ None → f ≡ flat_values y → flat_made_of y ≡ Ok (record { original = flat_original f; header = take header_len (spell f); bytes = y })
+makes_flat y f none is =
+    ap (flat_made y) none ∙ ap (λ (g : Values). Ok (record { original = flat_original g; header = take header_len (spell g); bytes = y })) (sym is)
 
 pub refuses_flat : (y : List ℕ) (first : FlatFault) → (first ≡ flat_fault.Memory) ⊎ (fault_of y ≡ Some first) → IsMemory (line.Flat first) ⊎ (flat_made_of y ≡ Err (line.Flat first))
 refuses_flat y first why = elim why [

@@ -1,5 +1,5 @@
 -- What one line brings in, where the tree made it or refused it.
-use Rattle.std.proofs.Common.{◌≡◌, ℕ, Vec, List, [], ◌∷◌, ◌++◌, length, Some, Result, Ok, Err, refl, sym, ap, subst, ◌∙◌, arith, inl, inr, length-append}
+use Rattle.std.proofs.Common.{◌≡◌, ℕ, Vec, List, [], ◌∷◌, ◌++◌, length, map, Some, Result, Ok, Err, refl, sym, ap, subst, ◌∙◌, arith, inl, inr, length-append}
 use Rattle.std.specs.Prelude.{◌⊎◌, ⊤}
 use Rattle.std.specs.Result.{IsErr, IsErrAnd}
 use Rattle.std.proofs.lemmas.List.{length-map, map-append}
@@ -17,9 +17,9 @@ use Rattle.machine_world.specs.Programs.{programs_of}
 use Rattle.run_setup.specs.declared.fault.LineFault.{LineFault}
 use Rattle.run_setup.specs.declared.fault.LineFault.TheVariants as line
 use Rattle.run_setup.specs.declared.bringing.RunFiles.{RunFiles}
-use Rattle.run_setup.specs.Brought.{Brought, or_errno, with_tree, with_program}
+use Rattle.run_setup.specs.Brought.{Brought, Made, or_errno, with_tree, with_program}
 use Rattle.run_setup.specs.Faults.{IsMemory, place_fault}
-use Rattle.run_setup.specs.Making.{HasPaths, brought_value, Added, Brings}
+use Rattle.run_setup.specs.Making.{header_of, HasPaths, brought_value, Added, Brings}
 
 -- ---- the tree's answer
 
@@ -41,9 +41,9 @@ pub tree_added : (old new : RunFiles) → HasPaths old → (wanted : Result Inod
 tree_added old new has wanted id made paths flats stdin = record {
   value =
       ap (λ (r : Result Inodes log.Errno). or_errno r (with_tree (brought_value old))) (made_is wanted old.tree new.tree id made)
-      ∙ ap (λ ps. Ok (record { tree = new.tree; programs = programs_of (paths_of ps.items) old.flats.items; stdin = old.stdin.items })) (sym paths)
-      ∙ ap (λ fs. Ok (record { tree = new.tree; programs = programs_of (paths_of new.paths.items) fs.items; stdin = old.stdin.items })) (sym flats)
-      ∙ ap (λ bs. Ok (record { tree = new.tree; programs = programs_of (paths_of new.paths.items) new.flats.items; stdin = bs.items })) (sym stdin);
+      ∙ ap (λ ps. Ok (record { tree = new.tree; programs = programs_of (paths_of ps.items) old.flats.items; headers = map header_of old.flats.items; stdin = old.stdin.items })) (sym paths)
+      ∙ ap (λ fs. Ok (record { tree = new.tree; programs = programs_of (paths_of new.paths.items) fs.items; headers = map header_of fs.items; stdin = old.stdin.items })) (sym flats)
+      ∙ ap (λ bs. Ok (record { tree = new.tree; programs = programs_of (paths_of new.paths.items) new.flats.items; headers = map header_of new.flats.items; stdin = bs.items })) (sym stdin);
   paths = ap (λ ps. length ps.items) paths ∙ has ∙ ap (λ fs. length fs.items) (sym flats);
   count = rw flats (omega arith);
 }
@@ -71,33 +71,40 @@ module _ (old : RunFiles) (has : HasPaths old) (path : List ℕ) (flat : Values)
   abbrev p : Program
   p = record { path = path; original = flat_original flat }
 
+  abbrev made_of : Made
+  made_of = record { original = flat_original flat; header = header_of flat; bytes = bytes }
+
+  -- the program stands behind the others in this tree
+  abbrev added_in : Inodes → Brought
+  added_in tree = record { tree = tree; programs = (brought_value old).programs ++ p ∷ []; headers = (brought_value old).headers ++ header_of flat ∷ []; stdin = old.stdin.items }
+
   same_length : length (paths_of old.paths.items) ≡ length old.flats.items
   same_length = length-map old.paths.items (λ path. path.items) ∙ has
 
   -- the number is how many programs there are
-  by_number : with_program (brought_value old) path (record { original = flat_original flat; bytes = bytes })
-      ≡ or_errno (with_file old.tree path bytes (Some number)) (λ (tree : Inodes). record { tree = tree; programs = (brought_value old).programs ++ p ∷ []; stdin = old.stdin.items })
+  by_number : with_program (brought_value old) path made_of ≡ or_errno (with_file old.tree path bytes (Some number)) added_in
   by_number =
-      ap (λ (n : ℕ). or_errno (with_file old.tree path bytes (Some n)) (λ (tree : Inodes). record { tree = tree; programs = (brought_value old).programs ++ p ∷ []; stdin = old.stdin.items }))
+      ap (λ (n : ℕ). or_errno (with_file old.tree path bytes (Some n)) added_in)
       (length_programs (paths_of old.paths.items) old.flats.items same_length ∙ sym numbered)
 
   pub program_refused : (beside : RunFiles) (new : Inodes) (why : FileFault) → Makes (with_file old.tree path bytes (Some number)) old.tree new (Err why) → (r : Result ⊤ LineFault) → IsErr r → IsErrAnd r (λ e. e ≡ place_fault why)
-      → Brings (with_program (brought_value old) path (record { original = flat_original flat; bytes = bytes })) old beside r
+      → Brings (with_program (brought_value old) path made_of) old beside r
   program_refused beside new why made (Ok done) err is = absurd cc
   program_refused beside new why made (Err e) err is =
-      elim (refused (with_file old.tree path bytes (Some number)) old.tree new why made e is (λ (tree : Inodes). record { tree = tree; programs = (brought_value old).programs ++ p ∷ []; stdin = old.stdin.items })) [
+      elim (refused (with_file old.tree path bytes (Some number)) old.tree new why made e is added_in) [
         | inl memory ↦ inl memory
         | inr fault ↦ inr (by_number ∙ fault)
       ]
 
   pub program_added : (new : RunFiles) (id : ℕ) → Makes (with_file old.tree path bytes (Some number)) old.tree new.tree (Ok id)
       → paths_of new.paths.items ≡ paths_of old.paths.items ++ path ∷ [] → new.flats.items ≡ old.flats.items ++ flat ∷ [] → new.stdin ≡ old.stdin
-      → Added (with_program (brought_value old) path (record { original = flat_original flat; bytes = bytes })) old new
+      → Added (with_program (brought_value old) path made_of) old new
   program_added new id made paths flats stdin =
       let programs : (brought_value new).programs ≡ (brought_value old).programs ++ p ∷ [] =
       ap (λ (ps : List (List ℕ)). programs_of ps new.flats.items) paths
       ∙ ap (programs_of (paths_of old.paths.items ++ path ∷ [])) flats
       ∙ programs_more (paths_of old.paths.items) old.flats.items path flat same_length in
+      let headers : (brought_value new).headers ≡ (brought_value old).headers ++ header_of flat ∷ [] = ap (map header_of) flats ∙ map-append header_of old.flats.items (flat ∷ []) in
       let new_len = length-map new.paths.items (λ path. path.items) in
       let len_paths = ap (λ (ps : List (List ℕ)). length ps) paths ∙ length-append (paths_of old.paths.items) (path ∷ []) in
       let len_flats = ap (λ (fs : List Values). length fs) flats ∙ length-append old.flats.items (flat ∷ []) in
@@ -105,10 +112,10 @@ module _ (old : RunFiles) (has : HasPaths old) (path : List ℕ) (flat : Values)
       record {
         value =
             by_number
-            ∙ ap (λ (r : Result Inodes log.Errno). or_errno r (λ (tree : Inodes). record { tree = tree; programs = (brought_value old).programs ++ p ∷ []; stdin = old.stdin.items }))
-            (made_is (with_file old.tree path bytes (Some number)) old.tree new.tree id made)
-            ∙ ap (λ (ps : List Program). Ok (record { tree = new.tree; programs = ps; stdin = old.stdin.items })) (sym programs)
-            ∙ ap (λ bs. Ok (record { tree = new.tree; programs = (brought_value new).programs; stdin = bs.items })) (sym stdin);
+            ∙ ap (λ (r : Result Inodes log.Errno). or_errno r added_in) (made_is (with_file old.tree path bytes (Some number)) old.tree new.tree id made)
+            ∙ ap (λ (ps : List Program). Ok (record { tree = new.tree; programs = ps; headers = (brought_value old).headers ++ header_of flat ∷ []; stdin = old.stdin.items })) (sym programs)
+            ∙ ap (λ (hs : List (List ℕ)). Ok (record { tree = new.tree; programs = (brought_value new).programs; headers = hs; stdin = old.stdin.items })) (sym headers)
+            ∙ ap (λ bs. Ok (record { tree = new.tree; programs = (brought_value new).programs; headers = (brought_value new).headers; stdin = bs.items })) (sym stdin);
         paths = omega (arith, len_paths, new_len, len_flats, same);
         count = omega (arith, len_flats);
       }

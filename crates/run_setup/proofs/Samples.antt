@@ -9,8 +9,10 @@ use Rattle.mem_files.specs.Changes.{with_folder, with_file}
 use Rattle.manifest_text.specs.declared.manifest.ItemKind.{ItemKind}
 use Rattle.manifest_text.specs.declared.manifest.ItemKind.TheVariants.{File, Dir, Stdin}
 use Rattle.manifest_text.specs.Values.{Item}
+use Rattle.flat_loader.specs.Original.{Original}
+use Rattle.run_setup.specs.declared.fault.LineFault.{LineFault}
 use Rattle.run_setup.specs.declared.fault.LineFault.TheVariants.{Place}
-use Rattle.run_setup.specs.Brought.{Brought, FaultAt, all_brought, nothing_brought}
+use Rattle.run_setup.specs.Brought.{Brought, Made, FaultAt, with_program, all_brought, nothing_brought}
 
 -- a line with this number
 abbrev at : ℕ → ItemKind → List ℕ → Item
@@ -47,3 +49,15 @@ seen (Err fault) = Err fault
 in_folder : seen (brings (at 1 Dir (codes "/d") ∷ at 2 File (codes "/d/a") ∷ at 3 Stdin [] ∷ []) ([] ∷ codes "x" ∷ codes "in" ∷ [])) ≡ Ok (record { bytes = codes "x"; stdin = codes "in" })
 unfolding all_brought with_file with_folder place_of is_too_long names pieces walked
 in_folder = refl
+
+-- a program's header stands behind those of the others
+abbrev made : Original → List ℕ → Made
+made o header = record { original = o; header = header; bytes = codes "x" }
+
+abbrev headers_in : Result Brought LineFault → List (List ℕ)
+headers_in (Ok b) = b.headers
+headers_in (Err fault) = []
+
+headers_are_kept : (o : Original) → headers_in (with_program (record nothing_brought { headers = codes "h" ∷ [] }) (codes "/a") (made o (codes "i"))) ≡ (codes "h" ∷ codes "i" ∷ [])
+unfolding with_file place_of is_too_long names pieces walked
+headers_are_kept o = refl

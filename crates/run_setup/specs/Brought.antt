@@ -1,7 +1,8 @@
 -- What the item lines of a manifest bring in: files and folders, programs, and the console's input.
-use Rattle.std.specs.Prelude.{ℕ, List, [], ◌∷◌, ◌++◌, length, Option, Some, None, Result, Ok, Err}
+use Rattle.std.specs.Prelude.{ℕ, List, [], ◌∷◌, ◌++◌, length, take, Option, Some, None, Result, Ok, Err}
 use Rattle.bflt_format.specs.declared.fault.FlatFault.{FlatFault}
 use Rattle.bflt_format.specs.Header.{flat_values}
+use Rattle.bflt_format.specs.Spelling.{spell}
 use Rattle.bflt_format.specs.Fault.{flat_fault}
 use Rattle.elf2flt_tool.specs.declared.refusal.Refusal.{Refusal}
 use Rattle.elf2flt_tool.specs.Fault.{fault}
@@ -9,7 +10,7 @@ use Rattle.elf2flt_tool.specs.Converted.{flat}
 use Rattle.call_log.specs.declared.errno.Errno.{Errno}
 use Rattle.mem_files.specs.Inodes.{Inodes, opening}
 use Rattle.mem_files.specs.Changes.{with_file, with_folder}
-use Rattle.flat_loader.specs.Original.{Original, flat_original}
+use Rattle.flat_loader.specs.Original.{Original, header_len, flat_original}
 use Rattle.machine_world.specs.World.{Program}
 use Rattle.manifest_text.specs.declared.manifest.ItemKind.{ItemKind}
 use Rattle.manifest_text.specs.declared.manifest.ItemKind.TheVariants.{Elf, Flat, File, Dir, Stdin}
@@ -22,25 +23,28 @@ use Rattle.run_setup.specs.Originals.{elf_original}
 pub record Brought : Type 0 where
   pub tree : Inodes
   pub programs : List Program
+  -- the header of each program's flat file
+  pub headers : List (List ℕ)
   pub stdin : List ℕ
 
 abbrev pub nothing_brought : Brought
-nothing_brought = record { tree = opening; programs = []; stdin = [] }
+nothing_brought = record { tree = opening; programs = []; headers = []; stdin = [] }
 
 -- ---- programs
 
--- a program, and the flat file that stands at its path
+-- a program, the header of its flat file, and the file that stands at its path
 pub record Made : Type 0 where
   pub original : Original
+  pub header : List ℕ
   pub bytes : List ℕ
 
 abbrev pub elf_made : (e : List ℕ) (stack : ℕ) → Option Refusal → Result Made LineFault
 elf_made e stack (Some first) = Err (line.Elf first)
-elf_made e stack None = Ok (record { original = elf_original e stack; bytes = flat e stack })
+elf_made e stack None = Ok (record { original = elf_original e stack; header = take header_len (flat e stack); bytes = flat e stack })
 
 abbrev pub flat_made : (y : List ℕ) → Option FlatFault → Result Made LineFault
 flat_made y (Some first) = Err (line.Flat first)
-flat_made y None = Ok (record { original = flat_original (flat_values y); bytes = y })
+flat_made y None = Ok (record { original = flat_original (flat_values y); header = take header_len (spell (flat_values y)); bytes = y })
 
 -- an ELF file is converted, with the stack that its line says; a flat file is taken as it is
 abbrev pub elf_made_of : (e : List ℕ) (stack : ℕ) → Result Made LineFault
@@ -59,7 +63,7 @@ or_errno (Err errno) with = Err (line.Place errno)
 abbrev pub with_program : Brought → (path : List ℕ) → Made → Result Brought LineFault
 with_program b path m =
     or_errno (with_file b.tree path m.bytes (Some (length b.programs)))
-    (λ tree. record b { tree = tree; programs = b.programs ++ record { path = path; original = m.original } ∷ [] })
+    (λ tree. record b { tree = tree; programs = b.programs ++ record { path = path; original = m.original } ∷ []; headers = b.headers ++ m.header ∷ [] })
 
 abbrev pub program_brought : Brought → (path : List ℕ) → Result Made LineFault → Result Brought LineFault
 program_brought b path (Ok m) = with_program b path m

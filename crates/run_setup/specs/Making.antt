@@ -1,5 +1,8 @@
 -- What the code brings in, as that of the definition.
-use Rattle.std.specs.Prelude.{◌≡◌, ◌⊎◌, ⊤, ℕ, ◌+◌, ◌≤◌, List, drop, length, Result, Ok, Err}
+use Rattle.std.specs.Prelude.{◌≡◌, ◌⊎◌, ⊤, ℕ, ◌+◌, ◌≤◌, List, drop, length, map, take, Result, Ok, Err}
+use Rattle.bflt_format.specs.Values.{Values}
+use Rattle.bflt_format.specs.Spelling.{spell}
+use Rattle.flat_loader.specs.Original.{header_len}
 use Rattle.call_log.specs.Programs.{paths_of}
 use Rattle.machine_world.specs.Programs.{programs_of}
 use Rattle.manifest_text.specs.Values.{Item}
@@ -12,8 +15,12 @@ use Rattle.run_setup.specs.Faults.{IsMemory}
 abbrev pub fault_value : ToldAt → FaultAt
 fault_value at = record { line = at.line; fault = at.fault }
 
+-- the header of a program: the first bytes of its flat file
+abbrev pub header_of : Values → List ℕ
+header_of f = take header_len (spell f)
+
 abbrev pub brought_value : RunFiles → Brought
-brought_value f = record { tree = f.tree; programs = programs_of (paths_of f.paths.items) f.flats.items; stdin = f.stdin.items }
+brought_value f = record { tree = f.tree; programs = programs_of (paths_of f.paths.items) f.flats.items; headers = map header_of f.flats.items; stdin = f.stdin.items }
 
 -- each program has its path
 abbrev pub HasPaths : RunFiles → Type 0
