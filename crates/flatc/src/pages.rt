@@ -8,16 +8,22 @@ flatc converts linked RV32IM ELF executables into bFLT version 4 flat files, and
 
 usage: flatc COMMAND WORDS
 
-  convert ELF FLT [--stack N]       convert the file ELF, and store its flat file as FLT,
-                                    with N bytes of stack: 16 to 1048576, else 4096
-  check ELF                         say whether ELF can be converted, and store nothing
-  list FLT                          write the listing of the flat file FLT
-  run MANIFEST [--log] [--place K]  run the programs of MANIFEST by turns in one memory;
-                                    --log tells their system calls too, and K says which
-                                    free run is taken: first, best or last, else first
-  demo N                            run N small programs, 1 to 64, that need no file
-  --help                            write this page
-  --version                         write the version
+  convert ELF FLT [--stack N]                 convert the file ELF, and store its flat
+                                              file as FLT, with N bytes of stack: 16 to
+                                              1048576, else 4096
+  check ELF                                   say whether ELF can be converted, and store
+                                              nothing
+  list FLT                                    write the listing of the flat file FLT
+  run MANIFEST [--log] [--go-on] [--place K]  run the programs of MANIFEST by turns in one
+                                              memory; --log tells their system calls too,
+                                              --go-on goes on behind the first access that
+                                              strays, over all of memory, and K says which
+                                              free run is taken: first, best or last, else
+                                              first
+  demo N                                      run N small programs, 1 to 64, that need no
+                                              file
+  --help                                      write this page
+  --version                                   write the version
 
 exit status:
 

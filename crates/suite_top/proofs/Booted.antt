@@ -6,6 +6,7 @@ use Rattle.std.proofs.lemmas.Simd.{map-map}
 use Rattle.std.proofs.lemmas.List.Sums.{sum_by-cons}
 use Rattle.std.proofs.Math.Nat.{mul-le-mul_left}
 use Rattle.quantum_sched.specs.declared.Quantum.{Quantum}
+use Rattle.manifest_text.specs.declared.manifest.Dump.{Dump}
 use Rattle.manifest_text.specs.declared.manifest.Start.{Start as StoredStart}
 use Rattle.manifest_text.specs.Values.{Manifest, start_value}
 use Rattle.manifest_text.specs.Laws.{IsShort, Reasonable}
@@ -13,15 +14,18 @@ use Rattle.flat_loader.specs.Begin.{Loading}
 use Rattle.machine_world.specs.World.{Rest, World}
 use Rattle.machine_world.specs.Boot.{StartLine, BootFault, bad_start, args_too_big, no_run, Found, found, path_of, placed, fitting, located, started, then_started, all_started, empty_world, begun, boot}
 use Rattle.syscall_layer.specs.Stands.{world_of}
+use Rattle.physical_turns.specs.Physical.{Physical, opening as memory_opening}
 use Rattle.flat_machine.specs.declared.boot.BootRefusal.{BootRefusal}
 use Rattle.flat_machine.specs.declared.boot.BootRefusal.TheVariants as refusal
-use Rattle.flat_machine.specs.State.{State, world, lines_of}
+use Rattle.flat_machine.specs.declared.machine.Mode.{Mode}
+use Rattle.flat_machine.specs.declared.machine.Mode.TheVariants.{Halt, GoOn}
+use Rattle.flat_machine.specs.State.{State, world, one_memory, lines_of}
 use Rattle.flat_machine.specs.Boots.{Boots}
 use Rattle.suite_top.specs.declared.telling.Telling.{Telling}
 use Rattle.suite_top.specs.Ending.{Ending, memory_ending, OrMemory}
 use Rattle.run_setup.specs.Faults.{IsMemory}
 use Rattle.suite_top.specs.Refusing.{told_fault}
-use Rattle.suite_top.specs.Run.{start_line, boot_fault, fault_ending, booted_ending}
+use Rattle.suite_top.specs.Run.{start_line, boot_fault, fault_ending, world_ending, memory_run_ending, mode_ending, booted_ending}
 
 -- ---- what no start line changes
 
@@ -91,11 +95,21 @@ booted (Ok w) machine is = ap Ok (sym is)
 booted (Err fault) machine is = absurd is
 
 -- what the machine was started with, as the definition has it
-pub boots_as : (rest : Rest) (starts : List StoredStart) (machine : State) (telling : Telling) (m : Manifest) (ending : Ending) → m.starts ≡ map start_value starts
-    → Boots (boot rest (lines_of starts)) (Ok machine) → OrMemory (booted_ending telling m (Ok (world machine))) ending → OrMemory (booted_ending telling m (boot rest (map start_line m.starts))) ending
-boots_as rest starts machine telling m ending are boots ends =
+pub boots_as : (rest : Rest) (starts : List StoredStart) (machine : State) (telling : Telling) (mode : Mode) (m : Manifest) (headers : List (List ℕ)) (ending : Ending) → m.starts ≡ map start_value starts
+    → Boots (boot rest (lines_of starts)) (Ok machine) → OrMemory (booted_ending telling mode m headers (Ok (world machine))) ending → OrMemory (booted_ending telling mode m headers (boot rest (map start_line m.starts))) ending
+boots_as rest starts machine telling mode m headers ending are boots ends =
     let same : boot rest (map start_line m.starts) ≡ Ok (world machine) = ap (λ ss. boot rest (map start_line ss)) are ∙ ap (boot rest) (sym (lines_are starts)) ∙ booted _ _ boots in
-    subst (λ (r : Result World BootFault). OrMemory (booted_ending telling m r) ending) (sym same) ends
+    subst (λ (r : Result World BootFault). OrMemory (booted_ending telling mode m headers r) ending) (sym same) ends
+
+-- the machine's run as the definition has it
+pub ends_as : (machine : State) (telling : Telling) (mode : Mode) (quanta : List Quantum) (dumps : List Dump) (headers : List (List ℕ)) (ending : Ending)
+    → machine.mode ≡ mode → one_memory machine ≡ memory_opening headers (world machine)
+    → (machine.mode ≡ Halt → OrMemory (world_ending telling quanta dumps (world machine)) ending)
+    → (machine.mode ≡ GoOn → OrMemory (memory_run_ending telling quanta dumps (one_memory machine)) ending)
+    → OrMemory (mode_ending telling mode quanta dumps headers (world machine)) ending
+ends_as machine telling Halt quanta dumps headers ending is memory halt go_on = halt is
+ends_as machine telling GoOn quanta dumps headers ending is memory halt go_on =
+    subst (λ (p : Physical). OrMemory (memory_run_ending telling quanta dumps p) ending) memory (go_on is)
 
 pub machine_events : (machine : State) → (world machine).events ≡ machine.events
 unfolding world_of
@@ -106,23 +120,23 @@ unfolding world_of
 machine_kind machine = refl
 
 -- a machine that doesn't start
-refused_by : (fault : BootFault) (r : BootRefusal) (telling : Telling) (m : Manifest) (ending : Ending) → Boots (Err fault) (Err r)
-    → OrMemory (fault_ending (told_fault r)) ending → (IsMemory (told_fault r).fault → ending ≡ memory_ending) → OrMemory (booted_ending telling m (Err fault)) ending
-refused_by fault refusal.Memory telling m ending is ends memory = inr (memory tt)
-refused_by (bad_start number) (refusal.BadStart at) telling m ending is ends memory = subst (λ n. OrMemory (fault_ending (boot_fault (bad_start n))) ending) is ends
-refused_by (args_too_big number) (refusal.E2big at) telling m ending is ends memory = subst (λ n. OrMemory (fault_ending (boot_fault (args_too_big n))) ending) is ends
-refused_by (no_run number) (refusal.NoRun at) telling m ending is ends memory = subst (λ n. OrMemory (fault_ending (boot_fault (no_run n))) ending) is ends
-refused_by fault r telling m ending is ends memory = absurd is
+refused_by : (fault : BootFault) (r : BootRefusal) (telling : Telling) (mode : Mode) (m : Manifest) (headers : List (List ℕ)) (ending : Ending) → Boots (Err fault) (Err r)
+    → OrMemory (fault_ending (told_fault r)) ending → (IsMemory (told_fault r).fault → ending ≡ memory_ending) → OrMemory (booted_ending telling mode m headers (Err fault)) ending
+refused_by fault refusal.Memory telling mode m headers ending is ends memory = inr (memory tt)
+refused_by (bad_start number) (refusal.BadStart at) telling mode m headers ending is ends memory = subst (λ n. OrMemory (fault_ending (boot_fault (bad_start n))) ending) is ends
+refused_by (args_too_big number) (refusal.E2big at) telling mode m headers ending is ends memory = subst (λ n. OrMemory (fault_ending (boot_fault (args_too_big n))) ending) is ends
+refused_by (no_run number) (refusal.NoRun at) telling mode m headers ending is ends memory = subst (λ n. OrMemory (fault_ending (boot_fault (no_run n))) ending) is ends
+refused_by fault r telling mode m headers ending is ends memory = absurd is
 
-pub boot_refused : (b : Result World BootFault) (r : BootRefusal) (telling : Telling) (m : Manifest) (ending : Ending) → Boots b (Err r)
-    → OrMemory (fault_ending (told_fault r)) ending → (IsMemory (told_fault r).fault → ending ≡ memory_ending) → OrMemory (booted_ending telling m b) ending
-boot_refused (Ok w) refusal.Memory telling m ending is ends memory = inr (memory tt)
-boot_refused (Ok w) r telling m ending is ends memory = absurd is
-boot_refused (Err fault) r telling m ending is ends memory = refused_by fault r telling m ending is ends memory
+pub boot_refused : (b : Result World BootFault) (r : BootRefusal) (telling : Telling) (mode : Mode) (m : Manifest) (headers : List (List ℕ)) (ending : Ending) → Boots b (Err r)
+    → OrMemory (fault_ending (told_fault r)) ending → (IsMemory (told_fault r).fault → ending ≡ memory_ending) → OrMemory (booted_ending telling mode m headers b) ending
+boot_refused (Ok w) refusal.Memory telling mode m headers ending is ends memory = inr (memory tt)
+boot_refused (Ok w) r telling mode m headers ending is ends memory = absurd is
+boot_refused (Err fault) r telling mode m headers ending is ends memory = refused_by fault r telling mode m headers ending is ends memory
 
-pub refused_as : (rest : Rest) (starts : List StoredStart) (r : BootRefusal) (telling : Telling) (m : Manifest) (ending : Ending) → m.starts ≡ map start_value starts
+pub refused_as : (rest : Rest) (starts : List StoredStart) (r : BootRefusal) (telling : Telling) (mode : Mode) (m : Manifest) (headers : List (List ℕ)) (ending : Ending) → m.starts ≡ map start_value starts
     → Boots (boot rest (lines_of starts)) (Err r) → OrMemory (fault_ending (told_fault r)) ending → (IsMemory (told_fault r).fault → ending ≡ memory_ending)
-    → OrMemory (booted_ending telling m (boot rest (map start_line m.starts))) ending
-refused_as rest starts r telling m ending are boots ends memory =
+    → OrMemory (booted_ending telling mode m headers (boot rest (map start_line m.starts))) ending
+refused_as rest starts r telling mode m headers ending are boots ends memory =
     let same : boot rest (map start_line m.starts) ≡ boot rest (lines_of starts) = ap (λ ss. boot rest (map start_line ss)) are ∙ ap (boot rest) (sym (lines_are starts)) in
-    subst (λ (b : Result World BootFault). OrMemory (booted_ending telling m b) ending) (sym same) (boot_refused (boot rest (lines_of starts)) r telling m ending boots ends memory)
+    subst (λ (b : Result World BootFault). OrMemory (booted_ending telling mode m headers b) ending) (sym same) (boot_refused (boot rest (lines_of starts)) r telling mode m headers ending boots ends memory)

@@ -43,7 +43,9 @@ module _ (arguments : List (List ℕ)) (host host_after : Observed Told) (out ou
   sink_at inputs p is =
       elim (sinks_fail (call inputs) (ending, p, delivers) is) [
         | inl cut ↦ inl (cut.out.1)
-        | inr cut ↦ inr (cut.report.1)
+        | inr (inl cut) ↦ inr (cut.report.1)
+        | inr (inr (inl cut)) ↦ inr (cut.report.1)
+        | inr (inr (inr cut)) ↦ inr (cut.report.1)
       ]
 
   pub sink_rose : PerformsCommand host host_after (result_of arguments) ending → status ≡ SinkWrite → Rose out.faults out_after.faults ⊎ Rose report.faults report_after.faults

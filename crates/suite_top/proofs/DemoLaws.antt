@@ -5,12 +5,14 @@ use Rattle.manifest_text.specs.Values.{Manifest}
 use Rattle.machine_world.specs.World.{World}
 use Rattle.machine_world.specs.Turns.{End, all_ended, stuck, out_of_quanta, stray_at, log_full, Walk, turns}
 use Rattle.machine_world.specs.Boot.{BootFault, boot}
+use Rattle.flat_machine.specs.declared.machine.Mode.TheVariants.{Halt}
 use Rattle.flat_machine.specs.Runs.{repeated}
 use Rattle.run_setup.specs.Brought.{Brought, FaultAt, nothing_brought, all_brought}
 use Rattle.elf_maker.specs.Demo.{demo_file}
 use Rattle.suite_top.specs.declared.status.Status.TheVariants.{Done}
 use Rattle.suite_top.specs.declared.telling.Telling.TheVariants.{Demo}
 use Rattle.suite_top.specs.Ending.{Ending, OrMemory}
+use Rattle.suite_top.specs.Report.{own_dumps}
 use Rattle.suite_top.specs.Telling.{demonstrated_ending}
 use Rattle.host_io.specs.Host.{Told}
 use Rattle.suite_top.specs.Arguments.{Invocation, demo, command_of}
@@ -31,7 +33,7 @@ pub performs_demo : (old : Observed Told) (arguments : List (List ℕ)) (n : ℕ
 unfolding demo_ending
 performs_demo old arguments n ending is ends =
     subst (λ (o : Option Invocation). PerformsCommand old old (command_outcome o) ending) is
-    (asks_nothing old (demo_ending n) ending (files_are_told (Demo n) First (demo_manifest n) (each_of demo_file n)) ends)
+    (asks_nothing old (demo_ending n) ending (files_are_told (Demo n) Halt First (demo_manifest n) (each_of demo_file n)) ends)
 
 pub demos_convert : DemosConvert
 demos_convert i some few = program_has_no_fault i
@@ -51,7 +53,7 @@ module _ (n : ℕ) where
 
   module _ (b : Brought) (brings : all_brought m.items (each_of demo_file n) nothing_brought ≡ Ok b) where
     stopped : (w : World) → boot (opening First m b) (map start_line m.starts) ≡ Ok w → (walk : Walk) → turns (repeated m.repeat m.quanta) w ≡ walk
-        → (end : Option End) → walk.end ≡ end → demo_ending n ≡ demonstrated_ending n m.dumps walk.world end → (demo_ending n).status ≡ Done → TellsALine n
+        → (end : Option End) → walk.end ≡ end → demo_ending n ≡ demonstrated_ending n (own_dumps walk.world m.dumps) walk.world end → (demo_ending n).status ≡ Done → TellsALine n
     stopped w boots walk walks None ends is done = other_end n _ (λ h. cc) is done
     stopped w boots walk walks (Some all_ended) ends is done =
         record { brought = b; brings = brings; world = w; boots = boots; walk = walk; walks = walks; ended = ends; ending = is }
@@ -60,15 +62,15 @@ module _ (n : ℕ) where
     stopped w boots walk walks (Some out_of_quanta) ends is done = other_end n _ (λ h. cc) is done
     stopped w boots walk walks (Some log_full) ends is done = other_end n _ (λ h. cc) is done
 
-    booted : (r : Result World BootFault) → boot (opening First m b) (map start_line m.starts) ≡ r → demo_ending n ≡ booted_ending (Demo n) m r → (demo_ending n).status ≡ Done → TellsALine n
+    booted : (r : Result World BootFault) → boot (opening First m b) (map start_line m.starts) ≡ r → demo_ending n ≡ booted_ending (Demo n) Halt m b.headers r → (demo_ending n).status ≡ Done → TellsALine n
     booted (Err first) boots is done = other_end n _ (λ h. cc) is done
     booted (Ok w) boots is done = let walk = turns (repeated m.repeat m.quanta) w in stopped w boots walk refl walk.end refl is done
 
-  brought : (r : Result Brought FaultAt) → all_brought m.items (each_of demo_file n) nothing_brought ≡ r → demo_ending n ≡ brought_ending (Demo n) First m r → (demo_ending n).status ≡ Done → TellsALine n
+  brought : (r : Result Brought FaultAt) → all_brought m.items (each_of demo_file n) nothing_brought ≡ r → demo_ending n ≡ brought_ending (Demo n) Halt First m r → (demo_ending n).status ≡ Done → TellsALine n
   brought (Err at) brings is done = other_end n _ (λ h. cc) is done
   brought (Ok b) brings is done = booted b brings (boot (opening First m b) (map start_line m.starts)) refl is done
 
-demo_is : (n : ℕ) → demo_ending n ≡ brought_ending (Demo n) First (demo_manifest n) (all_brought (demo_manifest n).items (each_of demo_file n) nothing_brought)
+demo_is : (n : ℕ) → demo_ending n ≡ brought_ending (Demo n) Halt First (demo_manifest n) (all_brought (demo_manifest n).items (each_of demo_file n) nothing_brought)
 unfolding demo_ending files_ending
 demo_is n = refl
 

@@ -7,6 +7,7 @@ use Rattle.page_runs.specs.declared.place.Kind.TheVariants.{First}
 use Rattle.manifest_text.specs.Values.{Manifest}
 use Rattle.manifest_text.specs.Laws.{IsItem, HasArgument, Reasonable}
 use Rattle.elf_maker.specs.Demo.{demo_file}
+use Rattle.flat_machine.specs.declared.machine.Mode.TheVariants.{Halt}
 use Rattle.suite_top.specs.declared.telling.Telling.TheVariants.{Demo}
 use Rattle.suite_top.specs.Ending.{Ending, OrMemory}
 use Rattle.suite_top.specs.Run.{files_ending}
@@ -70,9 +71,9 @@ as_many n m files manifest are =
 
 -- what was run is the demo
 pub is_demo : (n : ℕ) (kind : Kind) (m : Manifest) (files : List (List ℕ)) (ending : Ending) → kind ≡ First → m ≡ demo_manifest n → files ≡ each_of demo_file n
-    → OrMemory (files_ending (Demo n) kind m files) ending → OrMemory (demo_ending n) ending
+    → OrMemory (files_ending (Demo n) Halt kind m files) ending → OrMemory (demo_ending n) ending
 unfolding demo_ending
 is_demo n kind m files ending first manifest are ends =
-    subst (λ (fs : List (List ℕ)). OrMemory (files_ending (Demo n) First (demo_manifest n) fs) ending) are
-    (subst (λ (x : Manifest). OrMemory (files_ending (Demo n) First x files) ending) manifest
-    (subst (λ (k : Kind). OrMemory (files_ending (Demo n) k m files) ending) first ends))
+    subst (λ (fs : List (List ℕ)). OrMemory (files_ending (Demo n) Halt First (demo_manifest n) fs) ending) are
+    (subst (λ (x : Manifest). OrMemory (files_ending (Demo n) Halt First x files) ending) manifest
+    (subst (λ (k : Kind). OrMemory (files_ending (Demo n) Halt k m files) ending) first ends))

@@ -70,7 +70,7 @@ others_load None inputs other = tt
 others_load (Some (convert elf flt stack)) inputs other = absurd (other elf flt stack refl)
 others_load (Some (list flt)) inputs other = subst AreLoads (sym (list_requests flt inputs)) tt
 others_load (Some (check elf)) inputs other = subst AreLoads (sym (check_requests elf inputs)) tt
-others_load (Some (run manifest log kind)) inputs other = run_requests manifest log kind inputs
+others_load (Some (run manifest log mode kind)) inputs other = run_requests manifest log mode kind inputs
 others_load (Some (demo programs)) inputs other = tt
 
 files_stay : (requests : List Request) (k : HostCourse) (t : Told) → IsCourseOf requests k → AreLoads requests → (told_after requests k t).files ≡ t.files

@@ -5,6 +5,7 @@
 -- StatusLaws, HostLaws: the laws over every call.
 -- Causes: the counts that rose, by the status of a call.
 -- OneFileLaws, ConvertLaws, CheckLaws, ListLaws, SizesLaw: the laws of the commands.
+-- Shown: what a machine shows and tells, by what becomes of its run at the first stray access.
 -- Reports: the parts of the report of a run.
 -- OneFileSteps: a command that goes on with one file.
 -- Opened: a list opened at one place.
@@ -34,12 +35,15 @@ pub mod CheckLaws
 pub mod ListLaws
 pub mod SizesLaw
 pub mod Opened
+pub mod Shown
 pub mod Reports
 pub mod LoadedItems
 pub mod Booted
 pub mod RunEndings
 pub mod RunLaws
 pub mod OpenedRuns
+pub mod Headers
+pub mod GoOn
 pub mod Demos
 pub mod DemoFaults
 pub mod DemoLaws

@@ -1,10 +1,9 @@
 -- What the laws of boots ask for, of a run that reaches its machine: what the lines bring in has pages as the manifest says, and no file
 -- that was changed.
-use Rattle.std.proofs.Common.{◌≡◌, ℕ, ◌≤◌, List, length, map, arith}
+use Rattle.std.proofs.Common.{ℕ, ◌≤◌, List, length, map, arith}
 use Rattle.std.proofs.lemmas.List.{length-map}
 use Rattle.host_io.specs.Host.{Files}
 use Rattle.page_runs.specs.declared.place.Kind.{Kind}
-use Rattle.machine_world.specs.Ages.{most_at_boot}
 use Rattle.manifest_text.specs.Laws.{Reasonable}
 use Rattle.manifest_text.proofs.Bounds.{manifests_are_reasonable}
 use Rattle.run_setup.specs.Brought.{nothing_brought}

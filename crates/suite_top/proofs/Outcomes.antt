@@ -20,10 +20,12 @@ use Rattle.suite_top.specs.Convert.{judged_outcome, converted_outcome}
 use Rattle.suite_top.specs.Check.{verdict, checked_outcome, check_outcome}
 use Rattle.suite_top.specs.List.{judged_ending, listed_outcome, list_outcome}
 use Rattle.page_runs.specs.declared.place.Kind.{Kind}
-use Rattle.manifest_text.specs.declared.manifest.Dump.{Dump}
-use Rattle.machine_world.specs.Turns.{Walk}
+use Rattle.machine_world.specs.World.{World}
+use Rattle.machine_world.specs.Turns.{End}
+use Rattle.flat_machine.specs.declared.machine.Mode.{Mode}
 use Rattle.suite_top.specs.declared.telling.Telling.{Telling}
-use Rattle.suite_top.specs.Run.{walked_ending, run_outcome}
+use Rattle.suite_top.specs.Telling.{told_ending}
+use Rattle.suite_top.specs.Run.{run_outcome}
 use Rattle.suite_top.specs.Result.{command_outcome, result_of}
 use Rattle.suite_top.specs.StatusLaws.{IsOneText, TextsAreApart, UsageIsExact}
 use Rattle.suite_top.specs.HostCourse.{AreLoads}
@@ -56,13 +58,13 @@ module _ (P : Ending → Type 0) (read : (name : List ℕ) → P (failure_ending
   other_than_run (convert elf flt stack) inputs other = found_ending elf (converted_outcome flt stack) (λ e. convert_judged flt stack e (fault e)) (inputs 0 elf)
   other_than_run (check elf) inputs other = found_ending elf checked_outcome (λ e. check_judged e (fault e)) (inputs 0 elf)
   other_than_run (list flt) inputs other = found_ending flt listed_outcome (λ y. list_judged y (flat_fault y)) (inputs 0 flt)
-  other_than_run (run manifest log kind) inputs other = absurd other
+  other_than_run (run manifest log mode kind) inputs other = absurd other
   other_than_run (demo programs) inputs other = absurd other
 
-  module _ (walked : (telling : Telling) (dumps : List Dump) (walk : Walk) → P (walked_ending telling dumps walk)) where
+  module _ (told : (telling : Telling) (dumped : List ℕ) (w : World) (end : Option End) → P (told_ending telling dumped w end)) where
     pub invoked : (k : Invocation) (inputs : Inputs) → P (command_outcome (Some k) inputs).ending
-    invoked (run manifest log kind) inputs = run_by (λ (o : Outcome). P o.ending) (λ name o p. p) read refused walked manifest log kind inputs
-    invoked (demo programs) inputs = demo_by (λ (o : Outcome). P o.ending) (λ name o p. p) read refused walked programs
+    invoked (run manifest log mode kind) inputs = run_by (λ (o : Outcome). P o.ending) (λ name o p. p) read refused told manifest log mode kind inputs
+    invoked (demo programs) inputs = demo_by (λ (o : Outcome). P o.ending) (λ name o p. p) read refused told programs
     invoked (convert elf flt stack) inputs = other_than_run (convert elf flt stack) inputs tt
     invoked (check elf) inputs = other_than_run (check elf) inputs tt
     invoked (list flt) inputs = other_than_run (list flt) inputs tt
@@ -76,7 +78,7 @@ pub never : (s : Status) → (HostRead ≡ s → ⊥) → (Refused ≡ s → ⊥
     → (arguments : List (List ℕ)) (inputs : Inputs) → (result_of arguments inputs).ending.status ≡ s → ⊥
 never s read refused done usage stray quanta full still arguments inputs =
     result_by (λ t. t.status ≡ s → ⊥) (λ name. read) (λ tail. refused) (λ text. done)
-    (λ telling dumps walk. told_status (λ t. t ≡ s → ⊥) done stray quanta full still telling dumps walk.world walk.end)
+    (λ telling dumped w end. told_status (λ t. t ≡ s → ⊥) done stray quanta full still telling dumped w end)
     usage (command_of arguments) inputs
 
 one_text : (o : Option Invocation) (inputs : Inputs) → IsNoRun o → IsOneText (command_outcome o inputs).ending
@@ -89,7 +91,7 @@ texts_are_apart arguments inputs = one_text (command_of arguments) inputs
 no_command : (o : Option Invocation) (inputs : Inputs) → (command_outcome o inputs).ending.status ≡ Usage → o ≡ None
 no_command None inputs is = refl
 no_command (Some k) inputs is =
-    absurd (invoked (λ t. t.status ≡ Usage → ⊥) (λ name e. cc) (λ tail e. cc) (λ text e. cc) (λ telling dumps walk. told_status (λ t. t ≡ Usage → ⊥) (λ e. cc) (λ e. cc) (λ e. cc) (λ e. cc) (λ e. cc) telling dumps walk.world walk.end) k inputs is)
+    absurd (invoked (λ t. t.status ≡ Usage → ⊥) (λ name e. cc) (λ tail e. cc) (λ text e. cc) (λ telling dumped w end. told_status (λ t. t ≡ Usage → ⊥) (λ e. cc) (λ e. cc) (λ e. cc) (λ e. cc) (λ e. cc) telling dumped w end) k inputs is)
 
 pub usage_is_exact : UsageIsExact
 usage_is_exact arguments inputs = (
@@ -121,5 +123,5 @@ list_requests flt inputs = one_load flt listed_outcome (λ y. refl) (inputs 0 fl
 pub check_requests : (elf : List ℕ) (inputs : Inputs) → (check_outcome elf inputs).requests ≡ load elf ∷ []
 check_requests elf inputs = one_load elf checked_outcome (λ e. refl) (inputs 0 elf)
 
-pub run_requests : (manifest : List ℕ) (log : Bool) (kind : Kind) (inputs : Inputs) → AreLoads (run_outcome manifest log kind inputs).requests
-run_requests = run_by (λ (o : Outcome). AreLoads o.requests) (λ name o are. are) (λ name. tt) (λ tail. tt) (λ telling dumps walk. tt)
+pub run_requests : (manifest : List ℕ) (log : Bool) (mode : Mode) (kind : Kind) (inputs : Inputs) → AreLoads (run_outcome manifest log mode kind inputs).requests
+run_requests = run_by (λ (o : Outcome). AreLoads o.requests) (λ name o are. are) (λ name. tt) (λ tail. tt) (λ telling dumped w end. tt)

@@ -1,5 +1,5 @@
 -- The parts of a report, by what a machine tells of its world.
-use Rattle.std.proofs.Common.{◌≡◌, ℕ, ◌<◌, suc, zero, List, [], ◌∷◌, ◌++◌, length, map, reverse, Bool, sym, ap, subst, ◌∙◌, get_or, arith}
+use Rattle.std.proofs.Common.{◌≡◌, ℕ, ◌<◌, suc, zero, List, [], ◌∷◌, ◌++◌, length, map, reverse, Bool, Option, sym, ap, subst, ◌∙◌, get_or, arith}
 use Rattle.std.specs.Prelude.{Vec}
 use Rattle.std.specs.List.{flat_map}
 use Rattle.std.proofs.lemmas.List.{length-map, reverse-append, reverse-reverse}
@@ -7,11 +7,12 @@ use Rattle.call_log.specs.declared.note.Note.{Note as Stored}
 use Rattle.call_log.specs.Notes.{Note}
 use Rattle.call_log.specs.Values.{note_value}
 use Rattle.call_log.specs.Programs.{IsProgramBelow, paths_of}
-use Rattle.manifest_text.specs.declared.manifest.Dump.{Dump}
 use Rattle.machine_world.specs.World.{World, program_path}
 use Rattle.machine_world.specs.Programs.{AreLoaded}
+use Rattle.machine_world.specs.Turns.{End}
 use Rattle.flat_machine.specs.declared.run.End.{End as Told}
-use Rattle.suite_top.specs.Report.{note_text, dump_line, stop_line, report_text, IsStopWord, IsReport}
+use Rattle.flat_machine.specs.Runs.{Ends}
+use Rattle.suite_top.specs.Report.{note_text, stop_line, report_text, IsStopWord}
 
 loaded_append : (n : ℕ) (xs ys : List Note) → AreLoaded n xs → AreLoaded n ys → AreLoaded n (xs ++ ys)
 loaded_append n [] ys hx hy = hy
@@ -36,12 +37,11 @@ module _ {Y : Type 0} (w : World) (notes : List Stored) (paths : List (Vec ℕ Y
       let count : length w.rest.programs ≡ length paths = sym (length-map w.rest.programs program_path) ∙ sym (ap length named) ∙ length-map paths (λ path. path.items) in
       subst (λ (n : ℕ). AreLoaded n (map note_value notes)) count (subst (AreLoaded (length w.rest.programs)) in_order (loaded_reverse (length w.rest.programs) w.notes loaded))
 
-  pub is_report : (log : Bool) (dumps : List Dump) (t : Told) (word text : List ℕ) → IsStopWord t word
-      → text ≡ (flat_map (note_text log (paths_of paths)) (map note_value notes) ++ flat_map (dump_line w) dumps) ++ stop_line word w.events
-      → IsReport log dumps w t text
+  pub is_report : (log : Bool) (dumped : List ℕ) (t : Told) (word text : List ℕ) → IsStopWord t word
+      → text ≡ (flat_map (note_text log (paths_of paths)) (map note_value notes) ++ dumped) ++ stop_line word w.events
+      → (end : Option End) → Ends end t → text ≡ report_text log dumped w end
   unfolding report_text
-  is_report log dumps t word text stops is end ends =
-      let dumped = flat_map (dump_line w) dumps in
+  is_report log dumped t word text stops is end ends =
       let programs = map program_path w.rest.programs in
       let lines = flat_map (note_text log (paths_of paths)) (map note_value notes) in
       let by_paths : lines ≡ flat_map (note_text log programs) (map note_value notes) = ap (λ (ps : List (List ℕ)). flat_map (note_text log ps) (map note_value notes)) named in

@@ -9,6 +9,7 @@ use Rattle.manifest_text.specs.Values.{Item, Manifest}
 use Rattle.manifest_text.specs.Manifest.{Fault, manifest_of}
 use Rattle.machine_world.specs.World.{World}
 use Rattle.machine_world.specs.Boot.{BootFault, boot}
+use Rattle.flat_machine.specs.declared.machine.Mode.{Mode}
 use Rattle.suite_top.specs.Texts.Refusals.{too_long_at}
 use Rattle.suite_top.specs.declared.telling.Telling.{Telling}
 use Rattle.suite_top.specs.declared.telling.Telling.TheVariants.{Report}
@@ -57,14 +58,14 @@ items_there t left (item ∷ items) (file ∷ files) rest there =
 
 pub runs_where_it_opens : RunsWhereItOpens
 unfolding run_outcome files_ending
-runs_where_it_opens t name log kind o =
+runs_where_it_opens t name log mode kind o =
     ap (after (load name))
-    (is_within manifest_limit None name (get t name) o.text (λ bytes. manifest_outcome log kind (manifest_of bytes) (inputs_in t)) o.found o.fits
-    ∙ ap (λ (r : Result Manifest Fault). manifest_outcome log kind r (inputs_in t)) o.reads
-    ∙ items_there t files_limit o.manifest.items o.files (λ files. at_once (files_ending (Report log) kind o.manifest files)) o.there
-    ∙ ap (λ (r : Result Brought FaultAt). behind_all o.manifest.items (at_once (brought_ending (Report log) kind o.manifest r))) o.brings
-    ∙ ap (λ (r : Result World BootFault). behind_all o.manifest.items (at_once (booted_ending (Report log) o.manifest r))) o.boots
-    ∙ ap (λ (rs : List Request). record { requests = rs; ending = (opened_outcome log o).ending }) (append-nil (loads_of o.manifest.items)))
+    (is_within manifest_limit None name (get t name) o.text (λ bytes. manifest_outcome log mode kind (manifest_of bytes) (inputs_in t)) o.found o.fits
+    ∙ ap (λ (r : Result Manifest Fault). manifest_outcome log mode kind r (inputs_in t)) o.reads
+    ∙ items_there t files_limit o.manifest.items o.files (λ files. at_once (files_ending (Report log) mode kind o.manifest files)) o.there
+    ∙ ap (λ (r : Result Brought FaultAt). behind_all o.manifest.items (at_once (brought_ending (Report log) mode kind o.manifest r))) o.brings
+    ∙ ap (λ (r : Result World BootFault). behind_all o.manifest.items (at_once (booted_ending (Report log) mode o.manifest o.brought.headers r))) o.boots
+    ∙ ap (λ (rs : List Request). record { requests = rs; ending = (opened_outcome log mode o).ending }) (append-nil (loads_of o.manifest.items)))
 
 -- ---- from the status to what is there
 
@@ -98,30 +99,30 @@ items_within t left (item ∷ items) rest stop =
     let (files, there, last) = items_within t (left - length file) items (λ files. rest (file ∷ files)) more in
     (file ∷ files, (is, there), last)
 
-ok_manifest : (t : Files) (log : Bool) (kind : Kind) (r : Result Manifest Fault) → IsStop (manifest_outcome log kind r (inputs_in t)).ending.status → (m : Manifest) × (r ≡ Ok m) × IsStop (items_outcome log kind m (inputs_in t)).ending.status
-ok_manifest t log kind (Err fault) stop = absurd stop
-ok_manifest t log kind (Ok m) stop = (m, refl, stop)
+ok_manifest : (t : Files) (log : Bool) (mode : Mode) (kind : Kind) (r : Result Manifest Fault) → IsStop (manifest_outcome log mode kind r (inputs_in t)).ending.status → (m : Manifest) × (r ≡ Ok m) × IsStop (items_outcome log mode kind m (inputs_in t)).ending.status
+ok_manifest t log mode kind (Err fault) stop = absurd stop
+ok_manifest t log mode kind (Ok m) stop = (m, refl, stop)
 
-ok_brought : (telling : Telling) (kind : Kind) (m : Manifest) (r : Result Brought FaultAt) → IsStop (brought_ending telling kind m r).status
-    → (b : Brought) × (r ≡ Ok b) × IsStop (booted_ending telling m (boot (opening kind m b) (map start_line m.starts))).status
-ok_brought telling kind m (Err at) stop = absurd stop
-ok_brought telling kind m (Ok b) stop = (b, refl, stop)
+ok_brought : (telling : Telling) (mode : Mode) (kind : Kind) (m : Manifest) (r : Result Brought FaultAt) → IsStop (brought_ending telling mode kind m r).status
+    → (b : Brought) × (r ≡ Ok b) × IsStop (booted_ending telling mode m b.headers (boot (opening kind m b) (map start_line m.starts))).status
+ok_brought telling mode kind m (Err at) stop = absurd stop
+ok_brought telling mode kind m (Ok b) stop = (b, refl, stop)
 
-ok_world : (telling : Telling) (m : Manifest) (r : Result World BootFault) → IsStop (booted_ending telling m r).status → (w : World) × (r ≡ Ok w)
-ok_world telling m (Err fault) stop = absurd stop
-ok_world telling m (Ok w) stop = (w, refl)
+ok_world : (telling : Telling) (mode : Mode) (m : Manifest) (headers : List (List ℕ)) (r : Result World BootFault) → IsStop (booted_ending telling mode m headers r).status → (w : World) × (r ≡ Ok w)
+ok_world telling mode m headers (Err fault) stop = absurd stop
+ok_world telling mode m headers (Ok w) stop = (w, refl)
 
 pub opens_where_it_stops : OpensWhereItStops
 unfolding run_outcome files_ending
-opens_where_it_stops t name log kind stop =
-    let (text, found, fits, reads_on) = within manifest_limit None name (get t name) (λ bytes. manifest_outcome log kind (manifest_of bytes) (inputs_in t)) stop in
-    let (m, reads, loads_on) = ok_manifest t log kind (manifest_of text) reads_on in
-    let (files, there, makes_on) = items_within t files_limit m.items (λ fs. at_once (files_ending (Report log) kind m fs)) loads_on in
-    let (brought, brings, boots_on) = ok_brought (Report log) kind m (all_brought m.items files nothing_brought) makes_on in
-    let (world, boots) = ok_world (Report log) m (boot (opening kind m brought) (map start_line m.starts)) boots_on in
+opens_where_it_stops t name log mode kind stop =
+    let (text, found, fits, reads_on) = within manifest_limit None name (get t name) (λ bytes. manifest_outcome log mode kind (manifest_of bytes) (inputs_in t)) stop in
+    let (m, reads, loads_on) = ok_manifest t log mode kind (manifest_of text) reads_on in
+    let (files, there, makes_on) = items_within t files_limit m.items (λ fs. at_once (files_ending (Report log) mode kind m fs)) loads_on in
+    let (brought, brings, boots_on) = ok_brought (Report log) mode kind m (all_brought m.items files nothing_brought) makes_on in
+    let (world, boots) = ok_world (Report log) mode m brought.headers (boot (opening kind m brought) (map start_line m.starts)) boots_on in
     record { text = text; found = found; fits = fits; manifest = m; reads = reads; files = files; there = there; brought = brought; brings = brings; world = world; boots = boots }
 
 pub runs_stop_or_end_early : RunsStopOrEndEarly
 runs_stop_or_end_early =
     run_by (λ (o : Outcome). IsStop o.ending.status ⊎ IsEarly o.ending) (λ name o p. p) (λ name. inr (refl, inl refl)) (λ tail. inr (refl, inr refl))
-    (λ telling dumps walk. inl (told_status IsStop tt tt tt tt tt telling dumps walk.world walk.end))
+    (λ telling dumped w end. inl (told_status IsStop tt tt tt tt tt telling dumped w end))

@@ -2,11 +2,15 @@
 use Rattle.std.proofs.Common.{ℕ, ◌-◌, Bool, true, false, cond, List, [], ◌∷◌, length, nat_lt, map, Option, Some, None, Result, Ok, Err}
 use Rattle.page_runs.specs.declared.place.Kind.{Kind}
 use Rattle.manifest_text.specs.declared.manifest.Dump.{Dump}
+use Rattle.quantum_sched.specs.declared.Quantum.{Quantum}
 use Rattle.manifest_text.specs.Values.{Item, Manifest}
 use Rattle.manifest_text.specs.Manifest.{Fault, manifest_of}
 use Rattle.machine_world.specs.World.{World}
-use Rattle.machine_world.specs.Turns.{End, all_ended, stuck, out_of_quanta, stray_at, log_full, Walk, turns}
+use Rattle.machine_world.specs.Turns.{End, all_ended, stuck, out_of_quanta, stray_at, log_full, turns}
 use Rattle.machine_world.specs.Boot.{BootFault, boot}
+use Rattle.physical_turns.specs.Physical.{physical_turns, opening as memory_opening}
+use Rattle.flat_machine.specs.declared.machine.Mode.{Mode}
+use Rattle.flat_machine.specs.declared.machine.Mode.TheVariants.{Halt, GoOn}
 use Rattle.flat_machine.specs.Runs.{repeated}
 use Rattle.suite_top.specs.declared.status.Status.{Status}
 use Rattle.suite_top.specs.declared.status.Status.TheVariants.{Done, Stray, OutOfQuanta, LogFull, Stuck}
@@ -15,17 +19,17 @@ use Rattle.suite_top.specs.Ending.{refused_ending}
 use Rattle.suite_top.specs.Outcome.{load, failure_ending, Outcome, Inputs, after}
 use Rattle.suite_top.specs.Load.{at_once, behind, with_limited, with_load}
 use Rattle.run_setup.specs.Brought.{Brought, FaultAt, nothing_brought, all_brought}
-use Rattle.suite_top.specs.Report.{status_of_end}
+use Rattle.suite_top.specs.Report.{status_of_end, own_dumps, memory_dumps}
 use Rattle.suite_top.specs.declared.telling.Telling.{Telling}
 use Rattle.suite_top.specs.declared.telling.Telling.TheVariants.{Report, Demo}
 use Rattle.suite_top.specs.Telling.{told_ending}
 use Rattle.page_runs.specs.declared.place.Kind.TheVariants.{First}
 use Rattle.elf_maker.specs.Demo.{demo_file}
 use Rattle.suite_top.specs.Demo.{each_of, demo_manifest, demo_ending}
-use Rattle.suite_top.specs.Run.{manifest_limit, files_limit, load_limit, has_file, with_item, with_items, start_line, opening, boot_fault, walked_ending, booted_ending, brought_ending, files_ending, manifest_outcome, run_outcome}
+use Rattle.suite_top.specs.Run.{manifest_limit, files_limit, load_limit, has_file, with_item, with_items, start_line, opening, boot_fault, mode_ending, booted_ending, brought_ending, files_ending, manifest_outcome, run_outcome}
 
 -- what holds of each end, and of a load in front of an outcome of which it holds
-module _ (P : Outcome → Type 0) (step : (name : List ℕ) (o : Outcome) → P o → P (after (load name) o)) (read : (name : List ℕ) → P (at_once (failure_ending (load name)))) (refused : (tail : List ℕ) → P (at_once (refused_ending tail))) (walked : (telling : Telling) (dumps : List Dump) (walk : Walk) → P (at_once (walked_ending telling dumps walk))) where
+module _ (P : Outcome → Type 0) (step : (name : List ℕ) (o : Outcome) → P o → P (after (load name) o)) (read : (name : List ℕ) → P (at_once (failure_ending (load name)))) (refused : (tail : List ℕ) → P (at_once (refused_ending tail))) (told : (telling : Telling) (dumped : List ℕ) (w : World) (end : Option End) → P (at_once (told_ending telling dumped w end))) where
   limited : (limit : ℕ) (line : Option ℕ) (name : List ℕ) (rest : List ℕ → Outcome) → ((bytes : List ℕ) → P (rest bytes)) → (found : Option (List ℕ)) → P (with_limited limit line name found rest)
   limited limit line name rest each None = read name
   limited limit line name rest each (Some bytes) =
@@ -47,32 +51,38 @@ module _ (P : Outcome → Type 0) (step : (name : List ℕ) (o : Outcome) → P 
       item_run left item (λ bytes. with_items (left - length bytes) items (λ files. rest (bytes ∷ files)))
       (λ bytes more. items_run (left - length bytes) items (λ files. rest (bytes ∷ files)) (λ files. each (bytes ∷ files)) more) inputs
 
-  booted : (telling : Telling) (m : Manifest) (r : Result World BootFault) → P (at_once (booted_ending telling m r))
-  booted telling m (Err first) = refused (line_tail (boot_fault first).line (boot_fault first).fault)
-  booted telling m (Ok w) = walked telling m.dumps (turns (repeated m.repeat m.quanta) w)
+  by_mode : (telling : Telling) (mode : Mode) (quanta : List Quantum) (dumps : List Dump) (headers : List (List ℕ)) (w : World) → P (at_once (mode_ending telling mode quanta dumps headers w))
+  by_mode telling Halt quanta dumps headers w = let walk = turns quanta w in told telling (own_dumps walk.world dumps) walk.world walk.end
+  by_mode telling GoOn quanta dumps headers w =
+      let walk = physical_turns quanta (memory_opening headers w) in told telling (memory_dumps walk.now dumps) walk.now.world walk.end
 
-  made : (telling : Telling) (kind : Kind) (m : Manifest) (r : Result Brought FaultAt) → P (at_once (brought_ending telling kind m r))
-  made telling kind m (Err at) = refused (line_tail at.line at.fault)
-  made telling kind m (Ok b) = booted telling m (boot (opening kind m b) (map start_line m.starts))
+  booted : (telling : Telling) (mode : Mode) (m : Manifest) (headers : List (List ℕ)) (r : Result World BootFault) → P (at_once (booted_ending telling mode m headers r))
+  booted telling mode m headers (Err first) = refused (line_tail (boot_fault first).line (boot_fault first).fault)
+  booted telling mode m headers (Ok w) = by_mode telling mode (repeated m.repeat m.quanta) m.dumps headers w
 
-  from_files : (telling : Telling) (kind : Kind) (m : Manifest) (files : List (List ℕ)) → P (at_once (files_ending telling kind m files))
+  made : (telling : Telling) (mode : Mode) (kind : Kind) (m : Manifest) (r : Result Brought FaultAt) → P (at_once (brought_ending telling mode kind m r))
+  made telling mode kind m (Err at) = refused (line_tail at.line at.fault)
+  made telling mode kind m (Ok b) = booted telling mode m b.headers (boot (opening kind m b) (map start_line m.starts))
+
+  from_files : (telling : Telling) (mode : Mode) (kind : Kind) (m : Manifest) (files : List (List ℕ)) → P (at_once (files_ending telling mode kind m files))
   unfolding files_ending
-  from_files telling kind m files = made telling kind m (all_brought m.items files nothing_brought)
+  from_files telling mode kind m files = made telling mode kind m (all_brought m.items files nothing_brought)
 
-  from_manifest : (log : Bool) (kind : Kind) (r : Result Manifest Fault) (inputs : Inputs) → P (manifest_outcome log kind r inputs)
-  from_manifest log kind (Err first) inputs = refused (manifest_tail first.line first.fault)
-  from_manifest log kind (Ok m) inputs = items_run files_limit m.items (λ files. at_once (files_ending (Report log) kind m files)) (from_files (Report log) kind m) inputs
+  from_manifest : (log : Bool) (mode : Mode) (kind : Kind) (r : Result Manifest Fault) (inputs : Inputs) → P (manifest_outcome log mode kind r inputs)
+  from_manifest log mode kind (Err first) inputs = refused (manifest_tail first.line first.fault)
+  from_manifest log mode kind (Ok m) inputs =
+      items_run files_limit m.items (λ files. at_once (files_ending (Report log) mode kind m files)) (from_files (Report log) mode kind m) inputs
 
-  pub run_by : (name : List ℕ) (log : Bool) (kind : Kind) (inputs : Inputs) → P (run_outcome name log kind inputs)
+  pub run_by : (name : List ℕ) (log : Bool) (mode : Mode) (kind : Kind) (inputs : Inputs) → P (run_outcome name log mode kind inputs)
   unfolding run_outcome
-  run_by name log kind inputs =
-      let next : List ℕ → Outcome = λ bytes. manifest_outcome log kind (manifest_of bytes) (behind inputs) in
+  run_by name log mode kind inputs =
+      let next : List ℕ → Outcome = λ bytes. manifest_outcome log mode kind (manifest_of bytes) (behind inputs) in
       step name (with_limited manifest_limit None name (inputs 0 name) next)
-      (limited manifest_limit None name next (λ bytes. from_manifest log kind (manifest_of bytes) (behind inputs)) (inputs 0 name))
+      (limited manifest_limit None name next (λ bytes. from_manifest log mode kind (manifest_of bytes) (behind inputs)) (inputs 0 name))
 
   pub demo_by : (n : ℕ) → P (at_once (demo_ending n))
   unfolding demo_ending
-  demo_by n = from_files (Demo n) First (demo_manifest n) (each_of demo_file n)
+  demo_by n = from_files (Demo n) Halt First (demo_manifest n) (each_of demo_file n)
 
 -- the statuses of a machine that stopped
 pub other_status : (P : Status → Type 0) → P Done → P Stray → P OutOfQuanta → P LogFull → P Stuck → (end : Option End) → P (status_of_end end)
@@ -85,11 +95,11 @@ other_status P done stray quanta full still (Some log_full) = full
 
 -- those of what a run tells
 pub told_status : (P : Status → Type 0) → P Done → P Stray → P OutOfQuanta → P LogFull → P Stuck
-    → (telling : Telling) (dumps : List Dump) (w : World) (end : Option End) → P (told_ending telling dumps w end).status
-told_status P done stray quanta full still (Report log) dumps w end = other_status P done stray quanta full still end
-told_status P done stray quanta full still (Demo n) dumps w None = quanta
-told_status P done stray quanta full still (Demo n) dumps w (Some all_ended) = done
-told_status P done stray quanta full still (Demo n) dumps w (Some stuck) = still
-told_status P done stray quanta full still (Demo n) dumps w (Some (stray_at pid access)) = stray
-told_status P done stray quanta full still (Demo n) dumps w (Some out_of_quanta) = quanta
-told_status P done stray quanta full still (Demo n) dumps w (Some log_full) = full
+    → (telling : Telling) (dumped : List ℕ) (w : World) (end : Option End) → P (told_ending telling dumped w end).status
+told_status P done stray quanta full still (Report log) dumped w end = other_status P done stray quanta full still end
+told_status P done stray quanta full still (Demo n) dumped w None = quanta
+told_status P done stray quanta full still (Demo n) dumped w (Some all_ended) = done
+told_status P done stray quanta full still (Demo n) dumped w (Some stuck) = still
+told_status P done stray quanta full still (Demo n) dumped w (Some (stray_at pid access)) = stray
+told_status P done stray quanta full still (Demo n) dumped w (Some out_of_quanta) = quanta
+told_status P done stray quanta full still (Demo n) dumped w (Some log_full) = full

@@ -3,6 +3,7 @@ use Rattle.std.proofs.Common.{◌≡◌, ℕ, zero, suc, false, List, [], ◌∷
 use Rattle.std.specs.Prelude.{codes}
 use Rattle.std.specs.Fmt.{digits}
 use Rattle.page_runs.specs.declared.place.Kind.TheVariants.{First}
+use Rattle.flat_machine.specs.declared.machine.Mode.TheVariants.{Halt, GoOn}
 use Rattle.manifest_text.specs.declared.fault.ManifestFault.TheVariants.{WordCount}
 use Rattle.manifest_text.specs.Pieces.{pieces, words}
 use Rattle.manifest_text.specs.Numbers.{decimal_value, is_number_in, is_quantum, quantum_value}
@@ -41,7 +42,7 @@ alone : List ℕ → Inputs
 alone text zero name = Some text
 alone text (suc i) name = None
 
-no_program : run_outcome (codes "m") false First (alone (codes "start /a\nquanta 0:1\n")) ≡ record { requests = load (codes "m") ∷ []; ending = refused_ending (codes "line 1 start") }
+no_program : run_outcome (codes "m") false Halt First (alone (codes "start /a\nquanta 0:1\n")) ≡ record { requests = load (codes "m") ∷ []; ending = refused_ending (codes "line 1 start") }
 unfolding run_outcome manifest_of lines_of pieces words first_fault line_said words_said keyword_of keyword_said start_said quanta_said is_path is_name is_quantum quantum_value is_number_in decimal_value draft_of late_fault all_said with_items files_ending all_brought names is_too_long walked place_of boot all_started started digits alone
 no_program = refl
 
@@ -51,7 +52,7 @@ first_alone text zero name = Some text
 first_alone text (suc zero) name = Some []
 first_alone text (suc (suc i)) name = None
 
-loads_come_first : run_outcome (codes "m") false First (first_alone (codes "flat /a a\nflat /b b\nstart /a\nquanta 0:1\n"))
+loads_come_first : run_outcome (codes "m") false GoOn First (first_alone (codes "flat /a a\nflat /b b\nstart /a\nquanta 0:1\n"))
     ≡ record { requests = load (codes "m") ∷ load (codes "a") ∷ load (codes "b") ∷ []; ending = failure_ending (load (codes "b")) }
 unfolding run_outcome manifest_of lines_of pieces words first_fault line_said words_said keyword_of keyword_said flat_said start_said quanta_said is_path is_name is_quantum quantum_value is_number_in decimal_value draft_of late_fault all_said with_items first_alone
 loads_come_first = refl

@@ -9,6 +9,7 @@ use Rattle.manifest_text.specs.declared.manifest.ItemKind.TheVariants.{Elf}
 use Rattle.suite_top.specs.Arguments.{convert, check, run, demo, command_of}
 use Rattle.elf2flt_tool.specs.declared.refusal.Refusal.TheVariants as refusal
 use Rattle.page_runs.specs.declared.place.Kind.TheVariants.{First, Best, Last}
+use Rattle.flat_machine.specs.declared.machine.Mode.TheVariants.{Halt, GoOn}
 use Rattle.psabi_relocs.specs.declared.fault.RelocFault.TheVariants.{AbsoluteCode}
 use Rattle.byte_words.specs.Numbers.{number_at}
 
@@ -57,20 +58,29 @@ zero_in_front = refl
 check_is_read : command_of (codes "check" ∷ codes "a.elf" ∷ []) ≡ Some (check (codes "a.elf"))
 check_is_read = refl
 
-run_is_read : command_of (codes "run" ∷ codes "a" ∷ []) ≡ Some (run (codes "a") false First)
+run_is_read : command_of (codes "run" ∷ codes "a" ∷ []) ≡ Some (run (codes "a") false Halt First)
 run_is_read = refl
 
-log_is_read : command_of (codes "run" ∷ codes "a" ∷ codes "--log" ∷ []) ≡ Some (run (codes "a") true First)
+log_is_read : command_of (codes "run" ∷ codes "a" ∷ codes "--log" ∷ []) ≡ Some (run (codes "a") true Halt First)
 log_is_read = refl
 
-placement_is_read : command_of (codes "run" ∷ codes "a" ∷ codes "--place" ∷ codes "best" ∷ []) ≡ Some (run (codes "a") false Best)
+placement_is_read : command_of (codes "run" ∷ codes "a" ∷ codes "--place" ∷ codes "best" ∷ []) ≡ Some (run (codes "a") false Halt Best)
 placement_is_read = refl
 
-both_are_read : command_of (codes "run" ∷ codes "a" ∷ codes "--log" ∷ codes "--place" ∷ codes "last" ∷ []) ≡ Some (run (codes "a") true Last)
+both_are_read : command_of (codes "run" ∷ codes "a" ∷ codes "--log" ∷ codes "--place" ∷ codes "last" ∷ []) ≡ Some (run (codes "a") true Halt Last)
 both_are_read = refl
 
 placement_in_front : command_of (codes "run" ∷ codes "a" ∷ codes "--place" ∷ codes "best" ∷ codes "--log" ∷ []) ≡ None
 placement_in_front = refl
+
+go_on_is_read : command_of (codes "run" ∷ codes "a" ∷ codes "--go-on" ∷ []) ≡ Some (run (codes "a") false GoOn First)
+go_on_is_read = refl
+
+all_are_read : command_of (codes "run" ∷ codes "a" ∷ codes "--log" ∷ codes "--go-on" ∷ codes "--place" ∷ codes "last" ∷ []) ≡ Some (run (codes "a") true GoOn Last)
+all_are_read = refl
+
+go_on_in_front : command_of (codes "run" ∷ codes "a" ∷ codes "--go-on" ∷ codes "--log" ∷ []) ≡ None
+go_on_in_front = refl
 
 unknown_placement : command_of (codes "run" ∷ codes "a" ∷ codes "--place" ∷ codes "worst" ∷ []) ≡ None
 unknown_placement = refl

@@ -8,10 +8,10 @@ use Rattle.suite_top.specs.declared.status.Status.{Status}
 use Rattle.suite_top.specs.declared.status.Status.TheVariants.{HostRead, SinkWrite, Memory, HostWrite}
 use Rattle.suite_top.specs.Ending.{Ending, memory_ending, OrMemory}
 use Rattle.suite_top.specs.Outcome.{Request, load, store, failure_ending}
-use Rattle.suite_top.specs.HostCourse.{HostCourse, complete, failed, out_of_memory, IsCourseOf, after_answers, told_after, FaultsAfter, EndsAfter, Performs}
+use Rattle.suite_top.specs.HostCourse.{HostCourse, complete, failed, out_of_memory, AreLoads, IsCourseOf, after_answers, told_after, FaultsAfter, EndsAfter, Performs}
 use Rattle.suite_top.specs.Delivery.{SinkStop, sink_failed, sink_memory, status_at, TookAll, CutShort, Delivery, whole, stopped_at_out, stopped_at_report, Delivered}
 use Rattle.suite_top.specs.Call.{Call, outcome_of}
-use Rattle.suite_top.specs.StatusLaws.{IsAnswer, IsWhole, AnswersAreWhole, Completes, FailsAt, ReadsFail, WritesFail, CutAtOut, CutAtReport, SinksFail, IsMemoryTold, MemoryIsTold}
+use Rattle.suite_top.specs.StatusLaws.{IsAnswer, IsWhole, AnswersAreWhole, Completes, FailsAt, ReadsFail, WritesFail, CutAtOut, CutAtReport, FilesStay, CutAtFailure, CutAtMemory, IsCut, SinksFail, IsMemoryTold, MemoryIsTold}
 use Rattle.suite_top.proofs.Outcomes.{never}
 use Rattle.suite_top.proofs.HostLaws.{told_is, loads_keep}
 
@@ -145,8 +145,48 @@ module _ (c : Call) (ending : Ending) (performs : Performs c.host c.host_after (
         }
       ]
 
-  cut_at_report : TookAll c.out c.out_after ending.out → CutShort stop c.report c.report_after ending.report → CutAtReport stop c
-  cut_at_report took cut = record { ending = ending; performs = performs; out = took; report = cut }
+  -- where loads alone were answered no file changed
+  loads_stay : (done : List Request) (k : HostCourse) → c.host_after.told ≡ option_map (told_after (outcome_of c).requests k) c.host.told
+      → ((t : Told) → (told_after (outcome_of c).requests k t).files ≡ (after_answers t done).files) → AreLoads done → FilesStay c
+  loads_stay done k told same loads t t_after old new =
+      ap (λ (v : Told). v.files) (told_is (told_after (outcome_of c).requests k) c.host.told c.host_after.told t t_after told old new) ∙ same t ∙ loads_keep done t loads
+
+  cut_by_memory : (done : List Request) (k : HostCourse) → c.host_after.told ≡ option_map (told_after (outcome_of c).requests k) c.host.told
+      → ((t : Told) → (told_after (outcome_of c).requests k t).files ≡ (after_answers t done).files) → AreLoads done → ending ≡ memory_ending
+      → TookAll c.out c.out_after ending.out → CutShort stop c.report c.report_after ending.report → CutAtMemory stop c
+  cut_by_memory done k told same loads is took cut = record {
+    performs = subst (Performs c.host c.host_after (outcome_of c)) is performs;
+    files = loads_stay done k told same loads;
+    out = subst (λ (s : Ending). TookAll c.out c.out_after s.out) is took;
+    report = subst (λ (s : Ending). CutShort stop c.report c.report_after s.report) is cut;
+  }
+
+  cut_by_course : (k : HostCourse) → IsCourseOf (outcome_of c).requests k → c.host_after.told ≡ option_map (told_after (outcome_of c).requests k) c.host.told
+      → FaultsAfter k c.host.faults c.host_after.faults → EndsAfter (outcome_of c).ending k ending
+      → TookAll c.out c.out_after ending.out → CutShort stop c.report c.report_after ending.report → CutAtReport stop c ⊎ (CutAtFailure stop c ⊎ CutAtMemory stop c)
+  cut_by_course complete is_course told faults ends took cut = inl (record {
+    performed = record { told = told; faults = faults };
+    out = subst (λ (s : Ending). TookAll c.out c.out_after s.out) ends.0 took;
+    report = subst (λ (s : Ending). CutShort stop c.report c.report_after s.report) ends.0 cut;
+  })
+  cut_by_course (failed done last) is_course told faults (inl is) took cut = inr (inl (record {
+    done = done;
+    request = last;
+    rest = is_course.0;
+    requests = is_course.1;
+    rose = faults;
+    told = told;
+    files = loads_stay done (failed done last) told (λ t. refl) is_course.2;
+    out = subst (λ (text : List ℕ). TookAll c.out c.out_after text) (ap (λ (s : Ending). s.out) is ∙ failure_is_early last) took;
+    report = subst (λ (s : Ending). CutShort stop c.report c.report_after s.report) is cut;
+  }))
+  cut_by_course (failed done last) is_course told faults (inr is) took cut =
+      inr (inr (cut_by_memory done (failed done last) told (λ t. refl) is_course.2 is took cut))
+  cut_by_course (out_of_memory done) is_course told faults ends took cut =
+      inr (inr (cut_by_memory done (out_of_memory done) told (λ t. refl) is_course.2 ends took cut))
+
+  cut_at_report : TookAll c.out c.out_after ending.out → CutShort stop c.report c.report_after ending.report → IsCut stop c
+  cut_at_report took cut = inr (cut_by_course performs.course performs.is_course performs.told performs.faults performs.ends took cut)
 
 -- ---- the laws
 
@@ -176,13 +216,13 @@ pub sinks_fail : SinksFail
 sinks_fail c (ending, performs, (whole, delivered)) p = absurd (sink_at c ending delivered performs.course performs.ends (sym delivered.2 ∙ p))
 sinks_fail c (ending, performs, (stopped_at_out sink_failed, delivered)) p = inl (cut_at_out c ending performs sink_failed delivered.0 delivered.1)
 sinks_fail c (ending, performs, (stopped_at_out sink_memory, delivered)) p = absurd (let h : Memory ≡ SinkWrite = sym delivered.2 ∙ p in cc)
-sinks_fail c (ending, performs, (stopped_at_report sink_failed, delivered)) p = inr (cut_at_report c ending performs sink_failed delivered.0 delivered.1)
+sinks_fail c (ending, performs, (stopped_at_report sink_failed, delivered)) p = cut_at_report c ending performs sink_failed delivered.0 delivered.1
 sinks_fail c (ending, performs, (stopped_at_report sink_memory, delivered)) p = absurd (let h : Memory ≡ SinkWrite = sym delivered.2 ∙ p in cc)
 
 pub memory_is_told : MemoryIsTold
 memory_is_told c (ending, performs, (whole, delivered)) p =
     inl (memory_told c ending delivered performs (memory_at c ending delivered performs.course performs.is_course performs.told performs.ends (sym delivered.2 ∙ p)))
 memory_is_told c (ending, performs, (stopped_at_out sink_memory, delivered)) p = inr (inl (cut_at_out c ending performs sink_memory delivered.0 delivered.1))
-memory_is_told c (ending, performs, (stopped_at_report sink_memory, delivered)) p = inr (inr (cut_at_report c ending performs sink_memory delivered.0 delivered.1))
+memory_is_told c (ending, performs, (stopped_at_report sink_memory, delivered)) p = inr (cut_at_report c ending performs sink_memory delivered.0 delivered.1)
 memory_is_told c (ending, performs, (stopped_at_out sink_failed, delivered)) p = absurd (let h : SinkWrite ≡ Memory = sym delivered.2 ∙ p in cc)
 memory_is_told c (ending, performs, (stopped_at_report sink_failed, delivered)) p = absurd (let h : SinkWrite ≡ Memory = sym delivered.2 ∙ p in cc)

@@ -4,6 +4,8 @@ use Rattle.std.specs.Int.{IsInRange}
 use Rattle.std.specs.Str.Parse.{digits_value}
 use Rattle.page_runs.specs.declared.place.Kind.{Kind}
 use Rattle.page_runs.specs.declared.place.Kind.TheVariants.{First, Best, Last}
+use Rattle.flat_machine.specs.declared.machine.Mode.{Mode}
+use Rattle.flat_machine.specs.declared.machine.Mode.TheVariants.{Halt, GoOn}
 use Rattle.suite_top.specs.declared.arguments.Command.{Command}
 use Rattle.suite_top.specs.declared.arguments.Command.TheVariants as command
 
@@ -12,7 +14,7 @@ pub data Invocation : Type 0 where
   convert : (elf flt : List ℕ) (stack : ℕ) → Invocation
   list : (flt : List ℕ) → Invocation
   check : (elf : List ℕ) → Invocation
-  run : (manifest : List ℕ) (log : Bool) (kind : Kind) → Invocation
+  run : (manifest : List ℕ) (log : Bool) (mode : Mode) (kind : Kind) → Invocation
   demo : (programs : ℕ) → Invocation
 
 -- the bytes of stack that a program gets where no argument says it
@@ -83,13 +85,19 @@ placement_of [] = Some First
 placement_of (option ∷ word ∷ []) = if bytes_eq option (codes "--place") then kind_of_word word else None
 placement_of words = None
 
--- `MANIFEST`, with `--log` behind it or not, and then with a placement or not
+-- `--go-on` or not, and then a placement or not
+abbrev pub mode_of : (manifest : List ℕ) (log : Bool) → List (List ℕ) → Option Invocation
+mode_of manifest log [] = Some (run manifest log Halt First)
+mode_of manifest log (option ∷ words) =
+    if bytes_eq option (codes "--go-on") then option_map (run manifest log GoOn) (placement_of words)
+    else option_map (run manifest log Halt) (placement_of (option ∷ words))
+
+-- `MANIFEST`, with `--log` behind it or not
 abbrev pub run_of : List (List ℕ) → Option Invocation
 run_of [] = None
-run_of (manifest ∷ []) = Some (run manifest false First)
+run_of (manifest ∷ []) = mode_of manifest false []
 run_of (manifest ∷ option ∷ words) =
-    if bytes_eq option (codes "--log") then option_map (run manifest true) (placement_of words)
-    else option_map (run manifest false) (placement_of (option ∷ words))
+    if bytes_eq option (codes "--log") then mode_of manifest true words else mode_of manifest false (option ∷ words)
 
 -- `N`
 abbrev pub demo_of : List (List ℕ) → Option Invocation
@@ -109,7 +117,7 @@ command_of (first ∷ words) =
 
 -- no command, or one that runs no program
 abbrev pub IsNoRun : Option Invocation → Type 0
-IsNoRun (Some (run manifest log kind)) = ⊥
+IsNoRun (Some (run manifest log mode kind)) = ⊥
 IsNoRun (Some (demo programs)) = ⊥
 IsNoRun other = Unit {0}
 
@@ -118,5 +126,5 @@ abbrev pub invocation : Command → Invocation
 invocation (command.Convert elf flt stack) = convert elf.now flt.now stack
 invocation (command.List flt) = list flt.now
 invocation (command.Check elf) = check elf.now
-invocation (command.Run manifest log kind) = run manifest.now log kind
+invocation (command.Run manifest log mode kind) = run manifest.now log mode kind
 invocation (command.Demo programs) = demo programs

@@ -12,6 +12,7 @@ use Rattle.suite_top.specs.Arguments.{default_stack}
 use Rattle.suite_top.specs.Ending.{Ending}
 use Rattle.suite_top.specs.Outcome.{Outcome, Inputs}
 use Rattle.suite_top.specs.Load.{at_once}
+use Rattle.flat_machine.specs.declared.machine.Mode.TheVariants.{Halt}
 use Rattle.suite_top.specs.Run.{files_ending}
 
 -- what is made of each of the numbers 1 to n, in their order
@@ -51,7 +52,7 @@ demo_manifest n = record {
 
 -- a run with these files, which takes the first free run that fits
 unfoldable pub demo_ending : (n : ℕ) → Ending
-demo_ending n = files_ending (Demo n) First (demo_manifest n) (each_of demo_file n)
+demo_ending n = files_ending (Demo n) Halt First (demo_manifest n) (each_of demo_file n)
 
 abbrev pub demo_outcome : (n : ℕ) → Inputs → Outcome
 demo_outcome n inputs = at_once (demo_ending n)

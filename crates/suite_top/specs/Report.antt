@@ -9,7 +9,11 @@ use Rattle.machine_world.specs.World.{World, program_path}
 use Rattle.machine_world.specs.Turns.{End, all_ended, stuck, out_of_quanta, stray_at, log_full}
 use Rattle.flat_machine.specs.declared.run.End.{End as Told}
 use Rattle.flat_machine.specs.Runs.{Ends}
-use Rattle.flat_machine.specs.OwnBytes.{own_bytes}
+use Rattle.flat_machine.specs.declared.machine.Mode.{Mode}
+use Rattle.flat_machine.specs.declared.machine.Mode.TheVariants.{Halt, GoOn}
+use Rattle.flat_machine.specs.State.{State, world, one_memory}
+use Rattle.flat_machine.specs.OwnBytes.{own_bytes, memory_bytes}
+use Rattle.physical_turns.specs.Physical.{Physical}
 use Rattle.suite_top.specs.declared.status.Status.{Status}
 use Rattle.suite_top.specs.declared.status.Status.TheVariants as status
 use Rattle.suite_top.specs.Texts.{joined, address_words}
@@ -23,16 +27,34 @@ is_told log note = true
 abbrev pub note_text : Bool → List (List ℕ) → Note → List ℕ
 note_text log paths note = if is_told log note then line paths note else []
 
--- two digits a byte, or `none` where not all of them are the process's own
+-- two digits a byte, or `none` where not all of them are shown
 abbrev pub bytes_text : Option (List ℕ) → List ℕ
 bytes_text (Some bytes) = encode_lower bytes
 bytes_text None = codes "none"
 
--- `dump PID 0xADDR LEN HEX`, with the bytes behind the run
-abbrev pub dump_line : World → Dump → List ℕ
-dump_line w d = joined
+-- `dump PID 0xADDR LEN HEX`, with the bytes that are shown behind the run
+abbrev pub dump_line : (shown : Option (List ℕ)) → Dump → List ℕ
+dump_line shown d = joined
     (codes "dump " ∷ decimal d.pid ∷ codes " " ∷ address_words d.addr ∷ codes " " ∷ decimal d.len ∷ codes " "
-    ∷ bytes_text (own_bytes w d.pid d.addr d.len) ∷ codes "\n" ∷ [])
+    ∷ bytes_text shown ∷ codes "\n" ∷ [])
+
+-- a process's own bytes, or, of a run that goes on, those of memory
+abbrev pub own_dumps : World → List Dump → List ℕ
+own_dumps w dumps = flat_map (λ d. dump_line (own_bytes w d.pid d.addr d.len) d) dumps
+
+abbrev pub memory_dumps : Physical → List Dump → List ℕ
+memory_dumps p dumps = flat_map (λ d. dump_line (memory_bytes p d.pid d.addr d.len) d) dumps
+
+-- what a machine shows of a process
+abbrev pub shown_of : State → ℕ → ℕ → ℕ → Option (List ℕ)
+shown_of s pid addr len = by_mode s.mode
+  where
+    by_mode : Mode → Option (List ℕ)
+    by_mode Halt = own_bytes (world s) pid addr len
+    by_mode GoOn = memory_bytes (one_memory s) pid addr len
+
+abbrev pub dumps_of : State → List Dump → List ℕ
+dumps_of s dumps = flat_map (λ d. dump_line (shown_of s d.pid d.addr d.len) d) dumps
 
 -- why a run stopped. One that has no end yet is out of quanta
 abbrev pub stop_word : Option End → List ℕ
@@ -52,8 +74,8 @@ abbrev pub notes_text : Bool → World → List ℕ
 notes_text log w = flat_map (note_text log (map program_path w.rest.programs)) (reverse w.notes)
 
 -- the notes, the dumps, and why the run stopped
-unfoldable pub report_text : Bool → List Dump → World → Option End → List ℕ
-report_text log dumps w end = notes_text log w ++ flat_map (dump_line w) dumps ++ stop_line (stop_word end) w.events
+unfoldable pub report_text : Bool → (dumped : List ℕ) → World → Option End → List ℕ
+report_text log dumped w end = notes_text log w ++ dumped ++ stop_line (stop_word end) w.events
 
 abbrev pub status_of_end : Option End → Status
 status_of_end (Some all_ended) = status.Done
@@ -67,8 +89,8 @@ status_of_end None = status.OutOfQuanta
 abbrev pub IsStopWord : Told → List ℕ → Type 0
 IsStopWord told word = (end : Option End) → Ends end told → word ≡ stop_word end
 
-abbrev pub IsReport : Bool → List Dump → World → Told → List ℕ → Type 0
-IsReport log dumps w told text = (end : Option End) → Ends end told → text ≡ report_text log dumps w end
+abbrev pub IsReport : Bool → List Dump → State → Told → List ℕ → Type 0
+IsReport log dumps s told text = (end : Option End) → Ends end told → text ≡ report_text log (dumps_of s dumps) (world s) end
 
 abbrev pub IsStatus : Told → Status → Type 0
 IsStatus told s = (end : Option End) → Ends end told → s ≡ status_of_end end

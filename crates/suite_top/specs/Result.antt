@@ -14,7 +14,7 @@ command_outcome None inputs = record { requests = []; ending = usage_ending }
 command_outcome (Some (convert elf flt stack)) inputs = convert_outcome elf flt stack inputs
 command_outcome (Some (list flt)) inputs = list_outcome flt inputs
 command_outcome (Some (check elf)) inputs = check_outcome elf inputs
-command_outcome (Some (run manifest log kind)) inputs = run_outcome manifest log kind inputs
+command_outcome (Some (run manifest log mode kind)) inputs = run_outcome manifest log mode kind inputs
 command_outcome (Some (demo programs)) inputs = demo_outcome programs inputs
 
 -- the command of these arguments, where its loads give these files

@@ -1,6 +1,8 @@
 -- The command `run MANIFEST`: the programs of a manifest run by turns in one memory.
 -- Laws: when a run reaches its machine.
+-- Beside: a run with `--go-on` beside the same run without it.
 pub mod Laws
+pub mod Beside
 use Rattle.std.specs.Prelude.{ℕ, ◌-◌, min, Bool, true, false, if◌then◌else◌, List, [], ◌∷◌, map, length, Option, Some, None, Result, Ok, Err}
 use Rattle.page_runs.specs.declared.place.Kind.{Kind}
 use Rattle.quantum_sched.specs.declared.Quantum.{Quantum}
@@ -12,6 +14,9 @@ use Rattle.manifest_text.specs.Manifest.{Fault, manifest_of}
 use Rattle.machine_world.specs.World.{Rest, World}
 use Rattle.machine_world.specs.Boot.{StartLine, BootFault, bad_start, args_too_big, no_run, boot}
 use Rattle.machine_world.specs.Turns.{Walk, turns}
+use Rattle.physical_turns.specs.Physical.{Physical, Walk as PhysicalWalk, physical_turns, opening as memory_opening}
+use Rattle.flat_machine.specs.declared.machine.Mode.{Mode}
+use Rattle.flat_machine.specs.declared.machine.Mode.TheVariants.{Halt, GoOn}
 use Rattle.flat_machine.specs.Runs.{repeated}
 use Rattle.fd_tables.specs.Files.{nothing_open}
 use Rattle.run_setup.specs.declared.fault.LineFault.TheVariants as line
@@ -22,6 +27,7 @@ use Rattle.suite_top.specs.Outcome.{Outcome, Inputs}
 use Rattle.suite_top.specs.Load.{at_once, with_load}
 use Rattle.suite_top.specs.declared.telling.Telling.{Telling}
 use Rattle.suite_top.specs.declared.telling.Telling.TheVariants.{Report}
+use Rattle.suite_top.specs.Report.{own_dumps, memory_dumps}
 use Rattle.suite_top.specs.Telling.{told_ending}
 
 -- ---- the loads
@@ -89,34 +95,45 @@ abbrev pub fault_ending : FaultAt → Ending
 fault_ending at = refused_ending (line_tail at.line at.fault)
 
 abbrev pub walked_ending : Telling → List Dump → Walk → Ending
-walked_ending telling dumps walk = told_ending telling dumps walk.world walk.end
+walked_ending telling dumps walk = told_ending telling (own_dumps walk.world dumps) walk.world walk.end
 
 -- a run from the opening world
 abbrev pub world_ending : Telling → List Quantum → List Dump → World → Ending
 world_ending telling quanta dumps w = walked_ending telling dumps (turns quanta w)
 
+-- and one that goes on behind its first stray access, over the one memory
+abbrev pub walked_on_ending : Telling → List Dump → PhysicalWalk → Ending
+walked_on_ending telling dumps walk = told_ending telling (memory_dumps walk.now dumps) walk.now.world walk.end
+
+abbrev pub memory_run_ending : Telling → List Quantum → List Dump → Physical → Ending
+memory_run_ending telling quanta dumps p = walked_on_ending telling dumps (physical_turns quanta p)
+
+abbrev pub mode_ending : Telling → Mode → List Quantum → List Dump → (headers : List (List ℕ)) → World → Ending
+mode_ending telling Halt quanta dumps headers w = world_ending telling quanta dumps w
+mode_ending telling GoOn quanta dumps headers w = memory_run_ending telling quanta dumps (memory_opening headers w)
+
 -- ---- all in order
 
-abbrev pub booted_ending : Telling → Manifest → Result World BootFault → Ending
-booted_ending telling m (Err first) = fault_ending (boot_fault first)
-booted_ending telling m (Ok w) = world_ending telling (repeated m.repeat m.quanta) m.dumps w
+abbrev pub booted_ending : Telling → Mode → Manifest → (headers : List (List ℕ)) → Result World BootFault → Ending
+booted_ending telling mode m headers (Err first) = fault_ending (boot_fault first)
+booted_ending telling mode m headers (Ok w) = mode_ending telling mode (repeated m.repeat m.quanta) m.dumps headers w
 
-abbrev pub brought_ending : Telling → Kind → Manifest → Result Brought FaultAt → Ending
-brought_ending telling kind m (Err at) = fault_ending at
-brought_ending telling kind m (Ok b) = booted_ending telling m (boot (opening kind m b) (map start_line m.starts))
+abbrev pub brought_ending : Telling → Mode → Kind → Manifest → Result Brought FaultAt → Ending
+brought_ending telling mode kind m (Err at) = fault_ending at
+brought_ending telling mode kind m (Ok b) = booted_ending telling mode m b.headers (boot (opening kind m b) (map start_line m.starts))
 
 -- where the item lines' files are there
-unfoldable pub files_ending : Telling → Kind → Manifest → List (List ℕ) → Ending
-files_ending telling kind m files = brought_ending telling kind m (all_brought m.items files nothing_brought)
+unfoldable pub files_ending : Telling → Mode → Kind → Manifest → List (List ℕ) → Ending
+files_ending telling mode kind m files = brought_ending telling mode kind m (all_brought m.items files nothing_brought)
 
 -- behind the manifest
-abbrev pub items_outcome : (log : Bool) → Kind → Manifest → Inputs → Outcome
-items_outcome log kind m inputs = with_items files_limit m.items (λ files. at_once (files_ending (Report log) kind m files)) inputs
+abbrev pub items_outcome : (log : Bool) → Mode → Kind → Manifest → Inputs → Outcome
+items_outcome log mode kind m inputs = with_items files_limit m.items (λ files. at_once (files_ending (Report log) mode kind m files)) inputs
 
-abbrev pub manifest_outcome : (log : Bool) → Kind → Result Manifest Fault → Inputs → Outcome
-manifest_outcome log kind (Err first) inputs = at_once (refused_ending (manifest_tail first.line first.fault))
-manifest_outcome log kind (Ok m) inputs = items_outcome log kind m inputs
+abbrev pub manifest_outcome : (log : Bool) → Mode → Kind → Result Manifest Fault → Inputs → Outcome
+manifest_outcome log mode kind (Err first) inputs = at_once (refused_ending (manifest_tail first.line first.fault))
+manifest_outcome log mode kind (Ok m) inputs = items_outcome log mode kind m inputs
 
 -- the manifest is load 0, and the files of its items are the loads behind it
-unfoldable pub run_outcome : (name : List ℕ) (log : Bool) → Kind → Inputs → Outcome
-run_outcome name log kind inputs = with_load manifest_limit None name (λ bytes. manifest_outcome log kind (manifest_of bytes)) inputs
+unfoldable pub run_outcome : (name : List ℕ) (log : Bool) → Mode → Kind → Inputs → Outcome
+run_outcome name log mode kind inputs = with_load manifest_limit None name (λ bytes. manifest_outcome log mode kind (manifest_of bytes)) inputs

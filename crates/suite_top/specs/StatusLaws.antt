@@ -75,12 +75,38 @@ pub record CutAtOut (stop : SinkStop) (c : Call) : Type 0 where
   pub out : CutShort stop c.out c.out_after (outcome_of c).ending.out
   pub report : c.report_after ≡ c.report
 
--- `out` took its whole text, and `report` stopped behind a prefix of its own
+-- the host answered every request, and `out` took its whole text; `report` stopped behind a prefix of its own
 pub record CutAtReport (stop : SinkStop) (c : Call) : Type 0 where
-  pub ending : Ending
-  pub performs : Performs c.host c.host_after (outcome_of c) ending
-  pub out : TookAll c.out c.out_after ending.out
-  pub report : CutShort stop c.report c.report_after ending.report
+  pub performed : IsPerformed c
+  pub out : TookAll c.out c.out_after (outcome_of c).ending.out
+  pub report : CutShort stop c.report c.report_after (outcome_of c).ending.report
+
+-- the files of a host that tells them are as before
+abbrev pub FilesStay : Call → Type 0
+FilesStay c = (t t_after : Told) → c.host.told ≡ Some t → c.host_after.told ≡ Some t_after → t_after.files ≡ t.files
+
+-- the host failed at a request, and `report` stopped behind a prefix of its line
+pub record CutAtFailure (stop : SinkStop) (c : Call) : Type 0 where
+  pub done : List Request
+  pub request : Request
+  pub rest : List Request
+  pub requests : (outcome_of c).requests ≡ done ++ request ∷ rest
+  pub rose : Rose c.host.faults c.host_after.faults
+  pub told : c.host_after.told ≡ option_map (λ t. after_failure (after_answers t done) request) c.host.told
+  pub files : FilesStay c
+  pub out : TookAll c.out c.out_after []
+  pub report : CutShort stop c.report c.report_after (failure_ending request).report
+
+-- the call was out of memory, and `report` stopped behind a prefix of the line `memory`
+pub record CutAtMemory (stop : SinkStop) (c : Call) : Type 0 where
+  pub performs : Performs c.host c.host_after (outcome_of c) memory_ending
+  pub files : FilesStay c
+  pub out : TookAll c.out c.out_after []
+  pub report : CutShort stop c.report c.report_after memory_line
+
+-- a sink stopped within one of these texts, and no other one was written behind it
+abbrev pub IsCut : SinkStop → Call → Type 0
+IsCut stop c = CutAtOut stop c ⊎ (CutAtReport stop c ⊎ (CutAtFailure stop c ⊎ CutAtMemory stop c))
 
 -- a text stands in one sink alone: with Done in `out`, and else in `report`. Only where programs run both may have one
 abbrev pub IsOneText : Ending → Type 0
@@ -91,18 +117,18 @@ TextsAreApart = (arguments : List (List ℕ)) (inputs : Inputs) → IsNoRun (com
 
 -- a sink failed, and no other text was written behind its prefix
 abbrev pub SinksFail : Type 0
-SinksFail = (c : Call) → MeetsOutcome c → c.status ≡ SinkWrite → CutAtOut sink_failed c ⊎ CutAtReport sink_failed c
+SinksFail = (c : Call) → MeetsOutcome c → c.status ≡ SinkWrite → IsCut sink_failed c
 
 -- the call was out of memory before any text: no file changed, and the one line is `memory`
 pub record IsMemoryTold (c : Call) : Type 0 where
   pub performs : Performs c.host c.host_after (outcome_of c) memory_ending
-  pub files : (t t_after : Told) → c.host.told ≡ Some t → c.host_after.told ≡ Some t_after → t_after.files ≡ t.files
+  pub files : FilesStay c
   pub out : TookAll c.out c.out_after []
   pub report : TookAll c.report c.report_after memory_line
 
 -- or a sink was out of memory, its count stands, and no other text was written behind its prefix
 abbrev pub MemoryIsTold : Type 0
-MemoryIsTold = (c : Call) → MeetsOutcome c → c.status ≡ Memory → IsMemoryTold c ⊎ (CutAtOut sink_memory c ⊎ CutAtReport sink_memory c)
+MemoryIsTold = (c : Call) → MeetsOutcome c → c.status ≡ Memory → IsMemoryTold c ⊎ IsCut sink_memory c
 
 -- Usage is the outcome exactly of arguments that are no command, and then nothing is requested
 abbrev pub UsageIsExact : Type 0

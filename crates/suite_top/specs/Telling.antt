@@ -11,7 +11,8 @@ use Rattle.suite_top.specs.declared.telling.Telling.{Telling}
 use Rattle.suite_top.specs.declared.telling.Telling.TheVariants as telling
 use Rattle.suite_top.specs.Texts.{demo_line}
 use Rattle.suite_top.specs.Ending.{Ending, done_ending, OrMemory}
-use Rattle.suite_top.specs.Report.{status_of_end, report_text}
+use Rattle.flat_machine.specs.State.{State, world}
+use Rattle.suite_top.specs.Report.{status_of_end, report_text, dumps_of}
 
 -- the exit code of a process that ends, and 0 of any other note
 abbrev pub exit_code : Note → ℕ
@@ -22,26 +23,26 @@ abbrev pub exit_sum : World → ℕ
 exit_sum w = sum_by exit_code (reverse w.notes)
 
 -- the console goes to `out`, and the report to `report`, whatever the end
-abbrev pub reported_ending : (log : Bool) → List Dump → World → Option End → Ending
-reported_ending log dumps w end = record { status = status_of_end end; out = w.rest.console; report = report_text log dumps w end }
+abbrev pub reported_ending : (log : Bool) → (dumped : List ℕ) → World → Option End → Ending
+reported_ending log dumped w end = record { status = status_of_end end; out = w.rest.console; report = report_text log dumped w end }
 
 -- where all n programs of a demo ended, the console and the line go to `out`, and nothing to `report`
 abbrev pub demo_text : (n : ℕ) → World → List ℕ
 demo_text n w = w.rest.console ++ demo_line n w.events (length w.rest.console) (exit_sum w)
 
 -- and else what the run tells without its calls
-abbrev pub demonstrated_ending : (n : ℕ) → List Dump → World → Option End → Ending
-demonstrated_ending n dumps w (Some all_ended) = done_ending (demo_text n w)
-demonstrated_ending n dumps w end = reported_ending false dumps w end
+abbrev pub demonstrated_ending : (n : ℕ) → (dumped : List ℕ) → World → Option End → Ending
+demonstrated_ending n dumped w (Some all_ended) = done_ending (demo_text n w)
+demonstrated_ending n dumped w end = reported_ending false dumped w end
 
--- in this world, with this end
-abbrev pub told_ending : Telling → List Dump → World → Option End → Ending
-told_ending (telling.Report log) dumps w end = reported_ending log dumps w end
-told_ending (telling.Demo programs) dumps w end = demonstrated_ending programs dumps w end
+-- in this world, with this text of its dumps and this end
+abbrev pub told_ending : Telling → (dumped : List ℕ) → World → Option End → Ending
+told_ending (telling.Report log) dumped w end = reported_ending log dumped w end
+told_ending (telling.Demo programs) dumped w end = demonstrated_ending programs dumped w end
 
 -- of each end that the code's end says
-abbrev pub IsReported : (log : Bool) → List Dump → World → Told → Ending → Type 0
-IsReported log dumps w told ending = (end : Option End) → Ends end told → OrMemory (reported_ending log dumps w end) ending
+abbrev pub IsReported : (log : Bool) → List Dump → State → Told → Ending → Type 0
+IsReported log dumps s told ending = (end : Option End) → Ends end told → OrMemory (reported_ending log (dumps_of s dumps) (world s) end) ending
 
-abbrev pub IsTold : Telling → List Dump → World → Told → Ending → Type 0
-IsTold telling dumps w told ending = (end : Option End) → Ends end told → OrMemory (told_ending telling dumps w end) ending
+abbrev pub IsTold : Telling → List Dump → State → Told → Ending → Type 0
+IsTold telling dumps s told ending = (end : Option End) → Ends end told → OrMemory (told_ending telling (dumps_of s dumps) (world s) end) ending

@@ -1,7 +1,8 @@
 //! The table of commands.
 ghost use Rattle.std.specs.Prelude.{◌≡◌, ◌≤◌, ◌↔◌, IsTrue, map, option_map, string_bytes};
-ghost use Rattle.suite_top.specs.Arguments.{is_between, StartsWell, number_of, kind_of_word, only, convert_of, placement_of, run_of, demo_of, command_of, invocation};
+ghost use Rattle.suite_top.specs.Arguments.{is_between, StartsWell, number_of, kind_of_word, only, convert_of, placement_of, mode_of, run_of, demo_of, command_of, invocation};
 
+use flat_machine::Mode;
 use page_runs::Kind;
 
 /// The bytes of stack that a program gets where no argument says it.
@@ -35,11 +36,12 @@ pub enum Command<'a> {
     Check {
         elf: &'a str,
     },
-    /// `run MANIFEST`; with `--log` the calls are told too, and with `--place K` another placement than the
-    /// first fit.
+    /// `run MANIFEST`; with `--log` the calls are told too, with `--go-on` the run goes on behind its first
+    /// stray access, and with `--place K` another placement than the first fit.
     Run {
         manifest: &'a str,
         log: bool,
+        mode: Mode,
         kind: Kind,
     },
     /// `demo N`.
@@ -128,28 +130,31 @@ fn read_placement(words: &[String]) -> Option<Kind>
     }
 }
 
+/// The words behind `run MANIFEST`, and behind `--log`.
+fn read_mode<'a>(manifest: &'a str, log: bool, words: &[String]) -> Option<Command<'a>>
+    ensures { option_map invocation result ≡ mode_of manifest.now log (map string_bytes words.now) }
+{
+    let (mode, last) = match words {
+        [go_on, last @ ..] if go_on.as_str() == "--go-on" => (Mode::GoOn, last),
+        _ => (Mode::Halt, words),
+    };
+    let kind = read_placement(last)?;
+    Some(Command::Run {
+        manifest,
+        log,
+        mode,
+        kind,
+    })
+}
+
 /// The words behind `run`.
 fn read_run(words: &[String]) -> Option<Command<'_>>
     ensures { option_map invocation result ≡ run_of (map string_bytes words.now) }
 {
     let (manifest, options) = words.split_first()?;
     match options {
-        [log, last @ ..] if log.as_str() == "--log" => {
-            let kind = read_placement(last)?;
-            Some(Command::Run {
-                manifest,
-                log: true,
-                kind,
-            })
-        }
-        _ => {
-            let kind = read_placement(options)?;
-            Some(Command::Run {
-                manifest,
-                log: false,
-                kind,
-            })
-        }
+        [log, last @ ..] if log.as_str() == "--log" => read_mode(manifest, true, last),
+        _ => read_mode(manifest, false, options),
     }
 }
 

@@ -15,6 +15,7 @@ use crate::arguments::DEFAULT_STACK;
 use crate::run::run_files;
 use crate::telling::Telling;
 use elf_maker::demo;
+use flat_machine::Mode;
 use manifest_text::{Item, ItemKind, Manifest, Start};
 use page_runs::{Chooser, Run};
 use quantum_sched::Quantum;
@@ -42,7 +43,14 @@ pub fn run_demo<F: Fn(&[Run], u32) -> Option<usize>>(
 {
     let manifest = demo_manifest(alloc, programs)?;
     let files = demo_files(alloc, programs)?;
-    run_files(alloc, manifest, files, Telling::Demo { programs }, chooser)
+    run_files(
+        alloc,
+        manifest,
+        files,
+        Telling::Demo { programs },
+        Mode::Halt,
+        chooser,
+    )
 }
 
 /// The manifest that the programs run by.

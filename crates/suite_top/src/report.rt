@@ -1,12 +1,11 @@
 //! The report of a run.
-ghost use Rattle.std.specs.Prelude.{◌≡◌, ◌++◌, map, length, IfOk, string_bytes};
+ghost use Rattle.std.specs.Prelude.{◌≡◌, ◌++◌, map, length, IfOk, option_map, string_bytes};
 ghost use Rattle.std.specs.List.{flat_map};
 ghost use Rattle.call_log.specs.Values.{note_value};
 ghost use Rattle.call_log.specs.Programs.{IsProgramBelow, paths_of};
 ghost use Rattle.machine_world.specs.Programs.{AreLoaded};
 ghost use Rattle.flat_machine.specs.State.{world};
-ghost use Rattle.flat_machine.specs.OwnBytes.{own_bytes};
-ghost use Rattle.suite_top.specs.Report.{is_told, note_text, bytes_text, dump_line, stop_line, IsStopWord, IsReport, IsStatus};
+ghost use Rattle.suite_top.specs.Report.{is_told, note_text, bytes_text, dump_line, shown_of, dumps_of, stop_line, IsStopWord, IsReport, IsStatus};
 
 use crate::status::Status;
 use crate::texts::address_words;
@@ -23,7 +22,7 @@ pub fn report(
     dumps: &[Dump],
     end: End,
 ) -> Result<Vec<u8>, AllocError>
-    ensures { IfOk result (λ text. IsReport log dumps.now (world machine.now) end text.items) }
+    ensures { IfOk result (λ text. IsReport log dumps.now machine.now end text.items) }
 {
     let mut text = notes_text(alloc, log, machine.notes(), machine.paths())?;
     let dumped = dumps_text(alloc, machine, dumps)?;
@@ -88,11 +87,18 @@ fn notes_text(
     Ok(text)
 }
 
+/// The bytes that are shown: the process's own, or, of a run that goes on, those of memory.
+fn shown(alloc: Global, machine: &Machine, dump: Dump) -> Result<Option<Vec<u8>>, AllocError>
+    ensures { IfOk result (λ found. option_map (λ bytes. bytes.items) found ≡ shown_of machine.now dump.pid dump.addr dump.len) }
+{
+    machine.bytes(alloc, dump.pid, dump.addr, dump.len)
+}
+
 /// Two digits a byte, or `none`.
 fn bytes_text(alloc: Global, machine: &Machine, dump: Dump) -> Result<String, AllocError>
-    ensures { IfOk result (λ text. string_bytes text ≡ bytes_text (own_bytes (world machine.now) dump.pid dump.addr dump.len)) }
+    ensures { IfOk result (λ text. string_bytes text ≡ bytes_text (shown_of machine.now dump.pid dump.addr dump.len)) }
 {
-    match machine.bytes(alloc, dump.pid, dump.addr, dump.len)? {
+    match shown(alloc, machine, dump)? {
         Some(bytes) => hex::encode(alloc, &bytes),
         None => String::from_str(alloc, "none"),
     }
@@ -100,7 +106,7 @@ fn bytes_text(alloc: Global, machine: &Machine, dump: Dump) -> Result<String, Al
 
 /// `dump PID 0xADDR LEN HEX`
 fn dump_line(alloc: Global, machine: &Machine, dump: Dump) -> Result<String, AllocError>
-    ensures { IfOk result (λ line. string_bytes line ≡ dump_line (world machine.now) dump) }
+    ensures { IfOk result (λ line. string_bytes line ≡ dump_line (shown_of machine.now dump.pid dump.addr dump.len) dump) }
 {
     let pid = dump.pid;
     let address = address_words(alloc, dump.addr)?;
@@ -110,7 +116,7 @@ fn dump_line(alloc: Global, machine: &Machine, dump: Dump) -> Result<String, All
 }
 
 fn dumps_text(alloc: Global, machine: &Machine, dumps: &[Dump]) -> Result<String, AllocError>
-    ensures { IfOk result (λ text. string_bytes text ≡ flat_map (dump_line (world machine.now)) dumps.now) }
+    ensures { IfOk result (λ text. string_bytes text ≡ dumps_of machine.now dumps.now) }
 {
     let mut text = String::new(alloc);
     for dump in dumps {

@@ -1,11 +1,13 @@
 //! The command `run MANIFEST`.
-ghost use Rattle.std.specs.Prelude.{◌≡◌, ◌+◌, ◌*◌, ◌^◌, ◌<◌, ◌≤◌, length, Ok, sum_by};
+ghost use Rattle.std.specs.Prelude.{◌≡◌, ◌+◌, ◌*◌, ◌^◌, ◌<◌, ◌≤◌, false, length, Ok, sum_by};
 ghost use Rattle.page_runs.specs.Choosers.{IsChooser, kind_of};
 ghost use Rattle.manifest_text.specs.Manifest.{manifest_of};
 ghost use Rattle.manifest_text.specs.Values.{manifest_value, vec_texts};
 ghost use Rattle.manifest_text.specs.Laws.{Reasonable};
 ghost use Rattle.machine_world.specs.Ages.{AreChanged};
-ghost use Rattle.flat_machine.specs.State.{world};
+ghost use Rattle.physical_turns.specs.Physical.{has_stray};
+ghost use Rattle.flat_machine.specs.declared.machine.Mode.TheVariants.{Halt, GoOn};
+ghost use Rattle.flat_machine.specs.State.{world, one_memory};
 ghost use Rattle.flat_machine.specs.Runs.{repeated};
 ghost use Rattle.suite_top.specs.Ending.{memory_ending, OrMemory};
 ghost use Rattle.suite_top.specs.Observed.{observed};
@@ -13,7 +15,7 @@ ghost use Rattle.suite_top.specs.Answer.{ending_of};
 ghost use Rattle.run_setup.specs.Faults.{IsMemory};
 ghost use Rattle.run_setup.specs.Making.{fault_value, HasPaths, brought_value};
 ghost use Rattle.suite_top.specs.Refusing.{told_fault};
-ghost use Rattle.suite_top.specs.Run.{manifest_limit, fault_ending, world_ending, brought_ending, files_ending, items_outcome, manifest_outcome, run_outcome};
+ghost use Rattle.suite_top.specs.Run.{manifest_limit, fault_ending, world_ending, memory_run_ending, brought_ending, files_ending, items_outcome, manifest_outcome, run_outcome};
 ghost use Rattle.suite_top.specs.HostCourse.{PerformsCommand};
 
 use crate::answer::Answer;
@@ -22,7 +24,7 @@ use crate::items::{ItemsLoad, load_items};
 use crate::status::Status;
 use crate::telling::{Telling, told};
 use crate::texts::refusals::{refused_line, refused_manifest};
-use flat_machine::{BootRefusal, Machine, Setup};
+use flat_machine::{BootRefusal, Machine, Mode, Setup};
 use host_io::Host;
 use manifest_text::{Dump, Manifest, ManifestRefusal};
 use page_runs::{Chooser, Run};
@@ -40,14 +42,15 @@ pub fn run_file<H: Host, F: Fn(&[Run], u32) -> Option<usize>>(
     alloc: Global,
     manifest: &str,
     log: bool,
+    mode: Mode,
     chooser: &Chooser<F>,
     host: &mut H,
 ) -> Result<Answer, AllocError>
     requires { IsChooser F.pre F.post chooser.now }
-    ensures { PerformsCommand (observed H.told H.faults host.old) (observed H.told H.faults host.new) (run_outcome manifest.now log (kind_of chooser.now)) (ending_of result) }
+    ensures { PerformsCommand (observed H.told H.faults host.old) (observed H.told H.faults host.new) (run_outcome manifest.now log mode (kind_of chooser.now)) (ending_of result) }
 {
     match load_limited(alloc, manifest, MANIFEST_LIMIT, None, host) {
-        FileLoad::Whole(bytes) => run_manifest(alloc, &bytes, log, chooser, host),
+        FileLoad::Whole(bytes) => run_manifest(alloc, &bytes, log, mode, chooser, host),
         FileLoad::Ended(ends) => ends,
     }
 }
@@ -57,15 +60,16 @@ fn run_manifest<H: Host, F: Fn(&[Run], u32) -> Option<usize>>(
     alloc: Global,
     bytes: &[u8],
     log: bool,
+    mode: Mode,
     chooser: &Chooser<F>,
     host: &mut H,
 ) -> Result<Answer, AllocError>
     requires chooser { IsChooser F.pre F.post chooser.now }
     requires fits { length bytes.now ≤ manifest_limit }
-    ensures { PerformsCommand (observed H.told H.faults host.old) (observed H.told H.faults host.new) (manifest_outcome log (kind_of chooser.now) (manifest_of bytes.now)) (ending_of result) }
+    ensures { PerformsCommand (observed H.told H.faults host.old) (observed H.told H.faults host.new) (manifest_outcome log mode (kind_of chooser.now) (manifest_of bytes.now)) (ending_of result) }
 {
     match manifest_text::read(alloc, bytes) {
-        Ok(manifest) => run_items(alloc, manifest, log, chooser, host),
+        Ok(manifest) => run_items(alloc, manifest, log, mode, chooser, host),
         Err(ManifestRefusal::At { line, fault }) => {
             let text = refused_manifest(alloc, line, fault);
             Answer::early(alloc, Status::Refused, text)
@@ -79,16 +83,24 @@ fn run_items<H: Host, F: Fn(&[Run], u32) -> Option<usize>>(
     alloc: Global,
     manifest: Manifest,
     log: bool,
+    mode: Mode,
     chooser: &Chooser<F>,
     host: &mut H,
 ) -> Result<Answer, AllocError>
     requires chooser { IsChooser F.pre F.post chooser.now }
     requires manifest { Reasonable (manifest_value manifest) }
-    ensures { PerformsCommand (observed H.told H.faults host.old) (observed H.told H.faults host.new) (items_outcome log (kind_of chooser.now) (manifest_value manifest)) (ending_of result) }
+    ensures { PerformsCommand (observed H.told H.faults host.old) (observed H.told H.faults host.new) (items_outcome log mode (kind_of chooser.now) (manifest_value manifest)) (ending_of result) }
 {
     match load_items(alloc, &manifest.items, host) {
         ItemsLoad::Whole(files) => {
-            run_files(alloc, manifest, files, Telling::Report { log }, chooser)
+            run_files(
+                alloc,
+                manifest,
+                files,
+                Telling::Report { log },
+                mode,
+                chooser,
+            )
         }
         ItemsLoad::Ended(ends) => ends,
     }
@@ -100,15 +112,16 @@ pub fn run_files<F: Fn(&[Run], u32) -> Option<usize>>(
     manifest: Manifest,
     files: Vec<Vec<u8>>,
     telling: Telling,
+    mode: Mode,
     chooser: &Chooser<F>,
 ) -> Result<Answer, AllocError>
     requires chooser { IsChooser F.pre F.post chooser.now }
     requires manifest { Reasonable (manifest_value manifest) }
     requires files { length files.items ≡ length manifest.items.items }
-    ensures { OrMemory (files_ending telling (kind_of chooser.now) (manifest_value manifest) (vec_texts files.items)) (ending_of result) }
+    ensures { OrMemory (files_ending telling mode (kind_of chooser.now) (manifest_value manifest) (vec_texts files.items)) (ending_of result) }
 {
     match bring(alloc, &manifest.items, files) {
-        Ok(files) => run_brought(alloc, manifest, files, telling, chooser),
+        Ok(files) => run_brought(alloc, manifest, files, telling, mode, chooser),
         Err(at) => refuse_line(alloc, &at),
     }
 }
@@ -119,6 +132,7 @@ fn run_brought<F: Fn(&[Run], u32) -> Option<usize>>(
     manifest: Manifest,
     files: RunFiles,
     telling: Telling,
+    mode: Mode,
     chooser: &Chooser<F>,
 ) -> Result<Answer, AllocError>
     requires chooser { IsChooser F.pre F.post chooser.now }
@@ -126,7 +140,7 @@ fn run_brought<F: Fn(&[Run], u32) -> Option<usize>>(
     requires paths { HasPaths files }
     requires few { length files.flats.items ≤ length manifest.items.items }
     requires unchanged { AreChanged 0 files.tree }
-    ensures { OrMemory (brought_ending telling (kind_of chooser.now) (manifest_value manifest) (Ok (brought_value files))) (ending_of result) }
+    ensures { OrMemory (brought_ending telling mode (kind_of chooser.now) (manifest_value manifest) (Ok (brought_value files))) (ending_of result) }
 {
     let setup = Setup {
         pages: manifest.pages,
@@ -135,6 +149,7 @@ fn run_brought<F: Fn(&[Run], u32) -> Option<usize>>(
         programs: files.flats,
         starts: manifest.starts,
         stdin: files.stdin,
+        mode,
     };
     match Machine::boot(alloc, setup, chooser) {
         Ok(machine) => run_machine(
@@ -187,7 +202,9 @@ fn run_machine<F: Fn(&[Run], u32) -> Option<usize>>(
     requires chooser { IsChooser F.pre F.post chooser.now }
     requires kind { kind_of chooser.now ≡ machine.kind }
     requires events { machine.events + repeat * sum_by (λ q. q.count) quanta.now < 2 ^ 64 }
-    ensures { OrMemory (world_ending telling (repeated repeat quanta.now) dumps.now (world machine)) (ending_of result) }
+    requires quiet { has_stray (world machine).notes ≡ false }
+    ensures halt { machine.mode ≡ Halt → OrMemory (world_ending telling (repeated repeat quanta.now) dumps.now (world machine)) (ending_of result) }
+    ensures go_on { machine.mode ≡ GoOn → OrMemory (memory_run_ending telling (repeated repeat quanta.now) dumps.now (one_memory machine)) (ending_of result) }
 {
     let end = machine.run_repeated(quanta, repeat, chooser)?;
     told(alloc, &machine, telling, dumps, end)

@@ -32,7 +32,7 @@ pub fn told(
     dumps: &[Dump],
     end: End,
 ) -> Result<Answer, AllocError>
-    ensures { IsTold telling dumps.now (world machine.now) end (ending_of result) }
+    ensures { IsTold telling dumps.now machine.now end (ending_of result) }
 {
     match telling {
         Telling::Report { log } => reported(alloc, machine, log, dumps, end),
@@ -53,7 +53,7 @@ fn reported(
     dumps: &[Dump],
     end: End,
 ) -> Result<Answer, AllocError>
-    ensures { IsReported log dumps.now (world machine.now) end (ending_of result) }
+    ensures { IsReported log dumps.now machine.now end (ending_of result) }
 {
     let report = report(alloc, machine, log, dumps, end)?;
     let out = Vec::from_slice(alloc, machine.console())?;

@@ -20,6 +20,7 @@ use crate::placements::Placements;
 use crate::run::run_file;
 use crate::status::Status;
 use crate::texts;
+use flat_machine::Mode;
 use host_io::{Host, Sink};
 use page_runs::{Kind, Run};
 use std::alloc::{AllocError, Global};
@@ -29,6 +30,7 @@ fn run_placed<H: Host, A, B, C>(
     alloc: Global,
     manifest: &str,
     log: bool,
+    mode: Mode,
     kind: Kind,
     host: &mut H,
     place: &Placements<A, B, C>,
@@ -43,12 +45,12 @@ where
     requires best_kind { kind_of place.now.best ≡ Kind.Best }
     requires last { IsChooser C.pre C.post place.now.last }
     requires last_kind { kind_of place.now.last ≡ Kind.Last }
-    ensures { PerformsCommand (observed H.told H.faults host.old) (observed H.told H.faults host.new) (run_outcome manifest.now log kind) (ending_of result) }
+    ensures { PerformsCommand (observed H.told H.faults host.old) (observed H.told H.faults host.new) (run_outcome manifest.now log mode kind) (ending_of result) }
 {
     match kind {
-        Kind::First => run_file(alloc, manifest, log, &place.first, host),
-        Kind::Best => run_file(alloc, manifest, log, &place.best, host),
-        Kind::Last => run_file(alloc, manifest, log, &place.last, host),
+        Kind::First => run_file(alloc, manifest, log, mode, &place.first, host),
+        Kind::Best => run_file(alloc, manifest, log, mode, &place.best, host),
+        Kind::Last => run_file(alloc, manifest, log, mode, &place.last, host),
     }
 }
 
@@ -78,9 +80,10 @@ where
             Command::Run {
                 manifest,
                 log,
+                mode,
                 kind,
             },
-        ) => run_placed(alloc, manifest, log, kind, host, place),
+        ) => run_placed(alloc, manifest, log, mode, kind, host, place),
         Some(Command::Demo { programs }) => run_demo(alloc, programs, &place.first),
         None => Answer::early(alloc, Status::Usage, texts::usage(alloc)),
     }

@@ -12,16 +12,22 @@ flatc converts linked RV32IM ELF executables into bFLT version 4 flat files, and
 
 usage: flatc COMMAND WORDS
 
-  convert ELF FLT [--stack N]       convert the file ELF, and store its flat file as FLT,
-                                    with N bytes of stack: 16 to 1048576, else 4096
-  check ELF                         say whether ELF can be converted, and store nothing
-  list FLT                          write the listing of the flat file FLT
-  run MANIFEST [--log] [--place K]  run the programs of MANIFEST by turns in one memory;
-                                    --log tells their system calls too, and K says which
-                                    free run is taken: first, best or last, else first
-  demo N                            run N small programs, 1 to 64, that need no file
-  --help                            write this page
-  --version                         write the version
+  convert ELF FLT [--stack N]                 convert the file ELF, and store its flat
+                                              file as FLT, with N bytes of stack: 16 to
+                                              1048576, else 4096
+  check ELF                                   say whether ELF can be converted, and store
+                                              nothing
+  list FLT                                    write the listing of the flat file FLT
+  run MANIFEST [--log] [--go-on] [--place K]  run the programs of MANIFEST by turns in one
+                                              memory; --log tells their system calls too,
+                                              --go-on goes on behind the first access that
+                                              strays, over all of memory, and K says which
+                                              free run is taken: first, best or last, else
+                                              first
+  demo N                                      run N small programs, 1 to 64, that need no
+                                              file
+  --help                                      write this page
+  --version                                   write the version
 
 exit status:
 
@@ -91,7 +97,7 @@ fn each_page_is_written_whole(rt: HostRuntime) -> Result<(), Fail> {
 
 /// What stands in a line of the page before the column of meanings.
 fn command_of(line: &str) -> &str {
-    line.get(..36).unwrap_or(line)
+    line.get(..46).unwrap_or(line)
 }
 
 /// The words of a command with its options, 16 as the number of `--stack`, `last` behind `--place`, and 2 as any other number.
@@ -103,6 +109,7 @@ fn with_option(alloc: Global, command: &str) -> Result<String, AllocError> {
             "N]" => "16",
             "N" => "2",
             "[--log]" => "--log",
+            "[--go-on]" => "--go-on",
             "[--place" => "--place",
             "K]" => "last",
             other => other,

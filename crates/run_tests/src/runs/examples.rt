@@ -19,6 +19,36 @@ stop done events 9
 ",
 };
 
+const STRAY_STORE: Case = Case {
+    name: "stray-store",
+    files: &[("st.flt", Content::Flat(ST)), ("hi.flt", Content::Flat(HI))],
+    manifest: "memory 4\nflat /st st.flt\nflat /hi hi.flt\nstart /st\nstart /hi\nquanta 0:3\ndump 2 0x80002040 1\ndump 2 0x8000203f 2\ndump 9 0x80002040 1\n",
+    options: &[],
+    status: Status::Stray,
+    out: "",
+    report: "load 1 /st base 0x80000000 pages 2
+load 2 /hi base 0x80002000 pages 2
+stray 1 pc 0x80000088 addr 0x80002040 len 1 store
+dump 2 0x80002040 1 00
+dump 2 0x8000203f 2 none
+dump 9 0x80002040 1 none
+stop stray events 2
+",
+};
+
+const STRAY_STORE_AT_ZERO: Case = Case {
+    name: "stray-store-at-zero",
+    files: &[("a.flt", Content::Flat(ZERO))],
+    manifest: "memory 4\nflat /a a.flt\nstart /a\nquanta 0:9\n",
+    options: &[],
+    status: Status::Stray,
+    out: "",
+    report: "load 1 /a base 0x80000000 pages 2
+stray 1 pc 0x80000080 addr 0x00000000 len 4 store
+stop stray events 0
+",
+};
+
 const CASES: &[Case] = &[
     HI_WITH_LOG,
     Case {
@@ -47,32 +77,54 @@ load 2 /ho base 0x80002000 pages 2
 stop quanta events 12
 ",
     },
+    STRAY_STORE,
     Case {
-        name: "stray-store",
-        files: &[("st.flt", Content::Flat(ST)), ("hi.flt", Content::Flat(HI))],
-        manifest: "memory 4\nflat /st st.flt\nflat /hi hi.flt\nstart /st\nstart /hi\nquanta 0:3\ndump 2 0x80002040 1\ndump 2 0x8000203f 2\ndump 9 0x80002040 1\n",
-        options: &[],
-        status: Status::Stray,
-        out: "",
+        name: "stray-store, and on",
+        options: &["--go-on"],
+        status: Status::OutOfQuanta,
         report: "load 1 /st base 0x80000000 pages 2
 load 2 /hi base 0x80002000 pages 2
 stray 1 pc 0x80000088 addr 0x80002040 len 1 store
-dump 2 0x80002040 1 00
-dump 2 0x8000203f 2 none
+dump 2 0x80002040 1 7a
+dump 2 0x8000203f 2 007a
 dump 9 0x80002040 1 none
-stop stray events 2
+stop quanta events 3
 ",
+        ..STRAY_STORE
     },
+    STRAY_STORE_AT_ZERO,
     Case {
-        name: "stray-store-at-zero",
-        files: &[("a.flt", Content::Flat(ZERO))],
-        manifest: "memory 4\nflat /a a.flt\nstart /a\nquanta 0:9\n",
-        options: &[],
-        status: Status::Stray,
-        out: "",
+        name: "go-on-outside-memory",
+        options: &["--go-on"],
+        status: Status::Done,
         report: "load 1 /a base 0x80000000 pages 2
 stray 1 pc 0x80000080 addr 0x00000000 len 4 store
-stop stray events 0
+end 1 signal 11
+stop done events 1
+",
+        ..STRAY_STORE_AT_ZERO
+    },
+    Case {
+        name: "no access that strays, and on",
+        options: &["--log", "--go-on", "--place", "last"],
+        ..HI_WITH_LOG
+    },
+    Case {
+        name: "memory behind a run",
+        files: GREETERS,
+        manifest: "memory 4\nflat /hi hi.flt\nstart /hi\nstart /hi\nquanta 0:9\ndump 2 0x80002000 4\ndump 2 0x80000fff 2\ndump 2 0x80003fff 1\ndump 2 0x80003fff 2\ndump 1 0x80002000 4\n",
+        options: &["--go-on"],
+        status: Status::OutOfQuanta,
+        out: "hi\n",
+        report: "load 1 /hi base 0x80000000 pages 2
+load 2 /hi base 0x80002000 pages 2
+end 1 exit 7
+dump 2 0x80002000 4 62464c54
+dump 2 0x80000fff 2 0000
+dump 2 0x80003fff 1 00
+dump 2 0x80003fff 2 none
+dump 1 0x80002000 4 none
+stop quanta events 9
 ",
     },
 ];

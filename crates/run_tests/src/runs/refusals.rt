@@ -127,6 +127,15 @@ const CASES: &[Case] = &[
         report: "usage: flatc COMMAND WORDS\n",
     },
     Case {
+        name: "going on before the log",
+        files: &[HI_FILE],
+        manifest: "flat /a hi.flt\nstart /a\nquanta 0:9\n",
+        options: &["--go-on", "--log"],
+        status: Status::Usage,
+        out: "",
+        report: "usage: flatc COMMAND WORDS\n",
+    },
+    Case {
         name: "a placement that there isn't",
         files: &[HI_FILE],
         manifest: "flat /a hi.flt\nstart /a\nquanta 0:9\n",

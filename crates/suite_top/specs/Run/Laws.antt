@@ -12,6 +12,7 @@ use Rattle.vfork_exec.specs.Keyed.{find}
 use Rattle.waits_laws.specs.Waits.{WaitsWell}
 use Rattle.waits_laws.specs.Laws.{WaitsOrLent}
 use Rattle.stays_laws.specs.Stays.{Stay, AreRight, stays, first_stays}
+use Rattle.flat_machine.specs.declared.machine.Mode.{Mode}
 use Rattle.flat_machine.specs.Runs.{repeated}
 use Rattle.suite_top.specs.declared.status.Status.{Status}
 use Rattle.suite_top.specs.declared.status.Status.TheVariants.{Done, HostRead, Refused, Stray, OutOfQuanta, LogFull, Stuck}
@@ -20,7 +21,7 @@ use Rattle.suite_top.specs.Ending.{Ending}
 use Rattle.suite_top.specs.Outcome.{load, Outcome, Inputs}
 use Rattle.suite_top.specs.HostCourse.{inputs_in}
 use Rattle.run_setup.specs.Brought.{Brought, nothing_brought, all_brought}
-use Rattle.suite_top.specs.Run.{manifest_limit, load_limit, files_limit, has_file, start_line, opening, world_ending, run_outcome}
+use Rattle.suite_top.specs.Run.{manifest_limit, load_limit, files_limit, has_file, start_line, opening, mode_ending, run_outcome}
 
 -- the file of a line that has one is there, and isn't longer than the limit of its load
 abbrev pub IsThere : Files → (left : ℕ) → Item → List ℕ → Bool → Type 0
@@ -48,11 +49,12 @@ pub record Opens (t : Files) (name : List ℕ) (kind : Kind) : Type 0 where
   pub world : World
   pub boots : boot (opening kind manifest brought) (map start_line manifest.starts) ≡ Ok world
 
--- the manifest is asked for, then the file of each line that has one, in order; and the turns from that world give the texts
-abbrev pub opened_outcome : {t : Files} {name : List ℕ} {kind : Kind} → (log : Bool) → Opens t name kind → Outcome
-opened_outcome {name = name} log o = record {
+-- the manifest is asked for, then the file of each line that has one, in order; and the turns from that world, or, of a run that goes on,
+-- those over one memory, give the texts
+abbrev pub opened_outcome : {t : Files} {name : List ℕ} {kind : Kind} → (log : Bool) → Mode → Opens t name kind → Outcome
+opened_outcome {name = name} log mode o = record {
   requests = load name ∷ map (λ i. load i.name) (filter (λ i. has_file i.kind) o.manifest.items);
-  ending = world_ending (Report log) (repeated o.manifest.repeat o.manifest.quanta) o.manifest.dumps o.world;
+  ending = mode_ending (Report log) mode (repeated o.manifest.repeat o.manifest.quanta) o.manifest.dumps o.brought.headers o.world;
 }
 
 -- the statuses of a machine that stopped
@@ -65,11 +67,11 @@ IsStop Stuck = Unit {0}
 IsStop other = ⊥
 
 abbrev pub RunsWhereItOpens : Type 0
-RunsWhereItOpens = (t : Files) (name : List ℕ) (log : Bool) (kind : Kind) (o : Opens t name kind) → run_outcome name log kind (inputs_in t) ≡ opened_outcome log o
+RunsWhereItOpens = (t : Files) (name : List ℕ) (log : Bool) (mode : Mode) (kind : Kind) (o : Opens t name kind) → run_outcome name log mode kind (inputs_in t) ≡ opened_outcome log mode o
 
 -- and in no other case a run ends with one of these
 abbrev pub OpensWhereItStops : Type 0
-OpensWhereItStops = (t : Files) (name : List ℕ) (log : Bool) (kind : Kind) → IsStop (run_outcome name log kind (inputs_in t)).ending.status → Opens t name kind
+OpensWhereItStops = (t : Files) (name : List ℕ) (log : Bool) (mode : Mode) (kind : Kind) → IsStop (run_outcome name log mode kind (inputs_in t)).ending.status → Opens t name kind
 
 -- it ends early: a load failed, or something was refused, and nothing goes to `out`
 abbrev pub IsEarly : Ending → Type 0
@@ -77,8 +79,8 @@ IsEarly ending = (ending.out ≡ []) × ((ending.status ≡ HostRead) ⊎ (endin
 
 -- a run reaches its machine or ends early, whatever its files are
 abbrev pub RunsStopOrEndEarly : Type 0
-RunsStopOrEndEarly = (name : List ℕ) (log : Bool) (kind : Kind) (inputs : Inputs)
-    → IsStop (run_outcome name log kind inputs).ending.status ⊎ IsEarly (run_outcome name log kind inputs).ending
+RunsStopOrEndEarly = (name : List ℕ) (log : Bool) (mode : Mode) (kind : Kind) (inputs : Inputs)
+    → IsStop (run_outcome name log mode kind inputs).ending.status ⊎ IsEarly (run_outcome name log mode kind inputs).ending
 
 -- ---- each process by itself
 

@@ -1,4 +1,5 @@
 //! Laws over every run. No code runs.
+ghost use Rattle.suite_top.specs.Run.Beside.{RunsGoOnWell};
 ghost use Rattle.suite_top.specs.Run.Laws.{RunsWhereItOpens, OpensWhereItStops, RunsStopOrEndEarly, RunsAreAsAlone, RunsWaitWell};
 ghost use Rattle.run_setup.specs.Originals.{OriginalsAreSame};
 
@@ -25,4 +26,10 @@ pub fn alone_law()
 /// that lives waits so, or stands still for its vfork child.
 pub fn waits_law()
     ensures { RunsWaitWell }
+{}
+
+/// With `--go-on` a run whose private spaces reach no stray access tells the same, but for dump lines of bytes that aren't all own; and
+/// one whose spaces do first tells what they noted, with the stray access, and what they wrote.
+pub fn go_on_law()
+    ensures { RunsGoOnWell }
 {}

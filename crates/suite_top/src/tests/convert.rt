@@ -92,7 +92,7 @@ fn faults_are_refused(rt: HostRuntime) -> Result<(), Fail> {
 /// Arguments that are no command.
 #[test]
 fn other_arguments_are_no_command(rt: HostRuntime) -> Result<(), Fail> {
-    let faulty: [&[&str]; 25] = [
+    let faulty: [&[&str]; 27] = [
         &[],
         &["--help"],
         &["Convert", "a.elf", "a.flt"],
@@ -112,6 +112,8 @@ fn other_arguments_are_no_command(rt: HostRuntime) -> Result<(), Fail> {
         &["run", "a.run", "--place", "best", "--log"],
         &["run", "a.run", "--log", "best"],
         &["run", "a.run", "--go-on", "--log"],
+        &["run", "a.run", "--go-on", "--go-on"],
+        &["run", "a.run", "--place", "best", "--go-on"],
         &["demo"],
         &["demo", "0"],
         &["demo", "65"],

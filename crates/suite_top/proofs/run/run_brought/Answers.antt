@@ -7,11 +7,12 @@ use Rattle.manifest_text.specs.Laws.{HasArgument}
 use Rattle.run_setup.specs.Brought.{FaultAt}
 use Rattle.run_setup.specs.Faults.{IsMemory}
 use Rattle.run_setup.specs.Making.{brought_value}
+use Rattle.flat_machine.specs.Runs.{repeated}
 use Rattle.suite_top.specs.Ending.{OrMemory}
 use Rattle.suite_top.specs.Answer.{ending_of}
 use Rattle.suite_top.specs.Run.{opening, fault_ending}
 use Rattle.suite_top.proofs.Opened.{each_got}
-use Rattle.suite_top.proofs.Booted.{no_event_yet, kind_stays, events_fit, booted, machine_events, machine_kind, boots_as, refused_as}
+use Rattle.suite_top.proofs.Booted.{no_event_yet, kind_stays, events_fit, booted, machine_events, machine_kind, ends_as, boots_as, refused_as}
 use Rattle.suite_top.proofs.run.run_brought.Goals as goal
 
 pub boot-requires-clause-args : goal.boot-requires-clause-args
@@ -23,21 +24,26 @@ boot-requires-clause-changes g c = λ id n is. omega (arith, c.requires.unchange
 
 pub run_machine-requires-clause-kind : goal.run_machine-requires-clause-kind
 run_machine-requires-clause-kind g c =
-    let is = booted _ _ c.in-Ok.ensures.world in
-    sym (sym (machine_kind _) ∙ kind_stays _ _ _ is)
+    let is = booted _ c.in-Ok.machine c.in-Ok.ensures.world in
+    sym (kind_stays _ _ _ is) ∙ machine_kind c.in-Ok.machine
 
 pub run_machine-requires-clause-events : goal.run_machine-requires-clause-events
 run_machine-requires-clause-events g c =
-    let is = booted _ _ c.in-Ok.ensures.world in
-    rw c.deref.ensures.value (events_fit (manifest_value c.args.manifest) c.requires.manifest _ (sym (machine_events _) ∙ no_event_yet _ _ _ is))
+    let is = booted _ c.in-Ok.machine c.in-Ok.ensures.world in
+    rw c.deref.ensures.value (events_fit (manifest_value c.args.manifest) c.requires.manifest _ (sym (machine_events c.in-Ok.machine) ∙ no_event_yet _ _ _ is))
 
 pub returns-in-Ok : goal.returns-in-Ok
 returns-in-Ok g c =
-    let ends = rw (c.deref.ensures.value, c.deref-in-Ok.ensures.value) at c.run_machine.ensures in
-    boots_as (opening (kind_of c.args.chooser.now) (manifest_value c.args.manifest) (brought_value c.args.files)) c.args.manifest.starts.items _ c.args.telling (manifest_value c.args.manifest) _ refl c.in-Ok.ensures.world ends
+    let halt = rw (c.deref.ensures.value, c.deref-in-Ok.ensures.value) at c.run_machine.ensures.halt in
+    let go_on = rw (c.deref.ensures.value, c.deref-in-Ok.ensures.value) at c.run_machine.ensures.go_on in
+    let m = manifest_value c.args.manifest in
+    let headers = (brought_value c.args.files).headers in
+    let ends = ends_as c.in-Ok.machine c.args.telling c.args.mode (repeated m.repeat m.quanta) m.dumps headers (ending_of c.run_machine.result) c.in-Ok.ensures.mode c.in-Ok.ensures.memory halt go_on in
+    boots_as (opening (kind_of c.args.chooser.now) m (brought_value c.args.files)) c.args.manifest.starts.items _ c.args.telling c.args.mode m headers _ refl c.in-Ok.ensures.world ends
 
 pub returns : goal.returns
 returns g c =
     let ends = subst (λ (at : FaultAt). OrMemory (fault_ending at) (ending_of c.refuse_line.result)) c.boot_fault.ensures c.refuse_line.ensures.ending in
-    refused_as (opening (kind_of c.args.chooser.now) (manifest_value c.args.manifest) (brought_value c.args.files)) c.args.manifest.starts.items _ c.args.telling (manifest_value c.args.manifest) _ refl c.in-Err.ensures.world ends
+    refused_as (opening (kind_of c.args.chooser.now) (manifest_value c.args.manifest) (brought_value c.args.files)) c.args.manifest.starts.items _ c.args.telling c.args.mode (manifest_value c.args.manifest) (brought_value c.args.files).headers _ refl
+    c.in-Err.ensures.world ends
     (λ is. c.refuse_line.ensures.memory (subst (λ (at : FaultAt). IsMemory at.fault) (sym c.boot_fault.ensures) is))

@@ -1,0 +1,67 @@
+-- A run that goes on, by the law that it is the run of private spaces up to its first stray access.
+use Rattle.std.proofs.Common.{◌≡◌, ◌≢◌, ℕ, ◌≤◌, List, [], ◌∷◌, ◌++◌, length, map, Option, Some, None, Result, Ok, Err, refl, sym, ap, subst, ◌∙◌, arith}
+use Rattle.std.specs.Prelude.{take, slice_get}
+use Rattle.byte_words.specs.ByteMap.{Bytes}
+use Rattle.rv32im_step.specs.declared.access.Access.{Access}
+use Rattle.call_log.specs.Sent.{Span, read_span}
+use Rattle.mmap_rules.specs.Space.{own_in}
+use Rattle.region_watch.specs.Private.{only}
+use Rattle.vfork_exec.specs.Keyed.{find}
+use Rattle.machine_world.specs.World.{LiveSpace, Process, World, pid_of, id_of}
+use Rattle.machine_world.specs.Turns.{End, Walk, all_ended, stuck, out_of_quanta, stray_at, log_full}
+use Rattle.physical_turns.specs.Physical.{Physical, shown_space, Walk as PhysicalWalk}
+use Rattle.physical_turns.specs.Courses.{IsShown}
+use Rattle.physical_turns.proofs.Sub.{span_sub}
+use Rattle.physical_turns.proofs.InMemory.{space_shows}
+use Rattle.physical_turns.proofs.Moves.{found_is_shown}
+use Rattle.go_on_laws.specs.Alike.{Stands}
+use Rattle.go_on_laws.specs.Laws.{GoesAlike}
+use Rattle.flat_machine.specs.OwnBytes.{read_or_none, bytes_in, bytes_of, own_bytes, bytes_for, memory_bytes}
+use Rattle.manifest_text.specs.declared.manifest.Dump.{Dump}
+use Rattle.suite_top.specs.Run.Beside.{RunsAlike, GoesOnWell}
+
+-- what is read of own bytes is read of memory
+read_on : (own : ℕ → _) (m : Bytes) (span : Span) (bytes : List ℕ) → read_or_none (read_span (only own m) span) ≡ Some bytes → read_or_none (read_span m span) ≡ Some bytes
+read_on own m span bytes is = found (read_span (only own m) span) refl is
+  where
+    found : (r : Result (List ℕ) Span) → read_span (only own m) span ≡ r → read_or_none r ≡ Some bytes → read_or_none (read_span m span) ≡ Some bytes
+    found (Ok read) same is = rw (span_sub own m span read same) is
+    found (Err stray) same is = absurd cc
+
+module _ (w : World) (p : Physical) (stands : Stands w p) (d : Dump) (bytes : List ℕ) where
+  shown_in : (q : Process) (o : Option LiveSpace) → find pid_of d.pid p.world.procs ≡ Some q → find id_of q.space p.world.spaces ≡ o → bytes_in d.addr d.len o ≡ Some bytes → bytes_for p d.addr d.len (Some q) ≡ Some bytes
+  shown_in q None lives none is = absurd cc
+  shown_in q (Some s) lives has is =
+      let shows : s.space.bytes ≡ only (own_in s.space.maps) p.memory = space_shows p.memory s (found_is_shown p d.pid q s lives has stands.shown) in
+      let span : Span = record { addr = d.addr; len = d.len } in
+      read_on (own_in s.space.maps) p.memory span bytes (ap (λ (m : Bytes). read_or_none (read_span m span)) (sym shows) ∙ is)
+
+  shown_of : (o : Option Process) → find pid_of d.pid p.world.procs ≡ o → bytes_of p.world d.addr d.len o ≡ Some bytes → bytes_for p d.addr d.len o ≡ Some bytes
+  shown_of None none is = absurd cc
+  shown_of (Some q) lives is = shown_in q (find id_of q.space p.world.spaces) lives refl is
+
+  pub shown_alike : own_bytes w d.pid d.addr d.len ≡ Some bytes → memory_bytes p d.pid d.addr d.len ≡ Some bytes
+  unfolding own_bytes memory_bytes
+  shown_alike is = shown_of (find pid_of d.pid p.world.procs) refl (ap (λ (v : World). own_bytes v d.pid d.addr d.len) stands.world ∙ is)
+
+alike_by : (private : Walk) (one : PhysicalWalk) → Stands private.world one.now → one.end ≡ private.end → RunsAlike private one
+alike_by private one stands end = record {
+  world = stands.world;
+  end = end;
+  shown = λ d bytes is. shown_alike private.world one.now stands d bytes is;
+}
+
+module _ (private : Walk) (one : PhysicalWalk) where
+  alike_at : (end : Option End) → private.end ≡ end → GoesAlike private.world one end → ((pid : ℕ) (access : Access) → end ≢ Some (stray_at pid access)) → RunsAlike private one
+  alike_at (Some (stray_at pid access)) is goes never = absurd (never pid access refl)
+  alike_at (Some all_ended) is goes never = alike_by private one goes.stands (goes.ends ∙ sym is)
+  alike_at (Some stuck) is goes never = alike_by private one goes.stands (goes.ends ∙ sym is)
+  alike_at (Some out_of_quanta) is goes never = alike_by private one goes.stands (goes.ends ∙ sym is)
+  alike_at (Some log_full) is goes never = alike_by private one goes.stands (goes.ends ∙ sym is)
+  alike_at None is goes never = alike_by private one goes.stands (goes.ends ∙ sym is)
+
+  pub goes_on_well : GoesAlike private.world one private.end → GoesOnWell private one
+  goes_on_well goes = record {
+    alike = λ never. alike_at private.end refl goes never;
+    past = λ pid access is. subst (GoesAlike private.world one) is goes;
+  }
