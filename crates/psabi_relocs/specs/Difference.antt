@@ -1,6 +1,8 @@
 -- What the entries of a group compute on their number. RISC-V ELF psABI, "Relocations": ADD is V + S + A, SUB is V - S - A and
 -- SET is S + A, each on the bits that its type names; V is the number that the entries before have left. A number of ULEB128
--- form has seven bits a byte ("Unsigned LEB128", DWARF 5, section 7.6). ADD64 and SUB64 aren't in this project's table.
+-- form has seven bits a byte ("Unsigned LEB128", DWARF 5, section 7.6). ADD64 and SUB64 aren't in this project's table. It is the
+-- number of one width at one place: an entry of another width, or at a place that overlaps, may change the same bytes, and this
+-- number knows nothing of it.
 use Rattle.std.specs.Prelude.{ℕ, zero, suc, ◌+◌, ◌-◌, ◌*◌, ◌%◌, ◌^◌, ◌==◌, List, if◌then◌else◌}
 use Rattle.elf32_reader.specs.Relas.{rela_count}
 use Rattle.psabi_relocs.specs.declared.reloc.Reloc.{Reloc}

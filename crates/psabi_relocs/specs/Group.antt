@@ -1,9 +1,9 @@
 -- Groups. A group is all entries of one section with the same place and the same width. Its sum starts at 0 and takes the
 -- entries in order: ADD of a moving symbol adds 1, SUB of one subtracts 1, SET makes it 1 for a moving symbol and 0 for any
 -- other (fixed, weak, undefined or bad), of which ADD and SUB change nothing. The group is balanced if its sum ends at 0:
--- then the difference of symbols in its bytes is the same at every base (Laws.antt). This is this project's own rule; the
--- types are those of the RISC-V ELF psABI, "Relocations", whose arithmetic is in Difference.antt: no code computes it, and
--- the bytes of a group stay as they were linked.
+-- then the number that its entries compute is the same at every base (Laws.antt), and so are its bytes where no entry of another
+-- width, or at an overlapping place, meets them. This is this project's own rule; the types are those of the RISC-V ELF psABI,
+-- "Relocations", whose arithmetic is in Difference.antt: no code computes it, and the bytes of a group stay as they were linked.
 use Rattle.std.specs.Prelude.{ℕ, zero, suc, ◌+◌, Bool, ◌==◌, List, if◌then◌else◌}
 use Rattle.psabi_relocs.specs.declared.reloc.Reloc.{Reloc}
 use Rattle.psabi_relocs.specs.declared.row.Row.{Row}
