@@ -89,7 +89,7 @@ abbrev pub opened_stays : {t : Files} {name : List ℕ} {kind : Kind} → Opens 
 opened_stays {kind = kind} o =
     stays (first_stays (empty_world (opening kind o.manifest o.brought)) (map start_line o.manifest.starts)) o.world (repeated o.manifest.repeat o.manifest.quanta)
 
--- the world behind the turns, from which all texts are told
+-- the world behind the turns, from which without `--go-on` all texts are told
 abbrev pub opened_end : {t : Files} {name : List ℕ} {kind : Kind} → Opens t name kind → World
 opened_end o = (turns (repeated o.manifest.repeat o.manifest.quanta) o.world).world
 
