@@ -1,0 +1,2 @@
+-- Laws  how a process ends is how its program ends alone
+pub mod Laws
