@@ -10,6 +10,7 @@
 -- Done    an event of a process that lives is made
 -- Walks   turns and runs
 -- Boots   the opening world
+-- Refused what a refused call leaves of memory
 pub mod Pages
 pub mod Behind
 pub mod Writes
@@ -22,3 +23,4 @@ pub mod Events
 pub mod Done
 pub mod Walks
 pub mod Boots
+pub mod Refused

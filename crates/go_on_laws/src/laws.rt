@@ -1,5 +1,6 @@
-//! A law over the definitions. It holds for all worlds, and no code runs.
+//! Laws over the definitions. They hold for all worlds, and no code runs.
 
+ghost use Rattle.go_on_laws.specs.Refusals.{RefusalsLeaveMemory, RefusedEventsLeaveMemory};
 ghost use Rattle.go_on_laws.specs.Laws.{BootsGoOn, BootsNoteNoStray, EventsGoOn, FullEventsGoOn, TurnsGoOn, RunsGoOn};
 
 /// Up to its first stray access a run that goes on is the run of private spaces: the one memory stands for the world at boot, and behind
@@ -12,4 +13,11 @@ pub fn go_on_law()
     ensures full { FullEventsGoOn }
     ensures turns { TurnsGoOn }
     ensures runs { RunsGoOn }
+{}
+
+/// A system call that is refused in the one memory changes its caller's a0 and pc, the notes and the count of events, and nothing else: no
+/// byte of memory, no other process, no file. Its event may note the run's first stray access beside it.
+pub fn refused_in_memory_law()
+    ensures calls { RefusalsLeaveMemory }
+    ensures events { RefusedEventsLeaveMemory }
 {}
