@@ -11,6 +11,7 @@
 -- Walks   turns and runs
 -- Boots   the opening world
 -- Refused what a refused call leaves of memory
+-- Marked  no mark is left
 pub mod Pages
 pub mod Behind
 pub mod Writes
@@ -24,3 +25,4 @@ pub mod Done
 pub mod Walks
 pub mod Boots
 pub mod Refused
+pub mod Marked

@@ -1,5 +1,6 @@
 //! Laws over the definitions. They hold for all worlds, and no code runs.
 
+ghost use Rattle.go_on_laws.specs.Marks.{OpeningsHaveNoMark, EventsHaveNoMark, TurnsHaveNoMark, RunsHaveNoMark};
 ghost use Rattle.go_on_laws.specs.Refusals.{RefusalsLeaveMemory, RefusedEventsLeaveMemory};
 ghost use Rattle.go_on_laws.specs.Laws.{BootsGoOn, BootsNoteNoStray, EventsGoOn, FullEventsGoOn, TurnsGoOn, RunsGoOn};
 
@@ -20,4 +21,13 @@ pub fn go_on_law()
 pub fn refused_in_memory_law()
     ensures calls { RefusalsLeaveMemory }
     ensures events { RefusedEventsLeaveMemory }
+{}
+
+/// Between two events no pipe is marked over one memory either: in the opening world if it was so in the world of private spaces, and
+/// behind every event, turn and run that finds it so, before the first stray access and behind it.
+pub fn marks_in_memory_law()
+    ensures openings { OpeningsHaveNoMark }
+    ensures events { EventsHaveNoMark }
+    ensures turns { TurnsHaveNoMark }
+    ensures runs { RunsHaveNoMark }
 {}
