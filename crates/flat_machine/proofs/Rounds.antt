@@ -15,7 +15,7 @@ use Rattle.machine_world.specs.Turns.{End, Walk, none_runs, turn, turns, walked}
 use Rattle.machine_world.specs.Programs.{AreLoaded, LoadsPrograms}
 use Rattle.machine_world.proofs.Loads.{turn_loads_programs}
 use Rattle.machine_world.specs.Courses.{Comes}
-use Rattle.machine_world.proofs.RunLaws.{comes_on, none_chosen, turn_stops, turn_comes, none_left}
+use Rattle.machine_world.proofs.RunLaws.{comes_none, comes_on, none_chosen, none_left, turn_stops, turn_comes}
 use Rattle.flat_machine.specs.declared.run.End.{End as Told}
 use Rattle.flat_machine.specs.declared.run.End.TheVariants as told
 use Rattle.stays_laws.specs.Stays.{AreRight, stays}
@@ -57,7 +57,7 @@ module _ (q : Quantum) (w : World) where
       back = [];
       are = refl;
       before = w;
-      reached = ap (λ (v : Walk). v.world) (none_left w);
+      reached = comes_none w;
       pid = pid;
       chosen = chosen;
       done = done;
@@ -106,7 +106,7 @@ leaves_front front more old mid new (Err error) comes x = record {
   back = x.back;
   are = ap (λ qs. front ++ qs) x.are ∙ sym (append_assoc front x.front (x.quantum ∷ x.back));
   before = x.before;
-  reached = ap (λ (v : Walk). v.world) (comes.on x.front) ∙ x.reached;
+  reached = comes_on front x.front old mid x.before comes x.reached;
   pid = x.pid;
   chosen = x.chosen;
   done = x.done;

@@ -1,13 +1,15 @@
 -- Who waits in a machine's world waits well, and why where a run is stuck.
 pub use Rattle.waits_laws.proofs.Boots.{boots_wait_well}
-use Rattle.std.proofs.Common.{◌≡◌, ℕ, List, Option, Some, None, Result, Ok, Err, refl, sym, subst}
+use Rattle.std.proofs.Common.{◌≡◌, ℕ, List, [], Option, Some, None, Result, Ok, Err, refl, sym, ap, subst, ◌∙◌, append-nil}
 use Rattle.std.specs.declared.alloc.AllocError.{AllocError}
 use Rattle.quantum_sched.specs.declared.Quantum.{Quantum}
 use Rattle.vfork_exec.specs.Keyed.{find}
 use Rattle.machine_world.specs.World.{World, Process, pid_of}
-use Rattle.machine_world.specs.Turns.{End, all_ended, stuck, out_of_quanta, stray_at, log_full, turn, turns}
+use Rattle.machine_world.specs.Turns.{End, all_ended, stuck, out_of_quanta, stray_at, log_full, Walk, turn, turns}
 use Rattle.machine_world.specs.Families.{MayRun}
+use Rattle.machine_world.specs.Courses.{Comes}
 use Rattle.machine_world.proofs.Runnable.{ready_found}
+use Rattle.machine_world.proofs.RunLaws.{none_left}
 use Rattle.machine_world.proofs.OrderKept.{turns_keep_order, runs_keep_order}
 use Rattle.machine_world.proofs.Marks.{turns_leave_no_mark, runs_leave_no_mark}
 use Rattle.stays_laws.proofs.SoundRuns.{turns_keep_sound, runs_keep_sound}
@@ -36,11 +38,17 @@ turn_keeps_ordered n pid w may ordered = record {
   unmarked = turns_leave_no_mark n pid w ordered.unmarked;
 }
 
+-- the world behind quanta that are all gone through
+comes_to : (front : List Quantum) (old new : World) → Comes front old new → (turns front old).world ≡ new
+comes_to front old new comes =
+    ap (λ qs. (turns qs old).world) (sym (append-nil front)) ∙ ap (λ (v : Walk). v.world) (comes.on []) ∙ ap (λ (v : Walk). v.world) (none_left new)
+
 -- out of memory, within a turn
 stops_keep : (qs : List Quantum) (old new : World) → Stops qs old new → IsOrdered old → WaitsWell old → IsOrdered new × WaitsWell new
 stops_keep qs old new x ordered well =
-    let order : IsOrdered x.before = subst IsOrdered x.reached (runs_keep_ordered x.front old ordered) in
-    let waits : WaitsWell x.before = subst WaitsWell x.reached (runs_keep_waits x.front old ordered well) in
+    let reached = comes_to x.front old x.before x.reached in
+    let order : IsOrdered x.before = subst IsOrdered reached (runs_keep_ordered x.front old ordered) in
+    let waits : WaitsWell x.before = subst WaitsWell reached (runs_keep_waits x.front old ordered well) in
     let may : MayRun x.before x.pid = ready_found x.before.procs x.before.next_pid x.quantum.pick x.pid x.chosen order.sound.pids in
     subst (λ (w : World). IsOrdered w × WaitsWell w) x.walked (turn_keeps_ordered x.done x.pid x.before may order, turns_keep_waits x.done x.pid x.before order waits may)
 

@@ -10,6 +10,7 @@ use Rattle.quantum_sched.specs.Picked.{picked}
 use Rattle.vfork_exec.specs.Keyed.{find}
 use Rattle.machine_world.specs.World.{World, Process, LiveSpace, pid_of, id_of}
 use Rattle.machine_world.specs.Families.{ready_pids}
+use Rattle.machine_world.specs.Courses.{Comes}
 use Rattle.machine_world.specs.Turns.{End, all_ended, stuck, out_of_quanta, stray_at, log_full, turn, turns}
 use Rattle.stays_laws.specs.Stays.{Stay, AreRight, stays}
 use Rattle.waits_laws.specs.Waits.{WaitsWell}
@@ -46,9 +47,9 @@ pub record Stops (quanta : List Quantum) (old new : World) : Type 0 where
   pub quantum : Quantum
   pub back : List Quantum
   pub are : quanta ≡ front ++ quantum ∷ back
-  -- the world when that turn begins
+  -- where that turn begins
   pub before : World
-  pub reached : (turns front old).world ≡ before
+  pub reached : Comes front old before
   pub pid : ℕ
   pub chosen : picked quantum.pick (ready_pids before.procs) ≡ Some pid
   pub done : ℕ
