@@ -1,17 +1,23 @@
 -- A turn in the one memory, by its events.
 use Rattle.std.proofs.Common.{◌≡◌, ◌≢◌, ℕ, ◌+◌, ◌<◌, inl, Bool, true, false, List, [], length, Some, None, Ok, Err, refl, sym, ap, subst, ◌∙◌}
+use Rattle.std.specs.Prelude.{if◌then◌else◌}
 use Rattle.std.specs.declared.alloc.AllocError.{AllocError}
+use Rattle.byte_words.specs.ByteMap.{Bytes}
 use Rattle.rv32im_step.specs.declared.access.Access.{Access}
+use Rattle.rv32im_step.specs.declared.regs.Regs.{Regs}
 use Rattle.rv32im_step.specs.declared.stop.Stop.{Stop}
 use Rattle.rv32im_step.specs.declared.stop.Stop.TheVariants.{Next, Call, Trap, Refused}
+use Rattle.rv32im_step.specs.Meaning.{Meaning, next, meaning}
 use Rattle.page_runs.specs.declared.place.Kind.{Kind}
 use Rattle.bflt_format.specs.Values.{Values}
+use Rattle.mmap_rules.specs.Space.{Space, writable_in}
 use Rattle.vfork_exec.specs.Procs.{CanRun}
-use Rattle.machine_world.specs.World.{World}
+use Rattle.machine_world.specs.World.{World, Process}
 use Rattle.machine_world.specs.Families.{MayRun}
 use Rattle.machine_world.specs.Event.{Outcome, went, strays, full, idle, event}
 use Rattle.machine_world.specs.Turns.{log_full}
-use Rattle.physical_turns.specs.Physical.{Physical, After as Outcome_in, after as goes, no_room, nobody, has_stray, physical_event, physical_turn, stays_at}
+use Rattle.machine_world.specs.Courses.{EndsAs, StandsAt}
+use Rattle.physical_turns.specs.Physical.{Physical, After as Outcome_in, after as goes, no_room, nobody, has_stray, next_meaning, physical_event, physical_turn, stays_at}
 use Rattle.physical_turns.specs.Courses.{LeadsIn, StandsIn}
 use Rattle.physical_turns.specs.Growth.{AfterHas, Adds, LeavesPrograms}
 use Rattle.physical_turns.proofs.Growth.{events_add, events_leave_programs}
@@ -27,7 +33,7 @@ use Rattle.flat_machine.specs.declared.run.End.TheVariants as told
 use Rattle.flat_machine.specs.declared.turn.After.TheVariants as after
 use Rattle.flat_machine.specs.State.{is_whole}
 use Rattle.flat_machine.specs.Leaves.{Carried}
-use Rattle.flat_machine.specs.LeavesIn.{CarriedIn, CarriedWithin, StraysIn, StandsWithin, HaltsWithin, TurnEndsIn, TurnStopsIn, TurnLeavesIn, reach_behind}
+use Rattle.flat_machine.specs.LeavesIn.{CarriedIn, CarriedWithin, StraysIn, StandsWithin, HaltsWithin, TurnEndsIn, step_within, StandsStillIn, TurnStopsIn, TurnLeavesIn, reach_behind}
 use Rattle.flat_machine.proofs.Abouts.{some_about, about_with, some_are_flats}
 use Rattle.flat_machine.proofs.Picks.{can_run, may_run}
 use Rattle.flat_machine.proofs.NotedIn.{went_quiet, adds_stray}
@@ -64,6 +70,46 @@ module _ (reach : Reach) (now : Kept) (pid most done : ℕ) (stop : Stop) (other
   pub standing : (headers : List (List ℕ)) (a : About) → StandsWithin reach (physical_of headers a now) pid stop
   standing headers a =
       stands_within reach headers (later done a) a now pid stop (at_within reach (physical_of headers (later done a) now) pid most done stop other (halts headers a)).1
+
+-- ---- what isn't carried out
+
+not_next : (means : Meaning) (stop : Stop) → EndsAs means stop → (regs : Regs) (bytes : Bytes) → means ≢ next regs bytes
+not_next means Next ends regs bytes is = absurd ends
+not_next means Call ends regs bytes is = let e = sym ends ∙ is in cc
+not_next means (Trap signal) ends regs bytes is = let e = sym ends ∙ is in cc
+not_next means (Refused access) ends regs bytes is = let e = sym ends ∙ is in cc
+
+pub step_own : (p : Physical) (q : Process) (s : Space) → has_stray p.world.notes ≡ false → step_within p q s ≡ meaning q.regs s.bytes (writable_in s.maps)
+step_own p q s quiet = ap (λ (was : Bool). if was then next_meaning p q else meaning q.regs s.bytes (writable_in s.maps)) quiet
+
+step_whole : (p : Physical) (q : Process) (s : Space) → has_stray p.world.notes ≡ true → step_within p q s ≡ next_meaning p q
+step_whole p q s noted = ap (λ (was : Bool). if was then next_meaning p q else meaning q.regs s.bytes (writable_in s.maps)) noted
+
+still_own : (p : Physical) (pid : ℕ) (stop : Stop) → has_stray p.world.notes ≡ false → StandsAt p.world pid stop → StandsStillIn p pid
+still_own p pid stop quiet s = record {
+  process = s.process;
+  space = s.space;
+  lives = s.lives;
+  has = s.has;
+  still = λ regs bytes is.
+      not_next (meaning s.process.regs s.space.space.bytes (writable_in s.space.space.maps)) stop s.means regs bytes (sym (step_own p s.process s.space.space quiet) ∙ is);
+}
+
+still_whole : (p : Physical) (pid : ℕ) (stop : Stop) → has_stray p.world.notes ≡ true → StandsIn p pid stop → StandsStillIn p pid
+still_whole p pid stop noted s = record {
+  process = s.process;
+  space = s.space;
+  lives = s.lives;
+  has = s.has;
+  still = λ regs bytes is. not_next (next_meaning p s.process) stop s.means regs bytes (sym (step_whole p s.process s.space.space noted) ∙ is);
+}
+
+-- within reach it stands still
+pub still_within : (reach : Reach) (headers : List (List ℕ)) (a : About) (k : Kept) (pid : ℕ) (stop : Stop) → has_stray k.notes ≡ is_whole reach → (reach ≡ Own → StandsAt (world_of a k) pid stop)
+    → StandsWithin reach (physical_of headers a k) pid stop → StandsStillIn (physical_of headers a k) pid
+unfolding physical_of world_of
+still_within Own headers a k pid stop strayed own within = still_own (physical_of headers a k) pid stop strayed (own refl)
+still_within Whole headers a k pid stop strayed own within = still_whole (physical_of headers a k) pid stop strayed within
 
 -- ---- behind so many events of a process
 
@@ -329,12 +375,13 @@ module _ (kind : Kind) (flats : List Values) (reach : Reach) (pid : ℕ) (old mi
       same Whole x = x
 
   pub turn_fails_in : (n count : ℕ) → n < count → ReachedIn kind flats pid old n mid → (error : AllocError) → new ≡ mid
-      → (a : About) → a.kind ≡ kind → AreFlats a.programs flats
+      → ((a : About) → StandsStillIn (physical_of (headers_of flats) a mid) pid) → (a : About) → a.kind ≡ kind → AreFlats a.programs flats
       → TurnLeavesIn reach pid count (physical_of (headers_of flats) a old) n (physical_of (headers_of flats) (later n a) new) (Err error)
-  turn_fails_in n count less reached error same a so are = as_error reach (physical_of (headers_of flats) a old) (physical_of (headers_of flats) (later n a) new) (record {
+  turn_fails_in n count less reached error same still a so are = as_error reach (physical_of (headers_of flats) a old) (physical_of (headers_of flats) (later n a) new) (record {
     less = less;
     at = physical_of (headers_of flats) (later n a) mid;
     walked = turn_in_used pid (physical_of (headers_of flats) a old) (physical_of (headers_of flats) (later n a) mid) n (reached a so are);
+    still = still (later n a);
     stands = inl (ap (physical_of (headers_of flats) (later n a)) same);
   })
     where

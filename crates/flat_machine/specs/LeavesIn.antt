@@ -1,16 +1,21 @@
 -- What the next event, a turn and the turns of some quanta leave in the one memory.
-use Rattle.std.specs.Prelude.{◌≡◌, ◌⊎◌, ℕ, ◌<◌, Bool, true, false, List, ◌∷◌, ◌++◌, Option, Some, None, Result, Ok, Err}
+use Rattle.std.specs.Prelude.{◌≡◌, ◌≢◌, ◌⊎◌, ℕ, ◌<◌, if◌then◌else◌, Bool, true, false, List, ◌∷◌, ◌++◌, Option, Some, None, Result, Ok, Err}
 use Rattle.std.specs.declared.alloc.AllocError.{AllocError}
+use Rattle.byte_words.specs.ByteMap.{Bytes}
 use Rattle.rv32im_step.specs.declared.access.Access.{Access}
+use Rattle.rv32im_step.specs.declared.regs.Regs.{Regs}
 use Rattle.rv32im_step.specs.declared.stop.Stop.{Stop}
 use Rattle.rv32im_step.specs.declared.stop.Stop.TheVariants.{Next, Refused}
+use Rattle.rv32im_step.specs.Meaning.{Meaning, next, meaning}
+use Rattle.mmap_rules.specs.Space.{Space, writable_in}
 use Rattle.quantum_sched.specs.declared.Quantum.{Quantum}
 use Rattle.quantum_sched.specs.Picked.{picked}
+use Rattle.vfork_exec.specs.Keyed.{find}
 use Rattle.vfork_exec.specs.Procs.{CanRun}
 use Rattle.machine_world.specs.Families.{ready_pids}
-use Rattle.machine_world.specs.World.{World}
+use Rattle.machine_world.specs.World.{World, Process, LiveSpace, pid_of, id_of}
 use Rattle.machine_world.specs.Turns.{End, Walk, stray_at, log_full, turns}
-use Rattle.physical_turns.specs.Physical.{Physical, After as Outcome, after as goes, no_room, has_stray, first_stray, with_stray, physical_event, physical_turn, physical_turns}
+use Rattle.physical_turns.specs.Physical.{Physical, After as Outcome, after as goes, no_room, has_stray, next_meaning, first_stray, with_stray, physical_event, physical_turn, physical_turns}
 use Rattle.physical_turns.specs.Courses.{LeadsIn, ComesIn, StandsIn}
 use Rattle.physical_turns.specs.Growth.{Adds}
 use Rattle.syscall_layer.specs.declared.reach.Reach.{Reach}
@@ -64,11 +69,25 @@ HaltsWithin reach p pid most done stop = (done < most) × StandsWithin reach p p
 abbrev pub TurnEndsIn : ℕ → ℕ → Physical → Physical → Option End → Type 0
 TurnEndsIn pid count old new end = physical_turn count pid old ≡ record { now = new; end = end }
 
--- out of memory it stands behind some of its events, and maybe behind the note of the next one's stray access
+-- a process's next step: within its own bytes up to the run's first stray access, and behind it over all of memory
+abbrev pub step_within : Physical → Process → Space → Meaning
+step_within p q s = if has_stray p.world.notes then next_meaning p q else meaning q.regs s.bytes (writable_in s.maps)
+
+-- the next instruction of a process isn't carried out: it makes a call, traps, or strays
+pub record StandsStillIn (p : Physical) (pid : ℕ) : Type 0 where
+  pub process : Process
+  pub space : LiveSpace
+  pub lives : find pid_of pid p.world.procs ≡ Some process
+  pub has : find id_of process.space p.world.spaces ≡ Some space
+  pub still : (regs : Regs) (bytes : Bytes) → step_within p process space.space ≢ next regs bytes
+
+-- out of memory it stands behind some of its events, and maybe behind the note of the next one's stray access; that one isn't an
+-- instruction that is carried out
 pub record TurnStopsIn (pid count : ℕ) (old : Physical) (done : ℕ) (new : Physical) : Type 0 where
   pub less : done < count
   pub at : Physical
   pub walked : physical_turn done pid old ≡ record { now = at; end = None }
+  pub still : StandsStillIn at pid
   pub stands : (new ≡ at) ⊎ StraysIn pid at new
 
 -- up to the run's first stray access, which is noted and not yet carried out

@@ -192,6 +192,7 @@ impl Machine {
         requires kind { kind_of chooser.now ≡ self.old.kind }
         requires events { self.old.events + count * sum_by (λ q. q.count) quanta.now < 2 ^ 64 }
         ensures mode { self.new.mode ≡ self.old.mode }
+        ensures events { self.new.events ≤ self.old.events + count * sum_by (λ q. q.count) quanta.now }
         ensures turns { IsHalting self.old → Runs (repeated count quanta.now) self.old self.new result }
         ensures memory { self.old.mode ≡ GoOn → RunsIn (repeated count quanta.now) self.old self.new result }
         ensures first { self.old.mode ≡ GoOn → has_stray (world self.old).notes ≡ false → GoesOn (repeated count quanta.now) self.old self.new result }

@@ -10,7 +10,7 @@ use Rattle.syscall_layer.specs.Reach.{whole_table}
 use Rattle.flat_machine.specs.declared.run.End.TheVariants.{Stray}
 use Rattle.flat_machine.proofs.Abouts.{some_about}
 use Rattle.flat_machine.proofs.Turned.{reached_none, reached_on, halts_stands, turn_all, turn_ends, turn_stops, turn_fails}
-use Rattle.flat_machine.proofs.TurnsIn.{all_within, less_within, standing, reached_in_none, reached_in_on, continues, ends_notes, ends_regions, turn_ends_in, is_stopped, turn_stops_in, fails_same, turn_fails_in, turn_all_in}
+use Rattle.flat_machine.proofs.TurnsIn.{all_within, less_within, standing, reached_in_none, reached_in_on, continues, ends_notes, ends_regions, turn_ends_in, is_stopped, turn_stops_in, fails_same, still_within, turn_fails_in, turn_all_in}
 use Rattle.flat_machine.proofs.turn.turn.Goals as goal
 
 pub loop-events-init : goal.loop-events-init
@@ -211,6 +211,9 @@ returns-in-Err-clause-memory g c =
     turn_fails_in (kind_of c.args.chooser.now) c.args.programs.now c.args.reach c.args.pid c.args.parts.now c.advance-progress.new.parts c.next_event.new.parts (c.loop-events.events + c.advance-progress.result.done) c.args.count (omega arith)
     (reached_in_on (kind_of c.args.chooser.now) c.args.programs.now c.args.pid c.args.parts.now c.loop-events.parts c.advance-progress.new.parts c.loop-events.events c.advance-progress.result.done c.loop-events.invariant.leads_in
     (λ b same are. c.advance-progress.ensures.leads_in (headers_of c.args.programs.now) b)) c.in-Err.error same
+    (λ b. still_within c.args.reach (headers_of c.args.programs.now) b c.advance-progress.new.parts c.args.pid c.advance-progress.result.stop (ap has_stray c.advance-progress.ensures.notes ∙ c.loop-events.invariant.notes)
+    (λ own. halts_stands c.advance-progress.new.parts c.args.pid (c.args.count - c.loop-events.events) c.advance-progress.result.done c.advance-progress.result.stop other (c.advance-progress.ensures.halts own) b)
+    (standing c.args.reach c.advance-progress.new.parts c.args.pid (c.args.count - c.loop-events.events) c.advance-progress.result.done c.advance-progress.result.stop other c.advance-progress.ensures.halts_in (headers_of c.args.programs.now) b))
 
 pub returns-clause-leaves : goal.returns-clause-leaves
 returns-clause-leaves g c own =
