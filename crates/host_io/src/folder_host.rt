@@ -14,10 +14,10 @@ use std::rt::Files;
 ///
 /// A store writes a new file in the folder of its target, flushes it to the disk and renames it over
 /// the target. So after `Failed` the old file is as it was; the new one is removed, if the system
-/// lets it. The new file has the access bits of the old one. A target that may not be written is
-/// `Failed`, and so is a symbolic link to a plain file, or to none, since a store changes the file of
-/// one name alone. A hard link's other names keep the old file. A target that is no plain file, such
-/// as a device or a pipe, is written straight, and keeps what it took.
+/// lets it. The new file has the access bits of the old one, or those of any new file. A target that
+/// may not be written is `Failed`, and so is a symbolic link to a plain file, or to none, since a
+/// store changes the file of one name alone. A hard link's other names keep the old file. A target
+/// that is no plain file, such as a device or a pipe, is written straight, and keeps what it took.
 #[derive(Drop)]
 pub struct FolderHost<R: Files> {
     files: R,

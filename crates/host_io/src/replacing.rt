@@ -111,7 +111,7 @@ fn make_beside<R: Files>(
 }
 
 /// A name in the folder of this name. It is short, whatever the name's own length.
-fn name_beside(
+pub(crate) fn name_beside(
     alloc: Global,
     program: &str,
     name: &str,

@@ -7,6 +7,7 @@ use std::process::Abort;
 mod broken_files;
 mod folder;
 mod memory;
+mod names;
 mod reading;
 mod streams;
 

@@ -13,7 +13,7 @@ use suite_top::Placements;
 /// A process with these arguments, the first of which is its name.
 #[derive(Drop)]
 struct Arguments {
-    all: &'static [&'static str],
+    all: &'static [&'static [u8]],
 }
 
 impl Env for Arguments {
@@ -21,12 +21,11 @@ impl Env for Arguments {
         let Some(word) = self.all.get(i) else {
             return Err(FillError::NotPresent);
         };
-        let bytes = word.as_bytes();
-        if bytes.len() > buf.len() {
+        if word.len() > buf.len() {
             return Err(FillError::TooLong);
         }
-        buf[..bytes.len()].copy_from_slice(bytes);
-        Ok(bytes.len())
+        buf[..word.len()].copy_from_slice(word);
+        Ok(word.len())
     }
 
     fn var(&self, _name: &str, _buf: &mut [u8]) -> Result<usize, FillError> {
@@ -40,39 +39,55 @@ impl Env for Arguments {
 
 #[test]
 fn all_but_the_name_are_read(rt: HostRuntime) -> Result<(), Fail> {
-    let rows: [&'static [&'static str]; 4] = [
+    let rows: [&'static [&'static [u8]]; 4] = [
         &[
-            "flatc", "convert", "a.elf", "a.flt", "--stack", "4096", "", "more",
+            b"flatc", b"convert", b"a.elf", b"a.flt", b"--stack", b"4096", b"", b"more",
         ],
-        &["flatc", "--help"],
-        &["flatc"],
+        &[b"flatc", b"--help"],
+        &[b"flatc"],
         &[],
     ];
     for all in rows {
         let words = read_arguments(&(Arguments { all }, rt.alloc()))?;
         assert_eq!(rt; words.len(), all.len().saturating_sub(1));
         for (word, want) in words.iter().zip(all.iter().skip(1)) {
-            assert_eq!(rt; word.as_str(), *want);
+            assert_eq!(rt; word.as_bytes(), *want);
         }
     }
     Ok(())
 }
 
 #[test]
-fn arguments_that_are_no_text_are_no_command(rt: HostRuntime) -> Result<(), Fail> {
+fn arguments_that_are_not_read_are_no_command(rt: HostRuntime) -> Result<(), Fail> {
     let alloc = rt.alloc();
-    let mut host = MemHost::new(alloc)?;
-    let mut out = MemSink::new(alloc)?;
-    let mut report = MemSink::new(alloc)?;
-    let words = Err(io::Error::from(io::ErrorKind::InvalidData));
+    let no_text = Arguments {
+        all: &[b"flatc", b"check", b"\xff"],
+    };
+    let rows = [
+        (
+            read_arguments(&(no_text, alloc)),
+            1,
+            b"usage: flatc COMMAND WORDS\n".as_slice(),
+        ),
+        (
+            Err(io::Error::from(io::ErrorKind::OutOfMemory)),
+            8,
+            b"memory\n",
+        ),
+    ];
     let place = Placements {
         first: Chooser::new(Kind::First, |runs: &[Run], need: u32| first_fit(runs, need)),
         best: Chooser::new(Kind::Best, |runs: &[Run], need: u32| best_fit(runs, need)),
         last: Chooser::new(Kind::Last, |runs: &[Run], need: u32| last_fit(runs, need)),
     };
-    let code = end(alloc, words, &mut host, &mut out, &mut report, &place);
-    assert_eq!(rt; code == ExitCode::from(1), true);
-    assert_eq!(rt; out.bytes(), b"".as_slice());
-    assert_eq!(rt; report.bytes(), b"usage: flatc COMMAND WORDS\n".as_slice());
+    for (words, want, line) in rows {
+        let mut host = MemHost::new(alloc)?;
+        let mut out = MemSink::new(alloc)?;
+        let mut report = MemSink::new(alloc)?;
+        let code = end(alloc, words, &mut host, &mut out, &mut report, &place);
+        assert_eq!(rt; code == ExitCode::from(want), true, "{want}");
+        assert_eq!(rt; out.bytes(), b"".as_slice(), "{want}");
+        assert_eq!(rt; report.bytes(), line, "{want}");
+    }
     Ok(())
 }

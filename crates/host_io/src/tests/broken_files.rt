@@ -36,11 +36,13 @@ fn try_step(broken: Step, step: Step) -> io::Result<()> {
     Ok(())
 }
 
-/// A real file, at which one step fails.
+/// A real file that takes at most two bytes a write, and at which one step fails: of the writes the
+/// second one.
 #[derive(Drop)]
 pub(super) struct BrokenFile {
     real: File,
     broken: Step,
+    is_begun: bool,
 }
 
 impl Read for BrokenFile {
@@ -51,8 +53,11 @@ impl Read for BrokenFile {
 
 impl Write for BrokenFile {
     fn write(&mut self, buf: &[u8]) -> io::Result<usize> {
-        try_step(self.broken, Step::Write)?;
-        self.real.write(buf)
+        if self.is_begun {
+            try_step(self.broken, Step::Write)?;
+        }
+        self.is_begun = true;
+        self.real.write(&buf[..buf.len().min(2)])
     }
 
     fn flush(&mut self) -> io::Result<()> {
@@ -99,6 +104,7 @@ impl Files for BrokenFiles {
         Ok(BrokenFile {
             real: how.open(&self.real, path)?,
             broken: self.broken,
+            is_begun: false,
         })
     }
 

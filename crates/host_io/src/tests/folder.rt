@@ -53,15 +53,14 @@ fn folder_host_loads(rt: HostRuntime) -> Result<(), Fail> {
     Ok(())
 }
 
-/// What stands in a folder after stores: a file of mode 0600, and a link to it.
+/// What stands in a folder after stores: a file, a link to it, and a link to none.
 fn check_folder<R: Abort + Files + AllocGlobal + Clone + Drop>(
     rt: &R,
     folder: &str,
 ) -> Result<(), Fail> {
     let file = format!(in rt.alloc(); "{folder}/a.flt")?;
     let link = format!(in rt.alloc(); "{folder}/link")?;
-    let about = fs::metadata(rt, file.as_str())?;
-    assert_eq!(rt; about.permissions().mode() & 0o777, 0o600);
+    let dangling = format!(in rt.alloc(); "{folder}/dangling")?;
     assert_eq!(rt;
         fs::read(rt, file.as_str())?.as_slice(),
         b"newer".as_slice()
@@ -70,7 +69,9 @@ fn check_folder<R: Abort + Files + AllocGlobal + Clone + Drop>(
         fs::read(rt, link.as_str())?.as_slice(),
         b"newer".as_slice()
     );
-    assert_eq!(rt; count_names(rt, folder)?, 2);
+    let about = fs::symlink_metadata(rt, dangling.as_str())?;
+    assert_eq!(rt; about.is_symlink(), true);
+    assert_eq!(rt; count_names(rt, folder)?, 3);
     Ok(())
 }
 
@@ -80,11 +81,13 @@ fn folder_host_stores(rt: HostRuntime) -> Result<(), Fail> {
     let folder = make_folder(&rt, "stores")?;
     let file = format!(in alloc; "{folder}/a.flt")?;
     let link = format!(in alloc; "{folder}/link")?;
+    let dangling = format!(in alloc; "{folder}/dangling")?;
     fs::write(&rt, file.as_str(), b"old, and longer")?;
-    fs::set_permissions(&rt, file.as_str(), fs::Permissions::from_mode(0o600))?;
     symlink(&rt, file.as_str(), link.as_str())?;
+    symlink(&rt, "none", dangling.as_str())?;
     let stores = [
         (link.as_str(), b"linked".as_slice(), Err(HostError::Failed)),
+        (dangling.as_str(), b"linked", Err(HostError::Failed)),
         (file.as_str(), b"newer", Ok(())),
         (folder.as_str(), b"x", Err(HostError::Failed)),
         ("/no such folder/a.flt", b"x", Err(HostError::Failed)),
@@ -96,6 +99,36 @@ fn folder_host_stores(rt: HostRuntime) -> Result<(), Fail> {
         assert_eq!(rt; host.store(alloc, name, bytes), want, "{name}");
     }
     check_folder(&rt, folder.as_str())?;
+    fs::remove_dir_all(&rt, folder.as_str())?;
+    Ok(())
+}
+
+/// The bits of a file's mode.
+fn bits_of<R: Files>(rt: &R, name: &str) -> io::Result<u32> {
+    let about = fs::metadata(rt, name)?;
+    Ok(about.permissions().mode() & 0o7777)
+}
+
+// Nothing is written over the files with bits, since the system itself takes a setuid bit off where
+// a user writes who isn't root.
+#[test]
+fn a_store_keeps_the_access_bits_alone(rt: HostRuntime) -> Result<(), Fail> {
+    let alloc = rt.alloc();
+    let folder = make_folder(&rt, "access")?;
+    let file = format!(in alloc; "{folder}/a.flt")?;
+    let new = format!(in alloc; "{folder}/new.flt")?;
+    let other = format!(in alloc; "{folder}/other")?;
+    let mut host = FolderHost::new(rt.clone()?, "host_io", 7);
+    fs::write(&rt, file.as_str(), b"old")?;
+    for (bits, want) in [(0o600, 0o600), (0o755, 0o755), (0o4755, 0o755)] {
+        fs::set_permissions(&rt, file.as_str(), fs::Permissions::from_mode(bits))?;
+        assert_eq!(rt; bits_of(&rt, file.as_str())?, bits);
+        assert_eq!(rt; host.store(alloc, file.as_str(), b""), Ok(()));
+        assert_eq!(rt; bits_of(&rt, file.as_str())?, want, "{bits:o}");
+    }
+    fs::write(&rt, other.as_str(), b"x")?;
+    assert_eq!(rt; host.store(alloc, new.as_str(), b"x"), Ok(()));
+    assert_eq!(rt; bits_of(&rt, new.as_str())?, bits_of(&rt, other.as_str())?);
     fs::remove_dir_all(&rt, folder.as_str())?;
     Ok(())
 }
@@ -155,18 +188,40 @@ fn a_failed_store_leaves_the_old_file_alone(rt: HostRuntime) -> Result<(), Fail>
     let file = format!(in alloc; "{folder}/a.flt")?;
     let missing = format!(in alloc; "{folder}/missing")?;
     fs::write(&rt, file.as_str(), b"old")?;
-    for step in [Step::Access, Step::Write, Step::Sync, Step::Rename] {
+    let rows = [
+        (Step::Access, file.as_str()),
+        (Step::Write, file.as_str()),
+        (Step::Write, missing.as_str()),
+        (Step::Write, "/dev/null"),
+        (Step::Sync, file.as_str()),
+        (Step::Sync, missing.as_str()),
+        (Step::Rename, file.as_str()),
+        (Step::Rename, missing.as_str()),
+    ];
+    for (step, name) in rows {
         let mut host = FolderHost::new(BrokenFiles::new(rt.clone()?, step), "host_io", 7);
-        for name in [file.as_str(), missing.as_str()] {
-            let want = match step {
-                Step::Access if name == missing.as_str() => continue,
-                _ => Err(HostError::Failed),
-            };
-            assert_eq!(rt; host.store(alloc, name, b"newer"), want, "{step:?}");
-        }
+        let answer = host.store(alloc, name, b"newer");
+        assert_eq!(rt; answer, Err(HostError::Failed), "{step:?} {name}");
         assert_eq!(rt; fs::read(&rt, file.as_str())?.as_slice(), b"old".as_slice());
-        assert_eq!(rt; count_names(&rt, folder.as_str())?, 1, "{step:?}");
+        assert_eq!(rt; count_names(&rt, folder.as_str())?, 1, "{step:?} {name}");
     }
+    fs::remove_dir_all(&rt, folder.as_str())?;
+    Ok(())
+}
+
+// A new file is given no access bits, so that no step of this store fails.
+#[test]
+fn short_writes_store_the_whole_file(rt: HostRuntime) -> Result<(), Fail> {
+    let alloc = rt.alloc();
+    let folder = make_folder(&rt, "short")?;
+    let file = format!(in alloc; "{folder}/a.flt")?;
+    let files = BrokenFiles::new(rt.clone()?, Step::Access);
+    let mut host = FolderHost::new(files, "host_io", 7);
+    assert_eq!(rt; host.store(alloc, file.as_str(), b"newer"), Ok(()));
+    assert_eq!(rt;
+        fs::read(&rt, file.as_str())?.as_slice(),
+        b"newer".as_slice()
+    );
     fs::remove_dir_all(&rt, folder.as_str())?;
     Ok(())
 }
