@@ -1,16 +1,14 @@
 -- A turn goes on from behind the note of its first stray access as from before it.
-use Rattle.std.proofs.Common.{◌≡◌, ◌≢◌, ℕ, zero, suc, ◌+◌, ◌-◌, ◌<◌, inl, inr, Bool, true, false, Option, Some, None, Result, Ok, Err, refl, sym, ap, subst, ◌∙◌, arith}
+use Rattle.std.proofs.Common.{◌≡◌, ℕ, zero, suc, ◌+◌, ◌-◌, ◌<◌, inl, inr, Bool, true, false, Option, Some, None, Result, Ok, Err, refl, sym, ap, subst, ◌∙◌, arith}
 use Rattle.std.specs.Prelude.{if◌then◌else◌}
 use Rattle.std.specs.declared.alloc.AllocError.{AllocError}
-use Rattle.byte_words.specs.ByteMap.{Bytes}
 use Rattle.rv32im_step.specs.declared.access.Access.{Access}
-use Rattle.rv32im_step.specs.declared.regs.Regs.{Regs}
-use Rattle.rv32im_step.specs.Meaning.{Meaning, next, meaning}
+use Rattle.rv32im_step.specs.Meaning.{meaning}
 use Rattle.mmap_rules.specs.Space.{Space, writable_in}
 use Rattle.vfork_exec.specs.Keyed.{find}
 use Rattle.machine_world.specs.World.{Process, LiveSpace, World, pid_of, id_of}
 use Rattle.machine_world.specs.Families.{MayRun}
-use Rattle.machine_world.specs.Event.{Outcome, stepped, effect, in_space, by_process, at_process, event, stray_in, stray}
+use Rattle.machine_world.specs.Event.{Outcome, effect, in_space, by_process, at_process, event, stray_in, stray}
 use Rattle.machine_world.specs.Turns.{log_full}
 use Rattle.physical_turns.specs.Physical.{Physical, After, after, no_room, nobody, has_stray, first_stray, physical_event, carried_out, physical_turn, turned, stays_at, Walk}
 use Rattle.physical_turns.specs.Growth.{Adds}
@@ -20,31 +18,29 @@ use Rattle.physical_turns.proofs.TurnsIn.{turn_in_next, turn_in_used}
 use Rattle.syscall_layer.specs.declared.reach.Reach.TheVariants.{Whole}
 use Rattle.flat_machine.specs.declared.run.End.{End as Told}
 use Rattle.flat_machine.specs.declared.run.End.TheVariants as told
-use Rattle.flat_machine.specs.LeavesIn.{StraysIn, StandsStillIn, TurnStopsIn, TurnStraysIn, TurnLeavesIn}
+use Rattle.flat_machine.specs.LeavesIn.{StraysIn, TurnStopsIn, TurnStraysIn, TurnLeavesIn}
 use Rattle.flat_machine.proofs.StillIn.{StillIn, still_in}
-use Rattle.flat_machine.proofs.TurnsIn.{step_own}
 
 -- ---- who strays lives in a space
 
-abbrev act_in : World → Process → Space → Outcome
-act_in w p s = effect w p s (meaning p.regs s.bytes (writable_in s.maps))
-
-record IsThere (w : World) (pid : ℕ) (access : Access) : Type 0 where
+record IsThere (w : World) (pid : ℕ) : Type 0 where
   process : Process
   space : LiveSpace
   lives : find pid_of pid w.procs ≡ Some process
   has : find id_of process.space w.spaces ≡ Some space
-  strays : stray_in (act_in w process space.space) ≡ Some access
 
-there_of : (w : World) (pid : ℕ) (access : Access) → stray w pid ≡ Some access → IsThere w pid access
+abbrev act_in : World → Process → Space → Outcome
+act_in w p s = effect w p s (meaning p.regs s.bytes (writable_in s.maps))
+
+there_of : (w : World) (pid : ℕ) (access : Access) → stray w pid ≡ Some access → IsThere w pid
 unfolding stray event at_process
 there_of w pid access is = found (find pid_of pid w.procs) refl is
   where
-    in_its : (p : Process) → find pid_of pid w.procs ≡ Some p → (o : Option LiveSpace) → find id_of p.space w.spaces ≡ o → stray_in (in_space (act_in w) p o) ≡ Some access → IsThere w pid access
+    in_its : (p : Process) → find pid_of pid w.procs ≡ Some p → (o : Option LiveSpace) → find id_of p.space w.spaces ≡ o → stray_in (in_space (act_in w) p o) ≡ Some access → IsThere w pid
     in_its p lives None has is = absurd cc
-    in_its p lives (Some s) has is = record { process = p; space = s; lives = lives; has = has; strays = is }
+    in_its p lives (Some s) has is = record { process = p; space = s; lives = lives; has = has }
 
-    found : (o : Option Process) → find pid_of pid w.procs ≡ o → stray_in (by_process w.spaces (act_in w) o) ≡ Some access → IsThere w pid access
+    found : (o : Option Process) → find pid_of pid w.procs ≡ o → stray_in (by_process w.spaces (act_in w) o) ≡ Some access → IsThere w pid
     found None lives is = absurd cc
     found (Some p) lives is = in_its p lives (find id_of p.space w.spaces) refl is
 
@@ -54,33 +50,6 @@ first_is_stray p pid access is = by (has_stray p.world.notes) (stray p.world pid
     by : (was : Bool) (o : Option Access) → (if was then None else o) ≡ Some access → o ≡ Some access
     by true o is = absurd cc
     by false o is = is
-
-first_is_quiet : (p : Physical) (pid : ℕ) (access : Access) → first_stray p pid ≡ Some access → has_stray p.world.notes ≡ false
-first_is_quiet p pid access is = by (has_stray p.world.notes) (stray p.world pid) refl is
-  where
-    by : (was : Bool) (o : Option Access) → has_stray p.world.notes ≡ was → (if was then None else o) ≡ Some access → has_stray p.world.notes ≡ false
-    by true o same is = absurd cc
-    by false o same is = same
-
--- an instruction that is carried out doesn't stray
-no_next_strays : (w : World) (p : Process) (s : Space) (access : Access) (means : Meaning) → stray_in (effect w p s means) ≡ Some access → (regs : Regs) (bytes : Bytes) → means ≢ next regs bytes
-unfolding stepped
-no_next_strays w p s access means strays regs bytes is =
-    let e : None ≡ Some access = subst (λ (m : Meaning). stray_in (effect w p s m) ≡ Some access) is strays in cc
-
--- so before its note the process stands still
-still_before : (pid : ℕ) (at mid : Physical) → StraysIn pid at mid → StandsStillIn at pid
-still_before pid at mid x =
-    let s = there_of at.world pid x.access (first_is_stray at pid x.access x.first) in
-    record {
-      process = s.process;
-      space = s.space;
-      lives = s.lives;
-      has = s.has;
-      still = λ regs bytes is.
-          no_next_strays at.world s.process s.space.space x.access (meaning s.process.regs s.space.space.bytes (writable_in s.space.space.maps)) s.strays regs bytes
-          (sym (step_own at s.process s.space.space (first_is_quiet at pid x.access x.first)) ∙ is);
-    }
 
 -- ---- the event, and the turn
 
@@ -136,7 +105,7 @@ module _ (pid count : ℕ) (old mid new : Physical) (done : ℕ) (x : TurnStrays
         less = omega (arith, less_still);
         at = x.at;
         walked = ap (λ (m : ℕ). physical_turn m pid old) (sym sum) ∙ turn_in_used pid old x.at done x.leads;
-        still = still_before pid x.at mid x.strays;
+        still = y.still;
         stands = elim y.stands [
           | inl here ↦ inr (subst (StraysIn pid x.at) (same ∙ sym here) x.strays)
           | inr strays ↦ absurd (never_again (subst (λ (p : Physical). StraysIn pid p new) (sym same) strays))

@@ -79,7 +79,7 @@ not_next means Call ends regs bytes is = let e = sym ends ∙ is in cc
 not_next means (Trap signal) ends regs bytes is = let e = sym ends ∙ is in cc
 not_next means (Refused access) ends regs bytes is = let e = sym ends ∙ is in cc
 
-pub step_own : (p : Physical) (q : Process) (s : Space) → has_stray p.world.notes ≡ false → step_within p q s ≡ meaning q.regs s.bytes (writable_in s.maps)
+step_own : (p : Physical) (q : Process) (s : Space) → has_stray p.world.notes ≡ false → step_within p q s ≡ meaning q.regs s.bytes (writable_in s.maps)
 step_own p q s quiet = ap (λ (was : Bool). if was then next_meaning p q else meaning q.regs s.bytes (writable_in s.maps)) quiet
 
 step_whole : (p : Physical) (q : Process) (s : Space) → has_stray p.world.notes ≡ true → step_within p q s ≡ next_meaning p q
@@ -381,7 +381,7 @@ module _ (kind : Kind) (flats : List Values) (reach : Reach) (pid : ℕ) (old mi
     less = less;
     at = physical_of (headers_of flats) (later n a) mid;
     walked = turn_in_used pid (physical_of (headers_of flats) a old) (physical_of (headers_of flats) (later n a) mid) n (reached a so are);
-    still = still (later n a);
+    still = subst (λ (k : Kept). StandsStillIn (physical_of (headers_of flats) (later n a) k) pid) (sym same) (still (later n a));
     stands = inl (ap (physical_of (headers_of flats) (later n a)) same);
   })
     where

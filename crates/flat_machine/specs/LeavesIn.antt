@@ -81,13 +81,13 @@ pub record StandsStillIn (p : Physical) (pid : ℕ) : Type 0 where
   pub has : find id_of process.space p.world.spaces ≡ Some space
   pub still : (regs : Regs) (bytes : Bytes) → step_within p process space.space ≢ next regs bytes
 
--- out of memory it stands behind some of its events, and maybe behind the note of the next one's stray access; that one isn't an
--- instruction that is carried out
+-- out of memory it stands behind some of its events, and maybe behind the note of the next one's stray access; there the next event
+-- isn't an instruction that is carried out
 pub record TurnStopsIn (pid count : ℕ) (old : Physical) (done : ℕ) (new : Physical) : Type 0 where
   pub less : done < count
   pub at : Physical
   pub walked : physical_turn done pid old ≡ record { now = at; end = None }
-  pub still : StandsStillIn at pid
+  pub still : StandsStillIn new pid
   pub stands : (new ≡ at) ⊎ StraysIn pid at new
 
 -- up to the run's first stray access, which is noted and not yet carried out
