@@ -18,13 +18,19 @@ fn word_of(count: usize) -> u32 {
     u32::try_from(count).unwrap_or(u32::MAX)
 }
 
+/// Adds words, little-endian.
+pub fn add_words(body: &mut Vec<u8>, words: &[u32]) -> Result<(), AllocError> {
+    for word in words {
+        body.extend_from_slice(&word.to_le_bytes())?;
+    }
+    Ok(())
+}
+
 /// The flat file of a program.
 pub fn flat_file(alloc: Global, program: &Program) -> Result<Vec<u8>, AllocError> {
     let mut body = Vec::new(alloc);
     body.resize(64, 0)?;
-    for word in program.code {
-        body.extend_from_slice(&word.to_le_bytes())?;
-    }
+    add_words(&mut body, program.code)?;
     body.extend_from_slice(program.bytes)?;
     image_file(alloc, &body, program)
 }
