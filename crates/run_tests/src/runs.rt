@@ -8,6 +8,7 @@ mod examples;
 mod failing;
 mod families;
 mod files;
+mod going_on;
 mod mappings;
 mod pipes;
 mod placements;
