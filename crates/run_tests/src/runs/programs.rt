@@ -72,7 +72,7 @@ pub const EMPTY: Program = Program {
     flags: 1,
 };
 
-const GREET: &[u32] = &[
+pub const GREET: &[u32] = &[
     0x0000_0597,
     0x0285_a583,
     0x0010_0513,
