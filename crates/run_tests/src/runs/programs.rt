@@ -243,3 +243,82 @@ pub const PIECES: Program = Program {
     ],
     ..EMPTY
 };
+
+/// Carries out /w with a pipe, whose writing end it closes, writes the first byte of each piece that it reads from it, and then the number
+/// of all bytes that it read.
+pub const READS_PIECES: Program = Program {
+    code: &[
+        0xff01_0513,
+        0x03b0_0893,
+        0x0000_0073,
+        0x0000_4537,
+        0x1115_0513,
+        0x0dc0_0893,
+        0x0000_0073,
+        0x0005_1a63,
+        0x0000_0517,
+        0x0885_0513,
+        0x0dd0_0893,
+        0x0000_0073,
+        0x0040_0513,
+        0x0390_0893,
+        0x0000_0073,
+        0x0000_12b7,
+        0x4051_09b3,
+        0x0030_0513,
+        0x0009_8593,
+        0x0000_1637,
+        0x03f0_0893,
+        0x0000_0073,
+        0x0005_0e63,
+        0x00a4_84b3,
+        0x0010_0513,
+        0x0010_0613,
+        0x0400_0893,
+        0x0000_0073,
+        0xfd5f_f06f,
+        0x0099_a023,
+        0x0010_0513,
+        0x0040_0613,
+        0x0400_0893,
+        0x0000_0073,
+        0x0000_0513,
+        0x0000_0593,
+        0x0000_0613,
+        0x0040_0693,
+        0x05f0_0893,
+        0x0000_0073,
+        0x05d0_0893,
+        0x0000_0073,
+    ],
+    bytes: b"/w\0\0",
+    stack: 8192,
+    ..EMPTY
+};
+
+/// Writes 200,000 bytes into descriptor 4, in pieces of up to 4096, whose first bytes count on from A.
+pub const WRITES_PIECES: Program = Program {
+    code: &[
+        0x0003_14b7,
+        0xd404_8493,
+        0x0410_0913,
+        0x0000_12b7,
+        0x4051_09b3,
+        0x0129_8023,
+        0x0019_0913,
+        0x0040_0513,
+        0x0009_8593,
+        0x0000_1637,
+        0x00c4_f463,
+        0x0004_8613,
+        0x0400_0893,
+        0x0000_0073,
+        0x40a4_84b3,
+        0xfc04_9ce3,
+        0x0000_0513,
+        0x05d0_0893,
+        0x0000_0073,
+    ],
+    stack: 8192,
+    ..EMPTY
+};
