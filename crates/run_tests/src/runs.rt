@@ -8,6 +8,8 @@ mod examples;
 mod failing;
 mod families;
 mod files;
+mod going_on;
+mod linked;
 mod mappings;
 mod pipes;
 mod placements;
@@ -15,6 +17,7 @@ mod programs;
 mod refusals;
 
 use host_io::{MemHost, MemSink};
+use linked::Linked;
 use page_runs::{Chooser, Kind, Run, best_fit, first_fit, last_fit};
 use programs::Program;
 use std::alloc::{AllocError, Global};
@@ -29,6 +32,7 @@ type File = (&'static str, Content);
 #[derive(Clone, Copy)]
 enum Content {
     Flat(Program),
+    Elf(Linked),
     Bytes(&'static [u8]),
     /// So many bytes of one value.
     Filled(u8, usize),
@@ -61,6 +65,7 @@ fn host_of(alloc: Global, files: &[File], manifest: &str) -> Result<MemHost, All
     for (name, content) in files {
         match content {
             Content::Flat(program) => host.put(name, &programs::flat_file(alloc, program)?)?,
+            Content::Elf(linked) => host.put(name, &linked::elf_file(alloc, linked)?)?,
             Content::Bytes(bytes) => host.put(name, bytes)?,
             Content::Filled(byte, len) => {
                 let mut bytes = Vec::new(alloc);

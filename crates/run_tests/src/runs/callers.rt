@@ -1,5 +1,5 @@
 //! Programs that make calls one after the other, and runs of them.
-use super::programs::{EMPTY, Program, image_file};
+use super::programs::{EMPTY, Program, add_words, image_file};
 use super::*;
 
 /// A program that makes calls one after the other.
@@ -31,6 +31,10 @@ pub struct CallerCase {
 pub const SKIP: u32 = 0xffff_ffff;
 /// In the place of a call's number: ebreak.
 pub const TRAP: u32 = 0xffff_fffe;
+/// In the place of a call's number: an instruction that stores the second argument, a word, at the first one.
+pub const STORE: u32 = 0xffff_fffd;
+/// In the place of a call's number: exit with what is in a0, as the reply of the call before.
+pub const EXIT: u32 = 0xffff_fffc;
 
 /// a0 to a5 and a7.
 const REGISTERS: [u32; 7] = [10, 11, 12, 13, 14, 15, 17];
@@ -51,9 +55,14 @@ fn skip_bytes(count: u32) -> u32 {
     bits | (10 << 15) | (1 << 12) | 0x63
 }
 
-/// The instructions of a call are 15, and those in the place of one are one.
+/// The bytes of the instructions of a call, or of those in the place of one.
 fn len_of(call: &[u32; 7]) -> u32 {
-    if call[6] >= TRAP { 4 } else { 60 }
+    match call[6] {
+        SKIP | TRAP => 4,
+        STORE => 20,
+        EXIT => 8,
+        _ => 60,
+    }
 }
 
 /// How far a skip at this place goes, over so many calls.
@@ -72,24 +81,31 @@ fn skipped(calls: &[[u32; 7]], at: usize, count: u32) -> u32 {
 /// Sets all registers, and calls.
 fn add_call(body: &mut Vec<u8>, call: &[u32; 7]) -> Result<(), AllocError> {
     for (register, value) in REGISTERS.iter().zip(call) {
-        for word in set_register(*register, *value) {
-            body.extend_from_slice(&word.to_le_bytes())?;
-        }
+        add_words(body, &set_register(*register, *value))?;
     }
-    body.extend_from_slice(&u32::to_le_bytes(0x73))
+    add_words(body, &[0x73])
+}
+
+/// Sets a0 and a1, and stores a1 at a0.
+fn add_store(body: &mut Vec<u8>, address: u32, value: u32) -> Result<(), AllocError> {
+    add_words(body, &set_register(10, address))?;
+    add_words(body, &set_register(11, value))?;
+    add_words(body, &[0x00b5_2023])
 }
 
 /// The flat file of a caller: the instructions of its calls, behind its bytes.
 fn caller_file(alloc: Global, caller: &Caller) -> Result<Vec<u8>, AllocError> {
     let mut body = Vec::from_slice(alloc, caller.bytes.as_slice())?;
     for (at, call) in caller.calls.iter().enumerate() {
-        if call[6] == SKIP {
-            let far = skipped(caller.calls, at, call[0]);
-            body.extend_from_slice(&skip_bytes(far).to_le_bytes())?;
-        } else if call[6] == TRAP {
-            body.extend_from_slice(&u32::to_le_bytes(0x0010_0073))?;
-        } else {
-            add_call(&mut body, call)?;
+        match call[6] {
+            SKIP => {
+                let far = skipped(caller.calls, at, call[0]);
+                add_words(&mut body, &[skip_bytes(far)])?
+            }
+            TRAP => add_words(&mut body, &[0x0010_0073])?,
+            STORE => add_store(&mut body, call[0], call[1])?,
+            EXIT => add_words(&mut body, &[0x05d0_0893, 0x73])?,
+            _ => add_call(&mut body, call)?,
         }
     }
     let program = Program {

@@ -1,6 +1,6 @@
 //! Worked examples.
 use super::programs::{HI, HO, ST, ZERO};
-use super::*;
+use super::{linked, *};
 
 const GREETERS: &[File] = &[("hi.flt", Content::Flat(HI)), ("ho.flt", Content::Flat(HO))];
 
@@ -49,8 +49,38 @@ stop stray events 0
 ",
 };
 
+/// A program that carries itself out three times and lists a folder.
+const SHELL_LIKE: Case = Case {
+    name: "shell-like-program",
+    files: &[
+        ("sh.elf", Content::Elf(linked::SHELL)),
+        ("f", Content::Bytes(b"x")),
+    ],
+    manifest: "elf /sh sh.elf\ndir /d\nfile /d/0 f\nfile /d/1 f\nfile /d/2 f\nfile /d/3 f\nfile /d/4 f\nfile /d/5 f\nfile /d/6 f\nfile /d/7 f\nfile /d/8 f\nfile /d/9 f\nstart /sh\nquanta 0:500\nrepeat 1000\n",
+    options: &[],
+    status: Status::Done,
+    out: "x\nx\nx\n0123456789",
+    report: "load 1 /sh base 0x80000000 pages 12
+load 2 /sh base 0x8000c000 pages 12
+end 2 exit 3
+load 3 /sh base 0x8000c000 pages 12
+end 3 exit 3
+load 4 /sh base 0x8000c000 pages 12
+end 4 exit 3
+end 1 exit 0
+stop done events 196837
+",
+};
+
 const CASES: &[Case] = &[
     HI_WITH_LOG,
+    Case {
+        name: "run-hi-with-log, of an ELF file",
+        files: &[("hi.elf", Content::Elf(linked::HI))],
+        manifest: "memory 4\nelf /hi hi.elf\nstart /hi\nquanta 0:100\n",
+        ..HI_WITH_LOG
+    },
+    SHELL_LIKE,
     Case {
         name: "two programs, one after the other",
         files: GREETERS,

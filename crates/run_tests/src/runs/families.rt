@@ -1,5 +1,5 @@
 //! Programs that start others: vfork, execve and waitid, through whole runs.
-use super::callers::{Caller, CallerCase, SKIP, TRAP, expect_callers};
+use super::callers::{Caller, CallerCase, EXIT, SKIP, STORE, TRAP, expect_callers};
 use super::*;
 
 const CHILDREN: &[CallerCase] = &[
@@ -13,9 +13,9 @@ const CHILDREN: &[CallerCase] = &[
                 calls: &[
                     [0x4111, 0, 0, 0, 0, 0, 220],
                     [2, 0, 0, 0, 0, 0, SKIP],
-                    [0, 0x8000_0060, 1, 0, 0, 0, 63],
+                    [0x8000_1f00, 5, 0, 0, 0, 0, STORE],
                     [0x8000_0040, 0, 0, 0, 0, 0, 221],
-                    [1, 0x8000_0060, 1, 0, 0, 0, 64],
+                    [1, 0x8000_1f00, 1, 0, 0, 0, 64],
                     [17, 0, 0, 0, 0, 0, 220],
                     [0, 0, 0x8000_0068, 4, 0, 0, 95],
                     [0, 0, 0x8000_0068, 4, 0, 0, 95],
@@ -29,27 +29,26 @@ const CHILDREN: &[CallerCase] = &[
                 calls: &[[1, 0x8000_2040, 3, 0, 0, 0, 64], [7, 0, 0, 0, 0, 0, 93]],
             },
         ],
-        files: &[("i", Content::Bytes(b"5"))],
-        manifest: "memory 8\nflat /p p\nflat /hi hi\nstdin i\nstart /p\nquanta 0:1000 1:1000\nrepeat 2\ndump 1 0x80000060 1\n",
+        files: &[],
+        manifest: "memory 8\nflat /p p\nflat /hi hi\nstart /p\nquanta 0:1000 1:1000\nrepeat 2\ndump 1 0x80001f00 1\n",
         options: &["--log"],
         status: Status::Done,
-        out: "hi\n5",
+        out: "hi\n\x05",
         report: "load 1 /p base 0x80000000 pages 2
 call 1 220 00004111 00000000 00000000 00000000 00000000 00000000 = 00000002 sent - got -
-call 2 63 00000000 80000060 00000001 00000000 00000000 00000000 = 00000001 sent - got 80000060:35
 call 2 221 80000040 00000000 00000000 00000000 00000000 00000000 = 00000000 sent 2f686900 got -
 load 2 /hi base 0x80002000 pages 2
 call 2 64 00000001 80002040 00000003 00000000 00000000 00000000 = 00000003 sent 68690a got -
 call 2 93 00000007 00000000 00000000 00000000 00000000 00000000 = 00000000 sent - got -
 end 2 exit 7
-call 1 64 00000001 80000060 00000001 00000000 00000000 00000000 = 00000001 sent 35 got -
+call 1 64 00000001 80001f00 00000001 00000000 00000000 00000000 = 00000001 sent 05 got -
 call 1 220 00000011 00000000 00000000 00000000 00000000 00000000 = ffffffea sent - got -
 call 1 95 00000000 00000000 80000068 00000004 00000000 00000000 = 00000000 sent - got 80000068:110000000000000001000000020000000000000007000000
 call 1 95 00000000 00000000 80000068 00000004 00000000 00000000 = fffffff6 sent - got -
 call 1 93 00000000 00000000 00000000 00000000 00000000 00000000 = 00000000 sent - got -
 end 1 exit 0
-dump 1 0x80000060 1 none
-stop done events 152
+dump 1 0x80001f00 1 none
+stop done events 142
 ",
     },
     CallerCase {
@@ -105,8 +104,9 @@ stop done events 167
                 [0x4111, 0, 0, 0, 0, 0, 220],
                 [1, 0, 0, 0, 0, 0, SKIP],
                 [0, 0, 0, 0, 0, 0, TRAP],
-                [1, 2, 0x8000_0048, 5, 0, 0, 95],
+                [1, 2, 0x8000_0048, 4, 0, 0, 95],
                 [1, 0x8000_0048, 24, 0, 0, 0, 64],
+                [1, 9, 0x8000_0048, 5, 0, 0, 95],
                 [0, 0, 0, 0, 0, 0, 93],
             ],
         }],
@@ -118,11 +118,12 @@ stop done events 167
         report: "load 1 /p base 0x80000000 pages 2
 call 1 220 00004111 00000000 00000000 00000000 00000000 00000000 = 00000002 sent - got -
 end 2 signal 5
-call 1 95 00000001 00000002 80000048 00000005 00000000 00000000 = 00000000 sent - got 80000048:110000000000000002000000020000000000000005000000
+call 1 95 00000001 00000002 80000048 00000004 00000000 00000000 = 00000000 sent - got 80000048:110000000000000002000000020000000000000005000000
 call 1 64 00000001 80000048 00000018 00000000 00000000 00000000 = 00000018 sent 110000000000000002000000020000000000000005000000 got -
+call 1 95 00000001 00000009 80000048 00000005 00000000 00000000 = fffffff6 sent - got -
 call 1 93 00000000 00000000 00000000 00000000 00000000 00000000 = 00000000 sent - got -
 end 1 exit 0
-stop done events 63
+stop done events 78
 ",
     },
     CallerCase {
@@ -260,7 +261,7 @@ stop done events 124
                     [1, 3, 0x8000_0060, 4, 0, 0, 95],
                     [4, 0, 0, 0, 0, 0, 93],
                     [5, 0, 0, 0, 0, 0, 93],
-                    [0, 0, 0x8000_0060, 4, 0, 0, 95],
+                    [0, 0, 0x8000_0060, 5, 0, 0, 95],
                     [0, 0, 0x8000_0060, 4, 0, 0, 95],
                     [0, 0, 0, 0, 0, 0, 93],
                 ],
@@ -288,7 +289,7 @@ end 3 exit 9
 call 2 95 00000001 00000003 80000060 00000004 00000000 00000000 = 00000000 sent - got 80000060:110000000000000001000000030000000000000009000000
 call 2 93 00000004 00000000 00000000 00000000 00000000 00000000 = 00000000 sent - got -
 end 2 exit 4
-call 1 95 00000000 00000000 80000060 00000004 00000000 00000000 = 00000000 sent - got 80000060:110000000000000001000000020000000000000004000000
+call 1 95 00000000 00000000 80000060 00000005 00000000 00000000 = 00000000 sent - got 80000060:110000000000000001000000020000000000000004000000
 call 1 95 00000000 00000000 80000060 00000004 00000000 00000000 = fffffff6 sent - got -
 call 1 93 00000000 00000000 00000000 00000000 00000000 00000000 = 00000000 sent - got -
 end 1 exit 0
@@ -297,7 +298,43 @@ stop done events 154
     },
 ];
 
+/// The caller exits with the reply's lowest eight bits.
+const LONG_PATH: CallerCase = CallerCase {
+    name: "a path of 4096 bytes that none of them ends, and arguments that aren't own",
+    callers: &[Caller {
+        file: "p",
+        stack: 4096,
+        bytes: b"/f\0\0\0\0\0\0\0\0\0\0\0\0\0\0\0\0\0\0\0\0\0\0\0\0\0\0\0\0\0\0\0\0\0\0\0\0\0\0\0\0\0\0\0\0\0\0\0\0\0\0\0\0\0\0\0\0\0\0\0\0\0\0",
+        calls: &[
+            [0xffff_ff9c, 0x8000_0040, 0, 0, 0, 0, 56],
+            [0, 0x1000, 1, 2, 3, 0, 222],
+            [0x8000_2000, 0x9000_0000, 0x9000_0000, 0, 0, 0, 221],
+            [0, 0, 0, 0, 0, 0, EXIT],
+        ],
+    }],
+    files: &[("f", Content::Filled(0x61, 4096))],
+    manifest: "memory 4\nflat /p p\nfile /f f\nstart /p\nquanta 0:100\n",
+    options: &[],
+    status: Status::Done,
+    out: "",
+    report: "load 1 /p base 0x80000000 pages 2
+end 1 exit 220
+stop done events 47
+",
+};
+
 const EXECS: &[CallerCase] = &[
+    LONG_PATH,
+    CallerCase {
+        name: "a path that its 4096th byte ends, and arguments that aren't own",
+        files: &[("f", Content::Filled(0x61, 4095))],
+        status: Status::Stray,
+        report: "load 1 /p base 0x80000000 pages 2
+stray 1 pc 0x80000130 addr 0x90000000 len 4 call
+stop stray events 44
+",
+        ..LONG_PATH
+    },
     CallerCase {
         name: "exec-refusals",
         callers: &[

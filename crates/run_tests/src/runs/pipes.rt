@@ -1,6 +1,6 @@
 //! Pipes: ends that close, reads and writes that wait, and runs that are stuck.
 use super::callers::{Caller, CallerCase, SKIP, TRAP, expect_callers};
-use super::programs::PP;
+use super::programs::{PP, READS_PIECES, WRITES_PIECES};
 use super::*;
 
 const STUCK: &[Case] = &[
@@ -499,6 +499,50 @@ stop stuck events 105
 ",
     },
 ];
+
+/// 48 pieces of 4096 bytes and one of 3392.
+const BY_ONE: Case = Case {
+    name: "200,000 bytes through a pipe, by turns of one event",
+    files: &[
+        ("p", Content::Flat(READS_PIECES)),
+        ("w", Content::Flat(WRITES_PIECES)),
+    ],
+    manifest: "memory 8\nflat /p p\nflat /w w\nstart /p\nquanta 0:1 1:1\nrepeat 1000\n",
+    options: &[],
+    status: Status::Done,
+    out: "ABCDEFGHIJKLMNOPQRSTUVWXYZ[\\]^_`abcdefghijklmnopq@\r\x03\0",
+    report: "load 1 /p base 0x80000000 pages 3
+load 2 /w base 0x80003000 pages 3
+end 2 exit 0
+end 1 exit 0
+stop done events 1125
+",
+};
+
+const MANY_BYTES: &[Case] = &[
+    BY_ONE,
+    Case {
+        name: "by turns of seven",
+        manifest: "memory 8\nflat /p p\nflat /w w\nstart /p\nquanta 0:7 1:7\nrepeat 1000\n",
+        ..BY_ONE
+    },
+    Case {
+        name: "by turns of a thousand",
+        manifest: "memory 8\nflat /p p\nflat /w w\nstart /p\nquanta 0:1000 1:1000\nrepeat 1000\n",
+        report: "load 1 /p base 0x80000000 pages 3
+load 2 /w base 0x80003000 pages 3
+end 2 exit 0
+end 1 exit 0
+stop done events 1130
+",
+        ..BY_ONE
+    },
+];
+
+#[test]
+fn many_bytes_pass_through_a_pipe(rt: HostRuntime) -> Result<(), Fail> {
+    expect_cases(&rt, rt.alloc(), MANY_BYTES)
+}
 
 #[test]
 fn a_run_is_stuck(rt: HostRuntime) -> Result<(), Fail> {

@@ -18,13 +18,19 @@ fn word_of(count: usize) -> u32 {
     u32::try_from(count).unwrap_or(u32::MAX)
 }
 
+/// Adds words, little-endian.
+pub fn add_words(body: &mut Vec<u8>, words: &[u32]) -> Result<(), AllocError> {
+    for word in words {
+        body.extend_from_slice(&word.to_le_bytes())?;
+    }
+    Ok(())
+}
+
 /// The flat file of a program.
 pub fn flat_file(alloc: Global, program: &Program) -> Result<Vec<u8>, AllocError> {
     let mut body = Vec::new(alloc);
     body.resize(64, 0)?;
-    for word in program.code {
-        body.extend_from_slice(&word.to_le_bytes())?;
-    }
+    add_words(&mut body, program.code)?;
     body.extend_from_slice(program.bytes)?;
     image_file(alloc, &body, program)
 }
@@ -66,7 +72,7 @@ pub const EMPTY: Program = Program {
     flags: 1,
 };
 
-const GREET: &[u32] = &[
+pub const GREET: &[u32] = &[
     0x0000_0597,
     0x0285_a583,
     0x0010_0513,
@@ -235,5 +241,84 @@ pub const PIECES: Program = Program {
         0x05d0_0893,
         0x0000_0073,
     ],
+    ..EMPTY
+};
+
+/// Carries out /w with a pipe, whose writing end it closes, writes the first byte of each piece that it reads from it, and then the number
+/// of all bytes that it read.
+pub const READS_PIECES: Program = Program {
+    code: &[
+        0xff01_0513,
+        0x03b0_0893,
+        0x0000_0073,
+        0x0000_4537,
+        0x1115_0513,
+        0x0dc0_0893,
+        0x0000_0073,
+        0x0005_1a63,
+        0x0000_0517,
+        0x0885_0513,
+        0x0dd0_0893,
+        0x0000_0073,
+        0x0040_0513,
+        0x0390_0893,
+        0x0000_0073,
+        0x0000_12b7,
+        0x4051_09b3,
+        0x0030_0513,
+        0x0009_8593,
+        0x0000_1637,
+        0x03f0_0893,
+        0x0000_0073,
+        0x0005_0e63,
+        0x00a4_84b3,
+        0x0010_0513,
+        0x0010_0613,
+        0x0400_0893,
+        0x0000_0073,
+        0xfd5f_f06f,
+        0x0099_a023,
+        0x0010_0513,
+        0x0040_0613,
+        0x0400_0893,
+        0x0000_0073,
+        0x0000_0513,
+        0x0000_0593,
+        0x0000_0613,
+        0x0040_0693,
+        0x05f0_0893,
+        0x0000_0073,
+        0x05d0_0893,
+        0x0000_0073,
+    ],
+    bytes: b"/w\0\0",
+    stack: 8192,
+    ..EMPTY
+};
+
+/// Writes 200,000 bytes into descriptor 4, in pieces of up to 4096, whose first bytes count on from A.
+pub const WRITES_PIECES: Program = Program {
+    code: &[
+        0x0003_14b7,
+        0xd404_8493,
+        0x0410_0913,
+        0x0000_12b7,
+        0x4051_09b3,
+        0x0129_8023,
+        0x0019_0913,
+        0x0040_0513,
+        0x0009_8593,
+        0x0000_1637,
+        0x00c4_f463,
+        0x0004_8613,
+        0x0400_0893,
+        0x0000_0073,
+        0x40a4_84b3,
+        0xfc04_9ce3,
+        0x0000_0513,
+        0x05d0_0893,
+        0x0000_0073,
+    ],
+    stack: 8192,
     ..EMPTY
 };
