@@ -53,6 +53,7 @@
 -- ExecCalls  which way an execve goes, by its path and its strings
 -- Forks      the parts after a process had a child, and what comes of a clone
 -- Waits      what a process is told of its children, in the world and in the parts
+-- Leaves     what an answer alone tells of the parts
 -- Wakes      the parts once those go on that wait on a pipe which changed
 -- PlainMemory  what comes of a call and of an end that write nothing, in the one memory
 -- CallsIn    a call by its class, and what goes on behind it, in the one memory
@@ -111,6 +112,7 @@ pub mod ReadStrings
 pub mod StringLists
 pub mod Forks
 pub mod Waits
+mod Leaves
 pub mod Wakes
 pub mod PlainMemory
 pub mod CallsIn

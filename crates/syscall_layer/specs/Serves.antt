@@ -1,9 +1,11 @@
 -- What a system call, a signal and a stray access leave.
-use Rattle.std.specs.Prelude.{◌≡◌, ℕ, Bool, true, false, None, Result, Ok, Err, ⊤}
+use Rattle.std.specs.Prelude.{◌≡◌, ℕ, Bool, true, false, Some, None, option_map, Result, Ok, Err, ⊤}
 use Rattle.std.specs.declared.alloc.AllocError.{AllocError}
 use Rattle.rv32im_step.specs.declared.access.Access.{Access}
 use Rattle.call_log.specs.Notes.{stray_note}
-use Rattle.vfork_exec.specs.Procs.{process, Lives}
+use Rattle.vfork_exec.specs.declared.family.State.{State}
+use Rattle.vfork_exec.specs.declared.family.State.TheVariants.{Ready, Waiting, OnPipe, Lent}
+use Rattle.vfork_exec.specs.Procs.{Listed, process, state_at, Lives}
 use Rattle.machine_world.specs.Event.{Trace, Outcome, went, strays, full, idle, noted}
 use Rattle.machine_world.specs.Turns.{seen_of}
 use Rattle.syscall_layer.specs.declared.answer.Served.{Served}
@@ -27,6 +29,27 @@ went_by served.Waits = true
 went_by served.Ended = true
 went_by (served.Stray access) = false
 went_by served.LogFull = false
+
+-- it waits until a child has ended or a pipe changes
+abbrev pub is_waiting : State → Bool
+is_waiting Ready = false
+is_waiting (Waiting who) = true
+is_waiting (OnPipe pipe) = true
+is_waiting (Lent child) = false
+
+-- a process that lives, and whether it waits
+abbrev pub WaitsAt : {P : Type 0} → Listed P → ℕ → Bool → Type 0
+WaitsAt procs pid waits = option_map is_waiting (state_at procs pid) ≡ Some waits
+
+-- what the answer alone tells, behind a stray access too: a stray access changed nothing; who ends its turn doesn't wait, and who
+-- waits does, with the files as they were
+abbrev pub Leaves : Kept → Kept → ℕ → Served → Type 0
+Leaves old new pid served.Replied = Unit {0}
+Leaves old new pid served.TurnEnds = WaitsAt new.procs pid false
+Leaves old new pid served.Waits = WaitsAt new.procs pid true × (new.files ≡ old.files)
+Leaves old new pid served.Ended = Unit {0}
+Leaves old new pid (served.Stray access) = new ≡ old
+Leaves old new pid served.LogFull = Unit {0}
 
 abbrev pub Strays : Access → Kept → Kept → Served → Type 0
 Strays access old new (served.Stray seen) = (seen ≡ access) × (new ≡ old)

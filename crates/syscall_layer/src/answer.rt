@@ -1,6 +1,7 @@
 //! A system call.
 
-ghost use Rattle.std.specs.Prelude.{◌≡◌, ◌≢◌, ℕ, ◌<◌, ◌^◌, All, IfOk, false, true, List, length, slice_index, map, option_map, Ok};
+ghost use Rattle.std.specs.Prelude.{◌≡◌, ◌≢◌, ℕ, ◌<◌, ◌^◌, All, IfOk, false, true, List, [], length, slice_index, map, option_map, Ok};
+ghost use Rattle.rv32im_step.specs.declared.access.Access.{Access};
 ghost use Rattle.call_log.specs.Notes.{has_room, weight_of};
 ghost use Rattle.call_log.specs.Values.{written_value};
 ghost use Rattle.page_runs.specs.Choosers.{IsChooser, kind_of};
@@ -20,10 +21,10 @@ ghost use Rattle.syscall_layer.specs.Stands.{About, process_of, world_of};
 ghost use Rattle.region_watch.specs.Private.{physical};
 ghost use Rattle.physical_turns.specs.Physical.{outside, has_stray, carried, killed, settled_in, answered_in, classed_in, called_in};
 ghost use Rattle.syscall_layer.specs.declared.reach.Reach.TheVariants.{Own, Whole};
-ghost use Rattle.syscall_layer.specs.declared.answer.Served.TheVariants.{Replied, Stray};
+ghost use Rattle.syscall_layer.specs.declared.answer.Served.TheVariants.{Replied, TurnEnds, Waits, Stray};
 ghost use Rattle.syscall_layer.specs.InMemory.{headers_of, physical_of, ServesIn, InReach};
 ghost use Rattle.syscall_layer.specs.Reach.{writable, whole_table};
-ghost use Rattle.syscall_layer.specs.Serves.{Answered, Serves, went_by};
+ghost use Rattle.syscall_layer.specs.Serves.{Answered, Leaves, Serves, WaitsAt, went_by};
 ghost use Rattle.mmap_rules.specs.Copies.{IsKnown};
 ghost use Rattle.syscall_layer.specs.Puts.{first_stray, access_at, IsRange};
 ghost use Rattle.syscall_layer.specs.Calls.{RunsIn, IsCall, ask_in, reply_of, given, served_by};
@@ -96,6 +97,7 @@ fn answer_exit(parts: &mut Parts, call: Call) -> Result<Served, AllocError>
     ensures serves { (a : About) → (e : Entry Task) → (h : Held) → RunsIn parts.old call.pid e h → IsCall e call →
         Serves a (exited (world_of a parts.old) (ask_in a parts.old e h call)) parts.old parts.new call.pid result }
     ensures memory { parts.new.mem ≡ parts.old.mem }
+    ensures leaves { IfOk result (Leaves parts.old parts.new call.pid) }
 {
     if !has_room(&parts.log, &call) {
         return Ok(Served::LogFull);
@@ -114,6 +116,7 @@ pub(crate) fn answer_effect(
     ensures serves { (a : About) → (e : Entry Task) → (h : Held) → RunsIn parts.old call.pid e h → IsCall e call →
         Serves a (answered (world_of a parts.old) (ask_in a parts.old e h call) (replies (reply_of (ask_in a parts.old e h call) effect))) parts.old parts.new call.pid result }
     ensures memory { parts.new.mem ≡ parts.old.mem }
+    ensures leaves { CanRun parts.old.procs call.pid → IfOk result (Leaves parts.old parts.new call.pid) }
 {
     if !has_room(&parts.log, &call) {
         return Ok(Served::LogFull);
@@ -130,6 +133,7 @@ fn answer_change(parts: &mut Parts, call: Call) -> Result<Served, AllocError>
     ensures serves { (a : About) → (e : Entry Task) → (h : Held) → RunsIn parts.old call.pid e h → IsCall e call →
         Serves a (answered (world_of a parts.old) (ask_in a parts.old e h call) (row (ask_in a parts.old e h call))) parts.old parts.new call.pid result }
     ensures memory { parts.new.mem ≡ parts.old.mem }
+    ensures leaves { IfOk result (Leaves parts.old parts.new call.pid) }
 {
     if !has_room(&parts.log, &call) {
         return Ok(Served::LogFull);
@@ -163,6 +167,7 @@ fn beyond_reach(
     ensures silent { result ≢ Ok Replied }
     ensures memory { reach ≡ Whole → (headers : List (List ℕ)) → (a : About) → (e : Entry Task) → (h : Held) → RunsIn parts.old pid e h →
         ServesIn headers a (killed (physical_of headers a parts.old) (process_of e) outside) parts.old parts.new pid result }
+    ensures leaves { IfOk result (Leaves parts.old parts.new pid) }
 {
     match reach {
         Reach::Own => Ok(Served::Stray(access)),
@@ -206,6 +211,7 @@ pub(crate) fn answer_given(
     ensures memory { (headers : List (List ℕ)) → (a : About) → (e : Entry Task) → (h : Held) → RunsIn parts.old call.pid e h → IsCall e call →
         InReach reach headers a (answered_in (physical_of headers a parts.old) (ask_in a parts.old e h call) (replies (given (ask_in a parts.old e h call) outcome))) parts.old parts.new call.pid result }
     ensures lives { result ≡ Ok Replied → Lives parts.new.procs call.pid }
+    ensures leaves { IfOk result (Leaves parts.old parts.new call.pid) }
 {
     if let Some(access) = stray_of(parts, call.pid, &outcome.got, reach, whole) {
         return beyond_reach(parts, call.pid, access, reach);
@@ -234,6 +240,7 @@ fn answer_output(
         Serves a (answered (world_of a parts.old) (ask_in a parts.old e h call) (row (ask_in a parts.old e h call))) parts.old parts.new call.pid result }
     ensures memory { (headers : List (List ℕ)) → (a : About) → (e : Entry Task) → (h : Held) → RunsIn parts.old call.pid e h → IsCall e call →
         InReach reach headers a (answered_in (physical_of headers a parts.old) (ask_in a parts.old e h call) (row (ask_in a parts.old e h call))) parts.old parts.new call.pid result }
+    ensures leaves { IfOk result (Leaves parts.old parts.new call.pid) }
 {
     let outcome = outcome_of(parts, &call)?;
     answer_given(parts, call, outcome, reach, whole)
@@ -254,6 +261,7 @@ fn answer_want<F: Fn(&[Run], u32) -> Option<usize>>(
         Serves a (answered (world_of a parts.old) (ask_in a parts.old e h call) (mapped (ask_in a parts.old e h call) want)) parts.old parts.new call.pid result }
     ensures memory { (headers : List (List ℕ)) → (a : About) → a.kind ≡ kind_of chooser.now → (e : Entry Task) → (h : Held) → RunsIn parts.old call.pid e h → IsCall e call →
         ServesIn headers a (carried (physical_of headers a parts.old) (physical parts.old.mem) (answered (world_of a parts.old) (ask_in a parts.old e h call) (mapped (ask_in a parts.old e h call) want))) parts.old parts.new call.pid result }
+    ensures leaves { IfOk result (Leaves parts.old parts.new call.pid) }
 {
     if !has_room(&parts.log, &call) {
         return Ok(Served::LogFull);
@@ -275,6 +283,7 @@ fn answer_map<F: Fn(&[Run], u32) -> Option<usize>>(
         Serves a (answered (world_of a parts.old) (ask_in a parts.old e h call) (row (ask_in a parts.old e h call))) parts.old parts.new call.pid result }
     ensures memory { (headers : List (List ℕ)) → (a : About) → a.kind ≡ kind_of chooser.now → (e : Entry Task) → (h : Held) → RunsIn parts.old call.pid e h → IsCall e call →
         ServesIn headers a (carried (physical_of headers a parts.old) (physical parts.old.mem) (answered (world_of a parts.old) (ask_in a parts.old e h call) (row (ask_in a parts.old e h call)))) parts.old parts.new call.pid result }
+    ensures leaves { CanRun parts.old.procs call.pid → IfOk result (Leaves parts.old parts.new call.pid) }
 {
     match want_of(&parts.tree, &parts.files, call.table, &call.args) {
         Ok(want) => answer_want(parts, call, want, chooser),
@@ -289,6 +298,7 @@ fn answer_unmap(parts: &mut Parts, call: Call) -> Result<Served, AllocError>
     ensures serves { (a : About) → (e : Entry Task) → (h : Held) → RunsIn parts.old call.pid e h → IsCall e call →
         Serves a (answered (world_of a parts.old) (ask_in a parts.old e h call) (row (ask_in a parts.old e h call))) parts.old parts.new call.pid result }
     ensures memory { parts.new.mem ≡ parts.old.mem }
+    ensures leaves { IfOk result (Leaves parts.old parts.new call.pid) }
 {
     if !has_room(&parts.log, &call) {
         return Ok(Served::LogFull);
@@ -303,6 +313,7 @@ fn answer_wait(parts: &mut Parts, call: &Call, pipe: u32) -> Served
     ensures waits { (a : About) → (e : Entry Task) → (h : Held) → RunsIn parts.old call.now.pid e h → IsCall e call.now →
         Answered a (waited (world_of a parts.old) (process_of e) (OnPipe pipe)) parts.old parts.new call.now.pid result }
     ensures memory { parts.new.mem ≡ parts.old.mem }
+    ensures leaves { Leaves parts.old parts.new call.now.pid result }
 {
     parts.procs.wait_on(call.pid, pipe);
     Served::Waits
@@ -327,6 +338,7 @@ fn answer<F: Fn(&[Run], u32) -> Option<usize>>(
         Serves a (classed (world_of a parts.old) (ask_in a parts.old e h call)) parts.old parts.new call.pid result }
     ensures memory { (a : About) → a.kind ≡ kind_of chooser.now → AreFlats a.programs programs.now → (e : Entry Task) → (h : Held) → RunsIn parts.old call.pid e h → IsCall e call →
         InReach reach (headers_of programs.now) a (classed_in (physical_of (headers_of programs.now) a parts.old) (ask_in a parts.old e h call)) parts.old parts.new call.pid result }
+    ensures leaves { IfOk result (Leaves parts.old parts.new call.pid) }
 {
     if is_exit(call.number) {
         return answer_exit(parts, call);
@@ -382,6 +394,9 @@ fn answer_and_wake<F: Fn(&[Run], u32) -> Option<usize>>(
         Serves a (settled (classed (world_of a parts.old) (ask_in a parts.old e h call))) parts.old parts.new call.pid result }
     ensures memory { (a : About) → a.kind ≡ kind_of chooser.now → AreFlats a.programs programs.now → (e : Entry Task) → (h : Held) → RunsIn parts.old call.pid e h → IsCall e call →
         InReach reach (headers_of programs.now) a (settled_in (classed_in (physical_of (headers_of programs.now) a parts.old) (ask_in a parts.old e h call))) parts.old parts.new call.pid result }
+    ensures stray { (access : Access) → result ≡ Ok (Stray access) → parts.new ≡ parts.old }
+    ensures yields { result ≡ Ok TurnEnds → WaitsAt parts.new.procs call.pid false }
+    ensures waits { result ≡ Ok Waits → parts.old.files.changed ≡ [] → WaitsAt parts.new.procs call.pid true }
 {
     let served = answer(parts, call, programs, chooser, reach, whole)?;
     if went(served) {
@@ -409,6 +424,9 @@ pub fn serve<F: Fn(&[Run], u32) -> Option<usize>>(
         Serves a (called (world_of a parts.old) pid) parts.old parts.new pid result }
     ensures memory { (a : About) → a.kind ≡ kind_of chooser.now → AreFlats a.programs programs.now →
         InReach reach (headers_of programs.now) a (called_in (physical_of (headers_of programs.now) a parts.old) pid) parts.old parts.new pid result }
+    ensures stray { (access : Access) → result ≡ Ok (Stray access) → parts.new ≡ parts.old }
+    ensures yields { result ≡ Ok TurnEnds → WaitsAt parts.new.procs pid false }
+    ensures waits { result ≡ Ok Waits → parts.old.files.changed ≡ [] → WaitsAt parts.new.procs pid true }
 {
     match call_of(parts, pid, reach, whole) {
         Ok(call) => answer_and_wake(parts, call, programs, chooser, reach, whole),

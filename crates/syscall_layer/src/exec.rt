@@ -1,6 +1,6 @@
 //! A program in the place of another one (Linux, execve(2), in this project's profile).
 
-ghost use Rattle.std.specs.Prelude.{◌≡◌, ◌≤◌, ℕ, ◌∷◌, [], true, List, length, slice_get, Some};
+ghost use Rattle.std.specs.Prelude.{◌≡◌, ◌≤◌, ℕ, ◌∷◌, [], true, IfOk, List, length, slice_get, Some};
 ghost use Rattle.page_runs.specs.Choosers.{IsChooser, kind_of};
 ghost use Rattle.call_log.specs.Notes.{has_room, load_note};
 ghost use Rattle.mmap_rules.specs.Held.{Held};
@@ -15,6 +15,7 @@ ghost use Rattle.syscall_layer.specs.Stands.{About, world_of};
 ghost use Rattle.region_watch.specs.Private.{physical};
 ghost use Rattle.physical_turns.specs.Physical.{carried};
 ghost use Rattle.syscall_layer.specs.InMemory.{header_of, physical_of, ServesIn};
+ghost use Rattle.syscall_layer.specs.declared.answer.Served.TheVariants.{Replied};
 ghost use Rattle.syscall_layer.specs.Serves.{Serves};
 ghost use Rattle.syscall_layer.specs.Calls.{RunsIn, IsCall, ask_in, noted_call};
 
@@ -105,6 +106,7 @@ impl Parts {
             (exec_fitting (world_of a self.old) (ask_in a self.old e h call) (record { index = index; original = flat_original flat.now }) (record { args = texts strings.now.args.items; env = texts strings.now.env.items })
             (frame_fits (flat_original flat.now) (texts strings.now.args.items) (texts strings.now.env.items))))
             self.old self.new call.pid result }
+        ensures replied { IfOk result (λ served. served ≡ Replied) }
     {
         self.spaces.reserve(1)?;
         self.log.reserve(2)?;
@@ -155,6 +157,7 @@ impl Parts {
         ensures memory { self.new.mem ≡ self.old.mem }
         ensures serves { (a : About) → (e : Listed Task) → (h : Held) → RunsIn self.old call.pid e h → IsCall e call →
             Serves a (answered (world_of a self.old) (ask_in a self.old e h call) (refuses (ask_in a self.old e h call) errno)) self.old self.new call.pid result }
+        ensures replied { IfOk result (λ served. served ≡ Replied) }
     {
         self.reply(call, Effect::Answer(errno.refusal()))?;
         Ok(Served::Replied)

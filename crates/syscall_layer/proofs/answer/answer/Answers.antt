@@ -155,3 +155,35 @@ pub returns-in_default-number-clause-memory : goal.returns-in_default-number-cla
 returns-in_default-number-clause-memory g c = λ a kind flats e h runs is.
     effect_reach (headers_of c.args.programs.now) a c.args.parts.now e h c.args.call is c.args.reach c.answer_effect.new.parts c.answer_effect.result c.effect_of-effect.result
     (plain g c) (rows g c a e h runs is) c.answer_effect.ensures.memory (c.answer_effect.ensures.serves a e h runs is)
+
+-- ---- what each answer leaves
+
+pub returns-then-is_exit-clause-leaves : goal.returns-then-is_exit-clause-leaves
+returns-then-is_exit-clause-leaves g c = c.answer_exit.ensures.leaves
+
+pub returns-in-Some-clause-leaves : goal.returns-in-Some-clause-leaves
+returns-in-Some-clause-leaves g c = c.answer_wait.ensures.leaves
+
+pub returns-then-is_change-clause-leaves : goal.returns-then-is_change-clause-leaves
+returns-then-is_change-clause-leaves g c = c.answer_change.ensures.leaves
+
+pub returns-then-is_output-clause-leaves : goal.returns-then-is_output-clause-leaves
+returns-then-is_output-clause-leaves g c = c.answer_output.ensures.leaves
+
+pub returns-in-95-clause-leaves : goal.returns-in-95-clause-leaves
+returns-in-95-clause-leaves g c = c.answer_waitid.ensures.leaves
+
+pub returns-in-215-clause-leaves : goal.returns-in-215-clause-leaves
+returns-in-215-clause-leaves g c = c.answer_unmap.ensures.leaves
+
+pub returns-in-220-clause-leaves : goal.returns-in-220-clause-leaves
+returns-in-220-clause-leaves g c = c.answer_clone.ensures.leaves
+
+pub returns-in-221-clause-leaves : goal.returns-in-221-clause-leaves
+returns-in-221-clause-leaves g c = c.answer_exec.ensures.leaves
+
+pub returns-in-222-clause-leaves : goal.returns-in-222-clause-leaves
+returns-in-222-clause-leaves g c = c.answer_map.ensures.leaves c.requires.ready
+
+pub returns-in_default-number-clause-leaves : goal.returns-in_default-number-clause-leaves
+returns-in_default-number-clause-leaves g c = c.answer_effect.ensures.leaves c.requires.ready

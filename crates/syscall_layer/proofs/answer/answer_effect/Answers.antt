@@ -7,10 +7,13 @@ use Rattle.syscall_layer.specs.declared.answer.Served.{Served}
 use Rattle.syscall_layer.specs.Kept.{Kept}
 use Rattle.syscall_layer.specs.Inside.{kept_of}
 use Rattle.syscall_layer.specs.Stands.{world_of}
-use Rattle.syscall_layer.specs.Serves.{Answered}
+use Rattle.syscall_layer.specs.Regular.{IsRegular}
+use Rattle.syscall_layer.specs.Serves.{Answered, Leaves}
 use Rattle.syscall_layer.specs.Calls.{ask_in, reply_of, served_by}
 use Rattle.syscall_layer.proofs.Settled.{room_is}
 use Rattle.syscall_layer.proofs.Outcomes.{effect_serves, effect_full}
+use Rattle.syscall_layer.proofs.Runs.{runs_in}
+use Rattle.syscall_layer.proofs.Leaves.{effect_leaves}
 use Rattle.syscall_layer.proofs.answer.answer_effect.Goals as goal
 
 pub returns-then-not-has_room-clause-serves : goal.returns-then-not-has_room-clause-serves
@@ -34,3 +37,11 @@ returns-clause-serves c = λ a e h runs is.
     let outcome = answered (world_of a k) (ask_in a k e h call) (replies (reply_of (ask_in a k e h call) f)) in
     subst (λ (served : Served). Answered a outcome k c.reply.new.self call.pid served) (sym c.served_by.ensures)
     (subst (λ (new : Kept). Answered a outcome k new call.pid (served_by f)) (sym (c.in_ok-reply.ensures.replies a e h runs)) done)
+
+pub returns-clause-leaves : goal.returns-clause-leaves
+returns-clause-leaves c = λ ready.
+    let k = c.args.parts.now in
+    let call = c.args.call in
+    let r = runs_in k call.pid (subst IsRegular c.parts.view_is c.parts.invariant).0 c.requires in
+    subst (λ (served : Served). Leaves k c.reply.new.self call.pid served) (sym c.served_by.ensures)
+    (effect_leaves k r.0 r.1.0 call r.1.1.lives ready c.args.effect c.reply.new.self (λ a. c.in_ok-reply.ensures.replies a r.0 r.1.0 r.1.1))

@@ -73,3 +73,9 @@ returns-in-Err-clause-memory g c = λ headers a kind e h runs is.
     subst (λ (r : Row). ServesIn headers a (carried (physical_of headers a k) (physical k.mem) (answered (world_of a k) ask r)) k new call.pid result) (sym rows)
     (plain_in headers a k new c.answer_effect.ensures.memory call.pid (answered (world_of a k) ask (answers ask c.refusal.result)) result (c.answer_effect.ensures.serves a e h runs is)
     (answered_begins (world_of a k) ask (answers ask c.refusal.result)) (answered_never (world_of a k) ask (answers ask c.refusal.result) refl))
+
+pub returns-in-Ok-clause-leaves : goal.returns-in-Ok-clause-leaves
+returns-in-Ok-clause-leaves g c = λ ready. c.answer_want.ensures.leaves
+
+pub returns-in-Err-clause-leaves : goal.returns-in-Err-clause-leaves
+returns-in-Err-clause-leaves g c = c.answer_effect.ensures.leaves

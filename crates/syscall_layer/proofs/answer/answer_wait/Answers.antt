@@ -13,6 +13,7 @@ use Rattle.syscall_layer.specs.Serves.{Answered}
 use Rattle.syscall_layer.proofs.Runs.{runs_in}
 use Rattle.syscall_layer.proofs.Families.{can_run_lives}
 use Rattle.syscall_layer.proofs.Waits.{regular_waiting, waits_serve}
+use Rattle.syscall_layer.proofs.Leaves.{waits_now}
 use Rattle.syscall_layer.proofs.answer.answer_wait.Goals as goal
 
 pub invariant_of-parts : goal.invariant_of-parts
@@ -35,3 +36,10 @@ returns-clause-waits c = λ a e h runs is.
     subst (λ (x : Kept). Answered a (waited (world_of a k) (process_of e) (OnPipe pipe)) k x pid Waits)
     (ap (λ (x : Kept). record x { procs = with_wait_on x.procs pid pipe }) (sym c.parts.view_is) ∙ (λ i. record old { procs = sym c.wait_on.ensures i }))
     (waits_serve a k pid e runs.lives (OnPipe pipe))
+
+pub returns-clause-leaves : goal.returns-clause-leaves
+returns-clause-leaves c =
+    let old = kept_of c.parts.inside in
+    let pid = c.args.call.now.pid in
+    let ready = subst (λ (x : Kept). CanRun x.procs pid) (sym c.parts.view_is) c.requires in
+    (waits_now old.procs pid ready (OnPipe c.args.pipe) refl c.wait_on.new.self c.wait_on.ensures, ap (λ (x : Kept). x.files) c.parts.view_is)

@@ -1,5 +1,5 @@
 -- The call that is read, and the range that isn't within reach.
-use Rattle.std.proofs.Common.{◌≡◌, subst}
+use Rattle.std.proofs.Common.{◌≡◌, ℕ, true, false, subst}
 use Rattle.std.specs.Prelude.{Some, Err, Ok}
 use Rattle.std.proofs.lemmas.Result.{err_from_is_err_and}
 use Rattle.vfork_exec.specs.Procs.{value_at}
@@ -8,6 +8,7 @@ use Rattle.syscall_layer.specs.declared.reading.Unread.{Unread}
 use Rattle.syscall_layer.specs.declared.reading.Unread.TheVariants.{Stray}
 use Rattle.syscall_layer.specs.Kept.{Kept}
 use Rattle.syscall_layer.specs.Regular.{IsRegular}
+use Rattle.syscall_layer.specs.Serves.{WaitsAt}
 use Rattle.syscall_layer.specs.InMemory.{headers_of, physical_of}
 use Rattle.syscall_layer.proofs.Families.{can_run_lives}
 use Rattle.syscall_layer.proofs.Outcomes.{serve_call, serve_stray}
@@ -47,3 +48,11 @@ returns-in_ok-end_by_signal-in-Whole-clause-memory g c = λ a kind flats.
     outside_ends headers a k c.args.pid (subst IsRegular c.parts.view_is c.parts.invariant).0 (can_run_lives k.procs c.args.pid c.requires.ready) c.args.reach c.in-Whole.is c.in-Err-Stray.addr c.in-Err-Stray.len
     (subst (λ (unread : Unread). MadeAs k c.args.pid c.args.reach (Err unread)) c.in-Err-Stray.field-0-is c.in-Err-Stray.ensures.made)
     c.end_by_signal.new.self (c.in_ok-end_by_signal-in-Whole.ensures.memory headers a)
+
+-- ---- by the answer
+
+pub returns-in-Ok-clause-yields : goal.returns-in-Ok-clause-yields
+returns-in-Ok-clause-yields g c = λ is. subst (λ (p : ℕ). WaitsAt c.answer_and_wake.new.parts.procs p false) c.in-Ok.ensures.pid (c.answer_and_wake.ensures.yields is)
+
+pub returns-in-Ok-clause-waits : goal.returns-in-Ok-clause-waits
+returns-in-Ok-clause-waits g c = λ is marks. subst (λ (p : ℕ). WaitsAt c.answer_and_wake.new.parts.procs p true) c.in-Ok.ensures.pid (c.answer_and_wake.ensures.waits is marks)

@@ -7,6 +7,9 @@ use Rattle.syscall_layer.specs.Inside.{kept_of}
 use Rattle.syscall_layer.specs.Regular.{IsRegular}
 use Rattle.syscall_layer.proofs.Settled.{room_is}
 use Rattle.syscall_layer.proofs.Forks.{flags_serve, full_serves, fork_has_no_room, fork_serves}
+use Rattle.syscall_layer.proofs.Runs.{runs_in}
+use Rattle.syscall_layer.proofs.Families.{can_run_lives}
+use Rattle.syscall_layer.proofs.Leaves.{fork_leaves}
 use Rattle.syscall_layer.proofs.family.answer_clone.Goals as goal
 
 pub returns-then-call-ne-VFORK_FLAGS-clause-serves : goal.returns-then-call-ne-VFORK_FLAGS-clause-serves
@@ -35,3 +38,17 @@ returns-clause-serves c = λ a e h runs is.
     let few = ap (λ (x : Kept). nat_le most_entries (count x.procs)) (sym c.parts.view_is) ∙ sym c.full.ensures.full ∙ c.if-full.false in
     let room = room_is (kept_of c.parts.inside) k c.parts.view_is (length call.sent.items) c.has_room.result true c.has_room.ensures c.if-not-has_room.false in
     fork_serves a k e h call is c.if-call-ne-VFORK_FLAGS.false few (subst IsRegular c.parts.view_is c.parts.invariant).0 runs.lives room c.fork.new.self (c.in_ok-fork.ensures.forks e h runs)
+
+pub returns-clause-leaves : goal.returns-clause-leaves
+returns-clause-leaves c =
+    let k = c.args.parts.now in
+    let call = c.args.call in
+    let regular = (subst IsRegular c.parts.view_is c.parts.invariant).0 in
+    let r = runs_in k call.pid regular (can_run_lives k.procs call.pid c.requires) in
+    fork_leaves k r.0 call regular r.1.1.lives c.fork.new.self (c.in_ok-fork.ensures.forks r.0 r.1.0 r.1.1)
+
+pub returns-then-call-ne-VFORK_FLAGS-clause-leaves : goal.returns-then-call-ne-VFORK_FLAGS-clause-leaves
+returns-then-call-ne-VFORK_FLAGS-clause-leaves c = c.answer_effect.ensures.leaves c.requires
+
+pub returns-then-full-clause-leaves : goal.returns-then-full-clause-leaves
+returns-then-full-clause-leaves c = c.answer_effect-then-full.ensures.leaves c.requires

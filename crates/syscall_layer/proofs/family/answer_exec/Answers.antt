@@ -1,15 +1,18 @@
 -- Which way the call goes, and what comes of it.
-use Rattle.std.proofs.Common.{rules, ◌≡◌, ◌<◌, ◌≤◌, arith, true, false, length, Some, None, refl, sym, ap, ◌∙◌}
+use Rattle.std.proofs.Common.{rules, ◌≡◌, ◌<◌, ◌≤◌, arith, true, false, length, Some, None, refl, sym, ap, subst, ◌∙◌}
 use Rattle.std.specs.Prelude.{slice_get, slice_index}
 use Rattle.std.proofs.lemmas.Option.{slice_get_past, slice_get_read}
+use Rattle.std.proofs.lemmas.Result.{IfOk-weaker}
 use Rattle.std.proofs.lemmas.Bool.Decides.{nat_tests}
 use Rattle.mem_files.specs.Paths.{lookup}
 use Rattle.call_log.specs.declared.errno.Errno.TheVariants.{Eacces, E2big, Enametoolong}
 use Rattle.call_log.specs.Sent.{has_zero}
 use Rattle.call_log.specs.Strings.{ProgramStrings, before_zero, program_strings}
 use Rattle.flat_loader.specs.Frame.{texts}
+use Rattle.syscall_layer.specs.declared.answer.Served.{Served}
 use Rattle.syscall_layer.specs.Kept.{Kept}
 use Rattle.syscall_layer.specs.Inside.{kept_of}
+use Rattle.syscall_layer.specs.Serves.{Leaves}
 use Rattle.syscall_layer.specs.Families.{mark_at}
 use Rattle.syscall_layer.specs.InMemory.{headers_of}
 use Rattle.syscall_layer.proofs.Settled.{room_is}
@@ -148,3 +151,21 @@ returns-clause-memory g c = λ a kind flats e h runs is.
     by_outcome_in (headers_of programs) a k e h call c.exec.new.self c.exec.result _
     (runs_flat a k e h call is zero (strings g at) (strings_are g at) c.in-Some.path.now (path_is g at) index (sym (marked g at) ∙ c.in-Ok.is) programs flats flat there)
     (c.exec.ensures.memory (headers_of programs) a kind (header_listed programs index flat there) e h runs is)
+
+-- ---- what each answer leaves
+
+pub returns-in_default-clause-leaves : goal.returns-in_default-clause-leaves
+returns-in_default-clause-leaves g c = c.answer_effect.ensures.leaves c.requires.ready
+
+pub returns-in_default-2-clause-leaves : goal.returns-in_default-2-clause-leaves
+returns-in_default-2-clause-leaves g c = c.answer_effect-in_default-2.ensures.leaves c.requires.ready
+
+pub returns-in-Err-clause-leaves : goal.returns-in-Err-clause-leaves
+returns-in-Err-clause-leaves g c = c.answer_effect-in-Err.ensures.leaves c.requires.ready
+
+pub returns-in_default-get-clause-leaves : goal.returns-in_default-get-clause-leaves
+returns-in_default-get-clause-leaves g c = c.answer_effect-in_default-get.ensures.leaves c.requires.ready
+
+pub returns-clause-leaves : goal.returns-clause-leaves
+returns-clause-leaves g c =
+    IfOk-weaker c.exec.result _ _ (λ (served : Served) is. subst (λ (s : Served). Leaves c.args.parts.now c.exec.new.self c.args.call.pid s) (sym is) tt) c.exec.ensures.replied

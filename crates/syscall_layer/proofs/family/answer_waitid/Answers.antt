@@ -21,6 +21,7 @@ use Rattle.syscall_layer.proofs.Families.{can_run_lives}
 use Rattle.syscall_layer.proofs.CallsIn.{in_reach, same_reach}
 use Rattle.syscall_layer.proofs.ToldMemory.{fault_in, looked_in, childless_in, waiting_in}
 use Rattle.syscall_layer.proofs.Waits.{is_told, looked_same, regular_waiting, waits_serve, fault_serves, looked_serves, childless_serves}
+use Rattle.syscall_layer.proofs.Leaves.{waits_now}
 use Rattle.syscall_layer.proofs.family.answer_waitid.Goals as goal
 
 pub returns-in-Some-clause-serves : goal.returns-in-Some-clause-serves
@@ -125,3 +126,21 @@ returns-clause-memory c = λ headers a e h runs is.
     same_reach headers a c.args.reach _ _
     (looked_in headers a k e h c.args.call runs.lives is fault c.meant-who.result (may_wait (slice_index c.args.call.args 3)) (c.meant-who.ensures asks (sym is.args)) refl (Ok c.in-Ok.told) looks)
     k c.answer_told.new.parts c.args.call.pid c.answer_told.result (c.answer_told.ensures.memory headers a e h runs is)
+
+pub returns-in-Some-clause-leaves : goal.returns-in-Some-clause-leaves
+returns-in-Some-clause-leaves c = c.answer_effect.ensures.leaves c.requires.ready
+
+pub returns-in-Err-clause-leaves : goal.returns-in-Err-clause-leaves
+returns-in-Err-clause-leaves c = c.answer_effect-in-Err.ensures.leaves c.requires.ready
+
+pub returns-in-Waits-clause-leaves : goal.returns-in-Waits-clause-leaves
+returns-in-Waits-clause-leaves c =
+    let old = kept_of c.parts.inside in
+    let pid = c.args.call.pid in
+    let who = c.meant-who.result in
+    let ready = subst (λ (x : Kept). CanRun x.procs pid) (sym c.parts.view_is) c.requires.ready in
+    let procs = c.wait.ensures.after ∙ ap (with_wait old.procs pid who) (c.wait.ensures.answer ∙ sym c.wait_look.ensures ∙ c.in-Ok.is ∙ ap Ok c.in-Waits.is) in
+    (waits_now old.procs pid ready (Waiting who) refl c.wait.new.self procs, ap (λ (x : Kept). x.files) c.parts.view_is)
+
+pub returns-clause-leaves : goal.returns-clause-leaves
+returns-clause-leaves c = c.answer_told.ensures.leaves
