@@ -1,4 +1,4 @@
--- Members, Laid, Bare, Putting, Raised, Sound, Held, Stills, Recorded, Apart, Listed, Ascending, Spelled, ImageLaw: the laws over definitions.
+-- Members, Laid, Bare, Putting, Raised, Sound, Held, Stills, Recorded, Apart, Listed, Ascending, Spelled, ImageLaw, Loads: the laws over definitions.
 -- Twins, Slots, Agreed: two files that say the same, or agree on their relocations. Exchanged: two that agree and differ.
 -- Samples: the worked examples, computed.
 -- Lowest, Meeting, Kept: the least word that meets another relocation, by what the test for overlaps keeps.
@@ -19,6 +19,7 @@ pub mod Listed
 pub mod Ascending
 pub mod Spelled
 pub mod ImageLaw
+pub mod Loads
 pub mod Twins
 pub mod Slots
 pub mod Agreed

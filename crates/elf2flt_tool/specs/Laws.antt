@@ -1,9 +1,11 @@
 -- The laws of the conversion, over definitions alone. A file is a list of bytes.
-use Rattle.std.specs.Prelude.{◌≡◌, ◌≢◌, ℕ, ◌≤◌, ◌⊎◌, List, None}
+use Rattle.std.specs.Prelude.{◌≡◌, ◌≢◌, ℕ, ◌+◌, ◌-◌, ◌^◌, ◌<◌, ◌≤◌, ◌⊎◌, List, None}
 use Rattle.byte_words.specs.Numbers.{IsBytes}
 use Rattle.bflt_format.specs.Header.{flat_values}
 use Rattle.bflt_format.specs.Fault.{flat_fault}
 use Rattle.bflt_format.specs.Image.{flat_image}
+use Rattle.flat_layout.specs.Layout.{layout}
+use Rattle.linux_loader.specs.Laws.{IsPlaced, Leaves}
 use Rattle.elf2flt_tool.specs.Fault.{fault}
 use Rattle.elf2flt_tool.specs.Image.{image}
 use Rattle.elf2flt_tool.specs.Converted.{flat}
@@ -16,6 +18,13 @@ ImageLaw = (e : List ℕ) (stack b : ℕ) → IsBytes e → fault e ≡ None →
 -- what is written has no fault
 abbrev pub FlatLaw : Type 0
 FlatLaw = (e : List ℕ) (stack : ℕ) → IsBytes e → fault e ≡ None → stack ≤ 1048576 → flat_fault (flat e stack) ≡ None
+
+-- Linux takes it at the page k, for so many bytes of arguments, where the entry's number is below 2^24 - 64. Behind the header it
+-- leaves the image of the ELF file, with zeros behind that, and the program starts at the ELF file's entry
+abbrev pub LinuxLaw : Type 0
+LinuxLaw =
+    (e : List ℕ) (stack args k : ℕ) → IsBytes e → fault e ≡ None → stack ≤ 1048576 → (layout e).entry < 2 ^ 24 - 64 → IsPlaced (flat e stack) args k →
+    Leaves (flat e stack) args k (image e (k + 64)) (k + 64 + (layout e).entry)
 
 -- two accepted files that agree on the entry, the laid-out sections and the kept relocations become the same flat file, where
 -- one of them has no two sections with high parts at one place

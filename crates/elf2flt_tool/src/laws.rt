@@ -1,6 +1,6 @@
 //! Laws over the definitions. They hold for all files, and no code runs.
 
-ghost use Rattle.elf2flt_tool.specs.Laws.{DifferThoughAgreed, FlatLaw, ImageLaw, NothingElseLaw, SameRecordersLaw, SameWordsLaw};
+ghost use Rattle.elf2flt_tool.specs.Laws.{DifferThoughAgreed, FlatLaw, ImageLaw, LinuxLaw, NothingElseLaw, SameRecordersLaw, SameWordsLaw};
 
 /// The flat file of an accepted ELF file has, loaded at any base, the image of the ELF file there.
 pub fn image_law()
@@ -10,6 +10,12 @@ pub fn image_law()
 /// A flat file that the converter writes has no fault.
 pub fn flat_law()
     ensures { FlatLaw }
+{}
+
+/// Linux's own loader, by the definition `linux` of `linux_loader`, takes that file at each page whose run ends in memory, and
+/// leaves the image of the ELF file behind the header; the program starts at the ELF file's entry.
+pub fn linux_law()
+    ensures { LinuxLaw }
 {}
 
 /// The flat file goes by the entry, the laid-out sections and the kept relocations, and by nothing else: not by the order of

@@ -18,5 +18,5 @@ mod tests;
 mod word;
 
 pub use conversion::{convert, flat_file};
-pub use laws::{flat_law, image_law, nothing_else_law};
+pub use laws::{flat_law, image_law, linux_law, nothing_else_law};
 pub use refusal::Refusal;

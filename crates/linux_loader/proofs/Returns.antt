@@ -1,4 +1,4 @@
--- The laws.
+-- The law.
 use Rattle.std.proofs.Common.{◌≡◌, ℕ, suc, ◌+◌, ◌-◌, ◌*◌, ◌^◌, ◌<◌, ◌≤◌, true, false, eqb, leb, ltb, List, [], ◌∷◌, length, map, take, get_or, Option, Some, None, refl, sym, ap, subst, ◌∙◌, arith, inl, inr}
 use Rattle.std.specs.List.{list_any}
 use Rattle.std.specs.Option.{unwrap_or}
@@ -9,7 +9,7 @@ use Rattle.std.proofs.lemmas.Map.Steps.{length-le_from_distinct_below}
 use Rattle.byte_words.specs.Patches.{painted, from_base}
 use Rattle.bflt_format.specs.declared.fault.FlatFault.{FlatFault}
 use Rattle.bflt_format.specs.Values.{Values, stored, image_size}
-use Rattle.bflt_format.specs.Header.{entry, data_start, data_end, reloc_start, reloc_count, flat_values}
+use Rattle.bflt_format.specs.Header.{entry, data_start, data_end, reloc_count, flat_values}
 use Rattle.bflt_format.specs.Fault.{is_near, header_fault, values_fault, or_else, flat_fault}
 use Rattle.bflt_format.specs.Spelling.{Spells}
 use Rattle.bflt_format.specs.Image.{link, flat_image}
@@ -17,15 +17,9 @@ use Rattle.bflt_format.proofs.Headers.{is_header}
 use Rattle.bflt_format.proofs.Links.{word_none}
 use Rattle.bflt_format.proofs.Overlap.{covers}
 use Rattle.bflt_format.proofs.Rising.{StandsIn, stands_in}
-use Rattle.bflt_format.proofs.Spelled.{spells_bytes, has_words}
-use Rattle.flat_layout.specs.Layout.{layout}
-use Rattle.elf2flt_tool.specs.Fault.{fault}
-use Rattle.elf2flt_tool.specs.Image.{image}
-use Rattle.elf2flt_tool.specs.Converted.{converted, flat}
-use Rattle.elf2flt_tool.proofs.Spelled.{spells_converted}
-use Rattle.elf2flt_tool.proofs.ImageLaw.{values_of_flat, image_law, flat_law}
+use Rattle.bflt_format.proofs.Spelled.{spells_bytes}
 use Rattle.linux_loader.specs.Loader.{run_len, data_place, data_len, cleared, process_of, memory_after, is_refused, is_told, linux, Loaded}
-use Rattle.linux_loader.specs.Laws.{IsPlaced, IsForLinux, Leaves, FlatFilesLoad, ConvertedFilesLoad}
+use Rattle.linux_loader.specs.Laws.{IsPlaced, IsForLinux, Leaves, FlatFilesLoad}
 use Rattle.linux_loader.proofs.Reading.{IsReady, is_ready, not_refused, told}
 use Rattle.linux_loader.proofs.Linking.{Says, says, count_is, link_off, Reached, reached}
 
@@ -127,7 +121,7 @@ header_none y none = left_none (header_fault y) (values_fault (flat_values y)) n
     left_none (Some fault) b none = absurd cc
 
 -- of a file whose values can be said
-flat_loads : (y : List ℕ) (args k : ℕ) → Spells (flat_values y) → flat_fault y ≡ None → IsForLinux y → IsPlaced y args k → Leaves y args k (flat_image (flat_values y) (k + 64)) (k + entry y)
+pub flat_loads : (y : List ℕ) (args k : ℕ) → Spells (flat_values y) → flat_fault y ≡ None → IsForLinux y → IsPlaced y args k → Leaves y args k (flat_image (flat_values y) (k + 64)) (k + entry y)
 flat_loads y args k spells none for placed =
     let f = flat_values y in
     let clear = header_none y none in
@@ -149,31 +143,3 @@ flat_loads y args k spells none for placed =
 
 pub flat_files_load : FlatFilesLoad
 flat_files_load y args k bytes none for placed = flat_loads y args k (spells_bytes y bytes none) none for placed
-
--- ---- converted files
-
-leaves_same : (y : List ℕ) (args k : ℕ) (one other : ℕ → Option ℕ) (start begin : ℕ) → one ≡ other → start ≡ begin → Leaves y args k one start → Leaves y args k other begin
-leaves_same y args k one other start begin same starts left = record {
-  process = left.process;
-  loaded = left.loaded;
-  bytes = λ a low high. left.bytes a low high ∙ ap (λ picture. unwrap_or (picture a) 0) same;
-  entry = left.entry ∙ starts;
-}
-
-table_follows : (e : List ℕ) (stack : ℕ) → Spells (converted e stack) → reloc_start (flat e stack) ≡ data_end (flat e stack)
-unfolding flat
-table_follows e stack s = let words = has_words (converted e stack) s in words.reloc_start ∙ sym words.data_end
-
-entry_is : (e : List ℕ) (stack : ℕ) → Spells (converted e stack) → entry (flat e stack) ≡ 64 + (layout e).entry
-unfolding flat converted
-entry_is e stack s = (has_words (converted e stack) s).entry
-
-pub converted_files_load : ConvertedFilesLoad
-converted_files_load e stack args k bytes none limit low placed =
-    let y = flat e stack in
-    let s = spells_converted e stack bytes none limit in
-    let is = entry_is e stack s in
-    let starts : k + entry y ≡ k + 64 + (layout e).entry = omega arith in
-    leaves_same y args k (flat_image (flat_values y) (k + 64)) (image e (k + 64)) (k + entry y) (k + 64 + (layout e).entry) (image_law e stack (k + 64) bytes none limit) starts
-    (flat_loads y args k (subst Spells (sym (values_of_flat e stack bytes none limit)) s) (flat_law e stack bytes none limit)
-    (record { records = λ some. table_follows e stack s; entry = omega arith }) placed)

@@ -1,14 +1,9 @@
--- What Linux leaves of the files that this project reads and writes. y and e are files, args the bytes of the arguments, k a
--- page.
-use Rattle.std.specs.Prelude.{◌≡◌, ℕ, ◌+◌, ◌-◌, ◌%◌, ◌^◌, ◌<◌, ◌≤◌, List, Option, None, unwrap_or}
+-- What Linux leaves of a flat file. y is a file, args the bytes of the arguments, k a page.
+use Rattle.std.specs.Prelude.{◌≡◌, ℕ, ◌+◌, ◌%◌, ◌^◌, ◌<◌, ◌≤◌, List, Option, None, unwrap_or}
 use Rattle.byte_words.specs.Numbers.{IsBytes}
 use Rattle.bflt_format.specs.Header.{entry, data_end, reloc_start, reloc_count, flat_values}
 use Rattle.bflt_format.specs.Fault.{flat_fault}
 use Rattle.bflt_format.specs.Image.{flat_image}
-use Rattle.flat_layout.specs.Layout.{layout}
-use Rattle.elf2flt_tool.specs.Fault.{fault}
-use Rattle.elf2flt_tool.specs.Image.{image}
-use Rattle.elf2flt_tool.specs.Converted.{flat}
 use Rattle.linux_loader.specs.Loader.{Process, Loaded, run_len, linux}
 
 -- the run of pages at k ends in memory of 32-bit addresses, and the arguments have at most 2^27 bytes
@@ -33,9 +28,3 @@ pub record IsForLinux (y : List ℕ) : Type 0 where
 -- a flat file without a fault
 abbrev pub FlatFilesLoad : Type 0
 FlatFilesLoad = (y : List ℕ) (args k : ℕ) → IsBytes y → flat_fault y ≡ None → IsForLinux y → IsPlaced y args k → Leaves y args k (flat_image (flat_values y) (k + 64)) (k + entry y)
-
--- the flat file of an accepted ELF file
-abbrev pub ConvertedFilesLoad : Type 0
-ConvertedFilesLoad =
-    (e : List ℕ) (stack args k : ℕ) → IsBytes e → fault e ≡ None → stack ≤ 1048576 → (layout e).entry < 2 ^ 24 - 64 → IsPlaced (flat e stack) args k →
-    Leaves (flat e stack) args k (image e (k + 64)) (k + 64 + (layout e).entry)

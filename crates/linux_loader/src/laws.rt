@@ -1,14 +1,9 @@
 //! Laws over the definitions. They hold for all files, and no code runs.
 
-ghost use Rattle.linux_loader.specs.Laws.{FlatFilesLoad, ConvertedFilesLoad};
+ghost use Rattle.linux_loader.specs.Laws.{FlatFilesLoad};
 
 /// A flat file without a fault, whose records stand right behind its data and whose entry has 24 bits: Linux loads it,
 /// and leaves its image.
 pub fn flat_files_load()
     ensures { FlatFilesLoad }
-{}
-
-/// Linux loads the flat file of an accepted ELF file, and leaves the image of the ELF file.
-pub fn converted_files_load()
-    ensures { ConvertedFilesLoad }
 {}

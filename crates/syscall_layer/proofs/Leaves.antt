@@ -26,7 +26,7 @@ use Rattle.syscall_layer.specs.Kept.{Kept}
 use Rattle.syscall_layer.specs.Regular.{Regular}
 use Rattle.syscall_layer.specs.Stands.{About}
 use Rattle.syscall_layer.specs.Awake.{with_wakes, awake_in}
-use Rattle.syscall_layer.specs.Serves.{went_by, is_waiting, WaitsAt, Leaves}
+use Rattle.syscall_layer.specs.Serves.{went_by, is_waiting, WaitsAt, Tells}
 use Rattle.syscall_layer.specs.Calls.{child_task, after_fork, after_reply, ask_in, reply_of, served_by}
 use Rattle.syscall_layer.proofs.Families.{can_run_lives, state_ready}
 use Rattle.syscall_layer.proofs.Forks.{parent_there}
@@ -53,7 +53,7 @@ waits_now s pid ready state waits now is =
 
 -- it has its reply
 pub effect_leaves : (k : Kept) (e : Entry Task) (h : Held) (call : Call) → process k.procs call.pid ≡ Some e → CanRun k.procs call.pid → (f : Effect) (new : Kept) →
-    ((a : About) → new ≡ after_reply k e h call (reply_of (ask_in a k e h call) f) k.mem) → Leaves k new call.pid (served_by f)
+    ((a : About) → new ≡ after_reply k e h call (reply_of (ask_in a k e h call) f) k.mem) → Tells k new call.pid (served_by f)
 effect_leaves k e h call lives ready (Answer value) new replies = tt
 effect_leaves k e h call lives ready Yield new replies =
     subst (λ (x : Kept). WaitsAt x.procs call.pid false) (sym (replies (record { kind = First; programs = []; events = 0 })))
@@ -62,7 +62,7 @@ effect_leaves k e h call lives ready Yield new replies =
 effect_leaves k e h call lives ready (Break to) new replies = tt
 
 -- it stands still for its child, and waits for nothing
-pub fork_leaves : (k : Kept) (e : Entry Task) (call : Call) → Regular k → process k.procs call.pid ≡ Some e → (new : Kept) → new ≡ after_fork k e call → Leaves k new call.pid TurnEnds
+pub fork_leaves : (k : Kept) (e : Entry Task) (call : Call) → Regular k → process k.procs call.pid ≡ Some e → (new : Kept) → new ≡ after_fork k e call → Tells k new call.pid TurnEnds
 fork_leaves k e call regular lives new is =
     let there = parent_there k.procs call.pid e lives regular.falls (child_task k e call) in
     subst (λ (x : Kept). WaitsAt x.procs call.pid false) (sym is)
@@ -101,15 +101,15 @@ none_woken (pipe ∷ pipes) procs is = absurd cc
 
 -- ---- by the answer
 
-module _ (old new : Kept) (pid : ℕ) (r : Result Served AllocError) (leaves : IfOk r (Leaves old new pid)) where
+module _ (old new : Kept) (pid : ℕ) (r : Result Served AllocError) (leaves : IfOk r (Tells old new pid)) where
   pub stray_keeps : (access : Access) → r ≡ Ok (Stray access) → new ≡ old
-  stray_keeps access is = subst (λ (x : Result Served AllocError). IfOk x (Leaves old new pid)) is leaves
+  stray_keeps access is = subst (λ (x : Result Served AllocError). IfOk x (Tells old new pid)) is leaves
 
   pub yield_goes : r ≡ Ok TurnEnds → WaitsAt new.procs pid false
-  yield_goes is = subst (λ (x : Result Served AllocError). IfOk x (Leaves old new pid)) is leaves
+  yield_goes is = subst (λ (x : Result Served AllocError). IfOk x (Tells old new pid)) is leaves
 
   wait_stays : r ≡ Ok Waits → WaitsAt new.procs pid true × (new.files ≡ old.files)
-  wait_stays is = subst (λ (x : Result Served AllocError). IfOk x (Leaves old new pid)) is leaves
+  wait_stays is = subst (λ (x : Result Served AllocError). IfOk x (Tells old new pid)) is leaves
 
   pub wait_goes : r ≡ Ok Waits → WaitsAt new.procs pid true
   wait_goes is = (wait_stays is).0

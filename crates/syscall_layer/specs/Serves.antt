@@ -43,13 +43,13 @@ WaitsAt procs pid waits = option_map is_waiting (state_at procs pid) ≡ Some wa
 
 -- what the answer alone tells, behind a stray access too: a stray access changed nothing; who ends its turn doesn't wait, and who
 -- waits does, with the files as they were
-abbrev pub Leaves : Kept → Kept → ℕ → Served → Type 0
-Leaves old new pid served.Replied = Unit {0}
-Leaves old new pid served.TurnEnds = WaitsAt new.procs pid false
-Leaves old new pid served.Waits = WaitsAt new.procs pid true × (new.files ≡ old.files)
-Leaves old new pid served.Ended = Unit {0}
-Leaves old new pid (served.Stray access) = new ≡ old
-Leaves old new pid served.LogFull = Unit {0}
+abbrev pub Tells : Kept → Kept → ℕ → Served → Type 0
+Tells old new pid served.Replied = Unit {0}
+Tells old new pid served.TurnEnds = WaitsAt new.procs pid false
+Tells old new pid served.Waits = WaitsAt new.procs pid true × (new.files ≡ old.files)
+Tells old new pid served.Ended = Unit {0}
+Tells old new pid (served.Stray access) = new ≡ old
+Tells old new pid served.LogFull = Unit {0}
 
 abbrev pub Strays : Access → Kept → Kept → Served → Type 0
 Strays access old new (served.Stray seen) = (seen ≡ access) × (new ≡ old)

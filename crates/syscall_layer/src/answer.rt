@@ -24,7 +24,7 @@ ghost use Rattle.syscall_layer.specs.declared.reach.Reach.TheVariants.{Own, Whol
 ghost use Rattle.syscall_layer.specs.declared.answer.Served.TheVariants.{Replied, TurnEnds, Waits, Stray};
 ghost use Rattle.syscall_layer.specs.InMemory.{headers_of, physical_of, ServesIn, InReach};
 ghost use Rattle.syscall_layer.specs.Reach.{writable, whole_table};
-ghost use Rattle.syscall_layer.specs.Serves.{Answered, Leaves, Serves, WaitsAt, went_by};
+ghost use Rattle.syscall_layer.specs.Serves.{Answered, Serves, Tells, WaitsAt, went_by};
 ghost use Rattle.mmap_rules.specs.Copies.{IsKnown};
 ghost use Rattle.syscall_layer.specs.Puts.{first_stray, access_at, IsRange};
 ghost use Rattle.syscall_layer.specs.Calls.{RunsIn, IsCall, ask_in, reply_of, given, served_by};
@@ -97,7 +97,7 @@ fn answer_exit(parts: &mut Parts, call: Call) -> Result<Served, AllocError>
     ensures serves { (a : About) → (e : Entry Task) → (h : Held) → RunsIn parts.old call.pid e h → IsCall e call →
         Serves a (exited (world_of a parts.old) (ask_in a parts.old e h call)) parts.old parts.new call.pid result }
     ensures memory { parts.new.mem ≡ parts.old.mem }
-    ensures leaves { IfOk result (Leaves parts.old parts.new call.pid) }
+    ensures leaves { IfOk result (Tells parts.old parts.new call.pid) }
 {
     if !has_room(&parts.log, &call) {
         return Ok(Served::LogFull);
@@ -116,7 +116,7 @@ pub(crate) fn answer_effect(
     ensures serves { (a : About) → (e : Entry Task) → (h : Held) → RunsIn parts.old call.pid e h → IsCall e call →
         Serves a (answered (world_of a parts.old) (ask_in a parts.old e h call) (replies (reply_of (ask_in a parts.old e h call) effect))) parts.old parts.new call.pid result }
     ensures memory { parts.new.mem ≡ parts.old.mem }
-    ensures leaves { CanRun parts.old.procs call.pid → IfOk result (Leaves parts.old parts.new call.pid) }
+    ensures leaves { CanRun parts.old.procs call.pid → IfOk result (Tells parts.old parts.new call.pid) }
 {
     if !has_room(&parts.log, &call) {
         return Ok(Served::LogFull);
@@ -133,7 +133,7 @@ fn answer_change(parts: &mut Parts, call: Call) -> Result<Served, AllocError>
     ensures serves { (a : About) → (e : Entry Task) → (h : Held) → RunsIn parts.old call.pid e h → IsCall e call →
         Serves a (answered (world_of a parts.old) (ask_in a parts.old e h call) (row (ask_in a parts.old e h call))) parts.old parts.new call.pid result }
     ensures memory { parts.new.mem ≡ parts.old.mem }
-    ensures leaves { IfOk result (Leaves parts.old parts.new call.pid) }
+    ensures leaves { IfOk result (Tells parts.old parts.new call.pid) }
 {
     if !has_room(&parts.log, &call) {
         return Ok(Served::LogFull);
@@ -167,7 +167,7 @@ fn beyond_reach(
     ensures silent { result ≢ Ok Replied }
     ensures memory { reach ≡ Whole → (headers : List (List ℕ)) → (a : About) → (e : Entry Task) → (h : Held) → RunsIn parts.old pid e h →
         ServesIn headers a (killed (physical_of headers a parts.old) (process_of e) outside) parts.old parts.new pid result }
-    ensures leaves { IfOk result (Leaves parts.old parts.new pid) }
+    ensures leaves { IfOk result (Tells parts.old parts.new pid) }
 {
     match reach {
         Reach::Own => Ok(Served::Stray(access)),
@@ -211,7 +211,7 @@ pub(crate) fn answer_given(
     ensures memory { (headers : List (List ℕ)) → (a : About) → (e : Entry Task) → (h : Held) → RunsIn parts.old call.pid e h → IsCall e call →
         InReach reach headers a (answered_in (physical_of headers a parts.old) (ask_in a parts.old e h call) (replies (given (ask_in a parts.old e h call) outcome))) parts.old parts.new call.pid result }
     ensures lives { result ≡ Ok Replied → Lives parts.new.procs call.pid }
-    ensures leaves { IfOk result (Leaves parts.old parts.new call.pid) }
+    ensures leaves { IfOk result (Tells parts.old parts.new call.pid) }
 {
     if let Some(access) = stray_of(parts, call.pid, &outcome.got, reach, whole) {
         return beyond_reach(parts, call.pid, access, reach);
@@ -240,7 +240,7 @@ fn answer_output(
         Serves a (answered (world_of a parts.old) (ask_in a parts.old e h call) (row (ask_in a parts.old e h call))) parts.old parts.new call.pid result }
     ensures memory { (headers : List (List ℕ)) → (a : About) → (e : Entry Task) → (h : Held) → RunsIn parts.old call.pid e h → IsCall e call →
         InReach reach headers a (answered_in (physical_of headers a parts.old) (ask_in a parts.old e h call) (row (ask_in a parts.old e h call))) parts.old parts.new call.pid result }
-    ensures leaves { IfOk result (Leaves parts.old parts.new call.pid) }
+    ensures leaves { IfOk result (Tells parts.old parts.new call.pid) }
 {
     let outcome = outcome_of(parts, &call)?;
     answer_given(parts, call, outcome, reach, whole)
@@ -261,7 +261,7 @@ fn answer_want<F: Fn(&[Run], u32) -> Option<usize>>(
         Serves a (answered (world_of a parts.old) (ask_in a parts.old e h call) (mapped (ask_in a parts.old e h call) want)) parts.old parts.new call.pid result }
     ensures memory { (headers : List (List ℕ)) → (a : About) → a.kind ≡ kind_of chooser.now → (e : Entry Task) → (h : Held) → RunsIn parts.old call.pid e h → IsCall e call →
         ServesIn headers a (carried (physical_of headers a parts.old) (physical parts.old.mem) (answered (world_of a parts.old) (ask_in a parts.old e h call) (mapped (ask_in a parts.old e h call) want))) parts.old parts.new call.pid result }
-    ensures leaves { IfOk result (Leaves parts.old parts.new call.pid) }
+    ensures leaves { IfOk result (Tells parts.old parts.new call.pid) }
 {
     if !has_room(&parts.log, &call) {
         return Ok(Served::LogFull);
@@ -283,7 +283,7 @@ fn answer_map<F: Fn(&[Run], u32) -> Option<usize>>(
         Serves a (answered (world_of a parts.old) (ask_in a parts.old e h call) (row (ask_in a parts.old e h call))) parts.old parts.new call.pid result }
     ensures memory { (headers : List (List ℕ)) → (a : About) → a.kind ≡ kind_of chooser.now → (e : Entry Task) → (h : Held) → RunsIn parts.old call.pid e h → IsCall e call →
         ServesIn headers a (carried (physical_of headers a parts.old) (physical parts.old.mem) (answered (world_of a parts.old) (ask_in a parts.old e h call) (row (ask_in a parts.old e h call)))) parts.old parts.new call.pid result }
-    ensures leaves { CanRun parts.old.procs call.pid → IfOk result (Leaves parts.old parts.new call.pid) }
+    ensures leaves { CanRun parts.old.procs call.pid → IfOk result (Tells parts.old parts.new call.pid) }
 {
     match want_of(&parts.tree, &parts.files, call.table, &call.args) {
         Ok(want) => answer_want(parts, call, want, chooser),
@@ -298,7 +298,7 @@ fn answer_unmap(parts: &mut Parts, call: Call) -> Result<Served, AllocError>
     ensures serves { (a : About) → (e : Entry Task) → (h : Held) → RunsIn parts.old call.pid e h → IsCall e call →
         Serves a (answered (world_of a parts.old) (ask_in a parts.old e h call) (row (ask_in a parts.old e h call))) parts.old parts.new call.pid result }
     ensures memory { parts.new.mem ≡ parts.old.mem }
-    ensures leaves { IfOk result (Leaves parts.old parts.new call.pid) }
+    ensures leaves { IfOk result (Tells parts.old parts.new call.pid) }
 {
     if !has_room(&parts.log, &call) {
         return Ok(Served::LogFull);
@@ -313,7 +313,7 @@ fn answer_wait(parts: &mut Parts, call: &Call, pipe: u32) -> Served
     ensures waits { (a : About) → (e : Entry Task) → (h : Held) → RunsIn parts.old call.now.pid e h → IsCall e call.now →
         Answered a (waited (world_of a parts.old) (process_of e) (OnPipe pipe)) parts.old parts.new call.now.pid result }
     ensures memory { parts.new.mem ≡ parts.old.mem }
-    ensures leaves { Leaves parts.old parts.new call.now.pid result }
+    ensures leaves { Tells parts.old parts.new call.now.pid result }
 {
     parts.procs.wait_on(call.pid, pipe);
     Served::Waits
@@ -338,7 +338,7 @@ fn answer<F: Fn(&[Run], u32) -> Option<usize>>(
         Serves a (classed (world_of a parts.old) (ask_in a parts.old e h call)) parts.old parts.new call.pid result }
     ensures memory { (a : About) → a.kind ≡ kind_of chooser.now → AreFlats a.programs programs.now → (e : Entry Task) → (h : Held) → RunsIn parts.old call.pid e h → IsCall e call →
         InReach reach (headers_of programs.now) a (classed_in (physical_of (headers_of programs.now) a parts.old) (ask_in a parts.old e h call)) parts.old parts.new call.pid result }
-    ensures leaves { IfOk result (Leaves parts.old parts.new call.pid) }
+    ensures leaves { IfOk result (Tells parts.old parts.new call.pid) }
 {
     if is_exit(call.number) {
         return answer_exit(parts, call);

@@ -8,7 +8,7 @@ use Rattle.syscall_layer.specs.Kept.{Kept}
 use Rattle.syscall_layer.specs.Inside.{kept_of}
 use Rattle.syscall_layer.specs.Stands.{world_of}
 use Rattle.syscall_layer.specs.Regular.{IsRegular}
-use Rattle.syscall_layer.specs.Serves.{Answered, Leaves}
+use Rattle.syscall_layer.specs.Serves.{Answered, Tells}
 use Rattle.syscall_layer.specs.Calls.{ask_in, reply_of, served_by}
 use Rattle.syscall_layer.proofs.Settled.{room_is}
 use Rattle.syscall_layer.proofs.Outcomes.{effect_serves, effect_full}
@@ -43,5 +43,5 @@ returns-clause-leaves c = λ ready.
     let k = c.args.parts.now in
     let call = c.args.call in
     let r = runs_in k call.pid (subst IsRegular c.parts.view_is c.parts.invariant).0 c.requires in
-    subst (λ (served : Served). Leaves k c.reply.new.self call.pid served) (sym c.served_by.ensures)
+    subst (λ (served : Served). Tells k c.reply.new.self call.pid served) (sym c.served_by.ensures)
     (effect_leaves k r.0 r.1.0 call r.1.1.lives ready c.args.effect c.reply.new.self (λ a. c.in_ok-reply.ensures.replies a r.0 r.1.0 r.1.1))

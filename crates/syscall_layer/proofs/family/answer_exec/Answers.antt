@@ -12,7 +12,7 @@ use Rattle.flat_loader.specs.Frame.{texts}
 use Rattle.syscall_layer.specs.declared.answer.Served.{Served}
 use Rattle.syscall_layer.specs.Kept.{Kept}
 use Rattle.syscall_layer.specs.Inside.{kept_of}
-use Rattle.syscall_layer.specs.Serves.{Leaves}
+use Rattle.syscall_layer.specs.Serves.{Tells}
 use Rattle.syscall_layer.specs.Families.{mark_at}
 use Rattle.syscall_layer.specs.InMemory.{headers_of}
 use Rattle.syscall_layer.proofs.Settled.{room_is}
@@ -168,4 +168,4 @@ returns-in_default-get-clause-leaves g c = c.answer_effect-in_default-get.ensure
 
 pub returns-clause-leaves : goal.returns-clause-leaves
 returns-clause-leaves g c =
-    IfOk-weaker c.exec.result _ _ (λ (served : Served) is. subst (λ (s : Served). Leaves c.args.parts.now c.exec.new.self c.args.call.pid s) (sym is) tt) c.exec.ensures.replied
+    IfOk-weaker c.exec.result _ _ (λ (served : Served) is. subst (λ (s : Served). Tells c.args.parts.now c.exec.new.self c.args.call.pid s) (sym is) tt) c.exec.ensures.replied

@@ -15,7 +15,7 @@ use Rattle.syscall_layer.specs.Stands.{world_of}
 use Rattle.syscall_layer.specs.Puts.{IsRange}
 use Rattle.physical_turns.specs.Physical.{answered_in, reaped_in}
 use Rattle.syscall_layer.specs.InMemory.{physical_of, InReach}
-use Rattle.syscall_layer.specs.Serves.{Answered, Leaves}
+use Rattle.syscall_layer.specs.Serves.{Answered, Tells}
 use Rattle.syscall_layer.specs.Calls.{ask_in, given}
 use Rattle.syscall_layer.proofs.CallsIn.{in_reach}
 use Rattle.syscall_layer.proofs.GivenMemory.{is_unchanged}
@@ -102,4 +102,4 @@ returns-in_default-clause-memory c = λ headers a e h runs is.
 
 pub returns-in-Replied-clause-leaves : goal.returns-in-Replied-clause-leaves
 returns-in-Replied-clause-leaves c =
-    subst (λ (s : Served). Leaves c.args.parts.now (record (kept_of c.parts-2.inside) { procs = c.wait.new.self }) c.args.call.pid s) (sym c.in-Replied.is) tt
+    subst (λ (s : Served). Tells c.args.parts.now (record (kept_of c.parts-2.inside) { procs = c.wait.new.self }) c.args.call.pid s) (sym c.in-Replied.is) tt
