@@ -15,10 +15,10 @@ use Rattle.physical_turns.proofs.Sub.{span_sub}
 use Rattle.physical_turns.proofs.InMemory.{space_shows}
 use Rattle.physical_turns.proofs.Moves.{found_is_shown}
 use Rattle.go_on_laws.specs.Alike.{Stands}
-use Rattle.go_on_laws.specs.Laws.{GoesAlike}
+use Rattle.go_on_laws.specs.Laws.{EndsAlike, GoesPast, GoesAlike}
 use Rattle.flat_machine.specs.OwnBytes.{read_or_none, bytes_in, bytes_of, own_bytes, bytes_for, memory_bytes}
 use Rattle.manifest_text.specs.declared.manifest.Dump.{Dump}
-use Rattle.suite_top.specs.Run.Beside.{RunsAlike, GoesOnWell}
+use Rattle.suite_top.specs.Run.Beside.{GoesOnWell}
 
 -- what is read of own bytes is read of memory
 read_on : (own : ℕ → _) (m : Bytes) (span : Span) (bytes : List ℕ) → read_or_none (read_span (only own m) span) ≡ Some bytes → read_or_none (read_span m span) ≡ Some bytes
@@ -44,24 +44,31 @@ module _ (w : World) (p : Physical) (stands : Stands w p) (d : Dump) (bytes : Li
   unfolding own_bytes memory_bytes
   shown_alike is = shown_of (find pid_of d.pid p.world.procs) refl (ap (λ (v : World). own_bytes v d.pid d.addr d.len) stands.world ∙ is)
 
-alike_by : (private : Walk) (one : PhysicalWalk) → Stands private.world one.now → one.end ≡ private.end → RunsAlike private one
-alike_by private one stands end = record {
-  world = stands.world;
-  end = end;
-  shown = λ d bytes is. shown_alike private.world one.now stands d bytes is;
-}
-
+-- what the law says of a walk that doesn't end with a stray access, and of one that does
 module _ (private : Walk) (one : PhysicalWalk) where
-  alike_at : (end : Option End) → private.end ≡ end → GoesAlike private.world one end → ((pid : ℕ) (access : Access) → end ≢ Some (stray_at pid access)) → RunsAlike private one
-  alike_at (Some (stray_at pid access)) is goes never = absurd (never pid access refl)
-  alike_at (Some all_ended) is goes never = alike_by private one goes.stands (goes.ends ∙ sym is)
-  alike_at (Some stuck) is goes never = alike_by private one goes.stands (goes.ends ∙ sym is)
-  alike_at (Some out_of_quanta) is goes never = alike_by private one goes.stands (goes.ends ∙ sym is)
-  alike_at (Some log_full) is goes never = alike_by private one goes.stands (goes.ends ∙ sym is)
-  alike_at None is goes never = alike_by private one goes.stands (goes.ends ∙ sym is)
+  ends_at : (end : Option End) → private.end ≡ end → GoesAlike private.world one end → ((pid : ℕ) (access : Access) → end ≢ Some (stray_at pid access)) → EndsAlike private.world one private.end
+  ends_at (Some (stray_at pid access)) is goes never = absurd (never pid access refl)
+  ends_at (Some all_ended) is goes never = subst (EndsAlike private.world one) (sym is) goes
+  ends_at (Some stuck) is goes never = subst (EndsAlike private.world one) (sym is) goes
+  ends_at (Some out_of_quanta) is goes never = subst (EndsAlike private.world one) (sym is) goes
+  ends_at (Some log_full) is goes never = subst (EndsAlike private.world one) (sym is) goes
+  ends_at None is goes never = subst (EndsAlike private.world one) (sym is) goes
 
-  pub goes_on_well : GoesAlike private.world one private.end → GoesOnWell private one
-  goes_on_well goes = record {
-    alike = λ never. alike_at private.end refl goes never;
-    past = λ pid access is. subst (GoesAlike private.world one) is goes;
-  }
+  module _ (goes : GoesAlike private.world one private.end) where
+    pub ends_alike : ((pid : ℕ) (access : Access) → private.end ≢ Some (stray_at pid access)) → EndsAlike private.world one private.end
+    ends_alike never = ends_at private.end refl goes never
+
+    pub goes_past : (pid : ℕ) (access : Access) → private.end ≡ Some (stray_at pid access) → GoesPast private.world one pid access
+    goes_past pid access is = subst (GoesAlike private.world one) is goes
+
+    pub goes_on_well : GoesOnWell private one
+    goes_on_well = record {
+      alike = λ never.
+          let ends = ends_alike never in
+          record {
+            world = ends.stands.world;
+            end = ends.ends;
+            shown = λ d bytes is. shown_alike private.world one.now ends.stands d bytes is;
+          };
+      past = goes_past;
+    }

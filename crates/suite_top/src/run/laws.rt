@@ -1,5 +1,5 @@
 //! Laws over every run. No code runs.
-ghost use Rattle.suite_top.specs.Run.Beside.{RunsGoOnWell};
+ghost use Rattle.suite_top.specs.Run.Beside.{RunsEndEarlyAlike, RunsGoOnWell, RunsTellWell};
 ghost use Rattle.suite_top.specs.Run.Laws.{RunsWhereItOpens, OpensWhereItStops, RunsStopOrEndEarly, RunsAreAsAlone, RunsWaitWell};
 ghost use Rattle.run_setup.specs.Originals.{OriginalsAreSame};
 
@@ -28,8 +28,11 @@ pub fn waits_law()
     ensures { RunsWaitWell }
 {}
 
-/// With `--go-on` a run whose private spaces reach no stray access tells the same, but for dump lines of bytes that aren't all own; and
-/// one whose spaces do first tells what they noted, with the stray access, and what they wrote.
+/// With `--go-on` a run whose private spaces reach no stray access ends with the same status and texts, but for dump lines of a process
+/// that lives, whose bytes lie in memory and aren't all own; and one whose spaces reach one first tells what they noted, with the stray
+/// access, and what they wrote. A run that doesn't reach its machine is the same with it.
 pub fn go_on_law()
-    ensures { RunsGoOnWell }
+    ensures worlds { RunsGoOnWell }
+    ensures texts { RunsTellWell }
+    ensures early { RunsEndEarlyAlike }
 {}

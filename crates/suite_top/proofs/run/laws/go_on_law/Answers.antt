@@ -1,23 +1,64 @@
 -- By the law that a run which goes on is that of private spaces up to its first stray access.
-use Rattle.std.proofs.Common.{map}
+use Rattle.std.proofs.Common.{◌≡◌, ℕ, List, map, refl, sym, ap, ◌∙◌}
+use Rattle.host_io.specs.Host.{Files}
+use Rattle.page_runs.specs.declared.place.Kind.{Kind}
 use Rattle.stays_laws.proofs.SoundRuns.{boots_are_sound}
 use Rattle.physical_turns.specs.Physical.{opening as memory_opening}
+use Rattle.physical_turns.proofs.Growth.{runs_leave_programs}
+use Rattle.go_on_laws.specs.Laws.{GoesAlike}
 use Rattle.go_on_laws.proofs.Boots.{boots_go_on, boots_note_no_stray}
 use Rattle.go_on_laws.proofs.Walks.{runs_go_on}
 use Rattle.flat_machine.specs.Runs.{repeated}
+use Rattle.suite_top.specs.Report.{own_dumps, memory_dumps, status_of_end}
 use Rattle.suite_top.specs.Run.{start_line, opening}
+use Rattle.suite_top.specs.Run.Laws.{Opens}
 use Rattle.suite_top.specs.Run.Beside.{halting, going_on}
-use Rattle.suite_top.proofs.GoOn.{goes_on_well}
+use Rattle.suite_top.proofs.GoOn.{ends_alike, goes_past, goes_on_well}
+use Rattle.suite_top.proofs.GoOnTexts.{reports_alike, report_begins, begins_later}
+use Rattle.suite_top.proofs.SamePrograms.{programs_stay}
+use Rattle.suite_top.proofs.EarlyAlike.{runs_end_early_alike}
 use Rattle.suite_top.proofs.Headers.{headers_short}
 use Rattle.suite_top.proofs.OpenedRuns.{can_boot, few_starts}
 use Rattle.suite_top.proofs.run.laws.go_on_law.Goals as goal
 
-pub returns : goal.returns
-returns c t name kind o =
-    let rest = opening kind o.manifest o.brought in
-    let starts = map start_line o.manifest.starts in
-    let sound = boots_are_sound rest starts o.world (can_boot o) (few_starts o) o.boots in
-    let short = headers_short o.manifest.items o.files o.brought o.brings in
-    let stands = boots_go_on rest starts o.world o.brought.headers (can_boot o) (few_starts o) short o.boots in
-    goes_on_well (halting o) (going_on o)
-    (runs_go_on (repeated o.manifest.repeat o.manifest.quanta) o.world (memory_opening o.brought.headers o.world) sound stands (boots_note_no_stray rest starts o.world o.boots))
+module _ {t : Files} {name : List ℕ} {kind : Kind} (o : Opens t name kind) where
+  goes_alike : GoesAlike (halting o).world (going_on o) (halting o).end
+  goes_alike =
+      let rest = opening kind o.manifest o.brought in
+      let starts = map start_line o.manifest.starts in
+      let sound = boots_are_sound rest starts o.world (can_boot o) (few_starts o) o.boots in
+      let short = headers_short o.manifest.items o.files o.brought o.brings in
+      let stands = boots_go_on rest starts o.world o.brought.headers (can_boot o) (few_starts o) short o.boots in
+      runs_go_on (repeated o.manifest.repeat o.manifest.quanta) o.world (memory_opening o.brought.headers o.world) sound stands (boots_note_no_stray rest starts o.world o.boots)
+
+  same_programs : (going_on o).now.world.rest.programs ≡ (halting o).world.rest.programs
+  same_programs =
+      let quanta = repeated o.manifest.repeat o.manifest.quanta in
+      (runs_leave_programs quanta (memory_opening o.brought.headers o.world)).programs ∙ sym (programs_stay o.world.rest.programs quanta o.world refl)
+
+pub returns-clause-worlds : goal.returns-clause-worlds
+returns-clause-worlds c t name kind o = goes_on_well (halting o) (going_on o) (goes_alike o)
+
+pub returns-clause-texts : goal.returns-clause-texts
+returns-clause-texts c t name kind log o = record {
+  alike = λ never.
+      let ends = ends_alike (halting o) (going_on o) (goes_alike o) never in
+      record {
+        status = ap status_of_end ends.ends;
+        out = ap (λ w. w.rest.console) ends.stands.world;
+        report = reports_alike log o.manifest.dumps (halting o) (going_on o) ends;
+      };
+  past = λ pid access is.
+      let past = goes_past (halting o) (going_on o) (goes_alike o) pid access is in
+      let added = past.adds in
+      record {
+        out = added.1;
+        halts = report_begins log (own_dumps (halting o).world o.manifest.dumps) (halting o).world (halting o).end;
+        goes_on =
+            begins_later log (halting o).world (going_on o).now.world (same_programs o) added.0.0 added.0.1 _
+            (report_begins log (memory_dumps (going_on o).now o.manifest.dumps) (going_on o).now.world (going_on o).end);
+      };
+}
+
+pub returns-clause-early : goal.returns-clause-early
+returns-clause-early c = runs_end_early_alike
