@@ -1,5 +1,5 @@
 -- Linux loads what is written, by the law that it loads each flat file whose values can be said.
-use Rattle.std.proofs.Common.{◌≡◌, ℕ, ◌+◌, Option, ap, sym, subst, ◌∙◌, arith}
+use Rattle.std.proofs.Common.{◌≡◌, ℕ, ◌+◌, List, Option, ap, sym, subst, ◌∙◌, arith}
 use Rattle.std.specs.Option.{unwrap_or}
 use Rattle.bflt_format.specs.Header.{entry, data_end, reloc_start, flat_values}
 use Rattle.bflt_format.specs.Spelling.{Spells}

@@ -12,6 +12,7 @@
 -- Boots   the opening world
 -- Refused what a refused call leaves of memory
 -- Marked  no mark is left
+-- NeverStrays  no run ends at a stray access
 pub mod Pages
 pub mod Behind
 pub mod Writes
@@ -26,3 +27,4 @@ pub mod Walks
 pub mod Boots
 pub mod Refused
 pub mod Marked
+pub mod NeverStrays

@@ -1,5 +1,5 @@
 -- A run that goes on is the run of private spaces, up to its first stray access.
-use Rattle.std.specs.Prelude.{◌≡◌, ℕ, ◌≤◌, Bool, false, List, length, Option, Some, Ok}
+use Rattle.std.specs.Prelude.{◌≡◌, ◌≢◌, ℕ, ◌≤◌, Bool, false, List, length, Option, Some, Ok}
 use Rattle.rv32im_step.specs.declared.access.Access.{Access}
 use Rattle.call_log.specs.Notes.{stray_note}
 use Rattle.quantum_sched.specs.declared.Quantum.{Quantum}
@@ -77,3 +77,7 @@ abbrev pub RunsGoOn : Type 0
 RunsGoOn =
     (quanta : List Quantum) (w : World) (p : Physical) → IsSound w → Stands w p → has_stray w.notes ≡ false →
     GoesAlike (turns quanta w).world (physical_turns quanta p) (turns quanta w).end
+
+-- no run that goes on ends at a stray access
+abbrev pub RunsNeverStray : Type 0
+RunsNeverStray = (quanta : List Quantum) (p : Physical) (pid : ℕ) (access : Access) → (physical_turns quanta p).end ≢ Some (stray_at pid access)

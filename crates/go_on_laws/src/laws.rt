@@ -2,11 +2,12 @@
 
 ghost use Rattle.go_on_laws.specs.Marks.{OpeningsHaveNoMark, EventsHaveNoMark, TurnsHaveNoMark, RunsHaveNoMark};
 ghost use Rattle.go_on_laws.specs.Refusals.{RefusalsLeaveMemory, RefusedEventsLeaveMemory};
-ghost use Rattle.go_on_laws.specs.Laws.{BootsGoOn, BootsNoteNoStray, EventsGoOn, FullEventsGoOn, TurnsGoOn, RunsGoOn};
+ghost use Rattle.go_on_laws.specs.Laws.{BootsGoOn, BootsNoteNoStray, EventsGoOn, FullEventsGoOn, TurnsGoOn, RunsGoOn, RunsNeverStray};
 
 /// Up to its first stray access a run that goes on is the run of private spaces: the one memory stands for the world at boot, and behind
 /// each event, turn and run in which nothing strays, which end alike; and where an access strays, what goes on only adds to the notes and
-/// to the console of the run that ends there, with that access as its newest note.
+/// to the console of the run that ends there, with that access as its newest note. No run
+/// that goes on ends at a stray access.
 pub fn go_on_law()
     ensures boots { BootsGoOn }
     ensures unstrayed { BootsNoteNoStray }
@@ -14,6 +15,7 @@ pub fn go_on_law()
     ensures full { FullEventsGoOn }
     ensures turns { TurnsGoOn }
     ensures runs { RunsGoOn }
+    ensures never { RunsNeverStray }
 {}
 
 /// A system call that is refused in the one memory changes its caller's a0 and pc, the notes and the count of events, and nothing else: no

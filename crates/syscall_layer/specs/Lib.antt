@@ -16,6 +16,7 @@
 -- Puts     what a call writes into its caller's memory, range by range
 -- Reach    what a system call may read and write: its process's own bytes, or all of memory
 -- InMemory  the one memory that the parts stand for, and what a call and a signal leave of it
+-- FreeRuns  the free runs that the regions leave
 -- Refusals  why a program doesn't start, by the loader's reason
 pub mod Kept
 pub mod Regular
@@ -36,3 +37,4 @@ pub mod MapsIn
 pub mod Puts
 pub mod Reach
 pub mod InMemory
+pub mod FreeRuns

@@ -14,6 +14,7 @@ mod exec;
 mod family;
 mod fork;
 mod keep;
+mod laws;
 mod maps;
 mod output;
 mod parts;
@@ -27,6 +28,7 @@ mod task;
 mod wake;
 
 pub use answer::{Served, serve};
+pub use laws::free_runs_law;
 pub use parts::Parts;
 pub use reach::{Reach, table_of, whole_table};
 pub use reading::{Unread, read_range};

@@ -2,6 +2,7 @@
 use Rattle.go_on_laws.proofs.Boots.{boots_go_on, boots_note_no_stray}
 use Rattle.go_on_laws.proofs.Events.{events_go_on, full_events_go_on}
 use Rattle.go_on_laws.proofs.Walks.{turns_go_on, runs_go_on}
+use Rattle.go_on_laws.proofs.NeverStrays.{runs_never_stray}
 use Rattle.go_on_laws.proofs.laws.go_on_law.Goals as goal
 
 pub returns-clause-boots : goal.returns-clause-boots
@@ -21,3 +22,6 @@ returns-clause-turns c = turns_go_on
 
 pub returns-clause-runs : goal.returns-clause-runs
 returns-clause-runs c = runs_go_on
+
+pub returns-clause-never : goal.returns-clause-never
+returns-clause-never c = runs_never_stray

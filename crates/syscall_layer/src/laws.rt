@@ -1,0 +1,8 @@
+//! A law over the definitions. No code runs.
+
+ghost use Rattle.syscall_layer.specs.FreeRuns.{RegionsLeaveFreeRuns};
+
+/// The free runs of the regions are those of the world that the parts stand for.
+pub fn free_runs_law()
+    ensures { RegionsLeaveFreeRuns }
+{}
