@@ -12,7 +12,7 @@
 -- LoadedItems: the loads of a manifest's lines.
 -- Booted, RunEndings, RunLaws: what a boot of the machine gives, how a run ends, and when it reaches its machine.
 -- OpenedRuns: what the laws of boots ask for, of a run that reaches its machine.
--- GoOn, GoOnTexts, SamePrograms, EarlyAlike: a run that goes on, beside the same run without it.
+-- GoOn, GoOnTexts, SamePrograms, BothModes: a run that goes on, beside the same run without it.
 -- Demos, DemoFaults, DemoLaws: the manifest of a demo and its programs, and the laws of the command.
 -- Samples, ListSamples, RunSamples: the definitions on the worked example and on small manifests.
 pub mod HostCourses
@@ -47,7 +47,7 @@ pub mod Headers
 pub mod GoOn
 pub mod GoOnTexts
 pub mod SamePrograms
-pub mod EarlyAlike
+pub mod BothModes
 pub mod Demos
 pub mod DemoFaults
 pub mod DemoLaws

@@ -29,7 +29,7 @@ pub use demo_run::laws::demo_law;
 pub use laws::{host_law, status_law};
 pub use list::laws::list_law;
 pub use placements::Placements;
-pub use run::laws::{originals_law, run_law};
+pub use run::laws::{alone_law, go_on_law, originals_law, regular_worlds_law, run_law, waits_law};
 pub use status::Status;
 pub use texts::MEMORY_LINE;
 pub use top::suite;

@@ -6,8 +6,8 @@ const GREETERS: &[File] = &[("hi.flt", Content::Flat(HI)), ("ho.flt", Content::F
 
 pub const HI_WITH_LOG: Case = Case {
     name: "run-hi-with-log",
-    files: GREETERS,
-    manifest: "memory 4\nflat /hi hi.flt\nstart /hi\nquanta 0:100\n",
+    files: &[("hi.elf", Content::Elf(linked::HI))],
+    manifest: "memory 4\nelf /hi hi.elf\nstart /hi\nquanta 0:100\n",
     options: &["--log"],
     status: Status::Done,
     out: "hi\n",
@@ -75,9 +75,9 @@ stop done events 196837
 const CASES: &[Case] = &[
     HI_WITH_LOG,
     Case {
-        name: "run-hi-with-log, of an ELF file",
-        files: &[("hi.elf", Content::Elf(linked::HI))],
-        manifest: "memory 4\nelf /hi hi.elf\nstart /hi\nquanta 0:100\n",
+        name: "run-hi-with-log, of a flat file",
+        files: GREETERS,
+        manifest: "memory 4\nflat /hi hi.flt\nstart /hi\nquanta 0:100\n",
         ..HI_WITH_LOG
     },
     SHELL_LIKE,

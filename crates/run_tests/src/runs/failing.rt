@@ -80,7 +80,7 @@ fn each_load_of_a_run_fails_in_turn(rt: HostRuntime) -> Result<(), Fail> {
     let alloc = rt.alloc();
     for (at, status, report) in [
         (0, Status::HostRead, "host: cannot read m\n"),
-        (1, Status::HostRead, "host: cannot read hi.flt\n"),
+        (1, Status::HostRead, "host: cannot read hi.elf\n"),
         (2, Status::Done, HI_WITH_LOG.report),
     ] {
         let mut host = host_of(alloc, HI_WITH_LOG.files, HI_WITH_LOG.manifest)?;
@@ -98,6 +98,27 @@ fn each_load_of_a_run_fails_in_turn(rt: HostRuntime) -> Result<(), Fail> {
             ..HI_WITH_LOG
         };
         assert!(rt; is_as(&want, &ran), "load {at} fails");
+    }
+    Ok(())
+}
+
+/// The file of the manifest's line can't be read, and `report` fails at each byte of the line that says so.
+#[test]
+fn the_line_of_a_load_that_fails_is_cut(rt: HostRuntime) -> Result<(), Fail> {
+    let alloc = rt.alloc();
+    let line = "host: cannot read hi.elf\n";
+    for at in 0..line.len() {
+        let mut host = host_of(alloc, HI_WITH_LOG.files, HI_WITH_LOG.manifest)?;
+        host.fail_at(1)?;
+        let out = MemSink::new(alloc)?;
+        let report = slow_sink(alloc, at)?;
+        let ran = run_to(alloc, &mut host, HI_WITH_LOG.options, out, report)?;
+        assert!(rt;
+            ran.status == Status::SinkWrite
+                && ran.out.bytes().is_empty()
+                && has_first(&ran.report, line, at),
+            "report fails at {at}"
+        );
     }
     Ok(())
 }

@@ -12,6 +12,7 @@ use Rattle.go_on_laws.specs.Laws.{GoesPast}
 use Rattle.flat_machine.specs.declared.machine.Mode.TheVariants.{Halt, GoOn}
 use Rattle.flat_machine.specs.Runs.{repeated}
 use Rattle.flat_machine.specs.OwnBytes.{own_bytes, memory_bytes}
+use Rattle.suite_top.specs.declared.status.Status.TheVariants.{Stray}
 use Rattle.suite_top.specs.Ending.{Ending}
 use Rattle.suite_top.specs.Report.{own_dumps, memory_dumps, notes_text}
 use Rattle.suite_top.specs.Outcome.{Inputs}
@@ -98,3 +99,7 @@ RunsTellWell = (t : Files) (name : List ℕ) (kind : Kind) (log : Bool) (o : Ope
 abbrev pub RunsEndEarlyAlike : Type 0
 RunsEndEarlyAlike = (name : List ℕ) (log : Bool) (kind : Kind) (inputs : Inputs)
     → IsStop (run_outcome name log Halt kind inputs).ending.status ⊎ (run_outcome name log GoOn kind inputs ≡ run_outcome name log Halt kind inputs)
+
+-- and with it no run ends at a stray access
+abbrev pub RunsOnNeverStray : Type 0
+RunsOnNeverStray = (name : List ℕ) (log : Bool) (kind : Kind) (inputs : Inputs) → (run_outcome name log GoOn kind inputs).ending.status ≢ Stray

@@ -3,6 +3,7 @@ use Rattle.std.specs.Prelude.{◌≡◌, ◌⊎◌, ℕ, ◌-◌, ◌≤◌, Boo
 use Rattle.std.specs.FinMap.{get}
 use Rattle.host_io.specs.Host.{Files}
 use Rattle.page_runs.specs.declared.place.Kind.{Kind}
+use Rattle.quantum_sched.specs.declared.Quantum.{Quantum}
 use Rattle.manifest_text.specs.Values.{Item, Manifest}
 use Rattle.manifest_text.specs.Manifest.{manifest_of}
 use Rattle.machine_world.specs.World.{Process, World, pid_of}
@@ -12,6 +13,7 @@ use Rattle.vfork_exec.specs.Keyed.{find}
 use Rattle.waits_laws.specs.Waits.{WaitsWell}
 use Rattle.waits_laws.specs.Laws.{WaitsOrLent}
 use Rattle.stays_laws.specs.Stays.{Stay, AreRight, stays, first_stays}
+use Rattle.refusal_laws.specs.Regular.{IsRegular}
 use Rattle.flat_machine.specs.declared.machine.Mode.{Mode}
 use Rattle.flat_machine.specs.Runs.{repeated}
 use Rattle.suite_top.specs.declared.status.Status.{Status}
@@ -108,3 +110,9 @@ pub record WaitsToTheEnd {t : Files} {name : List ℕ} {kind : Kind} (o : Opens 
 
 abbrev pub RunsWaitWell : Type 0
 RunsWaitWell = (t : Files) (name : List ℕ) (kind : Kind) (o : Opens t name kind) → WaitsToTheEnd o
+
+-- ---- refused calls, and where they begin
+
+-- every world of its turns, up to the first stray access, is one of which the laws of refusals, of ENOMEM and of waiting speak
+abbrev pub WorldsAreRegular : Type 0
+WorldsAreRegular = (t : Files) (name : List ℕ) (kind : Kind) (o : Opens t name kind) (quanta : List Quantum) → IsRegular (turns quanta o.world).world

@@ -1,6 +1,6 @@
 //! Laws over every run. No code runs.
-ghost use Rattle.suite_top.specs.Run.Beside.{RunsEndEarlyAlike, RunsGoOnWell, RunsTellWell};
-ghost use Rattle.suite_top.specs.Run.Laws.{RunsWhereItOpens, OpensWhereItStops, RunsStopOrEndEarly, RunsAreAsAlone, RunsWaitWell};
+ghost use Rattle.suite_top.specs.Run.Beside.{RunsEndEarlyAlike, RunsGoOnWell, RunsOnNeverStray, RunsTellWell};
+ghost use Rattle.suite_top.specs.Run.Laws.{RunsWhereItOpens, OpensWhereItStops, RunsStopOrEndEarly, RunsAreAsAlone, RunsWaitWell, WorldsAreRegular};
 ghost use Rattle.run_setup.specs.Originals.{OriginalsAreSame};
 
 /// A run reaches its machine exactly where all files are there and nothing has a fault.
@@ -28,11 +28,19 @@ pub fn waits_law()
     ensures { RunsWaitWell }
 {}
 
+/// Every world of a run, up to its first stray access, is regular: the laws of `refusal_laws` speak of it. So each reply that is an errno
+/// is a refusal there, and ENOMEM comes exactly for want of a run of pages.
+pub fn regular_worlds_law()
+    ensures { WorldsAreRegular }
+{}
+
 /// With `--go-on` a run whose private spaces reach no stray access ends with the same status and texts, but for dump lines of a process
 /// that lives, whose bytes lie in memory and aren't all own; and one whose spaces reach one first tells what they noted, with the stray
-/// access, and what they wrote. A run that doesn't reach its machine is the same with it.
+/// access, and what they wrote. A run that doesn't reach its machine is the same with it, and none ends
+/// with the status Stray.
 pub fn go_on_law()
     ensures worlds { RunsGoOnWell }
     ensures texts { RunsTellWell }
     ensures early { RunsEndEarlyAlike }
+    ensures never { RunsOnNeverStray }
 {}

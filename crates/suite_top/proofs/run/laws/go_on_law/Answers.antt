@@ -16,7 +16,7 @@ use Rattle.suite_top.specs.Run.Beside.{halting, going_on}
 use Rattle.suite_top.proofs.GoOn.{ends_alike, goes_past, goes_on_well}
 use Rattle.suite_top.proofs.GoOnTexts.{reports_alike, report_begins, begins_later}
 use Rattle.suite_top.proofs.SamePrograms.{programs_stay}
-use Rattle.suite_top.proofs.EarlyAlike.{runs_end_early_alike}
+use Rattle.suite_top.proofs.BothModes.{runs_end_early_alike, runs_on_never_stray}
 use Rattle.suite_top.proofs.Headers.{headers_short}
 use Rattle.suite_top.proofs.OpenedRuns.{can_boot, few_starts}
 use Rattle.suite_top.proofs.run.laws.go_on_law.Goals as goal
@@ -62,3 +62,6 @@ returns-clause-texts c t name kind log o = record {
 
 pub returns-clause-early : goal.returns-clause-early
 returns-clause-early c = runs_end_early_alike
+
+pub returns-clause-never : goal.returns-clause-never
+returns-clause-never c = runs_on_never_stray
