@@ -1,12 +1,11 @@
 -- No run that goes on ends at a stray access.
-use Rattle.std.proofs.Common.{◌≡◌, ◌≢◌, ℕ, zero, suc, Bool, true, false, List, [], ◌∷◌, Option, Some, None, subst}
+use Rattle.std.proofs.Common.{ℕ, zero, suc, Bool, true, false, List, [], ◌∷◌, Option, Some, None, subst}
 use Rattle.std.specs.Prelude.{length, ◌==◌, if◌then◌else◌}
-use Rattle.rv32im_step.specs.declared.access.Access.{Access}
 use Rattle.quantum_sched.specs.declared.Quantum.{Quantum}
 use Rattle.quantum_sched.specs.Picked.{picked}
 use Rattle.machine_world.specs.World.{World}
 use Rattle.machine_world.specs.Families.{ready_pids}
-use Rattle.machine_world.specs.Turns.{End, all_ended, stuck, out_of_quanta, stray_at, log_full, none_runs, last_end}
+use Rattle.machine_world.specs.Turns.{End, all_ended, stuck, out_of_quanta, stray_at, log_full, last_end}
 use Rattle.physical_turns.specs.Physical.{Physical, After, after, no_room, nobody, physical_event, Walk, stays_at, turned, physical_turn, going_on, quantum_turn, physical_turns}
 use Rattle.go_on_laws.specs.Laws.{RunsNeverStray}
 

@@ -1,6 +1,5 @@
 -- A run that goes on, by the law that it is the run of private spaces up to its first stray access.
-use Rattle.std.proofs.Common.{◌≡◌, ◌≢◌, ℕ, ◌≤◌, List, [], ◌∷◌, ◌++◌, length, map, Option, Some, None, Result, Ok, Err, refl, sym, ap, subst, ◌∙◌, arith}
-use Rattle.std.specs.Prelude.{take, slice_get}
+use Rattle.std.proofs.Common.{◌≡◌, ◌≢◌, ℕ, List, Option, Some, None, Result, Ok, Err, refl, sym, ap, subst, ◌∙◌, arith}
 use Rattle.byte_words.specs.ByteMap.{Bytes}
 use Rattle.rv32im_step.specs.declared.access.Access.{Access}
 use Rattle.call_log.specs.Sent.{Span, read_span}
@@ -9,8 +8,7 @@ use Rattle.region_watch.specs.Private.{only}
 use Rattle.vfork_exec.specs.Keyed.{find}
 use Rattle.machine_world.specs.World.{LiveSpace, Process, World, pid_of, id_of}
 use Rattle.machine_world.specs.Turns.{End, Walk, all_ended, stuck, out_of_quanta, stray_at, log_full}
-use Rattle.physical_turns.specs.Physical.{Physical, shown_space, Walk as PhysicalWalk}
-use Rattle.physical_turns.specs.Courses.{IsShown}
+use Rattle.physical_turns.specs.Physical.{Physical, Walk as PhysicalWalk}
 use Rattle.physical_turns.proofs.Sub.{span_sub}
 use Rattle.physical_turns.proofs.InMemory.{space_shows}
 use Rattle.physical_turns.proofs.Moves.{found_is_shown}

@@ -2,7 +2,6 @@
 use Rattle.std.proofs.Common.{◌≡◌, ℕ, Bool, List, ◌++◌, map, flat_map, reverse, Option, Some, None, refl, sym, ap, ◌∙◌, inl, inr}
 use Rattle.std.proofs.lemmas.List.{append_assoc, reverse-append}
 use Rattle.std.proofs.lemmas.Grind.{flat_map-append}
-use Rattle.rv32im_step.specs.declared.access.Access.{Access}
 use Rattle.call_log.specs.Notes.{Note}
 use Rattle.manifest_text.specs.declared.manifest.Dump.{Dump}
 use Rattle.vfork_exec.specs.Keyed.{find}
@@ -10,7 +9,7 @@ use Rattle.machine_world.specs.World.{Program, Process, World, pid_of, program_p
 use Rattle.machine_world.specs.Turns.{End, Walk}
 use Rattle.physical_turns.specs.Physical.{Physical, Walk as PhysicalWalk}
 use Rattle.go_on_laws.specs.Alike.{Stands}
-use Rattle.go_on_laws.specs.Laws.{EndsAlike, GoesPast}
+use Rattle.go_on_laws.specs.Laws.{EndsAlike}
 use Rattle.flat_machine.specs.OwnBytes.{own_bytes, bytes_for, memory_bytes}
 use Rattle.suite_top.specs.Report.{note_text, own_dumps, memory_dumps, stop_word, stop_line, notes_text, report_text}
 use Rattle.suite_top.specs.Run.Beside.{ShowsMore, DumpsAlike, ReportsAlike, Begins}
@@ -45,13 +44,6 @@ module _ (w : World) (p : Physical) (stands : Stands w p) (d : Dump) where
 -- ---- reports
 
 module _ (log : Bool) (dumps : List Dump) (private : Walk) (one : PhysicalWalk) where
-  -- what both are made of
-  halting_report : List ℕ
-  halting_report = report_text log (own_dumps private.world dumps) private.world private.end
-
-  going_on_report : List ℕ
-  going_on_report = report_text log (memory_dumps one.now dumps) one.now.world one.end
-
   pub reports_alike : EndsAlike private.world one private.end
       → ReportsAlike private.world one.now dumps (report_text log (own_dumps private.world dumps) private.world private.end) (report_text log (memory_dumps one.now dumps) one.now.world one.end)
   unfolding report_text
@@ -73,9 +65,6 @@ module _ (log : Bool) (dumps : List Dump) (private : Walk) (one : PhysicalWalk) 
 
 -- notes come before those that are there, of the same programs
 module _ (log : Bool) (old now : World) (same : now.rest.programs ≡ old.rest.programs) (more : List Note) (are : now.notes ≡ more ++ old.notes) where
-  later : List ℕ
-  later = flat_map (note_text log (map program_path old.rest.programs)) (reverse more)
-
   notes_begin : notes_text log now ≡ notes_text log old ++ flat_map (note_text log (map program_path old.rest.programs)) (reverse more)
   notes_begin =
       ap (λ (ps : List Program). flat_map (note_text log (map program_path ps)) (reverse now.notes)) same
