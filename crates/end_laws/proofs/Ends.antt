@@ -33,9 +33,9 @@ stands_at [] i less = absurd (omega (arith, less))
 stands_at (x ∷ xs) zero less = (x, refl)
 stands_at (x ∷ xs) (suc i) less = stands_at xs i (omega (arith, less))
 
--- the process that made the event ended, and its stay comes to that end
-abbrev Told : List Stay → ℕ → Trace → ℕ → How → Type 0
-Told ys pid t other how = (other ≡ pid) × EndsItsStay ys t pid how
+-- the process that made the event ended, in an event of its stay, which comes to that end
+abbrev pub Told : List Stay → ℕ → Trace → ℕ → How → Type 0
+Told ys pid t other how = (other ≡ pid) × (t.events ≡ 1) × EndsItsStay ys t pid how
 
 module _ (ys : List Stay) (w : World) (sound : IsSound w) (right : AreRight ys w) where
   module _ (p : Process) (s : LiveSpace) (lives : find pid_of p.pid w.procs ≡ Some p) (ready : p.state ≡ Ready) (has : find id_of p.space w.spaces ≡ Some s) where
@@ -79,7 +79,7 @@ module _ (ys : List Stay) (w : World) (sound : IsSound w) (right : AreRight ys w
     ends_trapped signal is = record {
       notes = end_note p.pid (Signal signal) ∷ [];
       is = refl;
-      ends = ((refl, ends_there _ (Signal signal) refl (means_alone (trap signal) is)), tt);
+      ends = ((refl, refl, ends_there _ (Signal signal) refl (means_alone (trap signal) is)), tt);
     }
 
     module _ (is : means ≡ call) (bytes : List ℕ) where
@@ -94,7 +94,7 @@ module _ (ys : List Stay) (w : World) (sound : IsSound w) (right : AreRight ys w
           (record {
             notes = end_note p.pid (Exit (exit_code ask)) ∷ call_note (entry_of ask 0 []) ∷ [];
             is = refl;
-            ends = ((refl, ends_there _ (Exit (exit_code ask)) refl (means_alone call is, exits, refl)), (tt, tt));
+            ends = ((refl, refl, ends_there _ (Exit (exit_code ask)) refl (means_alone call is, exits, refl)), (tt, tt));
           })
           tt
 
@@ -137,10 +137,11 @@ module _ (ys : List Stay) (w : World) (sound : IsSound w) (right : AreRight ys w
       (ends_in p (ap (λ n. find pid_of n w.procs) own ∙ lives) (same_Some p.state Ready may) (find id_of p.space w.spaces) refl)
 
   -- the event is of the process with this pid, in its space
-  ends_event : (pid : ℕ) → MayRun w pid → Adds (Told ys pid) w.notes (event w pid)
+  pub ends_event : (pid : ℕ) → MayRun w pid → Adds (Told ys pid) w.notes (event w pid)
   unfolding event at_process
   ends_event pid may = ends_by pid (find pid_of pid w.procs) refl may
 
 pub events_end_as_alone : EventsEndAsAlone
 events_end_as_alone ys w pid now t sound may right is more i other how notes there =
-    end_added (Told ys pid t) w.notes now.notes more i other how (subst (Adds (Told ys pid) w.notes) is (ends_event ys w sound right pid may)) notes there
+    let told = end_added (Told ys pid t) w.notes now.notes more i other how (subst (Adds (Told ys pid) w.notes) is (ends_event ys w sound right pid may)) notes there in
+    (told.0, told.2)

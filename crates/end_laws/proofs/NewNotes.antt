@@ -45,7 +45,7 @@ AllEnds E [] = Unit {0}
 AllEnds E (note ∷ notes) = IfEnd E note × AllEnds E notes
 
 -- so it holds of the end noted at a place
-end_at : (E : ℕ → How → Type 0) (notes : List Note) (i pid : ℕ) (how : How) → AllEnds E notes → slice_get notes i ≡ Some (end_note pid how) → E pid how
+pub end_at : (E : ℕ → How → Type 0) (notes : List Note) (i pid : ℕ) (how : How) → AllEnds E notes → slice_get notes i ≡ Some (end_note pid how) → E pid how
 end_at E [] i pid how all there = absurd cc
 end_at E (note ∷ notes) zero pid how all there = let same : note ≡ end_note pid how = cc in subst (IfEnd E) same all.0
 end_at E (note ∷ notes) (suc i) pid how all there = end_at E notes i pid how all.1 there

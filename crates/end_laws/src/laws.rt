@@ -1,10 +1,14 @@
 //! A law over the definitions. It holds for all worlds, and no code runs.
 
-ghost use Rattle.end_laws.specs.Laws.{EventsEndAsAlone};
+ghost use Rattle.end_laws.specs.Laws.{BootsEndNone, EventsEndAsAlone, TurnsEndAsAlone, RunsEndAsAlone};
 
 /// The note of an end tells how its process's program ends there alone: it is the process that made the event; and where the stays
 /// were right, the run of its space's stay alone comes to that process, which stands at an exit with this code, or traps with
-/// this signal.
+/// this signal. So in a whole run: no end is noted at boot, and for each one that is noted behind a turn or a run, the run of one
+/// of the stays, as it was at some earlier moment of its life, comes to it alone.
 pub fn end_law()
+    ensures boots { BootsEndNone }
     ensures events { EventsEndAsAlone }
+    ensures turns { TurnsEndAsAlone }
+    ensures runs { RunsEndAsAlone }
 {}
