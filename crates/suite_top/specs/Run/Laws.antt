@@ -13,6 +13,7 @@ use Rattle.vfork_exec.specs.Keyed.{find}
 use Rattle.waits_laws.specs.Waits.{WaitsWell}
 use Rattle.waits_laws.specs.Laws.{WaitsOrLent}
 use Rattle.stays_laws.specs.Stays.{Stay, AreRight, stays, first_stays}
+use Rattle.end_laws.specs.Laws.{EndsAreTold}
 use Rattle.refusal_laws.specs.Regular.{IsRegular}
 use Rattle.flat_machine.specs.declared.machine.Mode.{Mode}
 use Rattle.flat_machine.specs.Runs.{repeated}
@@ -98,6 +99,10 @@ opened_end o = (turns (repeated o.manifest.repeat o.manifest.quanta) o.world).wo
 -- what each process does is what its program does alone, under the replies that it had
 abbrev pub RunsAreAsAlone : Type 0
 RunsAreAsAlone = (t : Files) (name : List ℕ) (kind : Kind) (o : Opens t name kind) → AreRight (opened_stays o) (opened_end o)
+
+-- and how each process ends is how its program ends alone: each end that is noted is that of the run of one of the stays, as it was then
+abbrev pub RunsEndAsAlone : Type 0
+RunsEndAsAlone = (t : Files) (name : List ℕ) (kind : Kind) (o : Opens t name kind) → EndsAreTold (opened_stays o) (opened_end o).notes
 
 -- ---- those that wait
 

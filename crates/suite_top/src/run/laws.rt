@@ -1,6 +1,6 @@
 //! Laws over every run. No code runs.
 ghost use Rattle.suite_top.specs.Run.Beside.{RunsEndEarlyAlike, RunsGoOnWell, RunsOnNeverStray, RunsTellWell};
-ghost use Rattle.suite_top.specs.Run.Laws.{RunsWhereItOpens, OpensWhereItStops, RunsStopOrEndEarly, RunsAreAsAlone, RunsWaitWell, WorldsAreRegular};
+ghost use Rattle.suite_top.specs.Run.Laws.{RunsWhereItOpens, OpensWhereItStops, RunsStopOrEndEarly, RunsAreAsAlone, RunsEndAsAlone, RunsWaitWell, WorldsAreRegular};
 ghost use Rattle.run_setup.specs.Originals.{OriginalsAreSame};
 
 /// A run reaches its machine exactly where all files are there and nothing has a fault.
@@ -17,9 +17,10 @@ pub fn originals_law()
 
 /// Each process of a run does what its own program does alone, loaded at its place, under the replies that it had: its calls are
 /// those that were kept, and its registers, own ranges and own bytes are those of its space. An ELF file's program is the file
-/// itself, relocated by the psABI.
+/// itself, relocated by the psABI. And a process ends as its program does alone, by the same exit or signal.
 pub fn alone_law()
-    ensures { RunsAreAsAlone }
+    ensures lives { RunsAreAsAlone }
+    ensures ends { RunsEndAsAlone }
 {}
 
 /// Each process that waits at the end of a run would wait again, for just what it waits for. Where the run is stuck, each process
