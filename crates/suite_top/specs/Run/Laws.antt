@@ -101,8 +101,8 @@ abbrev pub RunsAreAsAlone : Type 0
 RunsAreAsAlone = (t : Files) (name : List ℕ) (kind : Kind) (o : Opens t name kind) → AreRight (opened_stays o) (opened_end o)
 
 -- and how each process ends is how its program ends alone: each end that is noted is that of the run of one of the stays, as it was then
-abbrev pub RunsEndAsAlone : Type 0
-RunsEndAsAlone = (t : Files) (name : List ℕ) (kind : Kind) (o : Opens t name kind) → EndsAreTold (opened_stays o) (opened_end o).notes
+abbrev pub EndsAreAsAlone : Type 0
+EndsAreAsAlone = (t : Files) (name : List ℕ) (kind : Kind) (o : Opens t name kind) → EndsAreTold (opened_stays o) (opened_end o).notes
 
 -- ---- those that wait
 

@@ -1,6 +1,6 @@
 //! Laws over every run. No code runs.
 ghost use Rattle.suite_top.specs.Run.Beside.{RunsEndEarlyAlike, RunsGoOnWell, RunsOnNeverStray, RunsTellWell};
-ghost use Rattle.suite_top.specs.Run.Laws.{RunsWhereItOpens, OpensWhereItStops, RunsStopOrEndEarly, RunsAreAsAlone, RunsEndAsAlone, RunsWaitWell, WorldsAreRegular};
+ghost use Rattle.suite_top.specs.Run.Laws.{RunsWhereItOpens, OpensWhereItStops, RunsStopOrEndEarly, RunsAreAsAlone, EndsAreAsAlone, RunsWaitWell, WorldsAreRegular};
 ghost use Rattle.run_setup.specs.Originals.{OriginalsAreSame};
 
 /// A run reaches its machine exactly where all files are there and nothing has a fault.
@@ -20,7 +20,7 @@ pub fn originals_law()
 /// itself, relocated by the psABI. And a process ends as its program does alone, by the same exit or signal.
 pub fn alone_law()
     ensures lives { RunsAreAsAlone }
-    ensures ends { RunsEndAsAlone }
+    ensures ends { EndsAreAsAlone }
 {}
 
 /// Each process that waits at the end of a run would wait again, for just what it waits for. Where the run is stuck, each process
