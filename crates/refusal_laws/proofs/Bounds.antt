@@ -1,14 +1,20 @@
--- Each process stays younger than its parent, and each break in memory.
-use Rattle.std.proofs.Common.{◌≡◌, ℕ, ◌+◌, ◌*◌, ◌<◌, ◌≤◌, Bool, true, false, List, [], ◌∷◌, map, Option, Some, None, Result, Ok, Err, refl, subst, arith}
-use Rattle.std.specs.Prelude.{◌==◌, if◌then◌else◌}
+-- Each process stays younger than its parent, and each break and each copy in memory.
+use Rattle.std.proofs.Common.{◌≡◌, ℕ, ◌+◌, ◌*◌, ◌<◌, ◌≤◌, inl, inr, Bool, true, false, List, [], ◌∷◌, ◌++◌, map, take, drop, Option, Some, None, Result, Ok, Err, refl, sym, subst, ◌∙◌, arith}
+use Rattle.std.specs.Prelude.{◌==◌, ◌&&◌, nat_le, if◌then◌else◌}
 use Rattle.std.specs.List.{AllByRecursion}
+use Rattle.std.proofs.lemmas.Bool.{and_parts, false≢true}
 use Rattle.byte_words.specs.ByteMap.{Bytes}
 use Rattle.rv32im_step.specs.declared.regs.Regs.{Regs}
 use Rattle.rv32im_step.specs.Meaning.{Meaning, next, call, trap, refused, meaning}
 use Rattle.call_log.specs.Notes.{weight_of, has_room}
 use Rattle.call_log.specs.Sent.{Span, sent}
 use Rattle.mmap_rules.specs.Space.{Space, writable_in}
-use Rattle.mmap_rules.specs.Mappings.{without_hit}
+use Rattle.nommu_regions.specs.declared.region.Source.{Source}
+use Rattle.nommu_regions.specs.declared.region.Source.TheVariants.{Own, Copy}
+use Rattle.mmap_rules.specs.declared.mapping.Mapping.{Mapping}
+use Rattle.mmap_rules.specs.Mappings.{part_of, Hit, hit, without_hit}
+use Rattle.mmap_rules.specs.Want.{pages_for}
+use Rattle.mmap_rules.proofs.Parts.{run_of}
 use Rattle.call_log.specs.declared.errno.Errno.TheVariants.{Enomem}
 use Rattle.flat_loader.specs.Original.{Original, block_pages}
 use Rattle.flat_loader.specs.Begin.{Loading, begin_space}
@@ -19,26 +25,32 @@ use Rattle.machine_world.specs.World.{Process, LiveSpace, World, pid_of, id_of}
 use Rattle.machine_world.specs.Families.{borrows, spaces_left, let_go, left_by, all_left_by, roused_by, all_roused}
 use Rattle.machine_world.specs.Free.{free}
 use Rattle.machine_world.specs.Found.{address_of, taken}
-use Rattle.machine_world.specs.Asks.{Ask, arg, Reply, Row, replies, waits, gives, leaves, answers, refuses}
-use Rattle.machine_world.specs.MapCalls.{with_mapping, first_bytes, over_maps}
-use Rattle.machine_world.specs.Rows.{yield_row, brk_row}
+use Rattle.machine_world.specs.Asks.{Ask, arg, Reply, Row, replies, waits, gives, refuses}
+use Rattle.machine_world.specs.Rows.{row, yield_row, brk_row}
 use Rattle.machine_world.specs.Event.{Trace, Outcome, went, strays, full, idle, number_of, args_of, put_got, ask_of, ended, stepped, trapped, served, put, waited, answered, exited, forked, executed, classed, asked, answer, settled, effect, in_space, by_process, at_process, event}
 use Rattle.machine_world.proofs.ByEvents.{Went}
 use Rattle.stays_laws.proofs.SoundBegins.{pages_free}
-use Rattle.refusal_laws.specs.Regular.{memory_end, IsYounger, HasBreak, IsRegular}
+use Rattle.stays_laws.proofs.Unmaps.{IsHit, is_hit}
+use Rattle.refusal_laws.specs.Regular.{memory_end, IsYounger}
+use Rattle.refusal_laws.specs.Bounded.{IsPlaced, IsWithin, IsBounded}
 use Rattle.refusal_laws.proofs.EachRow.{EachRow, each_row}
 use Rattle.refusal_laws.proofs.EachCall.{EachCall, each_call}
-use Rattle.refusal_laws.proofs.Small.{brk_fits, few_free}
-use Rattle.refusal_laws.proofs.Lists.{each_map, each_found, each_change, each_without}
+use Rattle.refusal_laws.proofs.Small.{brk_fits, few_free, map_fits}
+use Rattle.refusal_laws.proofs.Lists.{each_map, each_append, each_take, each_drop, each_there, each_found, each_change, each_without}
 
 pub record AreBounded (w : World) : Type 0 where
   pub parents : AllByRecursion IsYounger w.procs
-  pub breaks : AllByRecursion HasBreak w.spaces
+  pub spaces : AllByRecursion IsWithin w.spaces
 
--- a break that doesn't lie behind memory
+-- a break that doesn't lie behind memory, and copies that lie in it
 pub record InMemory (s : Space) : Type 0 where
   pub brk : s.brk ≤ memory_end
   pub high : s.brk_high ≤ memory_end
+  pub copies : AllByRecursion (λ m. IsPlaced m m.source) s.maps
+
+-- of a live space
+pub within : (s : LiveSpace) → InMemory s.space → IsWithin s
+within s is = record { break = record { brk = is.brk; high = is.high }; copies = is.copies }
 
 -- a block holds the header and the image
 whole : (o : Original) → 64 + o.size ≤ 4096 * block_pages o
@@ -51,11 +63,46 @@ unfolding begin_space
 break_begins w most page l is chosen =
     let inside = (pages_free w page l chosen).inside in
     let long = whole l.original in
-    record { brk = omega (arith, is, inside, long, most); high = omega (arith, is, inside, most) }
+    record { brk = omega (arith, is, inside, long, most); high = omega (arith, is, inside, most); copies = (tt, tt) }
+
+-- ---- munmap
+
+-- what is left of a mapping that isn't a copy is none
+parts_placed : (m : Mapping) → IsPlaced m m.source → m.range.anonymous ≡ true → (from to : ℕ) → AllByRecursion (λ n. IsPlaced n n.source) (part_of m from to)
+parts_placed m placed anonymous from to = by (from == to)
+  where
+    its : (source : Source) → IsPlaced m source → IsPlaced (run_of m from to) source
+    its Own old = tt
+    its (Copy file change first) old = absurd (false≢true (sym old.1 ∙ anonymous))
+
+    by : (b : Bool) → AllByRecursion (λ n. IsPlaced n n.source) (if b then [] else run_of m from to ∷ [])
+    by true = tt
+    by false = (its m.source placed, tt)
+
+unmapped_placed : (maps : List Mapping) (addr len : ℕ) (h : Hit) → AllByRecursion (λ m. IsPlaced m m.source) maps → hit maps addr len ≡ Some h
+    → AllByRecursion (λ m. IsPlaced m m.source) (without_hit maps h)
+unfolding without_hit
+unmapped_placed maps addr len h placed found =
+    each_append (λ m. IsPlaced m m.source) (take h.at maps ++ h.left) (drop (h.at + 1) maps)
+    (each_append (λ m. IsPlaced m m.source) (take h.at maps) h.left (each_take (λ m. IsPlaced m m.source) h.at maps placed) (by (4096 * pages_for len) (is_hit maps addr len h found).is))
+    (each_drop (λ m. IsPlaced m m.source) (h.at + 1) maps placed)
+  where
+    by : (size : ℕ) (is : IsHit maps addr size h) → AllByRecursion (λ m. IsPlaced m m.source) h.left
+    by size is = elim is.leaves [
+      | inl goes ↦ subst (AllByRecursion (λ m. IsPlaced m m.source)) (sym goes.1) tt
+      | inr cut ↦ (
+          let m : Mapping = h.mapping in
+          let old : IsPlaced m m.source = each_there (λ n. IsPlaced n n.source) maps placed h.at m is.there in
+          let first = and_parts (m.range.anonymous && nat_le m.range.from addr) (nat_le (addr + size) (m.range.from + m.range.size)) cut.0 in
+          let anonymous = (and_parts m.range.anonymous (nat_le m.range.from addr) first.0).0 in
+          subst (AllByRecursion (λ n. IsPlaced n n.source)) (sym cut.1)
+          (each_append (λ n. IsPlaced n n.source) (part_of m m.range.from addr) (part_of m (addr + size) (m.range.from + m.range.size))
+          (parts_placed m old anonymous m.range.from addr) (parts_placed m old anonymous (addr + size) (m.range.from + m.range.size))))
+    ]
 
 -- ---- processes
 
-parents_roused : (pipes : List ℕ) (procs : List Process) → AllByRecursion IsYounger procs → AllByRecursion IsYounger (all_roused pipes procs)
+pub parents_roused : (pipes : List ℕ) (procs : List Process) → AllByRecursion IsYounger procs → AllByRecursion IsYounger (all_roused pipes procs)
 unfolding all_roused
 parents_roused [] procs h = h
 parents_roused (pipe ∷ pipes) procs h = parents_roused pipes (map (roused_by pipe) procs) (each_map IsYounger (roused_by pipe) (λ q younger. younger) procs h)
@@ -71,17 +118,17 @@ parents_left p procs h = each_map IsYounger (left_by p) still (without pid_of p.
     still : (q : Process) → IsYounger q → IsYounger (left_by p q)
     still q younger = by (q.parent == p.pid) q.pid q.parent younger
 
-breaks_left : (p : Process) (procs : List Process) (spaces : List LiveSpace) → AllByRecursion HasBreak spaces → AllByRecursion HasBreak (spaces_left p procs spaces)
+within_left : (p : Process) (procs : List Process) (spaces : List LiveSpace) → AllByRecursion IsWithin spaces → AllByRecursion IsWithin (spaces_left p procs spaces)
 unfolding spaces_left
-breaks_left p procs spaces h = by (borrows p procs)
+within_left p procs spaces h = by (borrows p procs)
   where
-    by : (b : Bool) → AllByRecursion HasBreak (if b then spaces else without id_of p.space spaces)
+    by : (b : Bool) → AllByRecursion IsWithin (if b then spaces else without id_of p.space spaces)
     by true = h
-    by false = each_without HasBreak id_of p.space spaces h
+    by false = each_without IsWithin id_of p.space spaces h
 
 -- ---- an event
 
-abbrev Keeps : Outcome → Type 0
+abbrev pub Keeps : Outcome → Type 0
 Keeps o = Went (λ now t. AreBounded now) o
 
 keeps_if : (b : Bool) (now : World) (t : Trace) → AreBounded now → Keeps (if b then went now t else full)
@@ -90,7 +137,7 @@ keeps_if false now t h = tt
 
 keeps_settled : (o : Outcome) → Keeps o → Keeps (settled o)
 unfolding settled
-keeps_settled (went now t) h = record { parents = parents_roused now.rest.files.changed now.procs h.parents; breaks = h.breaks }
+keeps_settled (went now t) h = record { parents = parents_roused now.rest.files.changed now.procs h.parents; spaces = h.spaces }
 keeps_settled (strays access) h = tt
 keeps_settled full h = tt
 keeps_settled idle h = tt
@@ -100,93 +147,100 @@ module _ (w : World) (h : AreBounded w) (p : Process) where
   same_parents : (regs : Regs) → AllByRecursion IsYounger (change pid_of p.pid (λ q. record q { regs = regs }) w.procs)
   same_parents regs = each_change IsYounger pid_of p.pid (λ q. record q { regs = regs }) (λ q younger. younger) w.procs h.parents
 
-  new_space : (s : Space) → InMemory s → AllByRecursion HasBreak (change id_of p.space (λ l. record l { space = s }) w.spaces)
-  new_space s is = each_change HasBreak id_of p.space (λ l. record l { space = s }) (λ l old. record { brk = is.brk; high = is.high }) w.spaces h.breaks
+  new_space : (s : Space) → InMemory s → AllByRecursion IsWithin (change id_of p.space (λ l. record l { space = s }) w.spaces)
+  new_space s is = each_change IsWithin id_of p.space (λ l. record l { space = s }) (λ l old. within (record l { space = s }) is) w.spaces h.spaces
 
   pub keeps_stepped : (s : Space) (regs : Regs) (bytes : Bytes) → InMemory s → Keeps (stepped w p s regs bytes)
   unfolding stepped
-  keeps_stepped s regs bytes is = record { parents = same_parents regs; breaks = new_space (record s { bytes = bytes }) (record { brk = is.brk; high = is.high }) }
+  keeps_stepped s regs bytes is = record { parents = same_parents regs; spaces = new_space (record s { bytes = bytes }) (record { brk = is.brk; high = is.high; copies = is.copies }) }
 
   pub keeps_trapped : (signal : ℕ) → Keeps (trapped w p signal)
   unfolding trapped ended
-  keeps_trapped signal = record { parents = parents_left p w.procs h.parents; breaks = breaks_left p w.procs w.spaces h.breaks }
+  keeps_trapped signal = record { parents = parents_left p w.procs h.parents; spaces = within_left p w.procs w.spaces h.spaces }
 
   pub keeps_waited : (state : State) → Keeps (waited w p state)
   unfolding waited
-  keeps_waited state = record { parents = each_change IsYounger pid_of p.pid (λ q. record q { state = state }) (λ q younger. younger) w.procs h.parents; breaks = h.breaks }
+  keeps_waited state = record { parents = each_change IsYounger pid_of p.pid (λ q. record q { state = state }) (λ q younger. younger) w.procs h.parents; spaces = h.spaces }
+
+-- a reply that leaves a space in memory
+abbrev pub LeavesInMemory : Row → Type 0
+LeavesInMemory (replies r) = InMemory r.space
+LeavesInMemory (waits state) = Unit {0}
 
 module _ (w : World) (h : AreBounded w) (a : Ask) where
-  keeps_served : (r : Reply) (m : Bytes) → InMemory r.space → Keeps (served w a r m)
+  pub keeps_served : (r : Reply) (m : Bytes) → InMemory r.space → Keeps (served w a r m)
   unfolding served
   keeps_served r m is =
       keeps_if (has_room w.notes (weight_of a.sent r.got)) _ _
-      (record { parents = same_parents w h a.process _; breaks = new_space w h a.process (record r.space { bytes = m }) (record { brk = is.brk; high = is.high }) })
-
-  -- a reply that leaves the break in memory
-  abbrev LeavesBreak : Row → Type 0
-  LeavesBreak (replies r) = InMemory r.space
-  LeavesBreak (waits state) = Unit {0}
+      (record { parents = same_parents w h a.process _; spaces = new_space w h a.process (record r.space { bytes = m }) (record { brk = is.brk; high = is.high; copies = is.copies }) })
 
   keeps_put : (r : Reply) → InMemory r.space → (o : Result Bytes Span) → Keeps (put w a r o)
   keeps_put r is (Ok m) = keeps_served r m is
   keeps_put r is (Err span) = tt
 
-  keeps_row : (x : Row) → LeavesBreak x → Keeps (answered w a x)
+  keeps_row : (x : Row) → LeavesInMemory x → Keeps (answered w a x)
   keeps_row (replies r) is = keeps_put r is (put_got r.space.bytes (writable_in r.space.maps) r.got)
   keeps_row (waits state) is = keeps_waited w h a.process state
 
-module _ (w : World) (r : IsRegular w) (pid : ℕ) (p : Process) (lives : find pid_of pid w.procs ≡ Some p) (s : LiveSpace) (has : find id_of p.space w.spaces ≡ Some s) where
+module _ (w : World) (r : IsBounded w) (pid : ℕ) (p : Process) (lives : find pid_of pid w.procs ≡ Some p) (s : LiveSpace) (has : find id_of p.space w.spaces ≡ Some s) where
   abbrev its : AreBounded w
-  its = record { parents = r.parents; breaks = r.breaks }
+  its = record { parents = r.parents; spaces = r.spaces }
 
-  own : InMemory s.space
-  own = let b = each_found HasBreak id_of p.space w.spaces s r.breaks has in record { brk = b.brk; high = b.high }
+  pub own : InMemory s.space
+  own = let is = each_found IsWithin id_of p.space w.spaces s r.spaces has in record { brk = is.break.brk; high = is.break.high; copies = is.copies }
 
   module _ (bytes : List ℕ) where
     abbrev a : Ask
     a = ask_of w p s.space bytes
 
-    rows : EachRow (λ x. Keeps (answered w a x)) a
+    rows : EachRow LeavesInMemory a
     unfolding yield_row brk_row
     rows = record {
-      refused = λ e other. keeps_row w its a (refuses a e) own;
-      waiting = λ state. keeps_waited w its p state;
-      small = λ value got rest low. keeps_row w its a (gives a value got rest) own;
-      pid = keeps_row w its a (answers a p.pid) own;
-      parent = keeps_row w its a (answers a p.parent) own;
-      yielded = keeps_row w its a (yield_row a) own;
-      brk = keeps_row w its a (brk_row a) (record { brk = brk_fits s.space (arg a 0) own.brk own.high; high = own.high });
-      unmap = λ h. keeps_row w its a (leaves a 0 (over_maps s.space (without_hit s.space.maps h))) (record { brk = own.brk; high = own.high });
-      map = λ want m asks is. keeps_row w its a (leaves a m.range.from (with_mapping s.space m (first_bytes w.rest.tree want))) (record { brk = own.brk; high = own.high });
-      no_run = λ number lacks. keeps_row w its a (refuses a Enomem) own;
+      refused = λ e other. own;
+      waiting = λ state. tt;
+      small = λ value got rest low. own;
+      pid = own;
+      parent = own;
+      yielded = own;
+      brk = record { brk = brk_fits s.space (arg a 0) own.brk own.high; high = own.high; copies = own.copies };
+      unmap = λ h is. record { brk = own.brk; high = own.high; copies = unmapped_placed s.space.maps (arg a 0) (arg a 1) h own.copies is };
+      map = λ want m asks is. record {
+        brk = own.brk;
+        high = own.high;
+        copies = each_append (λ n. IsPlaced n n.source) s.space.maps (m ∷ []) own.copies ((map_fits w r p s bytes want m asks is).1, tt);
+      };
+      no_run = λ number lacks. own;
     }
+
+    pub row_in_memory : LeavesInMemory (row a)
+    row_in_memory = each_row LeavesInMemory a rows (few_free w r pid p lives s bytes)
 
     child_younger : p.pid < w.next_pid
     child_younger =
-        let below = find_below pid_of pid w.next_pid w.procs p r.sound.pids lives in
+        let below = find_below pid_of pid w.next_pid w.procs p r.pids lives in
         let same = find_key pid_of pid w.procs p lives in
         omega (arith, below, same)
 
     calls : EachCall Keeps w a
     unfolding exited forked executed ended
     calls = record {
-      row = each_row (λ x. Keeps (answered w a x)) a rows (few_free w r pid p lives s bytes);
+      row = keeps_row w its a (row a) row_in_memory;
       refused = λ e other. keeps_row w its a (refuses a e) own;
-      exit = keeps_if (has_room w.notes (weight_of bytes [])) _ _ (record { parents = parents_left p w.procs r.parents; breaks = breaks_left p w.procs w.spaces r.breaks });
-      told = λ ended got. keeps_row (record w { ended = ended }) (record { parents = r.parents; breaks = r.breaks }) a (gives a 0 got w.rest) own;
+      exit = keeps_if (has_room w.notes (weight_of bytes [])) _ _ (record { parents = parents_left p w.procs r.parents; spaces = within_left p w.procs w.spaces r.spaces });
+      told = λ ended got. keeps_row (record w { ended = ended }) (record { parents = r.parents; spaces = r.spaces }) a (gives a 0 got w.rest) own;
       waiting = λ state. keeps_waited w its p state;
       fork = keeps_if (has_room w.notes (weight_of bytes [])) _ _ (record {
         parents = (child_younger, each_change IsYounger pid_of p.pid _ (λ q younger. younger) w.procs r.parents);
-        breaks = r.breaks;
+        spaces = r.spaces;
       });
-      load = λ index page l is chosen. keeps_if (has_room w.notes (weight_of bytes [])) _ _ (let b = break_begins w r.sound.most page l is chosen in record {
+      load = λ index page l is chosen. keeps_if (has_room w.notes (weight_of bytes [])) _ _ (record {
         parents = each_change IsYounger pid_of p.pid _ (λ q younger. younger) (map (let_go p.pid) w.procs) (each_map IsYounger (let_go p.pid) (λ q younger. younger) w.procs r.parents);
-        breaks = (record { brk = b.brk; high = b.high }, breaks_left p w.procs w.spaces r.breaks);
+        spaces = (within (record { id = w.loads; space = begin_space l }) (break_begins w r.most page l is chosen), within_left p w.procs w.spaces r.spaces);
       });
       no_run = λ number lacks. keeps_row w its a (refuses a Enomem) own;
     }
 
-    keeps_classed : Keeps (classed w a)
+    pub keeps_classed : Keeps (classed w a)
     keeps_classed = each_call Keeps w a calls
 
   keeps_asked : (o : Result (List ℕ) Span) → Keeps (asked w p s.space o)
@@ -200,7 +254,7 @@ module _ (w : World) (r : IsRegular w) (pid : ℕ) (p : Process) (lives : find p
   keeps_effect (refused access) = tt
   keeps_effect call = keeps_settled (answer w p s.space) (keeps_asked (sent (number_of p.regs) (args_of p.regs) s.space.bytes))
 
-module _ (w : World) (r : IsRegular w) (pid : ℕ) where
+module _ (w : World) (r : IsBounded w) (pid : ℕ) where
   keeps_space : (p : Process) → find pid_of pid w.procs ≡ Some p → (o : Option LiveSpace) → find id_of p.space w.spaces ≡ o
       → Keeps (in_space (λ q s. effect w q s (meaning q.regs s.bytes (writable_in s.maps))) p o)
   keeps_space p lives None has = tt
@@ -214,5 +268,5 @@ module _ (w : World) (r : IsRegular w) (pid : ℕ) where
   unfolding event at_process
   keeps_event = keeps_found (find pid_of pid w.procs) refl
 
-pub bounds_kept : (w : World) (r : IsRegular w) (pid : ℕ) (now : World) (t : Trace) → event w pid ≡ went now t → AreBounded now
+pub bounds_kept : (w : World) (r : IsBounded w) (pid : ℕ) (now : World) (t : Trace) → event w pid ≡ went now t → AreBounded now
 bounds_kept w r pid now t is = subst Keeps is (keeps_event w r pid)

@@ -60,7 +60,7 @@ pub record EachRow (R : Row → Type 0) (a : Ask) : Type 0 where
   pub yielded : R (yield_row a)
   -- a break, and pages that go and come
   pub brk : R (brk_row a)
-  pub unmap : (h : Hit) → R (leaves a 0 (over_maps a.space (without_hit a.space.maps h)))
+  pub unmap : (h : Hit) → hit a.space.maps (arg a 0) (arg a 1) ≡ Some h → R (leaves a 0 (over_maps a.space (without_hit a.space.maps h)))
   pub map : (want : Want) (m : Mapping) → wanted_by a ≡ Ok want → chosen a want ≡ Some m → R (leaves a m.range.from (with_mapping a.space m (first_bytes a.rest.tree want)))
   -- no pages
   pub no_run : a.number ≡ 222 → LacksRunToMap a → R (refuses a Enomem)
@@ -278,13 +278,13 @@ module _ (R : Row → Type 0) (a : Ask) (each : EachRow R a) (few : (fd : ℕ) �
 
   -- ---- pages
 
-  by_unmaps : (o : Option Hit) → R (unmaps a o)
-  by_unmaps (Some h) = each.unmap h
-  by_unmaps None = no Einval refl
+  by_unmaps : (o : Option Hit) → hit a.space.maps (arg a 0) (arg a 1) ≡ o → R (unmaps a o)
+  by_unmaps (Some h) is = each.unmap h is
+  by_unmaps None is = no Einval refl
 
   by_munmap : R (munmap_row a)
   unfolding munmap_row
-  by_munmap = by_unmaps (hit a.space.maps (arg a 0) (arg a 1))
+  by_munmap = by_unmaps (hit a.space.maps (arg a 0) (arg a 1)) refl
 
   -- no pages: no copy, and no run
   lacking : (want : Want) → wanted_by a ≡ Ok want → chosen a want ≡ None → LacksRunToMap a

@@ -9,14 +9,13 @@ use Rattle.call_log.specs.Errno.{refusal}
 use Rattle.call_log.specs.Notes.{weight_of, has_room}
 use Rattle.call_log.specs.Sent.{Span, sent}
 use Rattle.call_log.specs.Strings.{program_strings}
-use Rattle.mmap_rules.specs.Mappings.{without_hit}
 use Rattle.mmap_rules.specs.Space.{writable_in}
 use Rattle.flat_loader.specs.Alone.{Item, is_errno}
 use Rattle.vfork_exec.specs.Keyed.{find}
 use Rattle.machine_world.specs.World.{Process, LiveSpace, World, pid_of, id_of}
-use Rattle.machine_world.specs.Asks.{Ask, arg, Reply, Row, replies, waits, gives, leaves, answers, refuses, with_ok}
+use Rattle.machine_world.specs.Asks.{Ask, arg, Reply, Row, replies, waits, gives, refuses, with_ok}
 use Rattle.machine_world.specs.Rows.{row, yield_row, next_brk, brk_row}
-use Rattle.machine_world.specs.MapCalls.{own_run, with_mapping, first_bytes, maps as maps_to, or_own, mapped, mmap2_row, over_maps}
+use Rattle.machine_world.specs.MapCalls.{own_run, maps as maps_to, or_own, mapped, mmap2_row}
 use Rattle.mmap_rules.specs.declared.want.Want.{Want}
 use Rattle.machine_world.specs.Event.{Trace, Outcome, went, strays, full, idle, number_of, args_of, put_got, ask_of, entry_of, plain_item, stepped, trapped, served, put, waited, answered, exited, forked, executed, exec_at, exec_fitting, exec_program, exec_strings, exec, classed, asked, answer, settled, effect, in_space, by_process, at_process, event}
 use Rattle.machine_world.specs.Laws.{refused_outcome}
@@ -25,10 +24,12 @@ use Rattle.machine_world.proofs.Refused.{is_refused, refusals_change_nothing_els
 use Rattle.machine_world.proofs.States.{event_is}
 use Rattle.stays_laws.proofs.RowSpaces.{row-mmap2}
 use Rattle.refusal_laws.specs.Calls.{Call, ask}
-use Rattle.refusal_laws.specs.Regular.{HasBreak, IsRegular}
+use Rattle.refusal_laws.specs.Regular.{IsRegular}
+use Rattle.refusal_laws.specs.Bounded.{IsWithin, IsBounded}
 use Rattle.refusal_laws.specs.NoRun.{LacksRunToMap, LacksRunToExec, LacksRun}
 use Rattle.refusal_laws.specs.Laws.{Replies, ErrnosAreRefusals, IsWithoutRun, EnomemIsExact}
 use Rattle.refusal_laws.proofs.Errnos.{is_enomem, same_number}
+use Rattle.refusal_laws.proofs.Bounded.{bounded}
 use Rattle.refusal_laws.proofs.EachRow.{EachRow, each_row}
 use Rattle.refusal_laws.proofs.EachCall.{EachCall, each_call}
 use Rattle.refusal_laws.proofs.Small.{no_errno, weight_fits, brk_fits, pid_fits, parent_fits, few_free, map_fits}
@@ -63,7 +64,7 @@ module _ (w : World) (a : Ask) where
   plain_served r m low = plain_if (has_room w.notes (weight_of a.sent r.got)) _ _ low
 
   -- a reply that is no errno where it is noted
-  abbrev IsLow : Row → Type 0
+  abbrev pub IsLow : Row → Type 0
   IsLow (replies r) = has_room w.notes (weight_of a.sent r.got) ≡ true → is_errno r.value ≡ false
   IsLow (waits state) = Unit {0}
 
@@ -76,44 +77,60 @@ module _ (w : World) (a : Ask) where
   plain_row (replies r) low = plain_put r low (put_got r.space.bytes (writable_in r.space.maps) r.got)
   plain_row (waits state) low = tt
 
-  no_other : (e : Errno) → is_enomem e ≡ false → Either w a (answered w a (refuses a e))
-  no_other e other = inl (record { errno = e; is = refl; lacks = λ yes. (let no : true ≡ false = sym yes ∙ other in absurd cc) })
+  -- a row that refuses
+  pub record RefusesRow (x : Row) : Type 0 where
+    pub errno : Errno
+    pub is : x ≡ refuses a errno
+    pub lacks : is_enomem errno ≡ true → LacksRun w a
 
-  no_run : LacksRun w a → Either w a (answered w a (refuses a Enomem))
-  no_run lacks = inl (record { errno = Enomem; is = refl; lacks = λ yes. lacks })
+  no_other : (e : Errno) → is_enomem e ≡ false → RefusesRow (refuses a e)
+  no_other e other = record { errno = e; is = refl; lacks = λ yes. (let no : true ≡ false = sym yes ∙ other in absurd cc) }
 
-module _ (w : World) (r : IsRegular w) (pid : ℕ) (p : Process) (lives : find pid_of pid w.procs ≡ Some p) (s : LiveSpace) (has : find id_of p.space w.spaces ≡ Some s) (bytes : List ℕ) where
+  no_run : LacksRun w a → RefusesRow (refuses a Enomem)
+  no_run lacks = record { errno = Enomem; is = refl; lacks = λ yes. lacks }
+
+  so_answered : (x : Row) → RefusesRow x → Either w a (answered w a x)
+  so_answered x r = inl (record { errno = r.errno; is = ap (answered w a) r.is; lacks = r.lacks })
+
+module _ (w : World) (r : IsBounded w) (pid : ℕ) (p : Process) (lives : find pid_of pid w.procs ≡ Some p) (s : LiveSpace) (has : find id_of p.space w.spaces ≡ Some s) (bytes : List ℕ) where
   abbrev a : Ask
   a = ask_of w p s.space bytes
 
-  rows : EachRow (λ x. Either w a (answered w a x)) a
-  unfolding yield_row brk_row waited
+  rows : EachRow (λ x. RefusesRow w a x ⊎ IsLow w a x) a
+  unfolding yield_row brk_row
   rows = record {
-    refused = no_other w a;
+    refused = λ e other. inl (no_other w a e other);
     waiting = λ state. inr tt;
-    small = λ value got rest low. inr (plain_row w a (gives a value got rest)
-        (λ room. no_errno value (let less = weight_fits w.notes (weight_of bytes got) room in omega (arith, low, less))));
-    pid = inr (plain_row w a (answers a p.pid) (λ room. no_errno p.pid (pid_fits w r pid p lives)));
-    parent = inr (plain_row w a (answers a p.parent) (λ room. no_errno p.parent (parent_fits w r pid p lives)));
-    yielded = inr (plain_row w a (yield_row a) (λ room. no_errno 0 (omega arith)));
-    brk = inr (plain_row w a (brk_row a)
-        (λ room. no_errno (next_brk s.space (arg a 0)) (let b = each_found HasBreak id_of p.space w.spaces s r.breaks has in let low = brk_fits s.space (arg a 0) b.brk b.high in omega (arith, low))));
-    unmap = λ h. inr (plain_row w a (leaves a 0 (over_maps s.space (without_hit s.space.maps h))) (λ room. no_errno 0 (omega arith)));
-    map = λ want m asks is. inr (plain_row w a (leaves a m.range.from (with_mapping s.space m (first_bytes w.rest.tree want))) (λ room. no_errno m.range.from (let low = map_fits w r.sound p s bytes want m asks is in omega (arith, low))));
-    no_run = λ number lacks. no_run w a (inl (number, lacks));
+    small = λ value got rest low. inr (λ room. no_errno value (let less = weight_fits w.notes (weight_of bytes got) room in omega (arith, low, less)));
+    pid = inr (λ room. no_errno p.pid (pid_fits w r pid p lives));
+    parent = inr (λ room. no_errno p.parent (parent_fits w r pid p lives));
+    yielded = inr (λ room. no_errno 0 (omega arith));
+    brk = inr (λ room. no_errno (next_brk s.space (arg a 0))
+        (let b = (each_found IsWithin id_of p.space w.spaces s r.spaces has).break in let low = brk_fits s.space (arg a 0) b.brk b.high in omega (arith, low)));
+    unmap = λ h is. inr (λ room. no_errno 0 (omega arith));
+    map = λ want m asks is. inr (λ room. no_errno m.range.from (let low = (map_fits w r p s bytes want m asks is).0 in omega (arith, low)));
+    no_run = λ number lacks. inl (no_run w a (inl (number, lacks)));
   }
+
+  -- a row refuses, or gives no errno
+  pub low_or_refuses : RefusesRow w a (row a) ⊎ IsLow w a (row a)
+  low_or_refuses = each_row (λ x. RefusesRow w a x ⊎ IsLow w a x) a rows (few_free w r pid p lives s bytes)
+
+  by_row : RefusesRow w a (row a) ⊎ IsLow w a (row a) → Either w a (answered w a (row a))
+  by_row (inl refuses) = so_answered w a (row a) refuses
+  by_row (inr low) = inr (plain_row w a (row a) low)
 
   calls : EachCall (Either w a) w a
   unfolding exited waited forked executed
   calls = record {
-    row = each_row (λ x. Either w a (answered w a x)) a rows (few_free w r pid p lives s bytes);
-    refused = no_other w a;
+    row = by_row low_or_refuses;
+    refused = λ e other. so_answered w a (refuses a e) (no_other w a e other);
     exit = inr (plain_if (has_room w.notes (weight_of bytes [])) _ _ (λ room. no_errno 0 (omega arith)));
     told = λ ended got. inr (plain_row (record w { ended = ended }) a (gives a 0 got w.rest) (λ room. no_errno 0 (omega arith)));
     waiting = λ state. inr tt;
-    fork = inr (plain_if (has_room w.notes (weight_of bytes [])) _ _ (λ room. no_errno w.next_pid (let given = r.sound.given in let calls = r.sound.calls in omega (arith, given, calls))));
+    fork = inr (plain_if (has_room w.notes (weight_of bytes [])) _ _ (λ room. no_errno w.next_pid (let given = r.given in let calls = r.order.calls in omega (arith, given, calls))));
     load = λ index page l is chosen. inr (plain_if (has_room w.notes (weight_of bytes [])) _ _ (λ room. no_errno 0 (omega arith)));
-    no_run = λ number lacks. no_run w a (inr (number, lacks));
+    no_run = λ number lacks. so_answered w a (refuses a Enomem) (no_run w a (inr (number, lacks)));
   }
 
   either : Either w a (classed w a)
@@ -153,7 +170,7 @@ module _ (w : World) (r : IsRegular w) (pid : ℕ) where
         → OrPlain w pid (settled (asked w p s.space o))
     unfolding settled
     by_sent at_call (Err span) reads = inr tt
-    by_sent at_call (Ok bytes) reads = by (either w r pid p lives s has bytes)
+    by_sent at_call (Ok bytes) reads = by (either w (bounded w r) pid p lives s has bytes)
       where
         by : Either w (ask_of w p s.space bytes) (classed w (ask_of w p s.space bytes)) → OrPlain w pid (settled (classed w (ask_of w p s.space bytes)))
         by (inr plain) = inr (settled_plain (classed w (ask_of w p s.space bytes)) plain)

@@ -1,6 +1,7 @@
 -- The opening world is regular, and every event, turn and run of a regular world leaves a regular one.
 use Rattle.std.proofs.Common.{◌≡◌, ℕ, zero, suc, ◌<◌, ◌≤◌, Bool, true, false, List, [], ◌∷◌, Option, Some, None, Result, Ok, Err, refl, ap, subst, arith}
 use Rattle.std.specs.Prelude.{if◌then◌else◌}
+use Rattle.std.specs.List.{AllByRecursion}
 use Rattle.flat_loader.specs.Original.{block_pages}
 use Rattle.flat_loader.specs.Frame.{frame_fits}
 use Rattle.fd_tables.specs.Files.{OpenFiles}
@@ -17,40 +18,46 @@ use Rattle.machine_world.proofs.Marks.{boots_leave_no_mark, events_leave_no_mark
 use Rattle.machine_world.proofs.OrderBegins.{boots_begin_in_order}
 use Rattle.machine_world.proofs.OrderKept.{events_keep_order, turns_keep_order}
 use Rattle.stays_laws.proofs.SoundRuns.{boots_are_sound, events_keep_sound, turns_keep_sound}
-use Rattle.refusal_laws.specs.Regular.{IsRegular}
+use Rattle.refusal_laws.specs.Regular.{HasBreak, IsRegular}
+use Rattle.refusal_laws.specs.Bounded.{IsWithin}
 use Rattle.refusal_laws.specs.Laws.{BootsAreRegular, EventsKeepRegular, TurnsKeepRegular, RunsKeepRegular}
-use Rattle.refusal_laws.proofs.Bounds.{AreBounded, break_begins, bounds_kept}
+use Rattle.refusal_laws.proofs.Lists.{each_weaker}
+use Rattle.refusal_laws.proofs.Bounded.{bounded}
+use Rattle.refusal_laws.proofs.Bounds.{AreBounded, within, break_begins, bounds_kept}
+
+breaks_of : (w : World) → AreBounded w → AllByRecursion HasBreak w.spaces
+breaks_of w h = each_weaker IsWithin HasBreak (λ s is. is.break) w.spaces h.spaces
 
 pub events_keep_regular : EventsKeepRegular
 events_keep_regular w pid now t r may is =
-    let bounds : AreBounded now = bounds_kept w r pid now t is in
+    let bounds : AreBounded now = bounds_kept w (bounded w r) pid now t is in
     record {
       sound = events_keep_sound w pid now t r.sound may is;
       order = events_keep_order w pid now t r.order is;
       unmarked = events_leave_no_mark w pid now t r.unmarked is;
       parents = bounds.parents;
-      breaks = bounds.breaks;
+      breaks = breaks_of now bounds;
     }
 
 -- ---- turns and runs
 
-bounded : (w : World) → IsRegular w → AreBounded w
-bounded w r = record { parents = r.parents; breaks = r.breaks }
+its : (w : World) → IsRegular w → AreBounded w
+its w r = record { parents = r.parents; spaces = (bounded w r).spaces }
 
 turned_bounded : (more : World → Walk) (w : World) (pid : ℕ) (o : Outcome) → event w pid ≡ o → IsRegular w → MayRun w pid
     → ((v : World) → IsRegular v → MayRun v pid → AreBounded (more v).world) → AreBounded (turned more w pid o).world
 turned_bounded more w pid (went now t) is r may on = over t.over refl
   where
     over : (b : Bool) → t.over ≡ b → AreBounded (traced t (if b then stays_at now None else more now)).world
-    over true ends = bounds_kept w r pid now t is
+    over true ends = bounds_kept w (bounded w r) pid now t is
     over false ends = on now (events_keep_regular w pid now t r may is) (may_run_still w pid now t may is ends)
-turned_bounded more w pid (strays access) is r may on = record { parents = r.parents; breaks = r.breaks }
-turned_bounded more w pid full is r may on = bounded w r
-turned_bounded more w pid idle is r may on = bounded w r
+turned_bounded more w pid (strays access) is r may on = record { parents = r.parents; spaces = (bounded w r).spaces }
+turned_bounded more w pid full is r may on = its w r
+turned_bounded more w pid idle is r may on = its w r
 
 turn_bounded : (count pid : ℕ) (w : World) → IsRegular w → MayRun w pid → AreBounded (turn count pid w).world
 unfolding turn
-turn_bounded zero pid w r may = bounded w r
+turn_bounded zero pid w r may = its w r
 turn_bounded (suc count) pid w r may = turned_bounded (turn count pid) w pid (event w pid) refl r may (λ v. turn_bounded count pid v)
 
 pub turns_keep_regular : TurnsKeepRegular
@@ -61,7 +68,7 @@ turns_keep_regular count pid w r may =
       order = turns_keep_order count pid w r.order;
       unmarked = turns_leave_no_mark count pid w r.unmarked;
       parents = bounds.parents;
-      breaks = bounds.breaks;
+      breaks = breaks_of (turn count pid w).world bounds;
     }
 
 quantum_regular : (more : World → Walk) (w : World) (count : ℕ) (chosen : Option ℕ) → ((pid : ℕ) → chosen ≡ Some pid → MayRun w pid) → IsRegular w
@@ -99,11 +106,13 @@ module _ (pages : ℕ) (most : pages ≤ 16384) where
     begins_placed : (f : Found) (o : Option ℕ) → taken w (block_pages f.original) (free w) ≡ o → Begins pages (placed w s f o)
     begins_placed f None is = tt
     begins_placed f (Some page) is =
-        let b = break_begins w (let same = h.pages in omega (arith, same, most)) page _ refl is in
         record {
           some = omega arith;
           pages = h.pages;
-          bounds = record { parents = (h.some, h.bounds.parents); breaks = (record { brk = b.brk; high = b.high }, h.bounds.breaks) };
+          bounds = record {
+            parents = (h.some, h.bounds.parents);
+            spaces = (within _ (break_begins w (let same = h.pages in omega (arith, same, most)) page _ refl is), h.bounds.spaces);
+          };
         }
 
     begins_fitting : (f : Found) (fits : Bool) → Begins pages (fitting w s f fits)
@@ -130,12 +139,12 @@ module _ (pages : ℕ) (most : pages ≤ 16384) where
 pub boots_are_regular : BootsAreRegular
 unfolding boot
 boots_are_regular rest starts w can fresh few is =
-    let empty : Opens rest.pages (empty_world rest) = record { some = omega arith; pages = refl; bounds = record { parents = tt; breaks = tt } } in
+    let empty : Opens rest.pages (empty_world rest) = record { some = omega arith; pages = refl; bounds = record { parents = tt; spaces = tt } } in
     let opens : Opens rest.pages w = subst (Begins rest.pages) is (begins_all rest.pages can.most starts (empty_world rest) empty) in
     record {
       sound = boots_are_sound rest starts w can few is;
       order = boots_begin_in_order rest starts w fresh (omega (arith, few)) is;
       unmarked = boots_leave_no_mark rest starts w (ap (λ (fs : OpenFiles). fs.changed) fresh.files) is;
       parents = opens.bounds.parents;
-      breaks = opens.bounds.breaks;
+      breaks = breaks_of w opens.bounds;
     }

@@ -1,6 +1,7 @@
--- In a regular world no pid, no count, no break and no address of a mapping is an errno.
-use Rattle.std.proofs.Common.{◌≡◌, ℕ, ◌+◌, ◌-◌, ◌*◌, ◌^◌, ◌<◌, ◌≤◌, Bool, true, false, List, length, map, sum, Option, Some, None, Ok, refl, subst, arith}
-use Rattle.std.specs.Prelude.{◌==◌, ◌&&◌, nat_le, slice_get, option_map, IfSome, if◌then◌else◌}
+-- In a bounded world no pid, no count, no break and no address of a mapping is an errno.
+use Rattle.std.proofs.Common.{◌≡◌, ℕ, ◌+◌, ◌-◌, ◌*◌, ◌^◌, ◌<◌, ◌≤◌, Bool, true, false, List, [], ◌∷◌, length, map, sum, Option, Some, None, Ok, refl, subst, arith}
+use Rattle.std.specs.Prelude.{◌==◌, ◌&&◌, nat_le, option_map, IfSome, if◌then◌else◌}
+use Rattle.std.specs.List.{AllByRecursion}
 use Rattle.std.proofs.lemmas.Bool.{and_parts, leb-true, false≢true}
 use Rattle.std.proofs.lemmas.Bool.Decides.{nat_tests}
 use Rattle.std.proofs.lemmas.Option.{none-some, same_Some}
@@ -15,7 +16,7 @@ use Rattle.mmap_rules.specs.Space.{Space}
 use Rattle.mmap_rules.specs.Mappings.{copied_from}
 use Rattle.fd_tables.specs.Files.{Table, most_descriptors, table_at, free_in, lowest_free}
 use Rattle.fd_tables.proofs.NextNumbers.{first_there}
-use Rattle.flat_loader.specs.Alone.{is_errno}
+use Rattle.flat_loader.specs.Alone.{is_errno, most_pages}
 use Rattle.vfork_exec.specs.Keyed.{find}
 use Rattle.vfork_exec.proofs.Keyed.{find_key, find_below}
 use Rattle.machine_world.specs.World.{Process, LiveSpace, World, pid_of}
@@ -24,13 +25,12 @@ use Rattle.machine_world.specs.MapCalls.{all_maps, lowest, has_pages, shared, ow
 use Rattle.machine_world.specs.Placements.{placed_page}
 use Rattle.machine_world.specs.Rows.{next_brk}
 use Rattle.machine_world.specs.Event.{ask_of}
-use Rattle.stays_laws.specs.Sound.{IsSound}
-use Rattle.stays_laws.proofs.FreePages.{each_of_all}
 use Rattle.stays_laws.proofs.SharedPages.{Passes, lowest_passes, fresh_run}
 use Rattle.stays_laws.proofs.Wanted.{IsWanted, is_wanted}
-use Rattle.refusal_laws.specs.Regular.{memory_end, IsYounger, IsRegular}
+use Rattle.refusal_laws.specs.Regular.{memory_end, IsYounger}
+use Rattle.refusal_laws.specs.Bounded.{IsPlaced, IsWithin, IsBounded}
 use Rattle.refusal_laws.proofs.EachRow.{chosen, wanted_by}
-use Rattle.refusal_laws.proofs.Lists.{each_found}
+use Rattle.refusal_laws.proofs.Lists.{each_append, each_there, each_found}
 
 pub no_errno : (value : ℕ) → value < 0xfffff001 → is_errno value ≡ false
 unfolding is_errno
@@ -51,13 +51,13 @@ brk_fits s to low high = by (nat_le s.brk_low to) (nat_le to s.brk_high) refl
     by true false is = low
     by false c is = low
 
-module _ (w : World) (r : IsRegular w) (pid : ℕ) (p : Process) (lives : find pid_of pid w.procs ≡ Some p) where
+module _ (w : World) (r : IsBounded w) (pid : ℕ) (p : Process) (lives : find pid_of pid w.procs ≡ Some p) where
   pub pid_fits : p.pid < 0xfffff001
   pid_fits =
       let own = find_key pid_of pid w.procs p lives in
-      let below = find_below pid_of pid w.next_pid w.procs p r.sound.pids lives in
-      let given = r.sound.given in
-      let calls = r.sound.calls in
+      let below = find_below pid_of pid w.next_pid w.procs p r.pids lives in
+      let given = r.given in
+      let calls = r.order.calls in
       omega (arith, own, below, given, calls)
 
   pub parent_fits : p.parent < 0xfffff001
@@ -77,37 +77,44 @@ module _ (w : World) (r : IsRegular w) (pid : ℕ) (p : Process) (lives : find p
 
 -- ---- mappings
 
+-- a mapping that is asked for begins in memory or at its end, and a copy lies there
+abbrev pub Fits : Mapping → Type 0
+Fits m = (m.range.from ≤ memory_end) × IsPlaced m m.source
+
 -- pages of a copy that has them begin inside of its run
-shared_fits : (pages first count id change : ℕ) (c : Mapping) → c.first + c.pages ≤ pages → has_pages id change first count c ≡ true
-    → (shared first count c).range.from ≤ 2 ^ 31 + 4096 * pages
-shared_fits pages first count id change c inside has = by c.source has
+shared_fits : (first count id change : ℕ) (c : Mapping) → IsPlaced c c.source → has_pages id change first count c ≡ true → Fits (shared first count c)
+shared_fits first count id change c placed has = by c.source placed has
   where
-    by : (source : Source) → copy_covers id change first count source c.pages ≡ true → 2 ^ 31 + 4096 * (c.first + (first - copied_from source)) ≤ 2 ^ 31 + 4096 * pages
-    by Own has = absurd (false≢true has)
-    by (Copy f n from) has =
+    by : (source : Source) → IsPlaced c source → copy_covers id change first count source c.pages ≡ true
+        → (2 ^ 31 + 4096 * (c.first + (first - copied_from source)) ≤ memory_end) × IsPlaced (shared first count c) source
+    by Own placed has = absurd (false≢true has)
+    by (Copy f n from) placed has =
         let ends = and_parts (f == id && n == change && nat_le from first) (nat_le (first + count) (from + c.pages)) has in
         let begins = and_parts (f == id && n == change) (nat_le from first) ends.0 in
         let low = leb-true from first begins.1 in
         let high = leb-true (first + count) (from + c.pages) ends.1 in
-        omega (arith, low, high, inside)
+        let inside = placed.0 in
+        (omega (arith, low, high, inside), (inside, refl))
 
-module _ (w : World) (sound : IsSound w) (p : Process) (s : LiveSpace) (bytes : List ℕ) where
+-- the copies of all spaces lie in memory
+all_placed : (ss : List LiveSpace) → AllByRecursion IsWithin ss → AllByRecursion (λ m. IsPlaced m m.source) (all_maps ss)
+all_placed [] h = tt
+all_placed (s ∷ ss) h = each_append (λ m. IsPlaced m m.source) s.space.maps (all_maps ss) h.0.copies (all_placed ss h.1)
+
+module _ (w : World) (r : IsBounded w) (p : Process) (s : LiveSpace) (bytes : List ℕ) where
   abbrev a : Ask
   a = ask_of w p s.space bytes
 
-  inside : (j : ℕ) (m : Mapping) → slice_get (all_maps w.spaces) j ≡ Some m → m.first + m.pages ≤ w.rest.pages
-  inside = each_of_all (λ m. m.first + m.pages ≤ w.rest.pages) w.loads w.spaces sound.numbers (λ i l found j m there. (sound.spaces i l found).inside j m there)
-
-  abbrev Fits : Mapping → Type 0
-  Fits m = m.range.from ≤ 2 ^ 31 + 4096 * w.rest.pages
-
   run_fits : (want : Want) (page : ℕ) → 0 < pages_of want → placed_page a want ≡ Some page → Fits (own_run want page)
-  run_fits want page some is = begins want page (fresh_run w.rest.pages w.spaces w.rest.kind (pages_of want) page some is).inside
+  run_fits want page some is =
+      let inside = (fresh_run w.rest.pages w.spaces w.rest.kind (pages_of want) page some is).inside in
+      let most = r.most in
+      begins want page (omega (arith, inside, most))
     where
-      begins : (want : Want) (page : ℕ) → page + pages_of want ≤ w.rest.pages → Fits (own_run want page)
-      begins (Anon pages) page low = omega (arith, low)
-      begins (File pages first true id change) page low = omega (arith, low)
-      begins (File pages first false id change) page low = omega (arith, low)
+      begins : (want : Want) (page : ℕ) → page + pages_of want ≤ most_pages → Fits (own_run want page)
+      begins (Anon pages) page low = (omega (arith, low), tt)
+      begins (File pages first true id change) page low = (omega (arith, low), tt)
+      begins (File pages first false id change) page low = (omega (arith, low), (low, refl))
 
   own_fits : (want : Want) (m : Mapping) (o : Option ℕ) → 0 < pages_of want → placed_page a want ≡ o → option_map (own_run want) o ≡ Some m → Fits m
   own_fits want m None some is same = absurd (none-some m same)
@@ -119,7 +126,8 @@ module _ (w : World) (sound : IsSound w) (p : Process) (s : LiveSpace) (bytes : 
       own_fits (File pages first false id change) m (placed_page a (File pages first false id change)) some refl is
   copy_fits pages first id change m (Some c) some low is =
       let it : Passes (has_pages id change first pages) (all_maps w.spaces) c = lowest_passes (has_pages id change first pages) (all_maps w.spaces) c low in
-      subst Fits (same_Some (shared first pages c) m is) (shared_fits w.rest.pages first pages id change c (inside it.one.at c it.one.there) it.passes)
+      let placed = each_there (λ n. IsPlaced n n.source) (all_maps w.spaces) (all_placed w.spaces r.spaces) it.one.at c it.one.there in
+      subst Fits (same_Some (shared first pages c) m is) (shared_fits first pages id change c placed it.passes)
 
   fits : (want : Want) (m : Mapping) → IsWanted w.rest.tree want → chosen a want ≡ Some m → Fits m
   fits (Anon pages) m some is = own_fits (Anon pages) m (placed_page a (Anon pages)) some refl is
@@ -127,8 +135,5 @@ module _ (w : World) (sound : IsSound w) (p : Process) (s : LiveSpace) (bytes : 
   fits (File pages first false id change) m known is =
       copy_fits pages first id change m (lowest (has_pages id change first pages) (all_maps w.spaces)) known.0 refl is
 
-  pub map_fits : (want : Want) (m : Mapping) → wanted_by a ≡ Ok want → chosen a want ≡ Some m → m.range.from ≤ memory_end
-  map_fits want m asks is =
-      let low : Fits m = fits want m (is_wanted w.rest.tree (view_of a (arg a 4)) (arg a 0) (arg a 1) (arg a 2) (arg a 3) (arg a 5) want asks) is in
-      let most = sound.most in
-      omega (arith, low, most)
+  pub map_fits : (want : Want) (m : Mapping) → wanted_by a ≡ Ok want → chosen a want ≡ Some m → Fits m
+  map_fits want m asks is = fits want m (is_wanted w.rest.tree (view_of a (arg a 4)) (arg a 0) (arg a 1) (arg a 2) (arg a 3) (arg a 5) want asks) is

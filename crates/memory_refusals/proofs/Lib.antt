@@ -1,0 +1,10 @@
+-- Answers   what holds of each answer that a call may have holds of what comes of the call
+-- Changes   pids and counts are as they must be behind each change
+-- Kept      the memory of a run stays regular
+-- Noted     the notes that an event adds
+-- Errnos    each reply that is an errno is a refusal
+pub mod Answers
+pub mod Changes
+pub mod Kept
+pub mod Noted
+pub mod Errnos

@@ -1,0 +1,41 @@
+-- What holds of the one memory of a run over fresh files between its events, before its first stray access and behind it.
+use Rattle.std.specs.Prelude.{◌≡◌, ℕ, ◌≤◌, List, length, Ok}
+use Rattle.quantum_sched.specs.declared.Quantum.{Quantum}
+use Rattle.vfork_exec.specs.Procs.{most_entries}
+use Rattle.machine_world.specs.World.{Rest, World}
+use Rattle.machine_world.specs.Boot.{StartLine, boot}
+use Rattle.machine_world.specs.Order.{IsFresh}
+use Rattle.stays_laws.specs.Laws.{CanBoot}
+use Rattle.refusal_laws.specs.Bounded.{IsBounded}
+use Rattle.physical_turns.specs.Physical.{Physical, After, after, no_room, nobody, physical_event, physical_turn, physical_turns, opening}
+use Rattle.physical_turns.specs.Courses.{IsShown}
+use Rattle.go_on_laws.specs.Marks.{HasNoMark}
+
+pub record IsRegularIn (p : Physical) : Type 0 where
+  -- every space has what memory has in its own ranges
+  pub shown : IsShown p
+  -- no pipe is marked as changed
+  pub unmarked : HasNoMark p.world
+  -- pids are few and given once, counts are exact, each process is younger than its parent, and breaks and copies lie in memory
+  pub bounded : IsBounded p.world
+
+-- of what an event leaves
+abbrev pub AfterIsRegular : After → Type 0
+AfterIsRegular (after now over) = IsRegularIn now
+AfterIsRegular (no_room now) = IsRegularIn now
+AfterIsRegular nobody = Unit {0}
+
+-- whatever headers the programs have
+abbrev pub BootsAreRegularIn : Type 0
+BootsAreRegularIn =
+    (rest : Rest) (starts : List StartLine) (w : World) (headers : List (List ℕ)) → CanBoot rest → IsFresh rest → length starts ≤ most_entries →
+    boot rest starts ≡ Ok w → IsRegularIn (opening headers w)
+
+abbrev pub EventsKeepRegularIn : Type 0
+EventsKeepRegularIn = (p : Physical) (pid : ℕ) → IsRegularIn p → AfterIsRegular (physical_event p pid)
+
+abbrev pub TurnsKeepRegularIn : Type 0
+TurnsKeepRegularIn = (count pid : ℕ) (p : Physical) → IsRegularIn p → IsRegularIn (physical_turn count pid p).now
+
+abbrev pub RunsKeepRegularIn : Type 0
+RunsKeepRegularIn = (quanta : List Quantum) (p : Physical) → IsRegularIn p → IsRegularIn (physical_turns quanta p).now

@@ -1,0 +1,20 @@
+//! Laws over the definitions. They hold for all worlds over one memory, and no code runs.
+
+ghost use Rattle.memory_refusals.specs.Regular.{BootsAreRegularIn, EventsKeepRegularIn, TurnsKeepRegularIn, RunsKeepRegularIn};
+ghost use Rattle.memory_refusals.specs.Refusals.{ErrnosAreRefusedIn};
+
+/// Of the one memory of a run over fresh files: every space shows it, no pipe is marked, counts are exact, each process is younger than its
+/// parent, and breaks and copies lie in memory. It is so at boot, and every event, turn and run keeps it, before the first stray access
+/// and behind it.
+pub fn regular_in_memory_law()
+    ensures boots { BootsAreRegularIn }
+    ensures events { EventsKeepRegularIn }
+    ensures turns { TurnsKeepRegularIn }
+    ensures runs { RunsKeepRegularIn }
+{}
+
+/// Over such a memory each call that an event notes with an errno as its reply, whatever call it is, is refused: the event changes its
+/// caller's a0 and pc, the notes and the count of events, and nothing else. It may note the run's first stray access beside the call.
+pub fn refusals_in_memory_law()
+    ensures { ErrnosAreRefusedIn }
+{}
