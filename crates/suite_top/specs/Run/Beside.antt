@@ -3,12 +3,14 @@ use Rattle.std.specs.Prelude.{◌≡◌, ◌≢◌, ◌⊎◌, ℕ, Bool, List, 
 use Rattle.rv32im_step.specs.declared.access.Access.{Access}
 use Rattle.host_io.specs.Host.{Files}
 use Rattle.page_runs.specs.declared.place.Kind.{Kind}
+use Rattle.quantum_sched.specs.declared.Quantum.{Quantum}
 use Rattle.manifest_text.specs.declared.manifest.Dump.{Dump}
 use Rattle.vfork_exec.specs.Keyed.{find}
 use Rattle.machine_world.specs.World.{Process, World, pid_of}
 use Rattle.machine_world.specs.Turns.{Walk, stray_at, turns}
 use Rattle.physical_turns.specs.Physical.{Physical, Walk as PhysicalWalk, physical_turns, opening as memory_opening}
 use Rattle.go_on_laws.specs.Laws.{GoesPast}
+use Rattle.memory_refusals.specs.Regular.{IsRegularIn}
 use Rattle.flat_machine.specs.declared.machine.Mode.TheVariants.{Halt, GoOn}
 use Rattle.flat_machine.specs.Runs.{repeated}
 use Rattle.flat_machine.specs.OwnBytes.{own_bytes, memory_bytes}
@@ -42,6 +44,10 @@ pub record GoesOnWell (private : Walk) (one : PhysicalWalk) : Type 0 where
 
 abbrev pub RunsGoOnWell : Type 0
 RunsGoOnWell = (t : Files) (name : List ℕ) (kind : Kind) (o : Opens t name kind) → GoesOnWell (halting o) (going_on o)
+
+-- the one memory is regular all along, behind the first stray access too: the laws of refused calls speak of it
+abbrev pub MemoryIsRegular : Type 0
+MemoryIsRegular = (t : Files) (name : List ℕ) (kind : Kind) (o : Opens t name kind) (quanta : List Quantum) → IsRegularIn (physical_turns quanta (memory_opening o.brought.headers o.world)).now
 
 -- ---- the status and the texts
 

@@ -1,5 +1,5 @@
 //! Laws over every run. No code runs.
-ghost use Rattle.suite_top.specs.Run.Beside.{RunsEndEarlyAlike, RunsGoOnWell, RunsOnNeverStray, RunsTellWell};
+ghost use Rattle.suite_top.specs.Run.Beside.{MemoryIsRegular, RunsEndEarlyAlike, RunsGoOnWell, RunsOnNeverStray, RunsTellWell};
 ghost use Rattle.suite_top.specs.Run.Laws.{RunsWhereItOpens, OpensWhereItStops, RunsStopOrEndEarly, RunsAreAsAlone, EndsAreAsAlone, RunsWaitWell, WorldsAreRegular};
 ghost use Rattle.run_setup.specs.Originals.{OriginalsAreSame};
 
@@ -30,9 +30,11 @@ pub fn waits_law()
 {}
 
 /// Every world of a run, up to its first stray access, is regular: the laws of `refusal_laws` speak of it. So each reply that is an errno
-/// is a refusal there, and ENOMEM comes exactly for want of a run of pages.
+/// is a refusal there, and ENOMEM comes exactly for want of a run of pages. The one memory of a run that goes on is regular all along, and
+/// a reply that is an errno is a refusal there too.
 pub fn regular_worlds_law()
-    ensures { WorldsAreRegular }
+    ensures worlds { WorldsAreRegular }
+    ensures memory { MemoryIsRegular }
 {}
 
 /// With `--go-on` a run whose private spaces reach no stray access ends with the same status and texts, but for dump lines of a process
