@@ -7,7 +7,7 @@ use Rattle.manifest_text.specs.declared.manifest.Dump.{Dump}
 use Rattle.manifest_text.specs.Values.{Item, Manifest}
 use Rattle.manifest_text.specs.Manifest.{Fault, manifest_of}
 use Rattle.machine_world.specs.World.{World}
-use Rattle.machine_world.specs.Turns.{End, all_ended, stuck, out_of_quanta, stray_at, log_full}
+use Rattle.machine_world.specs.Turns.{End, all_ended, stuck, out_of_quanta, stray_at, log_full, turns}
 use Rattle.machine_world.specs.Boot.{BootFault, boot}
 use Rattle.physical_turns.specs.Physical.{physical_turns, opening as memory_opening}
 use Rattle.go_on_laws.proofs.NeverStrays.{runs_never_stray}
@@ -17,7 +17,7 @@ use Rattle.run_setup.specs.Brought.{Brought, FaultAt, nothing_brought, all_broug
 use Rattle.suite_top.specs.Texts.Refusals.{too_long_at, manifest_tail, line_tail}
 use Rattle.suite_top.specs.declared.status.Status.TheVariants.{Stray}
 use Rattle.suite_top.specs.declared.telling.Telling.TheVariants.{Report}
-use Rattle.suite_top.specs.Report.{status_of_end}
+use Rattle.suite_top.specs.Report.{own_dumps, status_of_end}
 use Rattle.suite_top.specs.Ending.{refused_ending}
 use Rattle.suite_top.specs.Outcome.{Request, load, failure_ending, Outcome, Inputs, after}
 use Rattle.suite_top.specs.Load.{at_once, behind, with_limited, with_load}
@@ -31,7 +31,7 @@ module _ (R : (halts goes : Outcome) → Type 0) (step : (request : Request) (ha
     (failed : (name : List ℕ) → R (at_once (failure_ending (load name))) (at_once (failure_ending (load name))))
     (refused : (tail : List ℕ) → R (at_once (refused_ending tail)) (at_once (refused_ending tail)))
     (tells : (log : Bool) (quanta : List Quantum) (dumps : List Dump) (headers : List (List ℕ)) (w : World)
-        → R (at_once (mode_ending (Report log) Halt quanta dumps headers w)) (at_once (mode_ending (Report log) GoOn quanta dumps headers w))) where
+    → R (at_once (mode_ending (Report log) Halt quanta dumps headers w)) (at_once (mode_ending (Report log) GoOn quanta dumps headers w))) where
   -- ---- behind loads
 
   both_limited : (limit : ℕ) (line : Option ℕ) (name : List ℕ) (file : Option (List ℕ)) (halts goes : List ℕ → Outcome) → ((bytes : List ℕ) → R (halts bytes) (goes bytes))
@@ -100,7 +100,9 @@ alike_after request halts goes (inr same) = inr (ap (after request) same)
 pub runs_end_early_alike : RunsEndEarlyAlike
 runs_end_early_alike =
     both_run (λ halts goes. IsStop halts.ending.status ⊎ (goes ≡ halts)) alike_after (λ name. inr refl) (λ tail. inr refl)
-    (λ log quanta dumps headers w. inl (told_status IsStop tt tt tt tt tt (Report log) _ _ _))
+    (λ log quanta dumps headers w.
+    let walk = turns quanta w in
+    inl (told_status IsStop tt tt tt tt tt (Report log) (own_dumps walk.world dumps) walk.world walk.end))
 
 -- ---- and the other doesn't end with Stray
 

@@ -57,11 +57,14 @@ module _ (log : Bool) (dumps : List Dump) (private : Walk) (one : PhysicalWalk) 
     shown = dumps_alike private.world one.now ends.stands;
   }
 
-  pub report_begins : (dumped : List ℕ) (w : World) (end : Option End) → Begins (notes_text log w) (report_text log dumped w end)
-  unfolding report_text
-  report_begins dumped w end = (dumped ++ stop_line (stop_word end) w.events, refl)
-
 -- ---- notes
+
+-- they are what a report begins with
+pub report_begins : (log : Bool) (dumped : List ℕ) (w : World) (end : Option End) → Begins (notes_text log w) (report_text log dumped w end)
+unfolding report_text
+report_begins log dumped w end =
+    let stop = stop_line (stop_word end) w.events in
+    (dumped ++ stop, append_assoc (notes_text log w) dumped stop)
 
 -- notes come before those that are there, of the same programs
 module _ (log : Bool) (old now : World) (same : now.rest.programs ≡ old.rest.programs) (more : List Note) (are : now.notes ≡ more ++ old.notes) where

@@ -1,6 +1,6 @@
 -- The headers that the lines of a manifest bring in are no longer than a flat file's header.
-use Rattle.std.proofs.Common.{◌≡◌, ℕ, zero, suc, ◌+◌, ◌≤◌, List, [], ◌∷◌, ◌++◌, length, Some, None, Result, Ok, Err, refl, sym, ap, subst, arith}
-use Rattle.std.specs.Prelude.{Option, min, take, slice_get}
+use Rattle.std.proofs.Common.{◌≡◌, ℕ, zero, suc, ◌≤◌, List, [], ◌∷◌, ◌++◌, length, Some, None, Result, Ok, Err, refl, subst, arith}
+use Rattle.std.specs.Prelude.{Option, take}
 use Rattle.call_log.specs.declared.errno.Errno.{Errno}
 use Rattle.flat_loader.specs.Original.{header_len}
 use Rattle.bflt_format.specs.Header.{flat_values}
@@ -16,7 +16,7 @@ use Rattle.manifest_text.specs.declared.manifest.ItemKind.{ItemKind}
 use Rattle.manifest_text.specs.declared.manifest.ItemKind.TheVariants.{Elf, Flat, File, Dir, Stdin}
 use Rattle.manifest_text.specs.Values.{Item}
 use Rattle.run_setup.specs.declared.fault.LineFault.{LineFault}
-use Rattle.run_setup.specs.Brought.{Brought, Made, elf_made, flat_made, elf_made_of, flat_made_of, or_errno, with_program, program_brought, with_tree, brought_by, FaultAt, nothing_brought, then_brought, all_brought}
+use Rattle.run_setup.specs.Brought.{Brought, Made, elf_made, flat_made, elf_made_of, flat_made_of, or_errno, program_brought, with_tree, brought_by, FaultAt, nothing_brought, then_brought, all_brought}
 use Rattle.go_on_laws.specs.Alike.{AreHeaders}
 
 -- ---- lists

@@ -32,6 +32,7 @@ module _ {t : Files} {name : List ℕ} {kind : Kind} (o : Opens t name kind) whe
       runs_go_on (repeated o.manifest.repeat o.manifest.quanta) o.world (memory_opening o.brought.headers o.world) sound stands (boots_note_no_stray rest starts o.world o.boots)
 
   same_programs : (going_on o).now.world.rest.programs ≡ (halting o).world.rest.programs
+  unfolding memory_opening
   same_programs =
       let quanta = repeated o.manifest.repeat o.manifest.quanta in
       (runs_leave_programs quanta (memory_opening o.brought.headers o.world)).programs ∙ sym (programs_stay o.world.rest.programs quanta o.world refl)
