@@ -109,7 +109,7 @@ pub fn load_at(
 }
 
 /// Loads a flat program: its block goes into the free run that the chooser picks, and becomes a region with
-/// one use. A refusal changes neither regions nor memory.
+/// one use. Each region keeps its id, and a refusal changes neither regions nor memory.
 pub fn load<F: Fn(&[Run], u32) -> Option<usize>>(
     alloc: Global,
     regions: &mut Regions,
@@ -121,7 +121,8 @@ pub fn load<F: Fn(&[Run], u32) -> Option<usize>>(
 ) -> Result<Loaded, LoadRefusal>
     requires chooser { IsChooser F.pre F.post chooser.now }
     requires memory { length mem.old ≡ 4096 * length regions.old.regions }
-    ensures { Loads (kind_of chooser.now) flat.now (texts args.now) (texts env.now) regions.old.regions mem.old regions.new.regions mem.new result }
+    ensures loads { Loads (kind_of chooser.now) flat.now (texts args.now) (texts env.now) regions.old.regions mem.old regions.new.regions mem.new result }
+    ensures ids { regions.new.starts ≡ regions.old.starts }
 {
     if !frame_fits(flat, args, env) {
         return Err(LoadRefusal::E2big);

@@ -247,7 +247,8 @@ impl Space {
         requires some { 0 < pages }
         requires live { Lives regions.old copy }
         requires copy { CopyHas regions.old.regions (start_of regions.old copy) first pages }
-        ensures { (mem : List ℕ) → Maps (in_copy (sides self.old regions.old.regions mem) first pages (region_of regions.old copy)) (sides self.old regions.old.regions mem) (sides self.new regions.new.regions mem) result }
+        ensures maps { (mem : List ℕ) → Maps (in_copy (sides self.old regions.old.regions mem) first pages (region_of regions.old copy)) (sides self.old regions.old.regions mem) (sides self.new regions.new.regions mem) result }
+        ensures ids { regions.new.starts ≡ regions.old.starts }
     {
         make_room(&mut self.maps, 1)?;
         let region = regions.region(copy);
@@ -275,7 +276,8 @@ impl Space {
         requires few { AreFew regions.old.regions }
         requires run { IsNewRun run.now.pages run.now.writes run.now.anonymous run.now.source }
         requires bytes { length bytes.now ≤ 4096 * run.now.pages }
-        ensures { Maps (in_fresh_run (sides self.old regions.old.regions mem.old) (kind_of chooser.now) run.now.pages run.now.writes run.now.anonymous run.now.source (filled (4096 * run.now.pages) bytes.now)) (sides self.old regions.old.regions mem.old) (sides self.new regions.new.regions mem.new) result }
+        ensures maps { Maps (in_fresh_run (sides self.old regions.old.regions mem.old) (kind_of chooser.now) run.now.pages run.now.writes run.now.anonymous run.now.source (filled (4096 * run.now.pages) bytes.now)) (sides self.old regions.old.regions mem.old) (sides self.new regions.new.regions mem.new) result }
+        ensures ids { regions.new.starts ≡ regions.old.starts }
     {
         let places = if run.anonymous {
             run.pages.min(regions.pages())
@@ -293,7 +295,7 @@ impl Space {
     }
 
     /// Maps what is wanted, and gives the address of its first byte. Pages of a file that aren't written are shared with the lowest
-    /// copy that has them, where there is one; all else gets a run of its own.
+    /// copy that has them, where there is one; all else gets a run of its own. Each region keeps its id, and a refusal changes nothing.
     pub fn map<F: Fn(&[Run], u32) -> Option<usize>>(
         &mut self,
         regions: &mut Regions,
@@ -309,6 +311,7 @@ impl Space {
         requires few { AreFew regions.old.regions }
         requires want { AsksPages want }
         ensures maps { Maps (mapped (sides self.old regions.old.regions mem.old) (kind_of chooser.now) (bytes_of tree.now (file_in want)) want) (sides self.old regions.old.regions mem.old) (sides self.new regions.new.regions mem.new) result }
+        ensures ids { regions.new.starts ≡ regions.old.starts }
         ensures copies { AllHold regions.old.regions mem.old tree.now → IsKnown tree.now want → AllHold regions.new.regions mem.new tree.now }
         ensures bytes { AllHold regions.old.regions mem.old tree.now → IsKnown tree.now want → IfOk result (λ addr. pages_at mem.new (page_at addr) (pages_of want) ≡ wanted_bytes tree.now want) }
     {

@@ -160,10 +160,11 @@ impl Space {
         self.brk
     }
 
-    /// Gives up all mappings: each gives up one use of its region.
+    /// Gives up all mappings: each gives up one use of its region, which keeps its id.
     pub fn release(self, regions: &mut Regions)
         requires { CanRelease regions.old.regions self.maps }
-        ensures { regions.new.regions ≡ released regions.old.regions self.maps }
+        ensures released { regions.new.regions ≡ released regions.old.regions self.maps }
+        ensures ids { regions.new.starts ≡ regions.old.starts }
     {
         let Space { maps, .. } = self;
         release_all(&maps, regions);
@@ -173,7 +174,8 @@ impl Space {
 /// Each mapping gives up one use of its region.
 fn release_all(maps: &[Mapping], regions: &mut Regions)
     requires { CanRelease regions.old.regions maps.now }
-    ensures { regions.new.regions ≡ released regions.old.regions maps.now }
+    ensures released { regions.new.regions ≡ released regions.old.regions maps.now }
+    ensures ids { regions.new.starts ≡ regions.old.starts }
 {
     for mapping in maps {
         let id = regions.at(mapping.first);

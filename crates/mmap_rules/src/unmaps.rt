@@ -1,6 +1,6 @@
 //! Mappings that go (Linux, munmap(2) and "No-MMU memory mapping support").
 
-ghost use Rattle.std.specs.Prelude.{◌≡◌, ◌+◌, ◌*◌, ◌%◌, ◌^◌, ◌<◌, ◌≤◌, ◌++◌, true, Some, length, slice_get, take, drop, position, vec_len, vec_capacity};
+ghost use Rattle.std.specs.Prelude.{◌≡◌, ◌+◌, ◌*◌, ◌%◌, ◌^◌, ◌<◌, ◌≤◌, ◌++◌, true, Some, length, slice_get, take, drop, position, vec_len, vec_capacity, OnErr};
 ghost use Rattle.std.specs.List.{remove, sum_by};
 ghost use Rattle.mmap_rules.specs.declared.mapping.Mapping.{Mapping};
 ghost use Rattle.mmap_rules.specs.Owners.{IsTable};
@@ -138,6 +138,7 @@ impl Space {
         requires pages { self.old.pages ≡ length regions.old.regions }
         requires names { NameRegions regions.old.regions self.old.maps }
         ensures unmaps { Unmaps (unmapped self.old regions.old.regions addr len) (freed self.old regions.old.regions) (freed self.new regions.new.regions) result }
+        ensures refused { OnErr result (regions.new ≡ regions.old) }
         ensures names { NameRegions regions.new.regions self.new.maps }
     {
         if len == 0 || addr % PAGE != 0 {

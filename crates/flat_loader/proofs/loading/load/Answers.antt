@@ -18,8 +18,8 @@ new-space-requires-clause-fits g c = λ r there.
     let region : block_region (start_of c.args.regions.now c.in-Some.id) c.block_pages-pages.result ≡ r = same_Some _ _ (sym c.in-Some.ensures.region ∙ there) in
     block_fits (flat_original c.args.flat.now) r c.image_len-end.result c.stack_len.result (ap (λ (x : Region). x.pages) (sym region) ∙ c.block_pages-pages.ensures.value) c.image_len-end.ensures.value c.stack_len.ensures.value
 
-pub returns : goal.returns
-returns g c =
+pub returns-clause-loads : goal.returns-clause-loads
+returns-clause-loads g c =
     let f = c.args.flat.now in
     let args = texts c.args.args.now in
     let env = texts c.args.env.now in

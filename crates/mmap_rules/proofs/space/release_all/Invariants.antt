@@ -7,4 +7,5 @@ abbrev pub invariant-loop-mapping : goal.invariant-loop-mapping
 invariant-loop-mapping l = record {
   can : CanRelease l.regions.regions (drop l.mapping-index l.maps);
   same : released l.regions.regions (drop l.mapping-index l.maps) ≡ released l.fn.regions.regions l.maps;
+  ids : l.regions.starts ≡ l.fn.regions.starts;
 }

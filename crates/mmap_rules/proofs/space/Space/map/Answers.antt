@@ -11,9 +11,10 @@ pub returns-in-Some : goal.returns-in-Some
 returns-in-Some g c =
     let chosen = mapped_part (sides c.args.self.now c.args.regions.now.regions c.args.mem.now) (kind_of c.args.chooser.now) (bytes_of c.args.tree.now (file_in c.args.want)) c.args.want
     (part_at c.args.regions.now c.in-Some.part) (sym c.in-Some.ensures.part) in
-    let maps : Maps (mapped (sides c.args.self.now c.args.regions.now.regions c.args.mem.now) (kind_of c.args.chooser.now) (bytes_of c.args.tree.now (file_in c.args.want)) c.args.want) (sides c.args.self.now c.args.regions.now.regions c.args.mem.now) (sides c.map_part.new.self c.map_part.new.regions.regions c.args.mem.now) c.map_part.result = rw chosen (c.map_part.ensures c.args.mem.now) in
+    let maps : Maps (mapped (sides c.args.self.now c.args.regions.now.regions c.args.mem.now) (kind_of c.args.chooser.now) (bytes_of c.args.tree.now (file_in c.args.want)) c.args.want) (sides c.args.self.now c.args.regions.now.regions c.args.mem.now) (sides c.map_part.new.self c.map_part.new.regions.regions c.args.mem.now) c.map_part.result = rw chosen (c.map_part.ensures.maps c.args.mem.now) in
     record {
       maps = maps;
+      ids = c.map_part.ensures.ids;
       copies = λ holds known. all_hold (sides c.args.self.now c.args.regions.now.regions c.args.mem.now) (sides c.map_part.new.self c.map_part.new.regions.regions c.args.mem.now) (kind_of c.args.chooser.now) c.args.tree.now c.args.want c.map_part.result c.requires.want c.pages-pages.ensures.regions c.requires.memory holds maps;
       bytes = λ holds known. has_wanted (sides c.args.self.now c.args.regions.now.regions c.args.mem.now) (sides c.map_part.new.self c.map_part.new.regions.regions c.args.mem.now) (kind_of c.args.chooser.now) c.args.tree.now c.args.want c.map_part.result c.requires.want c.pages-pages.ensures.regions c.requires.memory holds known maps;
     }
@@ -22,10 +23,11 @@ pub returns-in-None : goal.returns-in-None
 returns-in-None g c =
     let chosen = mapped_new (sides c.args.self.now c.args.regions.now.regions c.args.mem.now) (kind_of c.args.chooser.now) (bytes_of c.args.tree.now (file_in c.args.want)) c.args.want
     (sym c.in-None.ensures.part) in
-    let done = c.map_fresh.ensures in
+    let done = c.map_fresh.ensures.maps in
     let maps : Maps (mapped (sides c.args.self.now c.args.regions.now.regions c.args.mem.now) (kind_of c.args.chooser.now) (bytes_of c.args.tree.now (file_in c.args.want)) c.args.want) (sides c.args.self.now c.args.regions.now.regions c.args.mem.now) (sides c.map_fresh.new.self c.map_fresh.new.regions.regions c.map_fresh.new.mem) c.map_fresh.result = rw chosen (rw (c.new_run.ensures.run, c.new_run.ensures.bytes) at done) in
     record {
       maps = maps;
+      ids = c.map_fresh.ensures.ids;
       copies = λ holds known. all_hold (sides c.args.self.now c.args.regions.now.regions c.args.mem.now) (sides c.map_fresh.new.self c.map_fresh.new.regions.regions c.map_fresh.new.mem) (kind_of c.args.chooser.now) c.args.tree.now c.args.want c.map_fresh.result c.requires.want c.pages-pages.ensures.regions c.requires.memory holds maps;
       bytes = λ holds known. has_wanted (sides c.args.self.now c.args.regions.now.regions c.args.mem.now) (sides c.map_fresh.new.self c.map_fresh.new.regions.regions c.map_fresh.new.mem) (kind_of c.args.chooser.now) c.args.tree.now c.args.want c.map_fresh.result c.requires.want c.pages-pages.ensures.regions c.requires.memory holds known maps;
     }

@@ -49,8 +49,8 @@ add_mapping-requires-clause-can g c =
 pub invariant_of-self-2 : goal.invariant_of-self-2
 invariant_of-self-2 g c = (c.add_mapping.ensures.table, rw c.add_mapping.ensures.pages c.add_mapping.ensures.mappings, c.add_mapping.ensures.places)
 
-pub returns : goal.returns
-returns g c =
+pub returns-clause-maps : goal.returns-clause-maps
+returns-clause-maps g c =
     let first : c.region-first.result.first ≡ start_of c.args.regions.now c.in-Some.id = ap (λ (r : Region). r.first) (same_Some _ _ (sym c.region-first.ensures ∙ c.in-Some.ensures.region)) in
     let placed = sym c.in-Some.ensures.placed in
     let maps = c.add_mapping.ensures.maps in
