@@ -27,6 +27,7 @@ impl Files {
         ensures pipes { Pipes (two_free self.old.open_files table) self.old.open_files table cloexec self.new.open_files result }
         ensures spare { self.old.spare ≤ self.new.spare + 2 }
         ensures spare_tables { self.old.spare_tables ≤ self.new.spare_tables }
+        ensures refused { OnErr result (KeepsSpare self.old self.new) }
     {
         let Some(ends) = self.two_free(table) else {
             return Err(FdFault::Errno(Errno::Emfile));
