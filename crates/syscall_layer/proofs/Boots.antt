@@ -86,12 +86,13 @@ module _ (a : About) (k : Kept) (regular : Regular k) (kind : Kind) (s : StartLi
 
 -- ---- what the start leaves
 
-pub same_parts : (k n : Kept) → n.mem ≡ k.mem → n.regions ≡ k.regions → n.spaces ≡ k.spaces → n.tree ≡ k.tree → n.files ≡ k.files → n.procs ≡ k.procs → n.notes ≡ k.notes → n.console ≡ k.console → n ≡ k
-same_parts k n mem regions spaces tree files procs notes console = λ i. record {
+pub same_parts : (k n : Kept) → n.mem ≡ k.mem → n.regions ≡ k.regions → n.starts ≡ k.starts → n.spaces ≡ k.spaces → n.tree ≡ k.tree → n.files ≡ k.files → n.procs ≡ k.procs → n.notes ≡ k.notes → n.console ≡ k.console → n ≡ k
+same_parts k n mem regions starts spaces tree files procs notes console = λ i. record {
   tree = tree i;
   files = files i;
   mem = mem i;
   regions = regions i;
+  starts = starts i;
   spaces = spaces i;
   procs = procs i;
   notes = notes i;
@@ -140,10 +141,10 @@ refuses k n regular kind index f args Memory why all = record {
 
 -- the same by what is known of a call
 pub refuses_by : (old k n : Kept) (r : Result ⊤ StartRefusal) → k ≡ old → Regular k → (kind : Kind) (index : ℕ) (f : Values) (args : List (List ℕ)) (e : LoadRefusal)
-    → Loads kind f args [] k.regions k.mem n.regions n.mem (Err e) → n.spaces ≡ k.spaces → n.tree ≡ k.tree → n.files ≡ k.files → n.procs ≡ k.procs → n.notes ≡ k.notes → n.console ≡ k.console
+    → Loads kind f args [] k.regions k.mem n.regions n.mem (Err e) → n.starts ≡ k.starts → n.spaces ≡ k.spaces → n.tree ≡ k.tree → n.files ≡ k.files → n.procs ≡ k.procs → n.notes ≡ k.notes → n.console ≡ k.console
     → r ≡ Err (refusal_of e) → Starts kind index (flat_original f) args old n r
-refuses_by old k n r view regular kind index f args e why spaces tree files procs notes console is =
-    rw (is, ← view) (refuses k n regular kind index f args e why (λ regions mem. same_parts k n mem regions spaces tree files procs notes console))
+refuses_by old k n r view regular kind index f args e why starts spaces tree files procs notes console is =
+    rw (is, ← view) (refuses k n regular kind index f args e why (λ regions mem. same_parts k n mem regions starts spaces tree files procs notes console))
 
 -- ---- what the calls left
 
@@ -165,15 +166,15 @@ pub record Begun (k n : Kept) (kind : Kind) (index : ℕ) (f : Values) (args : L
 
 -- by what the calls left
 pub begun_by : (k n : Kept) (kind : Kind) (index : ℕ) (f : Values) (args : List (List ℕ)) (loaded : Loaded) (pid number table : ℕ)
-    → IsLoaded kind f args [] k.regions k.mem n.regions n.mem loaded → n.spaces ≡ k.spaces ++ Some loaded.space ∷ [] → number ≡ length k.spaces
+    → IsLoaded kind f args [] k.regions k.mem n.regions n.mem loaded → n.starts ≡ k.starts → n.spaces ≡ k.spaces ++ Some loaded.space ∷ [] → number ≡ length k.spaces
     → (pid ≡ k.procs.next_pid) × (n.procs ≡ with_start k.procs (record { regs = loaded.regs; space = number; table = table }))
     → table ≡ free_number k.files.tables → n.tree ≡ k.tree → n.files ≡ with_table k.files
     → n.notes ≡ load_note (record { pid = pid; program = index; base = loaded.base; pages = loaded.pages }) ∷ k.notes
     → n.console ≡ k.console → Begun k n kind index f args
-begun_by k n kind index f args loaded pid number table is spaces number_is procs table_is tree files notes console = record {
+begun_by k n kind index f args loaded pid number table is starts spaces number_is procs table_is tree files notes console = record {
   loaded = loaded;
   is = is;
-  new = same_parts (with_program k index f args is.page n.mem) n refl is.regions
+  new = same_parts (with_program k index f args is.page n.mem) n refl is.regions starts
       (spaces ∙ ap (λ (h : Held). k.spaces ++ Some h ∷ []) is.space)
       tree files
       (procs.1 ∙ (λ i. with_start k.procs (record { regs = is.regs i; space = number_is i; table = table_is i })))

@@ -50,17 +50,17 @@ pub record Begun (k n : Kept) (call : Call) (task : Task) (kind : Kind) (index :
 
 -- by what the calls left
 pub begun_by : (k n : Kept) (call : Call) (kind : Kind) (index : ℕ) (f : Values) (args env : List (List ℕ)) (loaded : Loaded) (task : Task) (number : ℕ)
-    → IsLoaded kind f args env k.regions k.mem n.regions n.mem loaded → value_at k.procs call.pid ≡ Some task
+    → IsLoaded kind f args env k.regions k.mem n.regions n.mem loaded → n.starts ≡ k.starts → value_at k.procs call.pid ≡ Some task
     → n.spaces ≡ k.spaces ++ Some loaded.space ∷ [] → number ≡ length k.spaces
     → ((t : Task) → value_at k.procs call.pid ≡ Some t → n.procs ≡ with_value_at (with_exec k.procs call.pid) call.pid (record t { regs = loaded.regs; space = number }))
     → storage n.tree n.files ≡ exec_closed (storage k.tree k.files) task.table
     → n.notes ≡ load_note (record { pid = call.pid; program = index; base = loaded.base; pages = loaded.pages }) ∷ noted_call call 0 [] ∷ k.notes
     → n.console ≡ k.console → Begun k n call task kind index f args env
-begun_by k n call kind index f args env loaded task number is kept spaces number_is procs closed notes console = record {
+begun_by k n call kind index f args env loaded task number is starts kept spaces number_is procs closed notes console = record {
   loaded = loaded;
   is = is;
   kept = kept;
-  new = same_parts (running k call task f args env is.page index n.mem) n refl is.regions
+  new = same_parts (running k call task f args env is.page index n.mem) n refl is.regions starts
       (spaces ∙ ap (λ (h : Held). k.spaces ++ Some h ∷ []) is.space)
       (ap (λ (s : Storage). s.nodes) closed) (ap (λ (s : Storage). s.files) closed)
       (procs task kept ∙ (λ i. with_value_at (with_exec k.procs call.pid) call.pid (record task { regs = is.regs i; space = number_is i })))

@@ -181,3 +181,17 @@ module _ (a : About) (k : Kept) (e : Entry Task) (h : Held) (call : Call) (runs 
       -- into memory, whoever owns the places
       pub gave_in_by : length mem ≡ length k.mem → GaveIn a k e h call o (record k { mem = mem; files = files; procs = procs; notes = notes })
       gave_in_by len = record { put = puts; len = len; after = gave_after o mem files procs notes follows finishes noted }
+
+-- whatever ids the regions have
+pub changed_ids : (a : About) (old : Kept) (e : Entry Task) (h : Held) (call : Call) (r : Row) (new : Kept) → Changed a old e h call r new → (starts : List ℕ) → Changed a old e h call r (record new { starts = starts })
+changed_ids a old e h call r new is starts = record {
+  reply = is.reply;
+  replies = is.replies;
+  got = is.got;
+  rest = is.rest;
+  space = is.space;
+  over = is.over;
+  others = is.others;
+  pages = is.pages;
+  after = ap (λ (k : Kept). record k { starts = starts }) is.after;
+}

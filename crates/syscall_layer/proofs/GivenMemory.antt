@@ -130,7 +130,7 @@ module _ (headers : List (List ℕ)) (a : About) (k : Kept) (e : Entry Task) (h 
   unfolding world_of
   now_is =
       (λ i. record (with_space (record (world_of a k) { rest = gives.rest }) (process_of e) (replied e.value.regs o.value) (private_of k.mem h)) { notes = sym note_is i ∷ k.notes; events = a.events + 1 })
-      ∙ sym (moved_world k call.pid e h runs (replied e.value.regs o.value) h k.mem (λ j x other there. refl) k.regions refl a 1 (noted_call call o.value (written_of o) ∷ k.notes) k.tree files_then k.console)
+      ∙ sym (moved_world k call.pid e h runs (replied e.value.regs o.value) h k.mem (λ j x other there. refl) k.regions refl k.starts a 1 (noted_call call o.value (written_of o) ∷ k.notes) k.tree files_then k.console)
 
   -- it has its bytes
   pub given_serves_in : Regular k → (new : Kept) → GaveIn a k e h call o new → has_room k.notes (weight_of call.sent.items (written_of o)) ≡ true → Lives new.procs call.pid →

@@ -146,7 +146,7 @@ module _ (headers : List (List ℕ)) (a : About) (k : Kept) (regular : Regular k
         ap (showing (physical mem)) went_is
         ∙ ap (λ (ss : List LiveSpace). record (then_world space) { spaces = ss })
         (shown_changed (physical mem) e.value.space space (private_of mem held) (world_of a k).spaces same)
-        ∙ ap (showing (physical mem)) (sym (moved_world k call.pid e h runs regs held mem others rs pages a 1 (noted_call call value [] ∷ k.notes) k.tree k.files k.console))
+        ∙ ap (showing (physical mem)) (sym (moved_world k call.pid e h runs regs held mem others rs pages k.starts a 1 (noted_call call value [] ∷ k.notes) k.tree k.files k.console))
         ∙ showing_of (later 1 a) then_kept
 
     there : find id_of e.value.space (world_of a k).spaces ≡ Some (record { id = e.value.space; space = private_of k.mem h })
@@ -378,3 +378,8 @@ module _ (headers : List (List ℕ)) (a : About) (k : Kept) (e : Entry Task) (h 
           (mapped_row the_ask want)
           (ap (maps the_ask want) none ∙ ap (λ (v : ℕ). leaves the_ask v (private_of k.mem h)) (sym says))
           left.spaces
+
+-- whatever ids the regions have
+pub physical_ids : (headers : List (List ℕ)) (a : About) (k : Kept) (starts : List ℕ) → physical_of headers a (record k { starts = starts }) ≡ physical_of headers a k
+unfolding physical_of world_of
+physical_ids headers a k starts = refl

@@ -51,13 +51,13 @@ module _ (k : Kept) (pid : ℕ) (e : Entry Task) (h : Held) (runs : RunsIn k pid
     spaces_moved others =
         sym (change_space (λ (s : LiveSpace). record s { space = private_of now g }) k.mem now k.spaces e.value.space h g runs.home refl others)
 
-    -- and with other notes, more events, and as many regions
-    pub moved_world : OthersSame k e.value.space now → (rs : List Region) → length rs ≡ length k.regions →
+    -- and with other notes, more events, and as many regions, whatever their ids
+    pub moved_world : OthersSame k e.value.space now → (rs : List Region) → length rs ≡ length k.regions → (starts : List ℕ) →
         (a : About) (n : ℕ) (notes : List Note) (tree : Inodes) (files : OpenFiles) (console : List ℕ) →
-        world_of (later n a) (record (with_task k pid e g now regs) { regions = rs; notes = notes; tree = tree; files = files; console = console })
+        world_of (later n a) (record (with_task k pid e g now regs) { regions = rs; starts = starts; notes = notes; tree = tree; files = files; console = console })
         ≡ record (with_space (record (world_of a k) { rest = with_all (world_of a k).rest tree files console }) (process_of e) regs (private_of now g)) { notes = notes; events = a.events + n }
     unfolding world_of
-    moved_world others rs pages a n notes tree files console =
+    moved_world others rs pages starts a n notes tree files console =
         same_world _ _ _ _ _ _ (length rs) (length k.regions) notes notes (world_of (later n a) (record k { tree = tree; files = files; console = console }))
         procs_moved (spaces_moved others) (length-set k.spaces e.value.space (Some g)) pages refl
 

@@ -219,7 +219,7 @@ module _ (a : About) (k : Kept) (e : Entry Task) (h : Held) (call : Call) (runs 
     answered_is found = ap (put (world_of a k) ask reply)
 
     -- and the space: its bytes are those of memory, behind what the call writes
-    module _ (mem : List ℕ) (rs : List Region) (pages : length rs ≡ length k.regions)
+    module _ (mem : List ℕ) (rs : List Region) (pages : length rs ≡ length k.regions) (starts : List ℕ)
         (puts : put_got space.bytes (writable_in space.maps) got ≡ Ok (private_bytes mem (held_as h space)))
         (stays : record space { bytes = private_bytes mem (held_as h space) } ≡ private_of mem (held_as h space)) where
       abbrev then_space : Space
@@ -229,12 +229,12 @@ module _ (a : About) (k : Kept) (e : Entry Task) (h : Held) (call : Call) (runs 
       then_state s = with_space (record (world_of a k) { rest = reply.rest }) (process_of e) (replied e.value.regs value) s
 
       abbrev then_kept : Kept
-      then_kept = record (after_reply k e h call reply mem) { regions = rs }
+      then_kept = record (after_reply k e h call reply mem) { regions = rs; starts = starts }
 
       after_world : OthersSame k e.value.space mem → world_of (later 1 a) then_kept ≡ noted (call_note (entry_of ask value got)) (counted (then_state then_space))
       unfolding world_of
       after_world others =
-          moved_world k call.pid e h runs (replied e.value.regs value) (held_as h space) mem others rs pages a 1 (noted_call call value got ∷ k.notes) tree files console
+          moved_world k call.pid e h runs (replied e.value.regs value) (held_as h space) mem others rs pages starts a 1 (noted_call call value got ∷ k.notes) tree files console
           ∙ (λ i. record (then_state (sym stays i)) { notes = note_is value got i ∷ k.notes; events = a.events + 1 })
 
       pub reply_serves : OthersSame k e.value.space mem → has_room k.notes (weight_of call.sent.items got) ≡ true →
@@ -286,7 +286,7 @@ module _ (a : About) (k : Kept) (e : Entry Task) (h : Held) (call : Call) (runs 
         Answered a (answered (world_of a k) ask (replies effect_reply)) k (after_reply k e h call effect_reply k.mem) call.pid (served_by f)
     effect_serves room =
         subst (λ (r : Reply). Answered a (answered (world_of a k) ask (replies r)) k (after_reply k e h call r k.mem) call.pid (served_by f)) (sym effect_shape)
-        (reply_serves effect_reply.value [] k.tree k.files k.console effect_reply.space effect_reply.over k.mem k.regions refl (bytes_stay f) (space_stays f) (λ j o other there. refl)
+        (reply_serves effect_reply.value [] k.tree k.files k.console effect_reply.space effect_reply.over k.mem k.regions refl k.starts (bytes_stay f) (space_stays f) (λ j o other there. refl)
         (weighs call.sent.items true room) (served_by f) (λ t n. went_by f ask t n call.pid))
 
     pub effect_full : has_room k.notes (length call.sent.items) ≡ false → Answered a (answered (world_of a k) ask (replies effect_reply)) k k call.pid LogFull
@@ -303,10 +303,10 @@ module _ (a : About) (k : Kept) (e : Entry Task) (h : Held) (call : Call) (runs 
       let g : Held = held_as h r.space in
       let shape : r ≡ reply r.value [] r.rest.tree r.rest.files r.rest.console r.space false =
       (λ i. record { value = r.value; got = c.got i; rest = c.rest i; space = r.space; over = c.over i }) in
-      let served = reply_serves r.value [] r.rest.tree r.rest.files r.rest.console r.space false new.mem new.regions c.pages
+      let served = reply_serves r.value [] r.rest.tree r.rest.files r.rest.console r.space false new.mem new.regions c.pages new.starts
       (ap (λ (s : Space). Ok s.bytes) c.space) (ap (λ (s : Space). record s { bytes = private_bytes new.mem g }) c.space) c.others
       (weighs call.sent.items true room) Replied (λ t n over events lives. (over, events, lives)) in
-      let by_reply = subst (λ (x : Reply). Answered a (answered (world_of a k) ask (replies x)) k (record (after_reply k e h call x new.mem) { regions = new.regions }) call.pid Replied) (sym shape) served in
+      let by_reply = subst (λ (x : Reply). Answered a (answered (world_of a k) ask (replies x)) k (record (after_reply k e h call x new.mem) { regions = new.regions; starts = new.starts }) call.pid Replied) (sym shape) served in
       let by_new = subst (λ (x : Kept). Answered a (answered (world_of a k) ask (replies r)) k x call.pid Replied) (sym c.after) by_reply in
       subst (λ (x : Row). Answered a (answered (world_of a k) ask x) k new call.pid Replied) (sym c.replies) by_new
 
@@ -338,7 +338,7 @@ module _ (a : About) (k : Kept) (e : Entry Task) (h : Held) (call : Call) (runs 
     pub output_serves : (new : Kept) → Gave a k e h call o new → has_room k.notes (weight_of call.sent.items (written_of o)) ≡ true →
         Answered a (answered (world_of a k) ask (replies (given ask o))) k new call.pid Replied
     output_serves new c room =
-        let served = reply_serves o.value (written_of o) k.tree files_then k.console (private_of k.mem h) false new.mem k.regions refl c.put (private_is new.mem) c.others room Replied (λ t n over events lives. (over, events, lives)) in
+        let served = reply_serves o.value (written_of o) k.tree files_then k.console (private_of k.mem h) false new.mem k.regions refl k.starts c.put (private_is new.mem) c.others room Replied (λ t n over events lives. (over, events, lives)) in
         let by_reply = subst (λ (x : Reply). Answered a (answered (world_of a k) ask (replies x)) k (after_reply k e h call x new.mem) call.pid Replied) (sym given_shape) served in
         subst (λ (x : Kept). Answered a (answered (world_of a k) ask (replies (given ask o))) k x call.pid Replied) (sym c.after) by_reply
 

@@ -132,6 +132,25 @@ regular_stays k pid e h regular lives home regs brk mem same notes more tree fil
       loads = omega (arith, regular.loads, more, length-set k.spaces number (Some (record h { brk = brk })));
     }
 
+-- other ids
+pub regular_ids : (k : Kept) → Regular k → (starts : List ℕ) → Regular (record k { starts = starts })
+regular_ids k regular starts = record {
+  memory = regular.memory;
+  some = regular.some;
+  most = regular.most;
+  regions = regular.regions;
+  uses = regular.uses;
+  one_use = regular.one_use;
+  names = regular.names;
+  pages = regular.pages;
+  runs = regular.runs;
+  chains = regular.chains;
+  falls = regular.falls;
+  few = regular.few;
+  pids = regular.pids;
+  loads = regular.loads;
+}
+
 -- other notes and another console
 pub regular_noted : (k : Kept) → Regular k → (notes : List Note) → kept_calls k.notes ≤ kept_calls notes → (console : List ℕ) → Regular (record k { notes = notes; console = console })
 regular_noted k regular notes more console = record {

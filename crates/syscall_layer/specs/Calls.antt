@@ -128,7 +128,7 @@ pub record Changed (a : About) (old : Kept) (e : Entry Task) (h : Held) (call : 
   pub over : reply.over ≡ false
   pub others : OthersSame old e.value.space new.mem
   pub pages : length new.regions ≡ length old.regions
-  pub after : new ≡ record (after_reply old e h call reply new.mem) { regions = new.regions }
+  pub after : new ≡ record (after_reply old e h call reply new.mem) { regions = new.regions; starts = new.starts }
 
 abbrev pub Changes : About → Kept → Entry Task → Held → Call → Row → Kept → Result ⊤ AllocError → Type 0
 Changes a old e h call r new (Ok done) = Changed a old e h call r new

@@ -6,6 +6,7 @@ abbrev pub kept_of : Inside → Kept
 kept_of p = record {
   mem = p.mem;
   regions = p.regions.regions;
+  starts = p.regions.starts;
   spaces = p.spaces.items;
   tree = p.tree;
   files = p.files.open_files;

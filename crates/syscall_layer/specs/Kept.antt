@@ -1,5 +1,6 @@
 -- What is kept of all programs.
 use Rattle.std.specs.Prelude.{ℕ, ◌*◌, List, [], replicate, Option}
+use Rattle.std.specs.List.{range_with_len}
 use Rattle.nommu_regions.specs.declared.region.Region.{Region}
 use Rattle.nommu_regions.specs.declared.region.Source.TheVariants.{Own}
 use Rattle.mmap_rules.specs.Space.{page_size}
@@ -10,11 +11,12 @@ use Rattle.mem_files.specs.Inodes.{Inodes}
 use Rattle.fd_tables.specs.Files.{OpenFiles}
 use Rattle.syscall_layer.specs.declared.task.Task.{Task}
 
--- memory, and the regions of its pages; the spaces by the number of their load note, none where the space is gone; the files
+-- memory, the regions of its pages, and for each id of a region the page at which it begins; the spaces by the number of their load note, none where the space is gone; the files
 -- and folders, and what is open; the processes; the notes, newest first; and what was written to the console
 pub record Kept : Type 0 where
   pub mem : List ℕ
   pub regions : List Region
+  pub starts : List ℕ
   pub spaces : List (Option Held)
   pub tree : Inodes
   pub files : OpenFiles
@@ -27,6 +29,7 @@ abbrev pub nothing_yet : ℕ → Inodes → OpenFiles → Kept
 nothing_yet pages tree files = record {
   mem = replicate (page_size * pages) 0;
   regions = replicate pages (record { first = 0; pages = 0; source = Own; uses = 0 });
+  starts = range_with_len 0 pages;
   spaces = [];
   tree = tree;
   files = files;

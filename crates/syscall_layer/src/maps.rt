@@ -84,7 +84,8 @@ fn map_in<F: Fn(&[Run], u32) -> Option<usize>>(
     requires names { (h : Held) → slice_get spaces.old number ≡ Some (Some h) → NameRegions regions.old.regions h.maps }
     requires few { AreFew regions.old.regions }
     requires want { AsksPages want }
-    ensures { (h : Held) → slice_get spaces.old number ≡ Some (Some h) →
+    ensures ids { regions.new.starts ≡ regions.old.starts }
+    ensures maps { (h : Held) → slice_get spaces.old number ≡ Some (Some h) →
         MapsIn (kind_of chooser.now) (bytes_of tree.now (file_in want)) want number h spaces.old spaces.new regions.old.regions regions.new.regions mem.old mem.new result }
 {
     match &mut spaces[number as usize] {

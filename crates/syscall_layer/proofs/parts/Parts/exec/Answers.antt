@@ -29,6 +29,7 @@ abbrev new_parts : (g : Over) → After-note_exec g → Kept
 new_parts g c = record {
   mem = c.load.new.mem;
   regions = c.load.new.regions.regions;
+  starts = c.load.new.regions.starts;
   spaces = c.push_reserved.new.self.items;
   tree = c.exec_close.new.tree;
   files = c.exec_close.new.self.open_files;
@@ -47,7 +48,7 @@ begun g c =
     let spaces : n.spaces ≡ k.spaces ++ Some loaded.space ∷ [] = search rules in
     let number : c.len-number.result ≡ length k.spaces = search rules in
     let notes : n.notes ≡ load_note (record { pid = c.args.call.pid; program = c.args.index; base = loaded.base; pages = loaded.pages }) ∷ noted_call c.args.call 0 [] ∷ k.notes = search rules in
-    begun_by k n c.args.call _ c.args.index c.args.flat.now _ _ loaded c.get.result.now c.len-number.result is c.get.ensures spaces number
+    begun_by k n c.args.call _ c.args.index c.args.flat.now _ _ loaded c.get.result.now c.len-number.result is c.load.ensures.ids c.get.ensures spaces number
     c.switch.ensures c.exec_close.ensures.storage notes refl
 
 pub overflow_cast-number : goal.overflow_cast-number
@@ -125,39 +126,39 @@ returns-else-not-lent-clause-memory g c =
 pub returns-in-Err-E2big-clause-serves : goal.returns-in-Err-E2big-clause-serves
 returns-in-Err-E2big-clause-serves g c =
     let k = kept_of c.self.inside in
-    let n : Kept = record k { mem = c.load.new.mem; regions = c.load.new.regions.regions; spaces = c.reserve.new.self.items; notes = c.reserve-2.new.self.notes } in
+    let n : Kept = record k { mem = c.load.new.mem; regions = c.load.new.regions.regions; starts = c.load.new.regions.starts; spaces = c.reserve.new.self.items; notes = c.reserve-2.new.self.notes } in
     subst (λ (old : Kept). ExecServes (kind_of c.args.chooser.now) c.args.index c.args.flat.now (texts c.args.strings.now.args.items) (texts c.args.strings.now.env.items) c.args.call old c.refuse.new.self c.refuse.result)
     c.self.view_is
     (refused_big k n c.refuse.new.self c.self.invariant.0 c.args.call (kind_of c.args.chooser.now) c.args.index c.args.flat.now _ _ c.refuse.result
-    (λ regions mem. same_parts k n mem regions c.reserve.ensures.items refl refl refl c.reserve-2.ensures.same refl) (search rules) c.refuse.ensures.serves)
+    (λ regions mem. same_parts k n mem regions c.load.ensures.ids c.reserve.ensures.items refl refl refl c.reserve-2.ensures.same refl) (search rules) c.refuse.ensures.serves)
 
 pub returns-in-Err-NoRun-clause-serves : goal.returns-in-Err-NoRun-clause-serves
 returns-in-Err-NoRun-clause-serves g c =
     let k = kept_of c.self.inside in
-    let n : Kept = record k { mem = c.load.new.mem; regions = c.load.new.regions.regions; spaces = c.reserve.new.self.items; notes = c.reserve-2.new.self.notes } in
+    let n : Kept = record k { mem = c.load.new.mem; regions = c.load.new.regions.regions; starts = c.load.new.regions.starts; spaces = c.reserve.new.self.items; notes = c.reserve-2.new.self.notes } in
     let new = c.refuse-in-Err-NoRun.new.self in
     let result = c.refuse-in-Err-NoRun.result in
     subst (λ (old : Kept). ExecServes (kind_of c.args.chooser.now) c.args.index c.args.flat.now (texts c.args.strings.now.args.items) (texts c.args.strings.now.env.items) c.args.call old new result)
     c.self.view_is
     (refused_run k n new c.self.invariant.0 c.args.call (kind_of c.args.chooser.now) c.args.index c.args.flat.now _ _ result
-    (λ regions mem. same_parts k n mem regions c.reserve.ensures.items refl refl refl c.reserve-2.ensures.same refl) (search rules) c.refuse-in-Err-NoRun.ensures.serves)
+    (λ regions mem. same_parts k n mem regions c.load.ensures.ids c.reserve.ensures.items refl refl refl c.reserve-2.ensures.same refl) (search rules) c.refuse-in-Err-NoRun.ensures.serves)
 
 pub returns-in-Err-E2big-clause-memory : goal.returns-in-Err-E2big-clause-memory
 returns-in-Err-E2big-clause-memory g c =
     let k = kept_of c.self.inside in
-    let n : Kept = record k { mem = c.load.new.mem; regions = c.load.new.regions.regions; spaces = c.reserve.new.self.items; notes = c.reserve-2.new.self.notes } in
+    let n : Kept = record k { mem = c.load.new.mem; regions = c.load.new.regions.regions; starts = c.load.new.regions.starts; spaces = c.reserve.new.self.items; notes = c.reserve-2.new.self.notes } in
     subst (λ (old : Kept). ExecServesIn (kind_of c.args.chooser.now) c.args.index c.args.flat.now (texts c.args.strings.now.args.items) (texts c.args.strings.now.env.items) c.args.call old c.refuse.new.self c.refuse.result)
     c.self.view_is
     (refused_big_in k n c.refuse.new.self c.self.invariant.0 c.args.call (kind_of c.args.chooser.now) c.args.index c.args.flat.now _ _ c.refuse.result
-    (λ regions mem. same_parts k n mem regions c.reserve.ensures.items refl refl refl c.reserve-2.ensures.same refl) c.refuse.ensures.memory (search rules) c.refuse.ensures.serves)
+    (λ regions mem. same_parts k n mem regions c.load.ensures.ids c.reserve.ensures.items refl refl refl c.reserve-2.ensures.same refl) c.refuse.ensures.memory (search rules) c.refuse.ensures.serves)
 
 pub returns-in-Err-NoRun-clause-memory : goal.returns-in-Err-NoRun-clause-memory
 returns-in-Err-NoRun-clause-memory g c =
     let k = kept_of c.self.inside in
-    let n : Kept = record k { mem = c.load.new.mem; regions = c.load.new.regions.regions; spaces = c.reserve.new.self.items; notes = c.reserve-2.new.self.notes } in
+    let n : Kept = record k { mem = c.load.new.mem; regions = c.load.new.regions.regions; starts = c.load.new.regions.starts; spaces = c.reserve.new.self.items; notes = c.reserve-2.new.self.notes } in
     let new = c.refuse-in-Err-NoRun.new.self in
     let result = c.refuse-in-Err-NoRun.result in
     subst (λ (old : Kept). ExecServesIn (kind_of c.args.chooser.now) c.args.index c.args.flat.now (texts c.args.strings.now.args.items) (texts c.args.strings.now.env.items) c.args.call old new result)
     c.self.view_is
     (refused_run_in k n new c.self.invariant.0 c.args.call (kind_of c.args.chooser.now) c.args.index c.args.flat.now _ _ result
-    (λ regions mem. same_parts k n mem regions c.reserve.ensures.items refl refl refl c.reserve-2.ensures.same refl) c.refuse-in-Err-NoRun.ensures.memory (search rules) c.refuse-in-Err-NoRun.ensures.serves)
+    (λ regions mem. same_parts k n mem regions c.load.ensures.ids c.reserve.ensures.items refl refl refl c.reserve-2.ensures.same refl) c.refuse-in-Err-NoRun.ensures.memory (search rules) c.refuse-in-Err-NoRun.ensures.serves)

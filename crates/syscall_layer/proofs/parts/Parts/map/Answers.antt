@@ -15,7 +15,7 @@ use Rattle.vfork_exec.specs.declared.entry.Entry.{Entry}
 use Rattle.vfork_exec.specs.Procs.{Lives}
 use Rattle.machine_world.specs.MapCalls.{mapped}
 use Rattle.machine_world.specs.Event.{answered}
-use Rattle.physical_turns.specs.Physical.{after, has_stray, carried}
+use Rattle.physical_turns.specs.Physical.{Physical, after, has_stray, carried}
 use Rattle.syscall_layer.specs.declared.task.Task.{Task}
 use Rattle.syscall_layer.specs.Kept.{Kept}
 use Rattle.syscall_layer.specs.Inside.{kept_of}
@@ -27,12 +27,13 @@ use Rattle.syscall_layer.specs.Calls.{RunsIn, IsCall, ask_in, noted_call, Change
 use Rattle.syscall_layer.specs.MapsIn.{MapsIn}
 use Rattle.syscall_layer.proofs.Runs.{value_found, has_space}
 use Rattle.syscall_layer.proofs.Settled.{items_set}
-use Rattle.syscall_layer.proofs.Finishes.{regular_finished}
+use Rattle.syscall_layer.proofs.Stays.{regular_ids}
+use Rattle.syscall_layer.proofs.Finishes.{regular_finished, changed_ids}
 use Rattle.syscall_layer.proofs.CopiesStay.{room_counts}
 use Rattle.syscall_layer.proofs.Sound.{counts, call_strays}
 use Rattle.syscall_layer.proofs.NamesOf.{name_regions, few_uses}
 use Rattle.syscall_layer.proofs.Mapped.{with_maps, keeps_mapped, same_mapped, changed_mapped}
-use Rattle.syscall_layer.proofs.MapMemory.{lives_finished, memory_mapped}
+use Rattle.syscall_layer.proofs.MapMemory.{lives_finished, memory_mapped, physical_ids}
 use Rattle.syscall_layer.proofs.parts.Parts.map.Given.{Over}
 use Rattle.syscall_layer.proofs.parts.Parts.map.Goals as goal
 
@@ -53,6 +54,7 @@ stays : (g : Over) (c : goal.After-drop-call-in_err-value g) → kept_of c.self.
     ≡ record (kept_of c.self.inside) {
       mem = c.map_in-mapped.new.mem;
       regions = c.map_in-mapped.new.regions.regions;
+      starts = c.map_in-mapped.new.regions.starts;
       spaces = (with_items c.self.inside.spaces c.map_in-mapped.new.spaces).items;
       notes = c.reserve.new.self.notes;
     }
@@ -62,7 +64,7 @@ stays g c =
     let lives = subst (λ (s : Kept). Lives s.procs c.args.call.pid) (sym c.self.view_is) c.requires.lives in
     let known = subst (λ (s : Kept). IsKnown s.tree c.args.want) (sym c.self.view_is) c.requires.known in
     let live = has_space k c.args.call.pid c.get.result.now c.self.invariant.0 lives c.get.ensures in
-    let is = c.map_in-mapped.ensures live.held (ap (λ (ss : List (Option Held)). slice_get ss number) c.deref_mut.ensures.value ∙ live.there) in
+    let is = c.map_in-mapped.ensures.maps live.held (ap (λ (ss : List (Option Held)). slice_get ss number) c.deref_mut.ensures.value ∙ live.there) in
     let spaces = (with_items c.self.inside.spaces c.map_in-mapped.new.spaces).items in
     let at : MapsIn (kind_of c.args.chooser.now) (bytes_of k.tree (file_in c.args.want)) c.args.want number live.held k.spaces spaces k.regions c.map_in-mapped.new.regions.regions k.mem
     c.map_in-mapped.new.mem c.map_in-mapped.result = record {
@@ -73,7 +75,7 @@ stays g c =
     } in
     let same = same_mapped k c.self.invariant.0 c.self.invariant.1 number live.held live.there (kind_of c.args.chooser.now) c.args.want c.requires.pages known spaces
     c.map_in-mapped.new.regions.regions c.map_in-mapped.new.mem c.map_in-mapped.result c.in_err-value.field-0.0 at c.in_err-value.ensures in
-    λ i. record (same i) { notes = sym c.reserve.ensures.same i }
+    λ i. record (same i) { starts = sym c.map_in-mapped.ensures.ids i; notes = sym c.reserve.ensures.same i }
 
 pub invariant_of-self-in_err-value : goal.invariant_of-self-in_err-value
 invariant_of-self-in_err-value g c = subst IsRegular (stays g c) c.self.invariant
@@ -94,6 +96,7 @@ abbrev new_parts : (g : Over) → goal.After-finish g → Kept
 new_parts g c = record (kept_of c.self.inside) {
   mem = c.map_in-mapped.new.mem;
   regions = c.map_in-mapped.new.regions.regions;
+  starts = c.map_in-mapped.new.regions.starts;
   spaces = (with_items c.self.inside.spaces c.map_in-mapped.new.spaces).items;
   procs = c.finish.new.procs;
   notes = c.finish.new.log.notes;
@@ -105,7 +108,7 @@ left : (g : Over) (c : goal.After-finish g) (kind : Kind) → kind ≡ kind_of c
     c.map_in-mapped.new.regions.regions c.self.inside.mem c.map_in-mapped.new.mem c.map_in-mapped.result
 left g c kind same h there =
     let number = c.get.result.now.space in
-    let is = c.map_in-mapped.ensures h (ap (λ (ss : List (Option Held)). slice_get ss number) c.deref_mut.ensures.value ∙ there) in
+    let is = c.map_in-mapped.ensures.maps h (ap (λ (ss : List (Option Held)). slice_get ss number) c.deref_mut.ensures.value ∙ there) in
     rw same (record {
       held = is.held;
       spaces = items_set c.self.inside.spaces c.map_in-mapped.new.spaces number (Some is.held)
@@ -127,7 +130,7 @@ invariant_of-self-2 g c =
     (new_parts g c).spaces c.map_in-mapped.new.regions.regions c.map_in-mapped.new.mem c.map_in-mapped.result is in
     let now = with_maps k c.map_in-mapped.new.mem c.map_in-mapped.new.regions.regions (new_parts g c).spaces in
     let counted = counts c.args.call c.in_ok-value.value [] k.notes c.finish.new.log.notes (noted g c) in (
-      regular_finished now c.args.call.pid keeps.0 lives c.in_ok-value.value now.mem k.tree k.files c.finish.new.procs c.finish.new.log.notes k.console refl c.finish.ensures.procs (omega (arith, counted)),
+      regular_ids _ (regular_finished now c.args.call.pid keeps.0 lives c.in_ok-value.value now.mem k.tree k.files c.finish.new.procs c.finish.new.log.notes k.console refl c.finish.ensures.procs (omega (arith, counted))) (new_parts g c).starts,
       keeps.1 c.finish.new.log.notes (omega (arith, counted)) (call_strays c.args.call c.in_ok-value.value [] k.notes c.finish.new.log.notes (noted g c)),
     )
 
@@ -151,10 +154,10 @@ returns-clause-changes g c = λ a kind unstrayed e h.
     let known = subst (λ (s : Kept). IsKnown s.tree want) (sym c.self.view_is) c.requires.known in
     let clean : has_stray k.notes ≡ false = ap (λ (s : Kept). has_stray s.notes) c.self.view_is ∙ unstrayed in
     subst (λ (old : Kept). RunsIn old call.pid e h → IsCall e call → Changed a old e h call (mapped (ask_in a old e h call) want) (new_parts g c)) c.self.view_is
-    (λ runs is_call.
+    (λ runs is_call. changed_ids a k e h call _ _ (
     changed_mapped a k e h call runs is_call c.in_ok-value.value (new_parts g c).spaces c.map_in-mapped.new.regions.regions c.finish.new.procs c.finish.new.log.notes
     c.finish.ensures.procs (noted g c) c.self.invariant.0 c.self.invariant.1 clean want c.requires.pages known c.map_in-mapped.new.mem c.map_in-mapped.result
-    (left_at g c a.kind kind e h runs) c.in_ok-value.ensures)
+    (left_at g c a.kind kind e h runs) c.in_ok-value.ensures) (new_parts g c).starts)
 
 pub returns-clause-memory : goal.returns-clause-memory
 returns-clause-memory g c = λ headers a kind e h.
@@ -169,7 +172,8 @@ returns-clause-memory g c = λ headers a kind e h.
     (λ runs is_call.
     memory_mapped headers a k e h call runs is_call c.in_ok-value.value (new_parts g c).spaces c.map_in-mapped.new.regions.regions c.finish.new.procs c.finish.new.log.notes
     c.finish.ensures.procs (noted g c) room c.self.invariant.0 c.self.invariant.1 want c.requires.pages known c.map_in-mapped.new.mem c.map_in-mapped.result
-    (left_at g c a.kind kind e h runs) c.in_ok-value.ensures)
+    (left_at g c a.kind kind e h runs) c.in_ok-value.ensures
+    ∙ ap (λ (x : Physical). after x false) (sym (physical_ids headers (later 1 a) _ (new_parts g c).starts)))
 
 pub returns-clause-lives : goal.returns-clause-lives
 returns-clause-lives g c =

@@ -14,7 +14,8 @@ use Rattle.syscall_layer.specs.Calls.{RunsIn, IsCall, ask_in, noted_call, Change
 use Rattle.syscall_layer.specs.MapsIn.{UnmapsIn}
 use Rattle.syscall_layer.proofs.Runs.{value_found, has_space}
 use Rattle.syscall_layer.proofs.Settled.{items_set}
-use Rattle.syscall_layer.proofs.Finishes.{regular_finished}
+use Rattle.syscall_layer.proofs.Stays.{regular_ids}
+use Rattle.syscall_layer.proofs.Finishes.{regular_finished, changed_ids}
 use Rattle.syscall_layer.proofs.Sound.{counts, call_strays}
 use Rattle.syscall_layer.proofs.NamesOf.{name_regions}
 use Rattle.syscall_layer.proofs.Mapped.{with_maps, keeps_unmapped, changed_unmapped}
@@ -29,6 +30,7 @@ unmap_in-unmapped-requires-clause-names c = λ h there.
 abbrev new_parts : goal.After-finish → Kept
 new_parts c = record (kept_of c.self.inside) {
   regions = c.unmap_in-unmapped.new.regions.regions;
+  starts = c.unmap_in-unmapped.new.regions.starts;
   spaces = (with_items c.self.inside.spaces c.unmap_in-unmapped.new.spaces).items;
   procs = c.finish.new.procs;
   notes = c.finish.new.log.notes;
@@ -62,7 +64,7 @@ invariant_of-self-2 c =
     (new_parts c).spaces c.unmap_in-unmapped.new.regions.regions c.unmap_in-unmapped.result is in
     let now = with_maps k k.mem c.unmap_in-unmapped.new.regions.regions (new_parts c).spaces in
     let counted = counts c.args.call c.status-value.result [] k.notes c.finish.new.log.notes (noted c) in (
-      regular_finished now c.args.call.pid keeps.0 lives c.status-value.result k.mem k.tree k.files c.finish.new.procs c.finish.new.log.notes k.console refl c.finish.ensures.procs (omega (arith, counted)),
+      regular_ids _ (regular_finished now c.args.call.pid keeps.0 lives c.status-value.result k.mem k.tree k.files c.finish.new.procs c.finish.new.log.notes k.console refl c.finish.ensures.procs (omega (arith, counted))) (new_parts c).starts,
       keeps.1 c.finish.new.log.notes (omega (arith, counted)) (call_strays c.args.call c.status-value.result [] k.notes c.finish.new.log.notes (noted c)),
     )
 
@@ -78,5 +80,5 @@ returns-clause-changes c = λ a e h.
     let is = left c h (ap (λ (t : Task). slice_get k.spaces t.space) same ∙ runs.home) in
     let at : UnmapsIn addr len e.value.space h k.spaces (new_parts c).spaces k.regions c.unmap_in-unmapped.new.regions.regions c.unmap_in-unmapped.result =
     subst (λ (t : Task). UnmapsIn addr len t.space h k.spaces (new_parts c).spaces k.regions c.unmap_in-unmapped.new.regions.regions c.unmap_in-unmapped.result) same is in
-    changed_unmapped a k e h call runs is_call c.status-value.result (new_parts c).spaces c.unmap_in-unmapped.new.regions.regions c.finish.new.procs c.finish.new.log.notes
-    c.finish.ensures.procs (noted c) addr len c.unmap_in-unmapped.result at c.status-value.ensures)
+    changed_ids a k e h call _ _ (changed_unmapped a k e h call runs is_call c.status-value.result (new_parts c).spaces c.unmap_in-unmapped.new.regions.regions c.finish.new.procs c.finish.new.log.notes
+    c.finish.ensures.procs (noted c) addr len c.unmap_in-unmapped.result at c.status-value.ensures) (new_parts c).starts)
