@@ -12,6 +12,7 @@
 -- TurnsIn   a turn in the one memory
 -- Picks     the process of a turn
 -- Rounds    runs by quanta
+-- Told      what is told of a run: nothing of a note that is ahead of its event
 -- StraysOn  a turn goes on behind the note of its first stray access
 -- TurnsOf   what holds of a machine behind a turn
 -- RoundsIn  runs by quanta in the one memory, and up to their first stray access
@@ -35,6 +36,7 @@ pub mod NotedIn
 pub mod TurnsIn
 pub mod Picks
 pub mod Rounds
+pub mod Told
 pub mod StraysOn
 pub mod TurnsOf
 pub mod RoundsIn

@@ -1,14 +1,18 @@
 -- A turn goes on from behind the note of its first stray access as from before it.
-use Rattle.std.proofs.Common.{◌≡◌, ℕ, zero, suc, ◌+◌, ◌-◌, ◌<◌, inl, inr, Bool, true, false, Option, Some, None, Result, Ok, Err, refl, sym, ap, subst, ◌∙◌, arith}
-use Rattle.std.specs.Prelude.{if◌then◌else◌}
+use Rattle.std.proofs.Common.{◌≡◌, ℕ, zero, suc, ◌+◌, ◌-◌, ◌<◌, Bool, true, false, Option, Some, None, Result, Ok, Err, refl, sym, ap, subst, ◌∙◌, arith}
+use Rattle.std.specs.Prelude.{◌==◌, if◌then◌else◌}
+use Rattle.std.proofs.lemmas.Bool.{false≢true}
+use Rattle.std.proofs.lemmas.Bool.Decides.{nat_tests}
+use Rattle.byte_words.specs.ByteMap.{Bytes}
 use Rattle.std.specs.declared.alloc.AllocError.{AllocError}
 use Rattle.rv32im_step.specs.declared.access.Access.{Access}
-use Rattle.rv32im_step.specs.Meaning.{meaning}
+use Rattle.rv32im_step.specs.declared.regs.Regs.{Regs}
+use Rattle.rv32im_step.specs.Meaning.{Meaning, next, meaning}
 use Rattle.mmap_rules.specs.Space.{Space, writable_in}
 use Rattle.vfork_exec.specs.Keyed.{find}
 use Rattle.machine_world.specs.World.{Process, LiveSpace, World, pid_of, id_of}
 use Rattle.machine_world.specs.Families.{MayRun}
-use Rattle.machine_world.specs.Event.{Outcome, effect, in_space, by_process, at_process, event, stray_in, stray}
+use Rattle.machine_world.specs.Event.{Outcome, effect, stepped, in_space, by_process, at_process, event, stray_in, stray}
 use Rattle.machine_world.specs.Turns.{log_full}
 use Rattle.physical_turns.specs.Physical.{Physical, After, after, no_room, nobody, has_stray, first_stray, physical_event, carried_out, physical_turn, turned, stays_at, Walk}
 use Rattle.physical_turns.specs.Growth.{Adds}
@@ -18,29 +22,31 @@ use Rattle.physical_turns.proofs.TurnsIn.{turn_in_next, turn_in_used}
 use Rattle.syscall_layer.specs.declared.reach.Reach.TheVariants.{Whole}
 use Rattle.flat_machine.specs.declared.run.End.{End as Told}
 use Rattle.flat_machine.specs.declared.run.End.TheVariants as told
-use Rattle.flat_machine.specs.LeavesIn.{StraysIn, TurnStopsIn, TurnStraysIn, TurnLeavesIn}
+use Rattle.flat_machine.specs.LeavesIn.{StraysIn, StraysNext, StandsStillIn, TurnStopsIn, TurnStraysIn, TurnLeavesIn, is_ahead}
 use Rattle.flat_machine.proofs.StillIn.{StillIn, still_in}
+use Rattle.flat_machine.proofs.Told.{told_in}
 
 -- ---- who strays lives in a space
-
-record IsThere (w : World) (pid : ℕ) : Type 0 where
-  process : Process
-  space : LiveSpace
-  lives : find pid_of pid w.procs ≡ Some process
-  has : find id_of process.space w.spaces ≡ Some space
 
 abbrev act_in : World → Process → Space → Outcome
 act_in w p s = effect w p s (meaning p.regs s.bytes (writable_in s.maps))
 
-there_of : (w : World) (pid : ℕ) (access : Access) → stray w pid ≡ Some access → IsThere w pid
+record IsThere (w : World) (pid : ℕ) (access : Access) : Type 0 where
+  process : Process
+  space : LiveSpace
+  lives : find pid_of pid w.procs ≡ Some process
+  has : find id_of process.space w.spaces ≡ Some space
+  strays : stray_in (act_in w process space.space) ≡ Some access
+
+there_of : (w : World) (pid : ℕ) (access : Access) → stray w pid ≡ Some access → IsThere w pid access
 unfolding stray event at_process
 there_of w pid access is = found (find pid_of pid w.procs) refl is
   where
-    in_its : (p : Process) → find pid_of pid w.procs ≡ Some p → (o : Option LiveSpace) → find id_of p.space w.spaces ≡ o → stray_in (in_space (act_in w) p o) ≡ Some access → IsThere w pid
+    in_its : (p : Process) → find pid_of pid w.procs ≡ Some p → (o : Option LiveSpace) → find id_of p.space w.spaces ≡ o → stray_in (in_space (act_in w) p o) ≡ Some access → IsThere w pid access
     in_its p lives None has is = absurd cc
-    in_its p lives (Some s) has is = record { process = p; space = s; lives = lives; has = has }
+    in_its p lives (Some s) has is = record { process = p; space = s; lives = lives; has = has; strays = is }
 
-    found : (o : Option Process) → find pid_of pid w.procs ≡ o → stray_in (by_process w.spaces (act_in w) o) ≡ Some access → IsThere w pid
+    found : (o : Option Process) → find pid_of pid w.procs ≡ o → stray_in (by_process w.spaces (act_in w) o) ≡ Some access → IsThere w pid access
     found None lives is = absurd cc
     found (Some p) lives is = in_its p lives (find id_of p.space w.spaces) refl is
 
@@ -50,6 +56,34 @@ first_is_stray p pid access is = by (has_stray p.world.notes) (stray p.world pid
     by : (was : Bool) (o : Option Access) → (if was then None else o) ≡ Some access → o ≡ Some access
     by true o is = absurd cc
     by false o is = is
+
+-- and no stray access was noted before
+first_is_quiet : (p : Physical) (pid : ℕ) (access : Access) → first_stray p pid ≡ Some access → has_stray p.world.notes ≡ false
+first_is_quiet p pid access is = by (has_stray p.world.notes) (stray p.world pid) is
+  where
+    by : (was : Bool) (o : Option Access) → (if was then None else o) ≡ Some access → was ≡ false
+    by true o is = absurd cc
+    by false o is = refl
+
+-- it isn't an instruction that is carried out
+stands_at_stray : (p : Physical) (pid : ℕ) (access : Access) → first_stray p pid ≡ Some access → StandsStillIn p pid
+unfolding stepped
+stands_at_stray p pid access is =
+    let s = there_of p.world pid access (first_is_stray p pid access is) in
+    record {
+      process = s.process;
+      space = s.space;
+      lives = s.lives;
+      has = s.has;
+      still = λ regs bytes goes. never s.process s.space.space s.strays regs bytes (at_own (has_stray p.world.notes) (first_is_quiet p pid access is) _ _ ∙ goes);
+    }
+  where
+    at_own : (was : Bool) → was ≡ false → (x y : Meaning) → y ≡ (if was then x else y)
+    at_own true quiet x y = absurd (false≢true (sym quiet))
+    at_own false quiet x y = refl
+
+    never : (q : Process) (s : Space) → stray_in (act_in p.world q s) ≡ Some access → (regs : Regs) (bytes : Bytes) → meaning q.regs s.bytes (writable_in s.maps) ≡ next regs bytes → ⊥
+    never q s strays regs bytes goes = let none : None ≡ Some access = ap (λ (m : Meaning). stray_in (effect p.world q s m)) (sym goes) ∙ strays in cc
 
 -- ---- the event, and the turn
 
@@ -96,29 +130,34 @@ module _ (pid count : ℕ) (old mid new : Physical) (done : ℕ) (x : TurnStrays
   ends_joined : (walk : Walk) → physical_turn (count - done) pid mid ≡ walk → physical_turn count pid old ≡ walk
   ends_joined walk is = left_of (count - done) refl ∙ is
 
-  stops_joined : (later : ℕ) → TurnStopsIn pid (count - done) mid later new → TurnStopsIn pid count old (done + later) new
+  -- out of memory in the event that strays it stands before that
+  before_it : TurnStopsIn pid (count - done) mid 0 new → told_in true new ≡ x.at
+  before_it y =
+      let same : new ≡ mid = ap (λ (w : Walk). w.now) (sym y.walked ∙ none_of mid pid) in
+      ap (told_in true) (same ∙ x.strays.noted)
+
+  stops_joined : (later : ℕ) → TurnStopsIn pid (count - done) mid later new → TurnStopsIn pid count old (done + later) (told_in (later == 0) new)
   stops_joined zero y =
       let less_still = y.less in
-      let same : mid ≡ y.at = ap (λ (w : Walk). w.now) (sym (none_of mid pid) ∙ y.walked) in
       let sum : done ≡ done + 0 = omega arith in
       record {
         less = omega (arith, less_still);
-        at = x.at;
-        walked = ap (λ (m : ℕ). physical_turn m pid old) (sym sum) ∙ turn_in_used pid old x.at done x.leads;
-        still = y.still;
-        stands = elim y.stands [
-          | inl here ↦ inr (subst (StraysIn pid x.at) (same ∙ sym here) x.strays)
-          | inr strays ↦ absurd (never_again (subst (λ (p : Physical). StraysIn pid p new) (sym same) strays))
-        ];
+        walked = ap (λ (m : ℕ). physical_turn m pid old) (sym sum) ∙ turn_in_used pid old x.at done x.leads ∙ ap (λ (p : Physical). stays_at p None) (sym (before_it y));
+        still = subst (λ (p : Physical). StandsStillIn p pid) (sym (before_it y)) (stands_at_stray x.at pid x.strays.access x.strays.first);
       }
-    where
-      never_again : StraysIn pid mid new → ⊥
-      never_again s = let e : None ≡ Some s.access = sym (noted_unstrayed mid pid (was_noted pid x.at mid x.strays)) ∙ s.first in cc
   stops_joined (suc later) y =
       let less_still = y.less in
-      record { less = omega (arith, less_still); at = y.at; walked = from_mid later ∙ y.walked; still = y.still; stands = y.stands }
+      let other : (suc later == 0) ≡ false = grind (arith, nat_tests) in
+      let stops : TurnStopsIn pid count old (done + suc later) (told_in false new) = record { less = omega (arith, less_still); walked = from_mid later ∙ y.walked; still = y.still } in
+      subst (λ (b : Bool). TurnStopsIn pid count old (done + suc later) (told_in b new)) (sym other) stops
 
-  pub joined : (later : ℕ) (r : Result (Option Told) AllocError) → TurnLeavesIn Whole pid (count - done) mid later new r → TurnLeavesIn Whole pid count old (done + later) new r
+  -- and where a note is ahead of its event, that is this one
+  pub ahead_strays : (later : ℕ) (r : Result (Option Told) AllocError) → TurnLeavesIn Whole pid (count - done) mid later new r → is_ahead later r ≡ true → StraysNext (told_in (is_ahead later r) new)
+  ahead_strays later (Ok end) y ahead = absurd (false≢true ahead)
+  ahead_strays zero (Err error) y ahead = subst StraysNext (sym (before_it y)) (record { pid = pid; access = x.strays.access; first = x.strays.first })
+  ahead_strays (suc later) (Err error) y ahead = absurd (grind (arith, nat_tests, ahead))
+
+  pub joined : (later : ℕ) (r : Result (Option Told) AllocError) → TurnLeavesIn Whole pid (count - done) mid later new r → TurnLeavesIn Whole pid count old (done + later) (told_in (is_ahead later r) new) r
   joined later (Ok None) y = ends_joined (stays_at new None) y
   joined later (Ok (Some told.LogFull)) y = ends_joined (stays_at new (Some log_full)) y
   joined later (Ok (Some (told.Stray access))) y = absurd y

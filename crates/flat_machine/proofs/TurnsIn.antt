@@ -1,5 +1,5 @@
 -- A turn in the one memory, by its events.
-use Rattle.std.proofs.Common.{◌≡◌, ◌≢◌, ℕ, ◌+◌, ◌<◌, inl, Bool, true, false, List, [], length, Some, None, Ok, Err, refl, sym, ap, subst, ◌∙◌}
+use Rattle.std.proofs.Common.{◌≡◌, ◌≢◌, ℕ, ◌+◌, ◌<◌, Bool, true, false, List, [], length, Some, None, Ok, Err, refl, sym, ap, subst, ◌∙◌}
 use Rattle.std.specs.Prelude.{if◌then◌else◌}
 use Rattle.std.specs.declared.alloc.AllocError.{AllocError}
 use Rattle.byte_words.specs.ByteMap.{Bytes}
@@ -379,10 +379,9 @@ module _ (kind : Kind) (flats : List Values) (reach : Reach) (pid : ℕ) (old mi
       → TurnLeavesIn reach pid count (physical_of (headers_of flats) a old) n (physical_of (headers_of flats) (later n a) new) (Err error)
   turn_fails_in n count less reached error same still a so are = as_error reach (physical_of (headers_of flats) a old) (physical_of (headers_of flats) (later n a) new) (record {
     less = less;
-    at = physical_of (headers_of flats) (later n a) mid;
-    walked = turn_in_used pid (physical_of (headers_of flats) a old) (physical_of (headers_of flats) (later n a) mid) n (reached a so are);
+    walked = turn_in_used pid (physical_of (headers_of flats) a old) (physical_of (headers_of flats) (later n a) mid) n (reached a so are)
+        ∙ ap (λ (k : Kept). stays_at (physical_of (headers_of flats) (later n a) k) None) (sym same);
     still = subst (λ (k : Kept). StandsStillIn (physical_of (headers_of flats) (later n a) k) pid) (sym same) (still (later n a));
-    stands = inl (ap (physical_of (headers_of flats) (later n a)) same);
   })
     where
       as_error : (r : Reach) (p q : Physical) → TurnStopsIn pid count p n q → TurnLeavesIn r pid count p n q (Err error)

@@ -1,5 +1,5 @@
 -- What holds of a machine behind a turn.
-use Rattle.std.proofs.Common.{◌≡◌, ℕ, inl, inr, true, false, List, length, Option, Some, None, Result, Ok, Err, refl, sym, ap, subst, ◌∙◌}
+use Rattle.std.proofs.Common.{◌≡◌, ℕ, true, false, List, length, Option, Some, None, Result, Ok, Err, refl, sym, ap, subst, ◌∙◌}
 use Rattle.std.specs.declared.alloc.AllocError.{AllocError}
 use Rattle.std.proofs.lemmas.Bool.{false≢true}
 use Rattle.vfork_exec.specs.Procs.{CanRun}
@@ -32,13 +32,7 @@ module _ (pid count done : ℕ) (old new : Physical) where
   ends_loads walk is = subst (λ (w : Walk). Loaded old.world w.now.world) is (walked_loads count)
 
   stops_loads : TurnStopsIn pid count old done new → Loaded old.world new.world
-  stops_loads x = elim x.stands [
-    | inl here ↦ subst (λ (p : Physical). Loaded old.world p.world) (sym here) at
-    | inr strays ↦ λ are. subst (λ (p : Physical). AreLoaded (length old.world.rest.programs) p.world.notes) (sym strays.noted) (tt, at are)
-  ]
-    where
-      at : Loaded old.world x.at.world
-      at = subst (λ (w : Walk). Loaded old.world w.now.world) x.walked (walked_loads done)
+  stops_loads x = subst (λ (w : Walk). Loaded old.world w.now.world) x.walked (walked_loads done)
 
   turn_loads_in : (r : Result (Option Told) AllocError) → TurnLeavesIn Whole pid count old done new r → Loaded old.world new.world
   turn_loads_in (Ok None) x = ends_loads _ x

@@ -1,5 +1,5 @@
 -- What the next event, a turn and the turns of some quanta leave in the one memory.
-use Rattle.std.specs.Prelude.{◌≡◌, ◌≢◌, ◌⊎◌, ℕ, ◌<◌, if◌then◌else◌, Bool, true, false, List, ◌∷◌, ◌++◌, Option, Some, None, Result, Ok, Err}
+use Rattle.std.specs.Prelude.{◌≡◌, ◌≢◌, ℕ, ◌<◌, ◌==◌, if◌then◌else◌, Bool, true, false, List, ◌∷◌, ◌++◌, Option, Some, None, Result, Ok, Err}
 use Rattle.std.specs.declared.alloc.AllocError.{AllocError}
 use Rattle.byte_words.specs.ByteMap.{Bytes}
 use Rattle.rv32im_step.specs.declared.access.Access.{Access}
@@ -48,6 +48,12 @@ pub record StraysIn (pid : ℕ) (old new : Physical) : Type 0 where
   pub first : first_stray old pid ≡ Some access
   pub noted : new ≡ with_stray pid (Some access) old
 
+-- the next event of some process is the first that strays
+pub record StraysNext (p : Physical) : Type 0 where
+  pub pid : ℕ
+  pub access : Access
+  pub first : first_stray p pid ≡ Some access
+
 -- within a process's own bytes its event may stray
 abbrev pub CarriedWithin : Reach → List (List ℕ) → About → Kept → Kept → ℕ → Result After AllocError → Type 0
 CarriedWithin Own headers a old new pid (Ok (after.RunEnds (told.Stray access))) = StraysIn pid (physical_of headers a old) (physical_of headers a new)
@@ -81,14 +87,11 @@ pub record StandsStillIn (p : Physical) (pid : ℕ) : Type 0 where
   pub has : find id_of process.space p.world.spaces ≡ Some space
   pub still : (regs : Regs) (bytes : Bytes) → step_within p process space.space ≢ next regs bytes
 
--- out of memory it stands behind some of its events, and maybe behind the note of the next one's stray access; there the next event
--- isn't an instruction that is carried out
+-- out of memory it stands behind some of its events; there the next instruction makes a call, traps, or strays
 pub record TurnStopsIn (pid count : ℕ) (old : Physical) (done : ℕ) (new : Physical) : Type 0 where
   pub less : done < count
-  pub at : Physical
-  pub walked : physical_turn done pid old ≡ record { now = at; end = None }
+  pub walked : physical_turn done pid old ≡ record { now = new; end = None }
   pub still : StandsStillIn new pid
-  pub stands : (new ≡ at) ⊎ StraysIn pid at new
 
 -- up to the run's first stray access, which is noted and not yet carried out
 pub record TurnStraysIn (pid : ℕ) (old : Physical) (done : ℕ) (new : Physical) : Type 0 where
@@ -117,6 +120,11 @@ is_stray other = false
 abbrev pub has_rest : Mode → Result (Option Told) AllocError → Bool
 has_rest Halt result = false
 has_rest GoOn result = is_stray result
+
+-- out of memory before any of its events was carried out
+abbrev pub is_ahead : {A : Type 0} → ℕ → Result A AllocError → Bool
+is_ahead events (Ok end) = false
+is_ahead events (Err error) = events == 0
 
 -- ---- a run
 

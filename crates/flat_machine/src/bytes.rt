@@ -66,13 +66,13 @@ impl Machine {
         ensures memory { self.now.mode ≡ GoOn → IfOk result (λ found. option_map (λ bytes. bytes.items) found ≡ memory_bytes (one_memory self.now) pid addr len) }
     {
         copied(
-            &self.parts,
+            &self.course.parts,
             alloc,
             pid,
             addr,
             len,
-            shown(self.mode),
-            &self.whole,
+            shown(self.course.mode),
+            &self.course.whole,
         )
     }
 }

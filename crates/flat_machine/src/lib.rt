@@ -7,6 +7,7 @@
 mod advance;
 mod boot;
 mod bytes;
+mod course;
 mod machine;
 mod run;
 mod turn;

@@ -1,6 +1,6 @@
 //! A run by quanta.
 
-ghost use Rattle.std.specs.Prelude.{◌≡◌, ◌+◌, ◌*◌, ◌^◌, ◌<◌, ◌≤◌, false, [], ◌∷◌, sum_by, Some, None, IfSome, Ok};
+ghost use Rattle.std.specs.Prelude.{◌≡◌, ◌+◌, ◌*◌, ◌^◌, ◌<◌, ◌≤◌, true, false, [], ◌∷◌, sum_by, Some, None, IfSome, Ok};
 ghost use Rattle.page_runs.specs.Choosers.{IsChooser, kind_of};
 ghost use Rattle.vfork_exec.specs.Procs.{CanRun};
 ghost use Rattle.quantum_sched.specs.Picked.{picked};
@@ -12,12 +12,13 @@ ghost use Rattle.physical_turns.specs.Physical.{has_stray};
 ghost use Rattle.syscall_layer.specs.declared.reach.Reach.TheVariants.{Own};
 ghost use Rattle.flat_machine.specs.declared.machine.Mode.TheVariants.{GoOn};
 ghost use Rattle.flat_machine.specs.declared.run.End.TheVariants.{Stray};
-ghost use Rattle.flat_machine.specs.State.{is_whole, world, one_memory};
+ghost use Rattle.flat_machine.specs.State.{is_whole, world, one_memory, told};
 ghost use Rattle.flat_machine.specs.Runs.{Ends, Runs, KeepsStays, KeepsWaits, WaitsWhereStuck, repeated};
-ghost use Rattle.flat_machine.specs.RunsIn.{IsHalting, RunsIn, GoesOn};
+ghost use Rattle.flat_machine.specs.RunsIn.{IsHalting, RunsIn, GoesOn, KeepsPace};
 ghost use Rattle.flat_machine.specs.Leaves.{Leaves, TurnLeaves};
-ghost use Rattle.flat_machine.specs.LeavesIn.{LeavesIn, LeavesFirst, TurnLeavesIn, reach_behind, has_rest};
+ghost use Rattle.flat_machine.specs.LeavesIn.{LeavesIn, LeavesFirst, TurnLeavesIn, reach_behind, has_rest, is_ahead};
 
+use crate::course::Course;
 use crate::machine::{Machine, Mode};
 use crate::turn::{TurnEnd, turn};
 use page_runs::{Chooser, Run};
@@ -91,8 +92,18 @@ fn has_rest(mode: Mode, end: &Result<Option<End>, AllocError>) -> bool
     }
 }
 
-impl Machine {
-    /// Gives a process its turn within reach of the machine.
+/// Whether what is left of a turn met want of memory in its first event, whose stray access is noted.
+fn is_ahead(events: u32, end: &Result<Option<End>, AllocError>) -> bool
+    ensures { result ≡ is_ahead events end.now }
+{
+    match end {
+        Ok(_) => false,
+        Err(_) => events == 0,
+    }
+}
+
+impl Course {
+    /// Gives a process its turn within reach of the run.
     fn turn_of<F: Fn(&[Run], u32) -> Option<usize>>(
         &mut self,
         pid: u32,
@@ -107,6 +118,7 @@ impl Machine {
         ensures programs { self.new.programs ≡ self.old.programs }
         ensures mode { self.new.mode ≡ self.old.mode }
         ensures reach { self.new.reach ≡ reach_behind self.old.reach result.end }
+        ensures ahead { self.new.ahead ≡ self.old.ahead }
         ensures events { self.new.events ≡ self.old.events + result.events }
         ensures within { result.events ≤ count }
         ensures notes { has_stray (world self.new).notes ≡ is_whole self.new.reach }
@@ -137,12 +149,14 @@ impl Machine {
         requires chooser { IsChooser F.pre F.post chooser.now }
         requires kind { kind_of chooser.now ≡ self.old.kind }
         requires events { self.old.events + quantum.count < 2 ^ 64 }
+        requires ahead { self.old.ahead ≡ false }
         ensures kind { self.new.kind ≡ self.old.kind }
         ensures mode { self.new.mode ≡ self.old.mode }
         ensures events { self.new.events ≤ self.old.events + quantum.count }
+        ensures ahead { KeepsPace (told self.new) result }
         ensures quiet { IsHalting self.old → result ≡ Ok None → IsHalting self.new }
         ensures leaves { IsHalting self.old → Leaves (quantum ∷ []) (world self.old) (world self.new) result }
-        ensures memory { self.old.mode ≡ GoOn → LeavesIn (quantum ∷ []) (one_memory self.old) (one_memory self.new) result }
+        ensures memory { self.old.mode ≡ GoOn → LeavesIn (quantum ∷ []) (one_memory self.old) (one_memory (told self.new)) result }
         ensures first { self.old.mode ≡ GoOn → has_stray (world self.old).notes ≡ false → LeavesFirst (quantum ∷ []) (world self.old) (world self.new) result }
     {
         let Some(pid) = chosen(&self.parts, quantum) else {
@@ -150,7 +164,9 @@ impl Machine {
         };
         let TurnEnd { events, end } = self.turn_of(pid, quantum.count, chooser);
         if has_rest(self.mode, &end) {
-            return self.turn_of(pid, quantum.count - events, chooser).end;
+            let rest = self.turn_of(pid, quantum.count - events, chooser);
+            self.ahead = is_ahead(rest.events, &rest.end);
+            return rest.end;
         }
         end
     }
@@ -164,12 +180,14 @@ impl Machine {
         requires chooser { IsChooser F.pre F.post chooser.now }
         requires kind { kind_of chooser.now ≡ self.old.kind }
         requires events { self.old.events + sum_by (λ q. q.count) quanta.now < 2 ^ 64 }
+        requires ahead { self.old.ahead ≡ false }
         ensures kind { self.new.kind ≡ self.old.kind }
         ensures mode { self.new.mode ≡ self.old.mode }
         ensures events { self.new.events ≤ self.old.events + sum_by (λ q. q.count) quanta.now }
+        ensures ahead { KeepsPace (told self.new) result }
         ensures quiet { IsHalting self.old → result ≡ Ok None → IsHalting self.new }
         ensures leaves { IsHalting self.old → Leaves quanta.now (world self.old) (world self.new) result }
-        ensures memory { self.old.mode ≡ GoOn → LeavesIn quanta.now (one_memory self.old) (one_memory self.new) result }
+        ensures memory { self.old.mode ≡ GoOn → LeavesIn quanta.now (one_memory self.old) (one_memory (told self.new)) result }
         ensures first { self.old.mode ≡ GoOn → has_stray (world self.old).notes ≡ false → LeavesFirst quanta.now (world self.old) (world self.new) result }
     {
         for quantum in quanta {
@@ -180,9 +198,8 @@ impl Machine {
         Ok(None)
     }
 
-    /// Gives each quantum its turn, and all of them so many times, until the run stops. The chooser is of
-    /// the kind that booted.
-    pub fn run_repeated<F: Fn(&[Run], u32) -> Option<usize>>(
+    /// Gives each quantum its turn, and all of them so many times, until the run stops.
+    fn run_repeated<F: Fn(&[Run], u32) -> Option<usize>>(
         &mut self,
         quanta: &[Quantum],
         count: u32,
@@ -191,10 +208,13 @@ impl Machine {
         requires chooser { IsChooser F.pre F.post chooser.now }
         requires kind { kind_of chooser.now ≡ self.old.kind }
         requires events { self.old.events + count * sum_by (λ q. q.count) quanta.now < 2 ^ 64 }
+        requires ahead { self.old.ahead ≡ false }
+        ensures kind { self.new.kind ≡ self.old.kind }
         ensures mode { self.new.mode ≡ self.old.mode }
         ensures events { self.new.events ≤ self.old.events + count * sum_by (λ q. q.count) quanta.now }
+        ensures ahead { KeepsPace (told self.new) result }
         ensures turns { IsHalting self.old → Runs (repeated count quanta.now) self.old self.new result }
-        ensures memory { self.old.mode ≡ GoOn → RunsIn (repeated count quanta.now) self.old self.new result }
+        ensures memory { self.old.mode ≡ GoOn → RunsIn (repeated count quanta.now) self.old (told self.new) result }
         ensures first { self.old.mode ≡ GoOn → has_stray (world self.old).notes ≡ false → GoesOn (repeated count quanta.now) self.old self.new result }
         ensures waits { IsHalting self.old → KeepsWaits self.old self.new }
         ensures stuck { IsHalting self.old → WaitsWhereStuck self.old self.new result }
@@ -207,5 +227,37 @@ impl Machine {
             }
         }
         Ok(last_end(&self.parts))
+    }
+}
+
+impl Machine {
+    /// Gives each quantum its turn, and all of them so many times, until the run stops. The chooser is of
+    /// the kind that booted. Where memory ended in the event of its first stray access, behind the note, the machine stands before that
+    /// event and can't go on: each later run is out of memory.
+    pub fn run_repeated<F: Fn(&[Run], u32) -> Option<usize>>(
+        &mut self,
+        quanta: &[Quantum],
+        count: u32,
+        chooser: &Chooser<F>,
+    ) -> Result<End, AllocError>
+        requires chooser { IsChooser F.pre F.post chooser.now }
+        requires kind { kind_of chooser.now ≡ self.old.kind }
+        requires events { self.old.events + count * sum_by (λ q. q.count) quanta.now < 2 ^ 64 }
+        ensures kind { self.new.kind ≡ self.old.kind }
+        ensures mode { self.new.mode ≡ self.old.mode }
+        ensures events { self.new.events ≤ self.old.events + count * sum_by (λ q. q.count) quanta.now }
+        ensures ahead { KeepsPace self.new result }
+        ensures stays { self.old.ahead ≡ true → self.new ≡ self.old }
+        ensures turns { IsHalting self.old → Runs (repeated count quanta.now) self.old self.new result }
+        ensures memory { self.old.mode ≡ GoOn → self.old.ahead ≡ false → RunsIn (repeated count quanta.now) self.old self.new result }
+        ensures first { self.old.mode ≡ GoOn → has_stray (world self.old).notes ≡ false → GoesOn (repeated count quanta.now) self.old self.new result }
+        ensures waits { IsHalting self.old → KeepsWaits self.old self.new }
+        ensures stuck { IsHalting self.old → WaitsWhereStuck self.old self.new result }
+        ensures alone { IsHalting self.old → KeepsStays (repeated count quanta.now) self.old self.new result }
+    {
+        if self.course.ahead {
+            return Err(AllocError);
+        }
+        self.course.run_repeated(quanta, count, chooser)
     }
 }

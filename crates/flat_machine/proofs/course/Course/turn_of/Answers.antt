@@ -9,7 +9,7 @@ use Rattle.flat_machine.specs.State.{State, about_of, is_whole}
 use Rattle.flat_machine.specs.Inside.{state_of}
 use Rattle.flat_machine.proofs.Readers.{are_flats, programs_count}
 use Rattle.flat_machine.proofs.TurnsOf.{loads_behind, sound_behind}
-use Rattle.flat_machine.proofs.machine.Machine.turn_of.Goals as goal
+use Rattle.flat_machine.proofs.course.Course.turn_of.Goals as goal
 
 pub invariant_of-self : goal.invariant_of-self
 invariant_of-self g c =

@@ -1,0 +1,140 @@
+-- The times so far, and the next.
+use Rattle.std.proofs.Common.{ℕ, ◌≡◌, false, [], refl, ap, subst, ◌∙◌, arith, Some, None, Ok, sym}
+use Rattle.std.specs.Prelude.{sum_by}
+use Rattle.quantum_sched.specs.declared.Quantum.{Quantum}
+use Rattle.machine_world.specs.Turns.{turns}
+use Rattle.machine_world.proofs.RunLaws.{comes_none}
+use Rattle.physical_turns.proofs.TurnsIn.{comes_in_none}
+use Rattle.flat_machine.specs.declared.machine.Mode.TheVariants.{GoOn}
+use Rattle.flat_machine.specs.State.{State, about_of, world, one_memory, told}
+use Rattle.flat_machine.specs.Inside.{state_of}
+use Rattle.flat_machine.specs.Runs.{repeated, Ends}
+use Rattle.flat_machine.specs.RunsIn.{RunsIn}
+use Rattle.flat_machine.specs.LeavesIn.{LeavesIn}
+use Rattle.flat_machine.proofs.Rounds.{time_fits, one_more_time, time_on, time_ends, time_fails, machine_ends, runs_fail, run_keeps_stays}
+use Rattle.flat_machine.proofs.RoundsIn.{first_quiet, time_on_in, time_ends_in, time_fails_in, time_first, time_first_ends, all_comes_in, all_first, runs_fail_in, goes_on_fails}
+use Rattle.flat_machine.proofs.Waiting.{run_keeps_waits, run_waits_where_stuck}
+use Rattle.flat_machine.proofs.Told.{told_same}
+use Rattle.flat_machine.proofs.course.Course.run_repeated.Goals as goal
+
+pub loop-time-init : goal.loop-time-init
+loop-time-init g c = record {
+  kind = refl;
+  mode = refl;
+  ahead = c.requires.ahead;
+  halts = λ halting. halting;
+  comes = λ halting. comes_none (world c.args.self.now);
+  memory = λ go. comes_in_none (one_memory c.args.self.now);
+  first = λ go quiet. first_quiet [] (world c.args.self.now) (world c.args.self.now) (Ok None) quiet (comes_none (world c.args.self.now));
+  events = omega arith;
+}
+
+pub round-requires-clause-events : goal.round-requires-clause-events
+round-requires-clause-events g c =
+    let sum : ℕ = sum_by (λ (q : Quantum). q.count) c.args.quanta.now in
+    let fits = time_fits c.loop-time._time c.args.count sum c.loop-time-test.true in
+    let events = c.loop-time.invariant.events in
+    omega arith
+
+pub returns-in_err-end-clause-turns : goal.returns-in_err-end-clause-turns
+returns-in_err-end-clause-turns g c halting =
+    runs_fail (repeated c.args.count c.args.quanta.now) c.args.self.now c.round.new.self c.from_residual.result c.from_residual.ensures.0
+    (time_fails c.args.quanta.now c.loop-time._time c.args.count c.loop-time-test.true (world c.args.self.now) (world c.loop-time.self) (world c.round.new.self) (c.loop-time.invariant.comes halting) (c.in_err-end.ensures.leaves (c.loop-time.invariant.halts halting)))
+
+pub returns-in_err-end-clause-memory : goal.returns-in_err-end-clause-memory
+returns-in_err-end-clause-memory g c go =
+    runs_fail_in (repeated c.args.count c.args.quanta.now) c.args.self.now (told c.round.new.self) c.from_residual.result c.from_residual.ensures.0
+    (time_fails_in c.args.quanta.now c.loop-time._time c.args.count c.loop-time-test.true (one_memory c.args.self.now) (one_memory c.loop-time.self) (one_memory (told c.round.new.self)) (c.loop-time.invariant.memory go) (c.in_err-end.ensures.memory (c.loop-time.invariant.mode ∙ go)))
+
+pub returns-in_err-end-clause-first : goal.returns-in_err-end-clause-first
+returns-in_err-end-clause-first g c go quiet =
+    goes_on_fails (repeated c.args.count c.args.quanta.now) c.args.self.now c.round.new.self c.from_residual.result c.from_residual.ensures.0
+
+pub returns-in-Some-clause-turns : goal.returns-in-Some-clause-turns
+returns-in-Some-clause-turns g c halting =
+    let leaves = rw c.in-Some.is at (c.in_ok-end.ensures.leaves (c.loop-time.invariant.halts halting)) in
+    time_ends c.args.quanta.now c.loop-time._time c.args.count c.loop-time-test.true (world c.args.self.now) (world c.loop-time.self) (world c.round.new.self) (c.loop-time.invariant.comes halting) c.in-Some.end leaves
+
+pub returns-in-Some-clause-memory : goal.returns-in-Some-clause-memory
+returns-in-Some-clause-memory g c go =
+    let memory = rw c.in-Some.is at (c.in_ok-end.ensures.memory (c.loop-time.invariant.mode ∙ go)) in
+    time_ends_in c.args.quanta.now c.loop-time._time c.args.count c.loop-time-test.true (one_memory c.args.self.now) (one_memory c.loop-time.self) (one_memory (told c.round.new.self)) (c.loop-time.invariant.memory go) c.in-Some.end memory
+
+pub returns-in-Some-clause-first : goal.returns-in-Some-clause-first
+returns-in-Some-clause-first g c go quiet =
+    let memory = subst (λ (x : State). LeavesIn c.args.quanta.now (one_memory c.loop-time.self) (one_memory x) (Ok (Some c.in-Some.end))) (told_same c.round.new.self c.in_ok-end.ensures.ahead)
+    (rw c.in-Some.is at (c.in_ok-end.ensures.memory (c.loop-time.invariant.mode ∙ go))) in
+    let first = rw c.in-Some.is at (c.in_ok-end.ensures.first (c.loop-time.invariant.mode ∙ go)) in
+    time_first_ends c.args.quanta.now c.loop-time._time c.args.count c.loop-time-test.true c.args.self.now c.loop-time.self c.round.new.self (c.loop-time.invariant.first go quiet) c.in-Some.end memory first
+
+pub loop-time-preserved : goal.loop-time-preserved
+loop-time-preserved g c =
+    let leaves = rw c.in_default.is at c.in_ok-end.ensures.leaves in
+    let ahead : c.round.new.self.ahead ≡ false = c.in_ok-end.ensures.ahead in
+    let was = rw c.in_default.is at c.in_ok-end.ensures.memory in
+    let memory : c.loop-time.self.mode ≡ GoOn → LeavesIn c.args.quanta.now (one_memory c.loop-time.self) (one_memory c.round.new.self) (Ok None) =
+    λ go. subst (λ (x : State). LeavesIn c.args.quanta.now (one_memory c.loop-time.self) (one_memory x) (Ok None)) (told_same c.round.new.self ahead) (was go) in
+    let first = rw c.in_default.is at c.in_ok-end.ensures.first in
+    let sum : ℕ = sum_by (λ (q : Quantum). q.count) c.args.quanta.now in
+    let more = one_more_time c.loop-time._time sum in
+    let events = c.loop-time.invariant.events in
+    let here = c.in_ok-end.ensures.events in
+    record {
+      kind = c.in_ok-end.ensures.kind ∙ c.loop-time.invariant.kind;
+      mode = c.in_ok-end.ensures.mode ∙ c.loop-time.invariant.mode;
+      ahead = ahead;
+      halts = λ halting. c.in_ok-end.ensures.quiet (c.loop-time.invariant.halts halting) (ap Ok c.in_default.is);
+      comes = λ halting. time_on c.args.quanta.now c.loop-time._time c.args.count c.loop-time-test.true (world c.args.self.now) (world c.loop-time.self) (world c.round.new.self) (c.loop-time.invariant.comes halting) (leaves (c.loop-time.invariant.halts halting));
+      memory = λ go. time_on_in c.args.quanta.now c.loop-time._time c.args.count c.loop-time-test.true (one_memory c.args.self.now) (one_memory c.loop-time.self) (one_memory c.round.new.self) (c.loop-time.invariant.memory go) (memory (c.loop-time.invariant.mode ∙ go));
+      first = λ go quiet. time_first c.args.quanta.now c.loop-time._time c.args.count c.loop-time-test.true c.args.self.now c.loop-time.self c.round.new.self (c.loop-time.invariant.first go quiet) (memory (c.loop-time.invariant.mode ∙ go)) (first (c.loop-time.invariant.mode ∙ go));
+      events = omega arith;
+    }
+
+pub returns-clause-turns : goal.returns-clause-turns
+returns-clause-turns g c halting =
+    let all : c.loop-time._time ≡ c.args.count = omega (arith, c.loop-time.auto._time-end) in
+    machine_ends (repeated c.args.count c.args.quanta.now) (world c.args.self.now) c.loop-time.self (state_of c.self-2.inside) c.last_end.result c.self-2.view_is
+    (rw all at (c.loop-time.invariant.comes halting)) (c.last_end.ensures (about_of (state_of c.self-2.inside)))
+
+pub returns-clause-memory : goal.returns-clause-memory
+returns-clause-memory g c go =
+    let all : c.loop-time._time ≡ c.args.count = omega (arith, c.loop-time.auto._time-end) in
+    let last : Ends (turns [] (world c.loop-time.self)).end c.last_end.result =
+    subst (λ (s : State). Ends (turns [] (world s)).end c.last_end.result) c.self-2.view_is (c.last_end.ensures (about_of (state_of c.self-2.inside))) in
+    subst (λ (x : State). RunsIn (repeated c.args.count c.args.quanta.now) c.args.self.now x (Ok c.last_end.result)) (sym (told_same c.loop-time.self c.loop-time.invariant.ahead))
+    (all_comes_in (repeated c.args.count c.args.quanta.now) c.args.self.now c.loop-time.self c.last_end.result last (rw all at (c.loop-time.invariant.memory go)))
+
+pub returns-clause-first : goal.returns-clause-first
+returns-clause-first g c go quiet =
+    let all : c.loop-time._time ≡ c.args.count = omega (arith, c.loop-time.auto._time-end) in
+    let last : Ends (turns [] (world c.loop-time.self)).end c.last_end.result =
+    subst (λ (s : State). Ends (turns [] (world s)).end c.last_end.result) c.self-2.view_is (c.last_end.ensures (about_of (state_of c.self-2.inside))) in
+    all_first (repeated c.args.count c.args.quanta.now) c.args.self.now c.loop-time.self c.last_end.result last (rw all at (c.loop-time.invariant.first go quiet))
+
+pub returns-in-Some-clause-alone : goal.returns-in-Some-clause-alone
+returns-in-Some-clause-alone g c halting =
+    run_keeps_stays (repeated c.args.count c.args.quanta.now) c.args.self.now c.round.new.self (Ok c.in-Some.end) (c.kind-kind.ensures.sound halting.quiet) (returns-in-Some-clause-turns g c halting)
+
+pub returns-in-Some-clause-waits : goal.returns-in-Some-clause-waits
+returns-in-Some-clause-waits g c halting =
+    run_keeps_waits (repeated c.args.count c.args.quanta.now) c.args.self.now c.round.new.self (Ok c.in-Some.end) (returns-in-Some-clause-turns g c halting)
+
+pub returns-in-Some-clause-stuck : goal.returns-in-Some-clause-stuck
+returns-in-Some-clause-stuck g c halting =
+    run_waits_where_stuck (repeated c.args.count c.args.quanta.now) c.args.self.now c.round.new.self (Ok c.in-Some.end) (returns-in-Some-clause-turns g c halting)
+
+pub returns-clause-alone : goal.returns-clause-alone
+returns-clause-alone g c halting =
+    run_keeps_stays (repeated c.args.count c.args.quanta.now) c.args.self.now c.loop-time.self (Ok c.last_end.result) (c.kind-kind.ensures.sound halting.quiet) (returns-clause-turns g c halting)
+
+pub returns-clause-waits : goal.returns-clause-waits
+returns-clause-waits g c halting =
+    run_keeps_waits (repeated c.args.count c.args.quanta.now) c.args.self.now c.loop-time.self (Ok c.last_end.result) (returns-clause-turns g c halting)
+
+pub returns-clause-stuck : goal.returns-clause-stuck
+returns-clause-stuck g c halting =
+    run_waits_where_stuck (repeated c.args.count c.args.quanta.now) c.args.self.now c.loop-time.self (Ok c.last_end.result) (returns-clause-turns g c halting)
+
+pub returns-in_err-end-clause-waits : goal.returns-in_err-end-clause-waits
+returns-in_err-end-clause-waits g c halting =
+    run_keeps_waits (repeated c.args.count c.args.quanta.now) c.args.self.now c.round.new.self c.from_residual.result (returns-in_err-end-clause-turns g c halting)
