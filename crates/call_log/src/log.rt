@@ -1,6 +1,6 @@
 //! The log of a run.
 
-ghost use Rattle.std.specs.Prelude.{◌≡◌, ◌+◌, ◌-◌, ◌≤◌, ◌^◌, min, [], map, reverse, IfOk, OnErr};
+ghost use Rattle.std.specs.Prelude.{◌≡◌, ◌+◌, ◌-◌, ◌^◌, min, max, [], drop, map, reverse, IfOk, OnErr};
 ghost use Rattle.call_log.specs.Notes.{has_room, weight_of, calls_in, bytes_in};
 ghost use Rattle.call_log.specs.Values.{note_value, entry_value};
 ghost use Rattle.call_log.specs.Log.{may_keep, Pushes};
@@ -28,6 +28,8 @@ pub enum LogFault {
 #[derive(Debug, Drop)]
 pub struct Log {
     notes: Vec<Note>,
+    /// For how many notes more memory is kept ready.
+    ready: u32,
     calls: u32,
     bytes: u64,
 }
@@ -47,10 +49,11 @@ impl Model for Log {
 impl Log {
     /// A log without notes.
     pub fn new(alloc: Global) -> Result<Log, AllocError>
-        ensures { IfOk result (λ log. log.notes ≡ []) }
+        ensures { IfOk result (λ log. log ≡ record { notes = []; spare = 0 }) }
     {
         Ok(Log {
             notes: Vec::new(alloc),
+            ready: 0,
             calls: 0,
             bytes: 0,
         })
@@ -69,7 +72,18 @@ impl Log {
         self.calls += calls_in(&note);
         self.bytes += bytes_in(&note);
         self.notes.push_reserved(note);
+        self.ready = self.ready.saturating_sub(1);
         Ok(())
+    }
+
+    /// Takes the newest note back, if there is one.
+    pub fn take_back(&mut self)
+        ensures { self.new ≡ record self.old { notes = drop 1 self.old.notes } }
+    {
+        if let Some(note) = self.notes.pop() {
+            self.calls -= calls_in(&note);
+            self.bytes -= bytes_in(&note);
+        }
     }
 
     fn may_keep(&self, note: &Note) -> bool
@@ -88,22 +102,31 @@ impl Log {
         self.calls < MOST_CALLS && bytes <= MOST_BYTES - self.bytes
     }
 
-    /// How many notes can be pushed before one can answer Memory.
+    /// How many notes are sure to find memory: so many can be pushed before one can answer Memory.
     pub fn spare(&self) -> u32
         ensures { result ≡ self.now.spare }
     {
-        let spare = self.notes.capacity() - self.notes.len();
-        u32::try_from(spare).unwrap_or(u32::MAX)
+        self.ready
     }
 
-    /// Takes memory for so many notes more.
+    /// Keeps memory ready for so many notes, or for as many as it was before.
     pub fn reserve(&mut self, notes: u32) -> Result<(), AllocError>
         ensures same { self.new.notes ≡ self.old.notes }
-        ensures spare { IfOk result (λ _. notes ≤ self.new.spare) }
-        ensures kept { self.old.spare ≤ self.new.spare }
+        ensures spare { IfOk result (λ _. self.new.spare ≡ max self.old.spare notes) }
         ensures unchanged { OnErr result (self.new ≡ self.old) }
     {
-        self.notes.reserve(notes as usize)
+        if notes > self.ready {
+            self.notes.reserve(notes as usize)?;
+            self.ready = notes;
+        }
+        Ok(())
+    }
+
+    /// Keeps no memory ready any more.
+    pub fn unreserve(&mut self)
+        ensures { self.new ≡ record self.old { spare = 0 } }
+    {
+        self.ready = 0;
     }
 
     /// The notes, oldest first.

@@ -111,20 +111,29 @@ fn large_entries_fill_the_log(rt: HostRuntime) -> Result<(), Fail> {
         how: How::Exit(0),
     })?;
     assert_eq!(rt; log.notes().len(), 6);
+    log.take_back();
+    log.take_back();
+    log.take_back();
+    assert_eq!(rt; log.notes().len(), 3);
+    assert_eq!(rt; log.room(16_777_216), true);
+    assert_eq!(rt; log.room(16_777_217), false);
     Ok(())
 }
 
 #[test]
 fn many_calls_fill_the_log(rt: HostRuntime) -> Result<(), Fail> {
     let mut log = Log::new(rt.alloc())?;
+    log.reserve(7)?;
+    log.unreserve();
+    assert_eq!(rt; log.spare(), 0);
     log.reserve(1_048_577)?;
-    assert_eq!(rt; log.spare() >= 1_048_577, true);
+    assert_eq!(rt; log.spare(), 1_048_577);
     for _ in 0..1_048_576 {
         log.push(call(rt.alloc(), 0)?)?;
     }
     assert_eq!(rt; log.room(0), false);
     assert_eq!(rt; log.push(call(rt.alloc(), 0)?), Err(LogFault::Full));
-    assert_eq!(rt; log.spare() >= 1, true);
+    assert_eq!(rt; log.spare(), 1);
     log.push(Note::End {
         pid: 1,
         how: How::Exit(0),
