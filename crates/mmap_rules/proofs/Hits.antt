@@ -14,7 +14,7 @@ use Rattle.mmap_rules.specs.Held.{Held}
 use Rattle.mmap_rules.specs.Want.{pages_for}
 use Rattle.mmap_rules.specs.Mappings.{is_range, can_lose, page_at, part_of, left_of, Hit, hit, hit_in, without_hit}
 use Rattle.call_log.specs.declared.errno.Errno.TheVariants.{Einval}
-use Rattle.mmap_rules.specs.Sides.{freed, given_back, unmapped, Unmaps}
+use Rattle.mmap_rules.specs.Sides.{freed, given_back, after_hit, unmapped, Unmaps}
 use Rattle.mmap_rules.proofs.TableLess.{is_removed}
 
 -- ---- the first item that passes a test
@@ -152,6 +152,42 @@ cut_unmaps h v rs new addr len n k m maps pages view count some begins none firs
     let is = subst (λ (x : Held). unmapped x rs addr len ≡ Some (freed (record x { maps = take k x.maps ++ left_of m addr (4096 * pages_for len) ++ drop (k + 1) x.maps }) (with_cut rs m.first (page_at addr) (pages_for len)))) view
     (unmapped_cut v rs addr len k m some begins (rw count at none) (rw count at first) there) in
     rw (is, is_maps, is_pages, is_new, count, ← view) refl
+
+-- ---- what is hit, of a space that is known by its view
+
+pub none_hit : (h : Held) (rs : List Region) (addr len : ℕ) → unmapped h rs addr len ≡ None → hit h.maps addr len ≡ None
+unfolding unmapped
+none_hit h rs addr len none = at (hit h.maps addr len) none
+  where
+    at : (o : Option Hit) → after_hit h rs addr (4096 * pages_for len) o ≡ None → o ≡ None
+    at None is = refl
+    at (Some x) is = absurd (none-some _ (sym is))
+
+pub all_hit : (h v : Held) (addr len n k : ℕ) (m : Mapping) → v ≡ h → n ≡ pages_for len → len ≢ 0 → addr % 4096 ≡ 0
+    → position (is_range addr (4096 * n)) v.maps ≡ Some k → slice_get v.maps k ≡ Some m
+    → hit h.maps addr len ≡ Some (record { at = k; mapping = m; left = [] })
+all_hit h v addr len n k m view count some begins first there =
+    subst (λ (x : Held). hit x.maps addr len ≡ Some (record { at = k; mapping = m; left = [] })) view
+    (hit_pages v.maps addr len some begins ∙ hit_all v.maps addr (4096 * pages_for len) k m (rw count at first) there)
+
+-- the mapping at this place is hit, and a part of it is left
+pub record HitCut (maps : List Mapping) (addr len k : ℕ) (m : Mapping) : Type 0 where
+  pub left : List Mapping
+  pub some : left ≢ []
+  pub hits : hit maps addr len ≡ Some (record { at = k; mapping = m; left = left })
+
+pub cut_hit : (h v : Held) (addr len n k : ℕ) (m : Mapping) → v ≡ h → n ≡ pages_for len → len ≢ 0 → addr % 4096 ≡ 0
+    → position (is_range addr (4096 * n)) v.maps ≡ None → position (can_lose addr (4096 * n)) v.maps ≡ Some k → slice_get v.maps k ≡ Some m
+    → HitCut h.maps addr len k m
+cut_hit h v addr len n k m view count some begins none first there =
+    let size = 4096 * n in
+    let part = left_some m addr size (none_passes (is_range addr size) v.maps k m none there) ((first_passes (can_lose addr size) v.maps k first).passes m there) in
+    record {
+      left = left_of m addr size;
+      some = λ nothing. absurd (let none = ap (λ (l : List Mapping). length l) nothing in omega (arith, part, none));
+      hits = subst (λ (x : Held). hit x.maps addr len ≡ Some (record { at = k; mapping = m; left = left_of m addr size })) view
+          (rw (← count) at (hit_pages v.maps addr len some begins) ∙ hit_cut v.maps addr size k m none first there);
+    }
 
 -- ---- a region that is named by its first page
 

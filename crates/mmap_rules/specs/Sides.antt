@@ -7,6 +7,7 @@ use Rattle.nommu_regions.specs.declared.region.Region.{Region}
 use Rattle.nommu_regions.specs.declared.region.Source.{Source}
 use Rattle.nommu_regions.specs.declared.region.Source.TheVariants.{Own, Copy}
 use Rattle.nommu_regions.specs.Regions.{free_of, copy_of, with_uses, with_cut}
+use Rattle.nommu_regions.specs.Ids.{Numbered, start_of, OthersStay}
 use Rattle.call_log.specs.declared.errno.Errno.{Errno}
 use Rattle.call_log.specs.declared.errno.Errno.TheVariants.{Einval}
 use Rattle.mmap_rules.specs.declared.mapping.Mapping.{Mapping}
@@ -126,6 +127,12 @@ Unmaps (Some f) old new (Ok done) = new ≡ f
 Unmaps (Some f) old new (Err errno) = ⊥
 Unmaps None old new (Ok done) = ⊥
 Unmaps None old new (Err errno) = (errno ≡ Einval) × (new ≡ old)
+
+-- of the live regions just the one that begins at this page may change: each other one stays as it is, and keeps its id
+pub record OthersKeepIds (first : ℕ) (old new : Numbered) : Type 0 where
+  pub id : ℕ
+  pub start : start_of old id ≡ first
+  pub others : OthersStay id old new
 
 -- ---- what the caller owes: each mapping of the space has its region
 

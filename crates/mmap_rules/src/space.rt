@@ -4,7 +4,7 @@ ghost use Rattle.nommu_regions.specs.declared.region.Region.{Region};
 ghost use Rattle.nommu_regions.specs.declared.region.Source.TheVariants.{Own};
 ghost use Rattle.nommu_regions.specs.Ids.{Lives, region_of};
 ghost use Rattle.mmap_rules.specs.Space.{own_in, writable_in, may_use};
-ghost use Rattle.mmap_rules.specs.Owners.{owns, IsShaped};
+ghost use Rattle.mmap_rules.specs.Owners.{owns, IsShaped, IsTable};
 ghost use Rattle.mmap_rules.specs.Held.{AreMappings, FitsBlock, block_mapping, held_block, next_brk, CanRelease, released};
 
 use crate::mapping::{Mapping, Range};
@@ -137,6 +137,7 @@ impl Space {
         ensures own { owns result.now false ≡ own_in self.now.maps }
         ensures writable { owns result.now true ≡ writable_in self.now.maps }
         ensures pages { length result.now ≡ self.now.pages }
+        ensures table { IsTable result.now self.now.maps }
     {
         &self.owners
     }

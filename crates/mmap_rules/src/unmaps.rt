@@ -1,12 +1,12 @@
 //! Mappings that go (Linux, munmap(2) and "No-MMU memory mapping support").
 
-ghost use Rattle.std.specs.Prelude.{◌≡◌, ◌+◌, ◌*◌, ◌%◌, ◌^◌, ◌<◌, ◌≤◌, ◌++◌, true, Some, length, slice_get, take, drop, position, vec_len, vec_capacity, OnErr};
+ghost use Rattle.std.specs.Prelude.{◌≡◌, ◌+◌, ◌*◌, ◌%◌, ◌^◌, ◌<◌, ◌≤◌, [], ◌++◌, true, Some, length, slice_get, take, drop, position, vec_len, vec_capacity, IfSome, OnErr};
 ghost use Rattle.std.specs.List.{remove, sum_by};
 ghost use Rattle.mmap_rules.specs.declared.mapping.Mapping.{Mapping};
 ghost use Rattle.mmap_rules.specs.Owners.{IsTable};
 ghost use Rattle.mmap_rules.specs.Held.{AreMappings, places_of};
-ghost use Rattle.mmap_rules.specs.Mappings.{is_range, can_lose, part_of, left_of};
-ghost use Rattle.mmap_rules.specs.Sides.{freed, unmapped, Unmaps, NameRegions};
+ghost use Rattle.mmap_rules.specs.Mappings.{is_range, can_lose, part_of, left_of, hit};
+ghost use Rattle.mmap_rules.specs.Sides.{freed, unmapped, Unmaps, OthersKeepIds, NameRegions};
 
 use crate::mapping::{Mapping, Range};
 use crate::owners::Owners;
@@ -132,13 +132,15 @@ fn cut_mapping(
 
 impl Space {
     /// Unmaps the pages of so many bytes: the oldest mapping that has just them goes; where there is none, they are cut out of the
-    /// anonymous mapping that has them. It takes no memory. Einval where no mapping is hit, for length 0, and for an address that
-    /// isn't a page's.
+    /// anonymous mapping that has them. A mapping that goes leaves each region its id, and a cut each but the one that is cut. It takes
+    /// no memory. Einval where no mapping is hit, for length 0, and for an address that isn't a page's.
     pub fn unmap(&mut self, regions: &mut Regions, addr: u32, len: u32) -> Result<(), Errno>
         requires pages { self.old.pages ≡ length regions.old.regions }
         requires names { NameRegions regions.old.regions self.old.maps }
         ensures unmaps { Unmaps (unmapped self.old regions.old.regions addr len) (freed self.old regions.old.regions) (freed self.new regions.new.regions) result }
         ensures refused { OnErr result (regions.new ≡ regions.old) }
+        ensures others { IfSome (hit self.old.maps addr len) (λ h. OthersKeepIds h.mapping.first regions.old regions.new) }
+        ensures ids { IfSome (hit self.old.maps addr len) (λ h. h.left ≡ [] → regions.new.starts ≡ regions.old.starts) }
         ensures names { NameRegions regions.new.regions self.new.maps }
     {
         if len == 0 || addr % PAGE != 0 {

@@ -3,7 +3,7 @@ use Rattle.mmap_rules.specs.Held.{Held}
 use Rattle.mmap_rules.specs.Mappings.{is_range, can_lose}
 use Rattle.mmap_rules.specs.Sides.{NameRegions}
 use Rattle.mmap_rules.proofs.Cuts.{cuts, stand}
-use Rattle.mmap_rules.proofs.Hits.{unmapped_len, unmapped_page, nothing_hit, all_unmaps, cut_unmaps, refuses, none_passes, first_passes, some_pages, dropped, cut_at}
+use Rattle.mmap_rules.proofs.Hits.{unmapped_len, unmapped_page, nothing_hit, all_unmaps, cut_unmaps, refuses, none_passes, first_passes, some_pages, none_hit, all_hit, cut_hit, dropped, cut_at}
 use Rattle.mmap_rules.proofs.NamesLess.{lives, can_cut, names_less}
 use Rattle.mmap_rules.proofs.NamesCut.{names_cut}
 use Rattle.mmap_rules.proofs.space.Space.unmap.Goals as goal
@@ -119,3 +119,43 @@ returns-clause-unmaps c =
     cut_unmaps c.args.self.now _ c.args.regions.now.regions c.cut.new.self.regions c.args.addr c.args.len c.pages_for-pages.result c.in-Some-place_that_loses.place c.cut_mapping-cut.result
     c.cut_mapping-cut.new.maps.items (length c.cut_mapping-cut.new.owners) c.self.view_is c.pages_for-pages.ensures c.if-len-eq0.false c.if-addr-ne0.false
     (sym none) (sym first) e.mapping e.maps e.pages (cut_at c.args.regions.now c.cut.new.self.regions c.at-id-2.result c.cut_mapping-cut.result.first _ _ c.at-id-2.ensures.start c.cut.ensures.regions)
+
+pub returns-then-len-eq0-clause-others : goal.returns-then-len-eq0-clause-others
+returns-then-len-eq0-clause-others c =
+    let h = c.args.self.now in
+    let rs = c.args.regions.now.regions in
+    elim c.then-len-eq0.branch [
+      | then-len-eq0-via-then-len-eq0 w ↦ rw (none_hit h rs c.args.addr c.args.len (unmapped_len h rs c.args.addr c.args.len w.if-len-eq0.true)) (tt {0})
+      | then-len-eq0-via-else-len-eq0+then-addr-ne0 w ↦ rw (none_hit h rs c.args.addr c.args.len (unmapped_page h rs c.args.addr c.args.len w.if-addr-ne0.true)) (tt {0})
+    ]
+
+pub returns-in_default-place_that_loses-clause-others : goal.returns-in_default-place_that_loses-clause-others
+returns-in_default-place_that_loses-clause-others c =
+    let none = rw c.deref.ensures.value at c.in_default.ensures in
+    let neither = rw c.deref-2.ensures.value at c.in_default-place_that_loses.ensures in
+    rw (none_hit c.args.self.now c.args.regions.now.regions c.args.addr c.args.len
+    (nothing_hit c.args.self.now _ c.args.regions.now.regions c.args.addr c.args.len c.pages_for-pages.result c.self.view_is c.pages_for-pages.ensures c.if-len-eq0.false c.if-addr-ne0.false (sym none) (sym neither)))
+    (tt {0})
+
+pub returns-in-Some-clause-others : goal.returns-in-Some-clause-others
+returns-in-Some-clause-others c =
+    let first = rw c.deref.ensures.value at c.in-Some.ensures in
+    rw (all_hit c.args.self.now _ c.args.addr c.args.len c.pages_for-pages.result c.in-Some.place c.take_mapping-gone.result
+    c.self.view_is c.pages_for-pages.ensures c.if-len-eq0.false c.if-addr-ne0.false (sym first) c.take_mapping-gone.ensures.mapping)
+    (record { id = c.at-id.result; start = c.at-id.ensures.start; others = c.drop_use.ensures.others })
+
+pub returns-clause-others : goal.returns-clause-others
+returns-clause-others c =
+    let none = rw c.deref.ensures.value at c.in_default.ensures in
+    let first = rw c.deref-2.ensures.value at c.in-Some-place_that_loses.ensures in
+    let cut = cut_hit c.args.self.now _ c.args.addr c.args.len c.pages_for-pages.result c.in-Some-place_that_loses.place c.cut_mapping-cut.result
+    c.self.view_is c.pages_for-pages.ensures c.if-len-eq0.false c.if-addr-ne0.false (sym none) (sym first) c.cut_mapping-cut.ensures.mapping in
+    rw cut.hits (record { id = c.at-id-2.result; start = c.at-id-2.ensures.start; others = c.cut.ensures.others })
+
+pub returns-clause-ids : goal.returns-clause-ids
+returns-clause-ids c =
+    let none = rw c.deref.ensures.value at c.in_default.ensures in
+    let first = rw c.deref-2.ensures.value at c.in-Some-place_that_loses.ensures in
+    let cut = cut_hit c.args.self.now _ c.args.addr c.args.len c.pages_for-pages.result c.in-Some-place_that_loses.place c.cut_mapping-cut.result
+    c.self.view_is c.pages_for-pages.ensures c.if-len-eq0.false c.if-addr-ne0.false (sym none) (sym first) c.cut_mapping-cut.ensures.mapping in
+    rw cut.hits (λ nothing. absurd (cut.some nothing))
