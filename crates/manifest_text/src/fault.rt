@@ -33,7 +33,7 @@ pub enum ManifestFault {
 pub enum ManifestRefusal {
     /// A fault of the line with this number, from 1.
     At { line: u32, fault: ManifestFault },
-    /// Out of host memory, which says nothing of the text.
+    /// Out of host memory, or the text has 2^32 - 1 bytes or more. It says nothing of the lines.
     Memory,
 }
 

@@ -1,6 +1,6 @@
 //! The reading of a manifest.
 
-ghost use Rattle.std.specs.Prelude.{◌≡◌, ◌-◌, ◌^◌, ◌<◌, length};
+ghost use Rattle.std.specs.Prelude.{◌≡◌, ◌^◌, ◌<◌, length};
 ghost use Rattle.manifest_text.specs.Values.{texts};
 ghost use Rattle.manifest_text.specs.Manifest.{numbered, manifest_of};
 ghost use Rattle.manifest_text.specs.Reading.{draft_value, AddsLine, Drafts, Reads};
@@ -13,12 +13,16 @@ use crate::pieces::pieces;
 use std::alloc::Global;
 
 /// The manifest that the bytes spell, or the first fault: of the first line that has one, the first
-/// in the order of `ManifestFault`; behind all lines those of line 0.
+/// in the order of `ManifestFault`; behind all lines those of line 0. A text of 2^32 - 1 bytes or
+/// more isn't read: Memory.
 #[tactic(auto, unfolding(crate::specs::Manifest::manifest_of, crate::specs::Manifest::lines_of))]
 pub fn read(alloc: Global, bytes: &[u8]) -> Result<Manifest, ManifestRefusal>
-    requires { length bytes.now < 2 ^ 32 - 1 }
     ensures { Reads (manifest_of bytes.now) result }
 {
+    // The number of each line is a word, and there is one line more, at the most, than bytes.
+    if bytes.len() >= u32::MAX as usize {
+        return Err(ManifestRefusal::Memory);
+    }
     let lines = pieces(alloc, bytes, b'\n')?;
     let draft = read_lines(alloc, &lines)?;
     draft.whole()

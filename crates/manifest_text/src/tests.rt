@@ -7,9 +7,6 @@ use std::test::*;
 
 /// What is refused.
 fn refusal_of(alloc: Global, text: &[u8]) -> Option<ManifestRefusal> {
-    if text.len() > 1_048_576 {
-        return None;
-    }
     read(alloc, text).err()
 }
 
