@@ -1,5 +1,7 @@
 //! The calls that change files or descriptors, and write nothing into memory.
 
+ghost use Rattle.std.specs.Prelude.{OnErr};
+ghost use Rattle.fd_tables.specs.Kept.{KeepsSpare};
 ghost use Rattle.machine_world.specs.Asks.{Ask};
 ghost use Rattle.machine_world.specs.Rows.{row};
 ghost use Rattle.file_calls.specs.Answers.{Answers};
@@ -15,7 +17,7 @@ use mem_files::{FileFault, Tree};
 use std::alloc::AllocError;
 
 /// Carries out a call on files that gives no bytes, and that doesn't wait: dup, dup3, mkdirat, unlinkat, openat, close, write or writev. A refusal is
-/// a reply, and changes nothing.
+/// a reply, and changes nothing. Out of memory the tables may have more memory ready than before, and have no less.
 pub fn change(
     tree: &mut Tree,
     files: &mut Files,
@@ -24,7 +26,8 @@ pub fn change(
 ) -> Result<u32, AllocError>
     requires change { IsChange call.now.number }
     requires replies { Replies call.now files.old.open_files }
-    ensures { (a : Ask) → MadeBy call.now a → IsRest a.rest tree.old files.old console.old.items → Changes a (row a) tree.old files.old console.old.items tree.new files.new console.new.items result }
+    ensures changes { (a : Ask) → MadeBy call.now a → IsRest a.rest tree.old files.old console.old.items → Changes a (row a) tree.old files.old console.old.items tree.new files.new console.new.items result }
+    ensures ready { OnErr result (KeepsSpare files.old files.new) }
 {
     match carry_out(tree, files, console, call) {
         Ok(value) => Ok(value),
@@ -41,7 +44,8 @@ fn carry_out(
 ) -> Result<u32, FileFault>
     requires change { IsChange call.now.number }
     requires replies { Replies call.now files.old.open_files }
-    ensures { (a : Ask) → MadeBy call.now a → IsRest a.rest tree.old files.old console.old.items → Answers a (row a) (with_all a.rest tree.new files.new.open_files console.new.items) result }
+    ensures answers { (a : Ask) → MadeBy call.now a → IsRest a.rest tree.old files.old console.old.items → Answers a (row a) (with_all a.rest tree.new files.new.open_files console.new.items) result }
+    ensures ready { OnErr result (KeepsSpare files.old files.new) }
 {
     match call.number {
         23 => dup(files, call),

@@ -1,6 +1,7 @@
 //! openat.
 
-ghost use Rattle.std.specs.Prelude.{◌≡◌, ◌≤◌, IsSome, Some};
+ghost use Rattle.std.specs.Prelude.{◌≡◌, ◌≤◌, IsSome, Some, OnErr};
+ghost use Rattle.fd_tables.specs.Kept.{KeepsSpare};
 ghost use Rattle.fd_tables.specs.Changes.{storage, opened};
 ghost use Rattle.fd_tables.specs.Files.{lowest_free};
 ghost use Rattle.machine_world.specs.Asks.{Ask, storage_of, with_storage};
@@ -17,7 +18,8 @@ use mem_files::{FileFault, Node, Tree};
 
 /// openat(folder, path, flags)
 pub(crate) fn openat(tree: &mut Tree, files: &mut Files, call: &Call) -> Result<u32, FileFault>
-    ensures { (a : Ask) → MadeBy call.now a → storage_of a.rest ≡ storage tree.old files.old.open_files → Answers a (openat_row a) (with_storage a.rest (storage tree.new files.new.open_files)) result }
+    ensures answers { (a : Ask) → MadeBy call.now a → storage_of a.rest ≡ storage tree.old files.old.open_files → Answers a (openat_row a) (with_storage a.rest (storage tree.new files.new.open_files)) result }
+    ensures ready { OnErr result (KeepsSpare files.old files.new) }
 {
     let flags = OpenFlags { bits: call.args[2] };
     if !flags.are_valid() {
@@ -32,7 +34,8 @@ pub(crate) fn openat(tree: &mut Tree, files: &mut Files, call: &Call) -> Result<
 
 /// Opens a file or a folder that is there.
 fn open_old(tree: &mut Tree, files: &mut Files, call: &Call, node: u32) -> Result<u32, FileFault>
-    ensures { (a : Ask) → MadeBy call.now a → storage_of a.rest ≡ storage tree.old files.old.open_files → Answers a (opens_old a node) (with_storage a.rest (storage tree.new files.new.open_files)) result }
+    ensures answers { (a : Ask) → MadeBy call.now a → storage_of a.rest ≡ storage tree.old files.old.open_files → Answers a (opens_old a node) (with_storage a.rest (storage tree.new files.new.open_files)) result }
+    ensures ready { OnErr result (KeepsSpare files.old files.new) }
 {
     let flags = OpenFlags { bits: call.args[2] };
     may_open(tree, node, flags)?;
@@ -52,7 +55,8 @@ fn empty(tree: &mut Tree, node: u32, flags: OpenFlags)
 
 /// Makes a file, and opens it.
 fn open_new(tree: &mut Tree, files: &mut Files, call: &Call, path: &[u8]) -> Result<u32, FileFault>
-    ensures { (a : Ask) → MadeBy call.now a → storage_of a.rest ≡ storage tree.old files.old.open_files → Answers a (opens_new a path.now) (with_storage a.rest (storage tree.new files.new.open_files)) result }
+    ensures answers { (a : Ask) → MadeBy call.now a → storage_of a.rest ≡ storage tree.old files.old.open_files → Answers a (opens_new a path.now) (with_storage a.rest (storage tree.new files.new.open_files)) result }
+    ensures ready { OnErr result (KeepsSpare files.old files.new) }
 {
     let flags = OpenFlags { bits: call.args[2] };
     if !flags.creates() {
@@ -88,6 +92,7 @@ fn may_open(tree: &Tree, node: u32, flags: OpenFlags) -> Result<(), Errno>
 fn make_room(files: &mut Files, table: u32) -> Result<(), FileFault>
     ensures same { files.new.open_files ≡ files.old.open_files }
     ensures free { HasFree (lowest_free files.old.open_files table) files.new.spare result }
+    ensures keeps { KeepsSpare files.old files.new }
 {
     if files.lowest_free(table).is_none() {
         return Err(FileFault::Errno(Errno::Emfile));

@@ -5,6 +5,7 @@ ghost use Rattle.mem_files.specs.declared.fault.FileFault.TheVariants.{Memory};
 ghost use Rattle.mem_files.specs.Inodes.{size_of};
 ghost use Rattle.machine_world.specs.Asks.{Ask, with_files, storage_of, with_storage};
 ghost use Rattle.machine_world.specs.Transfers.{write_row, writev_row, pipe_write, pipe_room, write_waits, node_write, write_position};
+ghost use Rattle.fd_tables.specs.Kept.{KeepsSpare};
 ghost use Rattle.fd_tables.specs.Pipes.{most_held};
 ghost use Rattle.fd_tables.specs.Changes.{storage, moved};
 ghost use Rattle.file_calls.specs.Answers.{Answers};
@@ -31,7 +32,8 @@ pub(crate) fn writev(
     console: &mut Vec<u8>,
     call: &Call,
 ) -> Result<u32, FileFault>
-    ensures { (a : Ask) → MadeBy call.now a → IsRest a.rest tree.old files.old console.old.items → WaitsOn (writev_row a) None → Answers a (writev_row a) (with_all a.rest tree.new files.new.open_files console.new.items) result }
+    ensures answers { (a : Ask) → MadeBy call.now a → IsRest a.rest tree.old files.old console.old.items → WaitsOn (writev_row a) None → Answers a (writev_row a) (with_all a.rest tree.new files.new.open_files console.new.items) result }
+    ensures spare { KeepsSpare files.old files.new }
 {
     let count = call.args[2];
     if count > MOST_PIECES {
@@ -56,7 +58,8 @@ pub(crate) fn write(
     call: &Call,
     bytes: &[u8],
 ) -> Result<u32, FileFault>
-    ensures { (a : Ask) → MadeBy call.now a → IsRest a.rest tree.old files.old console.old.items → WaitsOn (write_row a bytes.now) None → Answers a (write_row a bytes.now) (with_all a.rest tree.new files.new.open_files console.new.items) result }
+    ensures answers { (a : Ask) → MadeBy call.now a → IsRest a.rest tree.old files.old console.old.items → WaitsOn (write_row a bytes.now) None → Answers a (write_row a bytes.now) (with_all a.rest tree.new files.new.open_files console.new.items) result }
+    ensures spare { KeepsSpare files.old files.new }
 {
     let view = files.view(call.table, call.args[0])?;
     if !view.way.write {
@@ -88,7 +91,8 @@ pub(crate) fn must_wait(pipe: PipeView, count: usize) -> bool
 
 /// Appends to a pipe as many bytes as it has room for. EPIPE where its reading end is closed, and there are bytes.
 fn write_pipe(files: &mut Files, id: u32, bytes: &[u8]) -> Result<u32, FileFault>
-    ensures { (a : Ask) → a.rest.files ≡ files.old.open_files → WaitsOn (pipe_write a id bytes.now) None → Answers a (pipe_write a id bytes.now) (with_files a.rest files.new.open_files) result }
+    ensures answers { (a : Ask) → a.rest.files ≡ files.old.open_files → WaitsOn (pipe_write a id bytes.now) None → Answers a (pipe_write a id bytes.now) (with_files a.rest files.new.open_files) result }
+    ensures spare { KeepsSpare files.old files.new }
 {
     if bytes.is_empty() {
         return Ok(0);
@@ -124,7 +128,8 @@ fn write_node(
     node: u32,
     bytes: &[u8],
 ) -> Result<u32, FileFault>
-    ensures { (a : Ask) → MadeBy call.now a → storage_of a.rest ≡ storage tree.old files.old.open_files → Answers a (node_write a node (write_position a view node) bytes.now) (with_storage a.rest (storage tree.new files.new.open_files)) result }
+    ensures answers { (a : Ask) → MadeBy call.now a → storage_of a.rest ≡ storage tree.old files.old.open_files → Answers a (node_write a node (write_position a view node) bytes.now) (with_storage a.rest (storage tree.new files.new.open_files)) result }
+    ensures spare { KeepsSpare files.old files.new }
 {
     let at = position(tree, view, node);
     tree.write_at(node, at, bytes)?;
@@ -146,7 +151,8 @@ fn position(tree: &Tree, view: View, node: u32) -> u64
 /// Moves the position behind what was written, if anything was.
 fn advance(files: &mut Files, call: &Call, at: u64, len: usize)
     requires { at + len < 2 ^ 64 }
-    ensures { files.new.open_files ≡ (if len == 0 then files.old.open_files else moved files.old.open_files call.now.table (slice_index call.now.args 0) (at + len)) }
+    ensures moved { files.new.open_files ≡ (if len == 0 then files.old.open_files else moved files.old.open_files call.now.table (slice_index call.now.args 0) (at + len)) }
+    ensures spare { KeepsSpare files.old files.new }
 {
     if len > 0 {
         files.move_to(call.table, call.args[0], at + len as u64);
