@@ -41,7 +41,7 @@ use Rattle.syscall_layer.proofs.Shows.{shown_as, shows}
 use Rattle.syscall_layer.proofs.Worlds.{find_space, find_process}
 use Rattle.flat_machine.specs.State.{is_whole}
 use Rattle.flat_machine.specs.LeavesIn.{HaltsWithin}
-use Rattle.flat_machine.proofs.Abouts.{some_about}
+use Rattle.syscall_layer.proofs.Abouts.{some_about}
 use Rattle.flat_machine.proofs.Within.{writable_own, table_inside}
 use Rattle.flat_machine.proofs.Advanced.{Ranged, after, entered, home_of, has_space, halts_within, after_regular, after_ready, lives_in, has_in, procs_in, frozen_in, after_copies, left, after_leads, after_halts}
 

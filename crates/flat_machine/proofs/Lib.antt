@@ -1,5 +1,4 @@
 -- What is proved of a machine.
--- Abouts    runs of which little is known
 -- Within    what may be written is own, and lies in memory
 -- Advanced  the parts after instructions of one process
 -- AdvancedIn  and the one memory
@@ -22,7 +21,6 @@
 -- Found     the program of a path, and the start of a start line
 -- Booted    the start lines one after the other
 -- BootedIn  and the one memory behind them
-pub mod Abouts
 pub mod Readers
 pub mod Within
 pub mod Advanced

@@ -19,7 +19,7 @@ use Rattle.syscall_layer.specs.Kept.{Kept}
 use Rattle.syscall_layer.specs.Stands.{About, process_of, world_of}
 use Rattle.syscall_layer.proofs.Families.{ready_is, falls_is}
 use Rattle.syscall_layer.proofs.Worlds.{find_process}
-use Rattle.flat_machine.proofs.Abouts.{some_about}
+use Rattle.syscall_layer.proofs.Abouts.{some_about}
 
 -- ---- who may run
 

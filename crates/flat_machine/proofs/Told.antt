@@ -9,8 +9,8 @@ use Rattle.machine_world.specs.Programs.{AreLoaded}
 use Rattle.physical_turns.specs.Physical.{Physical}
 use Rattle.syscall_layer.specs.InMemory.{physical_of}
 use Rattle.syscall_layer.specs.Stands.{world_of}
-use Rattle.flat_machine.specs.declared.machine.Mode.{Mode}
-use Rattle.flat_machine.specs.declared.machine.Mode.TheVariants.{Halt, GoOn}
+use Rattle.syscall_layer.specs.declared.mode.Mode.{Mode}
+use Rattle.syscall_layer.specs.declared.mode.Mode.TheVariants.{Halt, GoOn}
 use Rattle.flat_machine.specs.declared.run.End.{End as Told}
 use Rattle.flat_machine.specs.State.{State, world, one_memory, told, told_notes, told_reach}
 use Rattle.flat_machine.specs.OwnBytes.{own_bytes, memory_bytes}

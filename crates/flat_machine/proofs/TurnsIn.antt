@@ -34,7 +34,7 @@ use Rattle.flat_machine.specs.declared.turn.After.TheVariants as after
 use Rattle.flat_machine.specs.State.{is_whole}
 use Rattle.flat_machine.specs.Leaves.{Carried}
 use Rattle.flat_machine.specs.LeavesIn.{CarriedIn, CarriedWithin, StraysIn, StandsWithin, HaltsWithin, TurnEndsIn, step_within, StandsStillIn, TurnStopsIn, TurnLeavesIn, reach_behind}
-use Rattle.flat_machine.proofs.Abouts.{some_about, about_with, some_are_flats}
+use Rattle.syscall_layer.proofs.Abouts.{some_about, about_with, some_are_flats}
 use Rattle.flat_machine.proofs.Picks.{can_run, may_run}
 use Rattle.flat_machine.proofs.NotedIn.{went_quiet, adds_stray}
 use Rattle.flat_machine.proofs.Turned.{Reached, later_none, later_on, event_on}

@@ -1,6 +1,7 @@
 -- What a machine keeps, and the world that it stands for.
 pub use Rattle.machine_world.specs.Programs.{programs_of}
-use Rattle.std.specs.Prelude.{ℕ, Bool, true, false, if◌then◌else◌, List, [], drop, map, Vec}
+pub use Rattle.syscall_layer.specs.Reach.{is_whole}
+use Rattle.std.specs.Prelude.{ℕ, Bool, if◌then◌else◌, List, [], drop, map, Vec}
 use Rattle.page_runs.specs.declared.place.Kind.{Kind}
 use Rattle.bflt_format.specs.Values.{Values}
 use Rattle.call_log.specs.Notes.{Note}
@@ -15,9 +16,9 @@ use Rattle.syscall_layer.specs.Kept.{Kept}
 use Rattle.syscall_layer.specs.Stands.{About, world_of}
 use Rattle.syscall_layer.specs.InMemory.{headers_of, physical_of}
 use Rattle.syscall_layer.specs.declared.reach.Reach.{Reach}
-use Rattle.syscall_layer.specs.declared.reach.Reach.TheVariants.{Own, Whole}
+use Rattle.syscall_layer.specs.declared.reach.Reach.TheVariants.{Own}
 use Rattle.physical_turns.specs.Physical.{Physical}
-use Rattle.flat_machine.specs.declared.machine.Mode.{Mode}
+use Rattle.syscall_layer.specs.declared.mode.Mode.{Mode}
 
 -- the parts; how free runs are chosen; the paths of the programs, and their flat files; the number of events; what becomes of the run
 -- at its first stray access; what it reaches, all of memory behind that; and whether that access was noted ahead of its event, which
@@ -31,11 +32,6 @@ pub record State : Type 0 where
   pub mode : Mode
   pub reach : Reach
   pub ahead : Bool
-
--- all of memory is reached
-abbrev pub is_whole : Reach → Bool
-is_whole Own = false
-is_whole Whole = true
 
 abbrev pub about_of : State → About
 about_of s = record { kind = s.kind; programs = programs_of s.paths s.programs; events = s.events }

@@ -15,14 +15,14 @@ ghost use Rattle.flat_machine.specs.State.{world, one_memory, rest_of, line_of, 
 ghost use Rattle.flat_machine.specs.Boots.{marked, Boots, Begins, BeginsStays, BeginsWaits};
 
 use crate::course::Course;
-use crate::machine::{Machine, Mode};
+use crate::machine::Machine;
 use bflt_format::Flat;
 use fd_tables::Files;
 use manifest_text::Start;
 use mem_files::Tree;
 use page_runs::{Chooser, Run};
 use std::alloc::{AllocError, Global};
-use syscall_layer::{Parts, Reach, StartRefusal, whole_table};
+use syscall_layer::{Mode, Parts, Reach, StartRefusal, whole_table};
 
 /// What a machine starts with.
 #[derive(Drop)]

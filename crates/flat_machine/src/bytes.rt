@@ -5,14 +5,14 @@ ghost use Rattle.syscall_layer.specs.declared.reach.Reach.TheVariants.{Own, Whol
 ghost use Rattle.syscall_layer.specs.InMemory.{physical_of};
 ghost use Rattle.syscall_layer.specs.Reach.{whole_table};
 ghost use Rattle.syscall_layer.specs.Stands.{About, world_of};
-ghost use Rattle.flat_machine.specs.declared.machine.Mode.TheVariants.{Halt, GoOn};
+ghost use Rattle.syscall_layer.specs.declared.mode.Mode.TheVariants.{Halt, GoOn};
 ghost use Rattle.flat_machine.specs.State.{world, one_memory};
 ghost use Rattle.flat_machine.specs.OwnBytes.{own_bytes, memory_bytes};
 
-use crate::machine::{Machine, Mode};
+use crate::machine::Machine;
 use mmap_rules::Owners;
 use std::alloc::{AllocError, Global};
-use syscall_layer::{Parts, Reach, Unread, read_range, table_of};
+use syscall_layer::{Mode, Parts, Reach, Unread, read_range, table_of};
 
 /// A copy of the bytes of a process that lives, within this reach.
 fn copied(

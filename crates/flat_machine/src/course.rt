@@ -9,13 +9,12 @@ ghost use Rattle.physical_turns.specs.Physical.{has_stray};
 ghost use Rattle.stays_laws.specs.Sound.{IsSound};
 ghost use Rattle.flat_machine.specs.State.{world};
 
-use crate::machine::Mode;
 use bflt_format::Flat;
 use call_log::Note;
 use mmap_rules::Owners;
 use page_runs::Kind;
 use std::marker::Model;
-use syscall_layer::{Parts, Reach};
+use syscall_layer::{Mode, Parts, Reach};
 
 /// The programs of a run in one memory, and how far they came.
 #[derive(Drop)]

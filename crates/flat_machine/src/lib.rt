@@ -13,5 +13,5 @@ mod run;
 mod turn;
 
 pub use boot::{BootRefusal, Setup};
-pub use machine::{Machine, Mode};
+pub use machine::Machine;
 pub use run::End;

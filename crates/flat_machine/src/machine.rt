@@ -13,15 +13,7 @@ use crate::course::Course;
 use call_log::Note;
 use page_runs::Kind;
 use std::marker::Model;
-
-/// What becomes of a run at its first stray access.
-#[derive(Clone, Copy, Debug, PartialEq, Eq)]
-pub enum Mode {
-    /// It ends there.
-    Halt,
-    /// It goes on over all of memory, as without an MMU. An access outside memory ends its process by SIGSEGV.
-    GoOn,
-}
+use syscall_layer::Mode;
 
 /// The programs of a run in one memory, and how far they came. A note that was made ahead of its event isn't told.
 #[derive(Drop)]

@@ -10,7 +10,7 @@ ghost use Rattle.syscall_layer.specs.Stands.{About, world_of};
 ghost use Rattle.rv32im_step.specs.declared.access.Access.{Access};
 ghost use Rattle.physical_turns.specs.Physical.{has_stray};
 ghost use Rattle.syscall_layer.specs.declared.reach.Reach.TheVariants.{Own};
-ghost use Rattle.flat_machine.specs.declared.machine.Mode.TheVariants.{GoOn};
+ghost use Rattle.syscall_layer.specs.declared.mode.Mode.TheVariants.{GoOn};
 ghost use Rattle.flat_machine.specs.declared.run.End.TheVariants.{Stray};
 ghost use Rattle.flat_machine.specs.State.{is_whole, world, one_memory, told};
 ghost use Rattle.flat_machine.specs.Runs.{Ends, Runs, KeepsStays, KeepsWaits, WaitsWhereStuck, repeated};
@@ -19,13 +19,13 @@ ghost use Rattle.flat_machine.specs.Leaves.{Leaves, TurnLeaves};
 ghost use Rattle.flat_machine.specs.LeavesIn.{LeavesIn, LeavesFirst, TurnLeavesIn, reach_behind, has_rest, is_ahead};
 
 use crate::course::Course;
-use crate::machine::{Machine, Mode};
+use crate::machine::Machine;
 use crate::turn::{TurnEnd, turn};
 use page_runs::{Chooser, Run};
 use quantum_sched::{Quantum, pick};
 use rv32im_step::Access;
 use std::alloc::AllocError;
-use syscall_layer::{Parts, Reach};
+use syscall_layer::{Mode, Parts, Reach};
 
 /// Why a run stops.
 #[derive(Clone, Copy, Debug, PartialEq, Eq)]

@@ -24,7 +24,7 @@ use mmap_rules::Owners;
 use page_runs::{Chooser, Run};
 use rv32im_step::{Access, Stop};
 use std::alloc::AllocError;
-use syscall_layer::{Parts, Reach, Served, serve};
+use syscall_layer::{Parts, Reach, Served, serve_within};
 
 /// The signal of an access outside memory.
 const SIGSEGV: u8 = 11;
@@ -87,7 +87,7 @@ fn next_event<F: Fn(&[Run], u32) -> Option<usize>>(
 {
     match stop {
         Stop::Next => Ok(After::GoesOn),
-        Stop::Call => match serve(parts, pid, programs, chooser, reach, whole)? {
+        Stop::Call => match serve_within(parts, pid, programs, chooser, reach, whole)? {
             Served::Replied => Ok(After::GoesOn),
             Served::TurnEnds | Served::Waits | Served::Ended => Ok(After::TurnEnds),
             Served::Stray(access) => stray(parts, pid, access),

@@ -5,7 +5,7 @@ use Rattle.manifest_text.specs.Values.{Manifest}
 use Rattle.machine_world.specs.World.{World}
 use Rattle.machine_world.specs.Turns.{End, all_ended, stuck, out_of_quanta, stray_at, log_full, Walk, turns}
 use Rattle.machine_world.specs.Boot.{BootFault, boot}
-use Rattle.flat_machine.specs.declared.machine.Mode.TheVariants.{Halt}
+use Rattle.syscall_layer.specs.declared.mode.Mode.TheVariants.{Halt}
 use Rattle.flat_machine.specs.Runs.{repeated}
 use Rattle.run_setup.specs.Brought.{Brought, FaultAt, nothing_brought, all_brought}
 use Rattle.elf_maker.specs.Demo.{demo_file}

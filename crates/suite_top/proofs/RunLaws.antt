@@ -9,7 +9,7 @@ use Rattle.manifest_text.specs.Values.{Item, Manifest}
 use Rattle.manifest_text.specs.Manifest.{Fault, manifest_of}
 use Rattle.machine_world.specs.World.{World}
 use Rattle.machine_world.specs.Boot.{BootFault, boot}
-use Rattle.flat_machine.specs.declared.machine.Mode.{Mode}
+use Rattle.syscall_layer.specs.declared.mode.Mode.{Mode}
 use Rattle.suite_top.specs.Texts.Refusals.{too_long_at}
 use Rattle.suite_top.specs.declared.telling.Telling.{Telling}
 use Rattle.suite_top.specs.declared.telling.Telling.TheVariants.{Report}

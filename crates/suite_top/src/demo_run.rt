@@ -15,11 +15,11 @@ use crate::arguments::DEFAULT_STACK;
 use crate::run::run_files;
 use crate::telling::Telling;
 use elf_maker::demo;
-use flat_machine::Mode;
 use manifest_text::{Item, ItemKind, Manifest, Start};
 use page_runs::{Chooser, Run};
 use quantum_sched::Quantum;
 use std::alloc::{AllocError, Global};
+use syscall_layer::Mode;
 
 pub mod laws;
 

@@ -6,7 +6,7 @@ ghost use Rattle.manifest_text.specs.Values.{manifest_value, vec_texts};
 ghost use Rattle.manifest_text.specs.Laws.{Reasonable};
 ghost use Rattle.machine_world.specs.Ages.{AreChanged};
 ghost use Rattle.physical_turns.specs.Physical.{has_stray};
-ghost use Rattle.flat_machine.specs.declared.machine.Mode.TheVariants.{Halt, GoOn};
+ghost use Rattle.syscall_layer.specs.declared.mode.Mode.TheVariants.{Halt, GoOn};
 ghost use Rattle.flat_machine.specs.State.{world, one_memory};
 ghost use Rattle.flat_machine.specs.Runs.{repeated};
 ghost use Rattle.suite_top.specs.Ending.{memory_ending, OrMemory};
@@ -15,7 +15,7 @@ ghost use Rattle.suite_top.specs.Answer.{ending_of};
 ghost use Rattle.run_setup.specs.Faults.{IsMemory};
 ghost use Rattle.run_setup.specs.Making.{fault_value, HasPaths, brought_value};
 ghost use Rattle.suite_top.specs.Refusing.{told_fault};
-ghost use Rattle.suite_top.specs.Run.{manifest_limit, fault_ending, world_ending, memory_run_ending, brought_ending, files_ending, items_outcome, manifest_outcome, run_outcome};
+ghost use Rattle.suite_top.specs.Run.{fault_ending, world_ending, memory_run_ending, brought_ending, files_ending, items_outcome, manifest_outcome, run_outcome};
 ghost use Rattle.suite_top.specs.HostCourse.{PerformsCommand};
 
 use crate::answer::Answer;
@@ -24,13 +24,14 @@ use crate::items::{ItemsLoad, load_items};
 use crate::status::Status;
 use crate::telling::{Telling, told};
 use crate::texts::refusals::{refused_line, refused_manifest};
-use flat_machine::{BootRefusal, Machine, Mode, Setup};
+use flat_machine::{BootRefusal, Machine, Setup};
 use host_io::Host;
 use manifest_text::{Dump, Manifest, ManifestRefusal};
 use page_runs::{Chooser, Run};
 use quantum_sched::Quantum;
 use run_setup::{FaultAt, LineFault, RunFiles, bring};
 use std::alloc::{AllocError, Global};
+use syscall_layer::Mode;
 
 pub mod laws;
 
@@ -64,8 +65,7 @@ fn run_manifest<H: Host, F: Fn(&[Run], u32) -> Option<usize>>(
     chooser: &Chooser<F>,
     host: &mut H,
 ) -> Result<Answer, AllocError>
-    requires chooser { IsChooser F.pre F.post chooser.now }
-    requires fits { length bytes.now ≤ manifest_limit }
+    requires { IsChooser F.pre F.post chooser.now }
     ensures { PerformsCommand (observed H.told H.faults host.old) (observed H.told H.faults host.new) (manifest_outcome log mode (kind_of chooser.now) (manifest_of bytes.now)) (ending_of result) }
 {
     match manifest_text::read(alloc, bytes) {

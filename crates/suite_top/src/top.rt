@@ -20,10 +20,10 @@ use crate::placements::Placements;
 use crate::run::run_file;
 use crate::status::Status;
 use crate::texts;
-use flat_machine::Mode;
 use host_io::{Host, Sink};
 use page_runs::{Kind, Run};
 use std::alloc::{AllocError, Global};
+use syscall_layer::Mode;
 
 /// Runs a manifest with the chooser of a placement.
 fn run_placed<H: Host, A, B, C>(

@@ -108,16 +108,22 @@ module _ (old new : Kept) (pid : ℕ) (r : Result Served AllocError) (leaves : I
   pub yield_goes : r ≡ Ok TurnEnds → WaitsAt new.procs pid false
   yield_goes is = subst (λ (x : Result Served AllocError). IfOk x (Tells old new pid)) is leaves
 
-  wait_stays : r ≡ Ok Waits → WaitsAt new.procs pid true × (new.files ≡ old.files)
+  wait_stays : r ≡ Ok Waits → WaitsAt new.procs pid true × (new.files ≡ old.files) × (new.notes ≡ old.notes)
   wait_stays is = subst (λ (x : Result Served AllocError). IfOk x (Tells old new pid)) is leaves
 
   pub wait_goes : r ≡ Ok Waits → WaitsAt new.procs pid true
   wait_goes is = (wait_stays is).0
 
+  pub wait_unnoted : r ≡ Ok Waits → new.notes ≡ old.notes
+  wait_unnoted is = (wait_stays is).2
+
   -- and once those go on that wait
   module _ (now : Kept) (kept : now ≡ awake_in new) where
     pub yield_goes_on : r ≡ Ok TurnEnds → WaitsAt now.procs pid false
     yield_goes_on is = subst (λ (k : Kept). WaitsAt k.procs pid false) (sym kept) (wakes_still new.files.changed new.procs pid (yield_goes is))
+
+    pub wait_leaves_notes : r ≡ Ok Waits → now.notes ≡ old.notes
+    wait_leaves_notes is = ap (λ (k : Kept). k.notes) kept ∙ wait_unnoted is
 
     pub wait_goes_on : r ≡ Ok Waits → old.files.changed ≡ [] → WaitsAt now.procs pid true
     wait_goes_on is marks =

@@ -57,6 +57,10 @@
 -- Wakes      the parts once those go on that wait on a pipe which changed
 -- PlainMemory  what comes of a call and of an end that write nothing, in the one memory
 -- CallsIn    a call by its class, and what goes on behind it, in the one memory
+-- CallsOn    a call of a run that goes on
+-- CallEvents  it is an event of the run
+-- NotedStrays  whether the note of a stray access is among notes
+-- Abouts     runs of which little is known
 mod Begins
 pub mod Worlds
 pub mod Shows
@@ -116,3 +120,7 @@ mod Leaves
 pub mod Wakes
 pub mod PlainMemory
 pub mod CallsIn
+pub mod CallsOn
+mod CallEvents
+mod NotedStrays
+pub mod Abouts

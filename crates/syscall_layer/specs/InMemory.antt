@@ -1,13 +1,16 @@
 -- The one memory that the parts stand for, and what a system call and a signal leave of it.
-use Rattle.std.specs.Prelude.{◌≡◌, ℕ, Bool, true, false, List, take, map, None, Result, Ok, Err, ⊤}
+use Rattle.std.specs.Prelude.{◌≡◌, ℕ, Bool, true, false, if◌then◌else◌, List, ◌∷◌, drop, take, map, Option, Some, None, Result, Ok, Err, ⊤}
 use Rattle.std.specs.declared.alloc.AllocError.{AllocError}
 use Rattle.bflt_format.specs.Values.{Values}
 use Rattle.bflt_format.specs.Spelling.{spell}
 use Rattle.flat_loader.specs.Original.{header_len}
 use Rattle.region_watch.specs.Private.{physical}
 use Rattle.vfork_exec.specs.Procs.{process, Lives}
-use Rattle.machine_world.specs.Event.{Outcome}
-use Rattle.physical_turns.specs.Physical.{Physical, After, after, no_room, nobody, carried, first_memory}
+use Rattle.rv32im_step.specs.declared.access.Access.{Access}
+use Rattle.call_log.specs.Notes.{stray_note}
+use Rattle.machine_world.specs.Event.{Outcome, called, stray_in}
+use Rattle.machine_world.specs.Turns.{seen_of}
+use Rattle.physical_turns.specs.Physical.{Physical, After, after, no_room, nobody, carried, called_in, has_stray, with_stray, first_memory}
 use Rattle.syscall_layer.specs.declared.reach.Reach.{Reach}
 use Rattle.syscall_layer.specs.declared.reach.Reach.TheVariants.{Own, Whole}
 use Rattle.syscall_layer.specs.declared.answer.Served.{Served}
@@ -88,3 +91,34 @@ ChangesIn headers a outcome old new (Err error) = new ≡ old
 abbrev pub LaysOn : List (List ℕ) → Kept → Kept → Type 0
 LaysOn headers old new =
     (a : About) → physical old.mem ≡ first_memory headers (world_of a old) → physical new.mem ≡ first_memory headers (world_of a new)
+
+-- ---- a call of a run that goes on
+
+-- the range of a call that is the run's first to stray, by the world of private spaces
+unfoldable pub first_range : Physical → ℕ → Option Access
+first_range p pid = if has_stray p.world.notes then None else stray_in (called p.world pid)
+
+-- it is noted before the call's own note
+unfoldable pub called_on : Physical → ℕ → After
+called_on p pid = called_in (with_stray pid (first_range p pid) p) pid
+
+-- the parts with its note
+abbrev pub with_range : ℕ → Option Access → Kept → Kept
+with_range pid None k = k
+with_range pid (Some access) k = record k { notes = stray_note pid (seen_of access) ∷ k.notes }
+
+-- and without the newest note
+abbrev pub without_newest : Kept → Kept
+without_newest k = record k { notes = drop 1 k.notes }
+
+-- where the log has no room for the call nothing changed but for that note, and out of memory nothing at all
+abbrev pub ServesOn : List (List ℕ) → About → Kept → Kept → ℕ → Result Served AllocError → Type 0
+ServesOn headers a old new pid (Ok s) =
+    GoesIn headers a (called_on (physical_of headers a old) pid) (with_range pid (first_range (physical_of headers a old) pid) old) new pid s
+ServesOn headers a old new pid (Err error) = new ≡ old
+
+-- what is reached behind it
+abbrev pub reach_on : Reach → Option Access → Result Served AllocError → Reach
+reach_on reach (Some access) (Ok s) = Whole
+reach_on reach None (Ok s) = reach
+reach_on reach strays (Err error) = reach

@@ -11,8 +11,9 @@ use Rattle.mem_files.specs.Inodes.{Inodes}
 use Rattle.fd_tables.specs.Files.{OpenFiles}
 use Rattle.syscall_layer.specs.declared.task.Task.{Task}
 
--- memory, the regions of its pages, and for each id of a region the page at which it begins; the spaces by the number of their load note, none where the space is gone; the files
--- and folders, and what is open; the processes; the notes, newest first; and what was written to the console
+-- memory, the regions of its pages, and for each id of a region the page at which it begins; the spaces by the number of their load note,
+-- none where the space is gone; the files and folders, and what is open; the processes; the notes, newest first; and what was written
+-- to the console
 pub record Kept : Type 0 where
   pub mem : List ℕ
   pub regions : List Region

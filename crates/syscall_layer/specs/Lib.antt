@@ -16,6 +16,7 @@
 -- Puts     what a call writes into its caller's memory, range by range
 -- Reach    what a system call may read and write: its process's own bytes, or all of memory
 -- InMemory  the one memory that the parts stand for, and what a call and a signal leave of it
+-- CallEvents  a call of a run that goes on is an event of it
 -- FreeRuns  the free runs that the regions leave
 -- Refusals  why a program doesn't start, by the loader's reason
 pub mod Kept
@@ -37,4 +38,5 @@ pub mod MapsIn
 pub mod Puts
 pub mod Reach
 pub mod InMemory
+pub mod CallEvents
 pub mod FreeRuns

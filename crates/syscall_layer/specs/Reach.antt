@@ -32,3 +32,8 @@ pub record Reaches (reach : Reach) (pages : ℕ) (h : Held) (table : List PageOw
   pub reads : owns table false ≡ readable reach pages h
   pub writes : owns table true ≡ writable reach pages h
   pub long : length table ≡ pages
+
+-- all of memory is reached
+abbrev pub is_whole : Reach → Bool
+is_whole Own = false
+is_whole Whole = true

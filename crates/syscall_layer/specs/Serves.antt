@@ -42,11 +42,11 @@ abbrev pub WaitsAt : {P : Type 0} → Listed P → ℕ → Bool → Type 0
 WaitsAt procs pid waits = option_map is_waiting (state_at procs pid) ≡ Some waits
 
 -- what the answer alone tells, behind a stray access too: a stray access changed nothing; who ends its turn doesn't wait, and who
--- waits does, with the files as they were
+-- waits does, with the files as they were and without a note
 abbrev pub Tells : Kept → Kept → ℕ → Served → Type 0
 Tells old new pid served.Replied = Unit {0}
 Tells old new pid served.TurnEnds = WaitsAt new.procs pid false
-Tells old new pid served.Waits = WaitsAt new.procs pid true × (new.files ≡ old.files)
+Tells old new pid served.Waits = WaitsAt new.procs pid true × (new.files ≡ old.files) × (new.notes ≡ old.notes)
 Tells old new pid served.Ended = Unit {0}
 Tells old new pid (served.Stray access) = new ≡ old
 Tells old new pid served.LogFull = Unit {0}

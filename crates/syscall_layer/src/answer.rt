@@ -1,6 +1,6 @@
 //! A system call.
 
-ghost use Rattle.std.specs.Prelude.{◌≡◌, ◌≢◌, ℕ, ◌<◌, ◌^◌, All, IfOk, false, true, List, [], length, slice_index, map, option_map, Ok};
+ghost use Rattle.std.specs.Prelude.{◌≡◌, ◌≢◌, ℕ, ◌<◌, ◌^◌, All, IfOk, false, true, List, [], length, slice_index, map, option_map, Some, Ok, OnErr};
 ghost use Rattle.rv32im_step.specs.declared.access.Access.{Access};
 ghost use Rattle.call_log.specs.Notes.{has_room, weight_of};
 ghost use Rattle.call_log.specs.Values.{written_value};
@@ -12,7 +12,7 @@ ghost use Rattle.mmap_rules.specs.Want.{AsksPages};
 ghost use Rattle.machine_world.specs.Asks.{replies};
 ghost use Rattle.machine_world.specs.MapCalls.{mapped};
 ghost use Rattle.machine_world.specs.Rows.{row};
-ghost use Rattle.machine_world.specs.Event.{called, classed, answered, exited, waited, settled};
+ghost use Rattle.machine_world.specs.Event.{called, classed, answered, exited, waited, settled, stray_in};
 ghost use Rattle.vfork_exec.specs.declared.family.State.TheVariants.{OnPipe};
 ghost use Rattle.file_calls.specs.Calls.{IsChange, IsOutput, Replies, written_of};
 ghost use Rattle.file_calls.specs.Outcomes.{GivesRow, CanTake, HasEnds};
@@ -20,10 +20,11 @@ ghost use Rattle.syscall_layer.specs.declared.task.Task.{Task};
 ghost use Rattle.syscall_layer.specs.Stands.{About, process_of, world_of};
 ghost use Rattle.region_watch.specs.Private.{physical};
 ghost use Rattle.physical_turns.specs.Physical.{outside, has_stray, carried, killed, settled_in, answered_in, classed_in, called_in};
+ghost use Rattle.syscall_layer.specs.declared.mode.Mode.TheVariants.{Halt, GoOn};
 ghost use Rattle.syscall_layer.specs.declared.reach.Reach.TheVariants.{Own, Whole};
 ghost use Rattle.syscall_layer.specs.declared.answer.Served.TheVariants.{Replied, TurnEnds, Waits, Stray};
-ghost use Rattle.syscall_layer.specs.InMemory.{headers_of, physical_of, ServesIn, InReach};
-ghost use Rattle.syscall_layer.specs.Reach.{writable, whole_table};
+ghost use Rattle.syscall_layer.specs.InMemory.{headers_of, physical_of, ServesIn, InReach, ServesOn, first_range, with_range, reach_on};
+ghost use Rattle.syscall_layer.specs.Reach.{writable, whole_table, is_whole};
 ghost use Rattle.syscall_layer.specs.Serves.{Answered, Serves, Tells, WaitsAt, went_by};
 ghost use Rattle.mmap_rules.specs.Copies.{IsKnown};
 ghost use Rattle.syscall_layer.specs.Puts.{first_stray, access_at, IsRange};
@@ -35,6 +36,7 @@ use crate::classes::{is_change, is_exit, is_output};
 use crate::effect::{Effect, effect_of};
 use crate::family::{answer_clone, answer_exec, answer_waitid};
 use crate::maps::want_of;
+use crate::mode::Mode;
 use crate::output::{got_len, stray_put};
 use crate::parts::Parts;
 use crate::reach::{Reach, table_of};
@@ -63,7 +65,7 @@ pub enum Served {
     Ended,
     /// It would read or write what its process's space doesn't own, and nothing was done.
     Stray(Access),
-    /// The log has no room for it, and nothing was done.
+    /// The log has no room for it, and nothing was done; but that it strays is noted, where a run goes on that met no stray access yet.
     LogFull,
 }
 
@@ -397,6 +399,7 @@ fn answer_and_wake<F: Fn(&[Run], u32) -> Option<usize>>(
     ensures stray { (access : Access) → result ≡ Ok (Stray access) → parts.new ≡ parts.old }
     ensures yields { result ≡ Ok TurnEnds → WaitsAt parts.new.procs call.pid false }
     ensures waits { result ≡ Ok Waits → parts.old.files.changed ≡ [] → WaitsAt parts.new.procs call.pid true }
+    ensures unnoted { result ≡ Ok Waits → parts.new.notes ≡ parts.old.notes }
 {
     let served = answer(parts, call, programs, chooser, reach, whole)?;
     if went(served) {
@@ -408,7 +411,7 @@ fn answer_and_wake<F: Fn(&[Run], u32) -> Option<usize>>(
 /// Carries out the system call that a process stands at, which may run, within this reach; those go on that wait on a pipe which it
 /// changed. A run of pages that it needs is the chooser's, and the programs that it may run are these. A range beyond its process's own
 /// bytes strays, and nothing is done; one outside memory ends the process by SIGSEGV.
-pub fn serve<F: Fn(&[Run], u32) -> Option<usize>>(
+pub fn serve_within<F: Fn(&[Run], u32) -> Option<usize>>(
     parts: &mut Parts,
     pid: u32,
     programs: &[Flat],
@@ -425,8 +428,10 @@ pub fn serve<F: Fn(&[Run], u32) -> Option<usize>>(
     ensures memory { (a : About) → a.kind ≡ kind_of chooser.now → AreFlats a.programs programs.now →
         InReach reach (headers_of programs.now) a (called_in (physical_of (headers_of programs.now) a parts.old) pid) parts.old parts.new pid result }
     ensures stray { (access : Access) → result ≡ Ok (Stray access) → parts.new ≡ parts.old }
+    ensures unchanged { OnErr result (parts.new ≡ parts.old) }
     ensures yields { result ≡ Ok TurnEnds → WaitsAt parts.new.procs pid false }
     ensures waits { result ≡ Ok Waits → parts.old.files.changed ≡ [] → WaitsAt parts.new.procs pid true }
+    ensures unnoted { result ≡ Ok Waits → parts.new.notes ≡ parts.old.notes }
 {
     match call_of(parts, pid, reach, whole) {
         Ok(call) => answer_and_wake(parts, call, programs, chooser, reach, whole),
@@ -446,5 +451,78 @@ pub fn serve<F: Fn(&[Run], u32) -> Option<usize>>(
             }
         }
         Err(Unread::Memory) => Err(AllocError),
+    }
+}
+
+/// Carries out a call with a range that strays, the run's first: it is noted, and the call reaches all of memory. Out of memory
+/// there is no such note either.
+fn serve_noted<F: Fn(&[Run], u32) -> Option<usize>>(
+    parts: &mut Parts,
+    pid: u32,
+    access: Access,
+    programs: &[Flat],
+    chooser: &Chooser<F>,
+    whole: &Owners,
+) -> Result<Served, AllocError>
+    requires chooser { IsChooser F.pre F.post chooser.now }
+    requires ready { CanRun parts.old.procs pid }
+    requires whole { whole.now ≡ whole_table (length parts.old.regions) }
+    ensures memory { has_stray parts.old.notes ≡ false → (a : About) → a.kind ≡ kind_of chooser.now → AreFlats a.programs programs.now → stray_in (called (world_of a parts.old) pid) ≡ Some access →
+        ServesOn (headers_of programs.now) a parts.old parts.new pid result }
+    ensures unchanged { OnErr result (parts.new ≡ parts.old) }
+    ensures yields { result ≡ Ok TurnEnds → WaitsAt parts.new.procs pid false }
+    ensures waits { result ≡ Ok Waits → parts.old.files.changed ≡ [] → WaitsAt parts.new.procs pid true }
+    ensures unnoted { result ≡ Ok Waits → parts.new.notes ≡ (with_range pid (Some access) parts.old).notes }
+{
+    parts.note_stray(pid, access)?;
+    let served = serve_within(parts, pid, programs, chooser, Reach::Whole, whole);
+    if served.is_err() {
+        parts.take_back();
+    }
+    served
+}
+
+/// Carries out the system call that a process stands at, which may run. A run that ends at its first stray access answers a range that
+/// strays, and nothing is done. In a run that goes on the first such range is noted, before the call's own note, and from there on calls
+/// reach all of memory; a range outside memory ends the process by SIGSEGV. That note stands also where the log has no room for the
+/// call. Out of memory nothing changed.
+pub fn serve<F: Fn(&[Run], u32) -> Option<usize>>(
+    parts: &mut Parts,
+    pid: u32,
+    programs: &[Flat],
+    chooser: &Chooser<F>,
+    mode: Mode,
+    reach: &mut Reach,
+    whole: &Owners,
+) -> Result<Served, AllocError>
+    requires chooser { IsChooser F.pre F.post chooser.now }
+    requires ready { CanRun parts.old.procs pid }
+    requires whole { whole.now ≡ whole_table (length parts.old.regions) }
+    requires strayed { has_stray parts.old.notes ≡ is_whole reach.old }
+    requires halting { mode ≡ Halt → reach.old ≡ Own }
+    ensures serves { mode ≡ Halt → (a : About) → a.kind ≡ kind_of chooser.now → AreFlats a.programs programs.now →
+        Serves a (called (world_of a parts.old) pid) parts.old parts.new pid result }
+    ensures memory { mode ≡ GoOn → (a : About) → a.kind ≡ kind_of chooser.now → AreFlats a.programs programs.now →
+        ServesOn (headers_of programs.now) a parts.old parts.new pid result }
+    ensures halts { mode ≡ Halt → reach.new ≡ reach.old }
+    ensures goes_on { mode ≡ GoOn → (a : About) → a.kind ≡ kind_of chooser.now → AreFlats a.programs programs.now →
+        reach.new ≡ reach_on reach.old (first_range (physical_of (headers_of programs.now) a parts.old) pid) result }
+    ensures unchanged { OnErr result ((parts.new ≡ parts.old) × (reach.new ≡ reach.old)) }
+    ensures yields { result ≡ Ok TurnEnds → WaitsAt parts.new.procs pid false }
+    ensures waits { result ≡ Ok Waits → parts.old.files.changed ≡ [] → WaitsAt parts.new.procs pid true }
+    ensures unnoted { result ≡ Ok Waits → mode ≡ GoOn → (a : About) → a.kind ≡ kind_of chooser.now → AreFlats a.programs programs.now →
+        parts.new.notes ≡ (with_range pid (first_range (physical_of (headers_of programs.now) a parts.old) pid) parts.old).notes }
+{
+    let served = serve_within(parts, pid, programs, chooser, *reach, whole)?;
+    let Served::Stray(access) = served else {
+        return Ok(served);
+    };
+    match mode {
+        Mode::Halt => Ok(served),
+        Mode::GoOn => {
+            let noted = serve_noted(parts, pid, access, programs, chooser, whole)?;
+            *reach = Reach::Whole;
+            Ok(noted)
+        }
     }
 }

@@ -54,10 +54,11 @@ fn set_call(parts: &mut Parts, pid: u32, number: u32, args: [u32; 3])
     task.regs.x[12] = args[2];
 }
 
-/// What comes of a call of process 1 within its own bytes, and what a0 is then; None where it doesn't live.
+/// What comes of a call of process 1 where no stray access was noted, and what a0 is then; None where it doesn't live.
 fn call(
     rt: HostRuntime,
     parts: &mut Parts,
+    mode: Mode,
     number: u32,
     args: [u32; 3],
 ) -> Result<(Option<Served>, Option<u32>), Fail> {
@@ -73,7 +74,11 @@ fn call(
         first_fit(runs, need)
     });
     let whole = whole_table(rt.alloc(), parts.regions.pages())?;
-    let served = serve(parts, pid, &[], &chooser, Reach::Own, &whole)?;
+    let mut reach = match parts.reach() {
+        Reach::Own => Reach::Own,
+        Reach::Whole => return Err(Fail::from("a stray access was noted")),
+    };
+    let served = serve(parts, pid, &[], &chooser, mode, &mut reach, &whole)?;
     if !parts.procs.lives(1) {
         return Ok((Some(served), None));
     }
@@ -100,7 +105,7 @@ fn calls_are_answered(rt: HostRuntime) -> Result<(), Fail> {
         (94, [7, 0, 0], Served::Ended, None),
     ] {
         assert_eq!(rt;
-            call(rt, &mut parts, number, args)?,
+            call(rt, &mut parts, Mode::Halt, number, args)?,
             (Some(served), value),
             "{number}"
         );
@@ -135,7 +140,7 @@ fn files_are_written_and_read(rt: HostRuntime) -> Result<(), Fail> {
         (63, [0, 64, 1], Served::Stray(stray), Some(0)),
     ] {
         assert_eq!(rt;
-            call(rt, &mut parts, number, args)?,
+            call(rt, &mut parts, Mode::Halt, number, args)?,
             (Some(served), value),
             "{number}"
         );
@@ -158,7 +163,7 @@ fn an_execve_reads_strings(rt: HostRuntime) -> Result<(), Fail> {
     let path = sp.wrapping_add(16);
     let args = sp.wrapping_add(4);
     let env = sp.wrapping_add(12);
-    let answer = call(rt, &mut parts, 221, [path, args, env])?;
+    let answer = call(rt, &mut parts, Mode::Halt, 221, [path, args, env])?;
     assert_eq!(rt; answer, (Some(Served::Replied), Some(0xffff_fffe)));
     let Some(Note::Call(entry)) = parts.log.notes().last() else {
         return Err(Fail::from("no call is noted"));
@@ -172,6 +177,29 @@ fn an_execve_reads_strings(rt: HostRuntime) -> Result<(), Fail> {
         assert_eq!(rt; arg.as_slice(), b"/a".as_slice());
     }
     assert_eq!(rt; strings.env.len(), 0);
+    Ok(())
+}
+
+/// A run that goes on notes the first range that strays before the call, which reads it, or ends by a signal where it isn't memory.
+#[test]
+fn a_stray_range_is_noted(rt: HostRuntime) -> Result<(), Fail> {
+    let header = 0x8000_0000;
+    for (args, served, value, console) in [
+        ([1, header, 4], Served::Replied, Some(4), b"bFLT".as_slice()),
+        ([1, 64, 2], Served::Ended, None, b"".as_slice()),
+    ] {
+        let mut parts = begun(rt)?;
+        let answer = call(rt, &mut parts, Mode::GoOn, 64, args)?;
+        assert_eq!(rt; answer, (Some(served), value));
+        assert_eq!(rt; parts.console.as_slice(), console);
+        assert_eq!(rt; parts.log.notes().len(), 3);
+        let seen = match parts.log.notes().get(1) {
+            Some(Note::Stray { access, .. }) => access.addr,
+            _ => 0,
+        };
+        assert_eq!(rt; seen, args[1]);
+        assert_eq!(rt; parts.log.spare(), 0);
+    }
     Ok(())
 }
 

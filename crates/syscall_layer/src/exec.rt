@@ -1,6 +1,6 @@
 //! A program in the place of another one (Linux, execve(2), in this project's profile).
 
-ghost use Rattle.std.specs.Prelude.{◌≡◌, ◌≤◌, ℕ, ◌∷◌, [], true, IfOk, List, length, slice_get, Some};
+ghost use Rattle.std.specs.Prelude.{◌≡◌, ◌-◌, ◌≤◌, ℕ, ◌∷◌, [], true, IfOk, List, length, slice_get, Some};
 ghost use Rattle.page_runs.specs.Choosers.{IsChooser, kind_of};
 ghost use Rattle.call_log.specs.Notes.{has_room, load_note};
 ghost use Rattle.mmap_rules.specs.Held.{Held};
@@ -21,7 +21,7 @@ ghost use Rattle.syscall_layer.specs.Calls.{RunsIn, IsCall, ask_in, noted_call};
 
 use crate::answer::Served;
 use crate::effect::Effect;
-use crate::keep::keep;
+use crate::keep::{keep, or_unreserve};
 use crate::parts::Parts;
 use crate::strings::ProgramStrings;
 use crate::task::Task;
@@ -50,7 +50,8 @@ fn note_exec(log: &mut Log, call: Call, got: Vec<Got>, index: u32, base: u32, pa
     requires spare { 2 ≤ log.old.spare }
     requires empty { got.items ≡ [] }
     requires room { has_room log.old.notes (length call.sent.items) ≡ true }
-    ensures { log.new.notes ≡ load_note (record { pid = call.pid; program = index; base = base; pages = pages }) ∷ noted_call call 0 [] ∷ log.old.notes }
+    ensures notes { log.new.notes ≡ load_note (record { pid = call.pid; program = index; base = base; pages = pages }) ∷ noted_call call 0 [] ∷ log.old.notes }
+    ensures spare { log.new.spare ≡ log.old.spare - 2 }
 {
     let Call {
         pid,
@@ -111,7 +112,7 @@ impl Parts {
         self.spaces.reserve(1)?;
         self.log.reserve(2)?;
         let alloc = *self.spaces.allocator();
-        match load(
+        let loaded = load(
             alloc,
             &mut self.regions,
             &mut self.mem,
@@ -119,7 +120,8 @@ impl Parts {
             &strings.args,
             &strings.env,
             chooser,
-        ) {
+        );
+        match or_unreserve(&mut self.log, loaded) {
             Ok(
                 Loaded {
                     space,

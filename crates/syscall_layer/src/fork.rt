@@ -9,6 +9,7 @@ ghost use Rattle.flat_loader.specs.Alone.{child_regs};
 ghost use Rattle.syscall_layer.specs.declared.task.Task.{Task};
 ghost use Rattle.syscall_layer.specs.Calls.{RunsIn, Forks};
 
+use crate::keep::or_unreserve;
 use crate::parts::Parts;
 use crate::reply::{finish, set_reply};
 use crate::task::Task;
@@ -41,10 +42,11 @@ impl Parts {
         self.log.reserve(1)?;
         let got = Vec::new(*self.console.allocator());
         let Task { regs, space, table } = *self.procs.get(call.pid);
+        let copied = self.files.copy_table(table);
         let child = Task {
             regs: child_regs(&regs, call.args[1]),
             space,
-            table: self.files.copy_table(table)?,
+            table: or_unreserve(&mut self.log, copied)?,
         };
         match self.procs.vfork(call.pid, child) {
             Ok(pid) => finish(&mut self.procs, &mut self.log, call, pid, got),

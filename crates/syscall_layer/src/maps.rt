@@ -22,6 +22,7 @@ ghost use Rattle.syscall_layer.specs.Stands.{About, world_of};
 ghost use Rattle.syscall_layer.specs.Calls.{RunsIn, IsCall, ask_in, Changes};
 ghost use Rattle.syscall_layer.specs.MapsIn.{MapsIn, UnmapsIn, IsAddress, status_of};
 
+use crate::keep::or_unreserve;
 use crate::parts::Parts;
 use crate::reply::finish;
 use call_log::Errno;
@@ -168,7 +169,7 @@ impl Parts {
             want,
             chooser,
         );
-        let value = address(mapped)?;
+        let value = or_unreserve(&mut self.log, address(mapped))?;
         let got = Vec::new(*self.console.allocator());
         finish(&mut self.procs, &mut self.log, call, value, got);
         Ok(())

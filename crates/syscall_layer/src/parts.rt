@@ -30,13 +30,14 @@ pub struct Parts {
     pub files: Files,
     /// The processes that live.
     pub procs: Procs<Task>,
-    /// The notes.
+    /// The notes. No memory is kept ready for more.
     pub log: Log,
     /// What was written to the console.
     pub console: Vec<u8>,
 }
 
 impl Model for Parts {
+    ghost use Rattle.std.specs.Prelude.{◌≡◌};
     ghost use Rattle.syscall_layer.specs.Kept.{Kept};
 
     ghost Value = { Kept };
@@ -46,7 +47,7 @@ impl Model for Parts {
 
     ghost view = { kept_of };
 
-    ghost invariant = { λ p. IsRegular (kept_of p) };
+    ghost invariant = { λ p. IsRegular (kept_of p) × (p.log.spare ≡ 0) };
 }
 
 impl Parts {

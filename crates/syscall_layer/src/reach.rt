@@ -1,11 +1,15 @@
 //! What a system call may read and write.
 
-ghost use Rattle.std.specs.Prelude.{◌≡◌, ◌≤◌, IfOk, length, slice_get, Some};
+ghost use Rattle.std.specs.Prelude.{◌≡◌, ◌≤◌, IfOk, length, map, slice_get, Some};
+ghost use Rattle.call_log.specs.Values.{note_value};
 ghost use Rattle.mmap_rules.specs.Held.{Held};
-ghost use Rattle.syscall_layer.specs.Reach.{Reaches, whole_table};
+ghost use Rattle.physical_turns.specs.Physical.{has_stray};
+ghost use Rattle.syscall_layer.specs.Reach.{Reaches, whole_table, is_whole};
 ghost use Rattle.syscall_layer.specs.Regular.{HasSpace};
 
 use crate::call::home;
+use crate::parts::Parts;
+use call_log::Note;
 use mmap_rules::{Owners, PageOwner, Space};
 use std::alloc::{AllocError, Global};
 
@@ -46,5 +50,30 @@ pub fn table_of<'a>(
     match reach {
         Reach::Own => home(spaces, number).owners(),
         Reach::Whole => whole,
+    }
+}
+
+/// Whether the note of a stray access is among these.
+fn has_stray(notes: &[Note]) -> bool
+    ensures { result ≡ has_stray (map note_value notes.now) }
+{
+    for note in notes {
+        if let Note::Stray { .. } = note {
+            return true;
+        }
+    }
+    false
+}
+
+impl Parts {
+    /// What calls reach: all of memory behind the note of a stray access. It looks through the notes, oldest first.
+    pub fn reach(&self) -> Reach
+        ensures { has_stray self.now.notes ≡ is_whole result }
+    {
+        if has_stray(self.log.notes()) {
+            Reach::Whole
+        } else {
+            Reach::Own
+        }
     }
 }

@@ -1,6 +1,6 @@
 //! The reply of a system call after which its process lives.
 
-ghost use Rattle.std.specs.Prelude.{◌≡◌, ◌≤◌, ◌∷◌, All, None, Some, false, true, length, map, slice_get, slice_set};
+ghost use Rattle.std.specs.Prelude.{◌≡◌, ◌-◌, ◌≤◌, ◌∷◌, All, None, Some, false, true, length, map, slice_get, slice_set};
 ghost use Rattle.call_log.specs.Notes.{has_room, weight_of};
 ghost use Rattle.call_log.specs.Values.{written_value};
 ghost use Rattle.mmap_rules.specs.Held.{Held, next_brk};
@@ -21,7 +21,7 @@ ghost use Rattle.syscall_layer.specs.Calls.{RunsIn, IsCall, ask_in, value_of, br
 
 use crate::call::home;
 use crate::effect::Effect;
-use crate::keep::keep;
+use crate::keep::{keep, or_unreserve};
 use crate::output::{follow, put};
 use crate::parts::Parts;
 use crate::task::Task;
@@ -73,6 +73,7 @@ pub(crate) fn finish(procs: &mut Procs<Task>, log: &mut Log, call: Call, value: 
     requires room { has_room log.old.notes (weight_of call.sent.items (map written_value got.items)) ≡ true }
     ensures procs { (t : Task) → value_at procs.old call.pid ≡ Some t → procs.new ≡ with_value_at procs.old call.pid (record t { regs = replied t.regs value }) }
     ensures notes { log.new.notes ≡ noted_call call value (map written_value got.items) ∷ log.old.notes }
+    ensures spare { log.new.spare ≡ log.old.spare - 1 }
 {
     let task = procs.get_mut(call.pid);
     set_reply(&mut task.regs, value);
@@ -122,7 +123,8 @@ impl Parts {
         ensures memory { self.new.mem ≡ self.old.mem }
     {
         self.log.reserve(1)?;
-        let value = file_calls::change(&mut self.tree, &mut self.files, &mut self.console, &call)?;
+        let changed = file_calls::change(&mut self.tree, &mut self.files, &mut self.console, &call);
+        let value = or_unreserve(&mut self.log, changed)?;
         let got = Vec::new(*self.console.allocator());
         finish(&mut self.procs, &mut self.log, call, value, got);
         Ok(())
@@ -143,7 +145,8 @@ impl Parts {
         ensures lives { Lives self.new.procs call.pid }
     {
         self.log.reserve(1)?;
-        follow(&mut self.files, call.table, outcome.then)?;
+        let followed = follow(&mut self.files, call.table, outcome.then);
+        or_unreserve(&mut self.log, followed)?;
         put(&mut self.mem, &outcome.got);
         finish(
             &mut self.procs,

@@ -10,6 +10,7 @@ ghost use Rattle.syscall_layer.specs.Refusals.{refusal_of};
 ghost use Rattle.syscall_layer.specs.InMemory.{header_of, LaysOn};
 ghost use Rattle.syscall_layer.specs.Starts.{Starts};
 
+use crate::keep::or_unreserve;
 use crate::parts::Parts;
 use crate::task::Task;
 use bflt_format::Flat;
@@ -57,18 +58,13 @@ impl Parts {
         ensures memory { (headers : List (List ℕ)) → slice_get headers index ≡ Some (header_of flat.now) → IfOk result (λ _. LaysOn headers self.old self.new) }
     {
         if self.spaces.reserve(1).is_err()
-            || self.log.reserve(1).is_err()
             || self.files.ready().is_err()
+            || self.log.reserve(1).is_err()
         {
             return Err(StartRefusal::Memory);
         }
         let alloc = *self.spaces.allocator();
-        let Loaded {
-            space,
-            regs,
-            base,
-            pages,
-        } = load(
+        let loaded = load(
             alloc,
             &mut self.regions,
             &mut self.mem,
@@ -76,7 +72,13 @@ impl Parts {
             args,
             &[],
             chooser,
-        )?;
+        );
+        let Loaded {
+            space,
+            regs,
+            base,
+            pages,
+        } = or_unreserve(&mut self.log, loaded)?;
         let number = self.spaces.len() as u32;
         self.spaces.push_reserved(Some(space));
         let table = self.files.new_table().unwrap();

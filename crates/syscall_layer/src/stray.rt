@@ -1,7 +1,9 @@
 //! A stray access.
 
-ghost use Rattle.std.specs.Prelude.{◌≡◌};
+ghost use Rattle.std.specs.Prelude.{◌≡◌, IfOk, Some};
 ghost use Rattle.machine_world.specs.Turns.{seen_of};
+ghost use Rattle.syscall_layer.specs.InMemory.{with_range, without_newest};
+ghost use Rattle.syscall_layer.specs.Regular.{IsRegular};
 ghost use Rattle.syscall_layer.specs.Serves.{NotesStray};
 
 use crate::keep::keep;
@@ -32,6 +34,8 @@ impl Parts {
     /// Notes the access of a process that strays.
     pub fn note_stray(&mut self, pid: u32, access: Access) -> Result<(), AllocError>
         ensures strays { NotesStray pid access self.old self.new result }
+        ensures kept { IfOk result (λ _. self.new ≡ with_range pid (Some access) self.old) }
+        ensures sound { IfOk result (λ _. IsRegular (without_newest self.new)) }
         ensures memory { self.new.mem ≡ self.old.mem }
     {
         self.log.reserve(1)?;
@@ -43,5 +47,13 @@ impl Parts {
             },
         );
         Ok(())
+    }
+
+    /// Takes back the newest note, where the parts are sound without it, such as that of a stray access whose event finds no memory.
+    pub fn take_back(&mut self)
+        requires { IsRegular (without_newest self.old) }
+        ensures { self.new ≡ without_newest self.old }
+    {
+        self.log.take_back();
     }
 }

@@ -11,7 +11,7 @@ use Rattle.machine_world.specs.Turns.{Walk, stray_at, turns}
 use Rattle.physical_turns.specs.Physical.{Physical, Walk as PhysicalWalk, physical_turns, opening as memory_opening}
 use Rattle.go_on_laws.specs.Laws.{GoesPast}
 use Rattle.memory_refusals.specs.Regular.{IsRegularIn}
-use Rattle.flat_machine.specs.declared.machine.Mode.TheVariants.{Halt, GoOn}
+use Rattle.syscall_layer.specs.declared.mode.Mode.TheVariants.{Halt, GoOn}
 use Rattle.flat_machine.specs.Runs.{repeated}
 use Rattle.flat_machine.specs.OwnBytes.{own_bytes, memory_bytes}
 use Rattle.suite_top.specs.declared.status.Status.TheVariants.{Stray}

@@ -15,7 +15,7 @@ use Rattle.waits_laws.specs.Laws.{WaitsOrLent}
 use Rattle.stays_laws.specs.Stays.{Stay, AreRight, stays, first_stays}
 use Rattle.end_laws.specs.Laws.{EndsAreTold}
 use Rattle.refusal_laws.specs.Regular.{IsRegular}
-use Rattle.flat_machine.specs.declared.machine.Mode.{Mode}
+use Rattle.syscall_layer.specs.declared.mode.Mode.{Mode}
 use Rattle.flat_machine.specs.Runs.{repeated}
 use Rattle.suite_top.specs.declared.status.Status.{Status}
 use Rattle.suite_top.specs.declared.status.Status.TheVariants.{Done, HostRead, Refused, Stray, OutOfQuanta, LogFull, Stuck}

@@ -8,7 +8,7 @@ use Rattle.syscall_layer.specs.Calls.{ask_in}
 use Rattle.syscall_layer.specs.InMemory.{headers_of, physical_of}
 use Rattle.syscall_layer.proofs.Wakes.{settled_answers, unsettled_answers}
 use Rattle.syscall_layer.proofs.CallsIn.{settled_reach, unsettled_reach}
-use Rattle.syscall_layer.proofs.Leaves.{stray_keeps, stray_never, yield_goes, yield_goes_on, wait_goes, wait_goes_on}
+use Rattle.syscall_layer.proofs.Leaves.{stray_keeps, stray_never, yield_goes, yield_goes_on, wait_goes, wait_goes_on, wait_unnoted, wait_leaves_notes}
 use Rattle.syscall_layer.proofs.answer.answer_and_wake.Goals as goal
 
 pub returns-then-went-clause-serves : goal.returns-then-went-clause-serves
@@ -58,3 +58,10 @@ returns-then-went-clause-waits g c =
 
 pub returns-else-went-clause-waits : goal.returns-else-went-clause-waits
 returns-else-went-clause-waits g c = λ is marks. wait_goes c.args.parts.now c.answer.new.parts c.args.call.pid (Ok c.in_ok-served.served) c.in_ok-served.ensures.leaves is
+
+pub returns-then-went-clause-unnoted : goal.returns-then-went-clause-unnoted
+returns-then-went-clause-unnoted g c =
+    wait_leaves_notes c.args.parts.now c.answer.new.parts c.args.call.pid (Ok c.in_ok-served.served) c.in_ok-served.ensures.leaves c.wake_changed.new.self c.wake_changed.ensures.kept
+
+pub returns-else-went-clause-unnoted : goal.returns-else-went-clause-unnoted
+returns-else-went-clause-unnoted g c = wait_unnoted c.args.parts.now c.answer.new.parts c.args.call.pid (Ok c.in_ok-served.served) c.in_ok-served.ensures.leaves

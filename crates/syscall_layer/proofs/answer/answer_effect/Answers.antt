@@ -42,6 +42,6 @@ pub returns-clause-leaves : goal.returns-clause-leaves
 returns-clause-leaves c = λ ready.
     let k = c.args.parts.now in
     let call = c.args.call in
-    let r = runs_in k call.pid (subst IsRegular c.parts.view_is c.parts.invariant).0 c.requires in
+    let r = runs_in k call.pid (subst IsRegular c.parts.view_is c.parts.invariant.0).0 c.requires in
     subst (λ (served : Served). Tells k c.reply.new.self call.pid served) (sym c.served_by.ensures)
     (effect_leaves k r.0 r.1.0 call r.1.1.lives ready c.args.effect c.reply.new.self (λ a. c.in_ok-reply.ensures.replies a r.0 r.1.0 r.1.1))

@@ -48,7 +48,7 @@ returns-then-not-has_room_with-clause-serves c = λ own a e h runs is.
 pub returns-then-not-has_room_with-clause-memory : goal.returns-then-not-has_room_with-clause-memory
 returns-then-not-has_room_with-clause-memory c = λ headers a e h runs is.
     let k = c.args.parts.now in
-    let regular = subst Regular c.parts.view_is c.parts.invariant.0 in
+    let regular = subst Regular c.parts.view_is c.parts.invariant.0.0 in
     let o = c.args.outcome in
     let fits = reach_inside k regular e.value.space h runs.home c.args.reach (written_of o) (none_beyond o _ c.deref.ensures.value c.args.reach k c.args.call.pid c.stray_of.result c.stray_of.ensures e h runs c.in_default.is) in
     in_reach headers a (answered_in (physical_of headers a k) (ask_in a k e h c.args.call) (replies (given (ask_in a k e h c.args.call) o))) k k c.args.call.pid c.args.reach (Ok LogFull)
@@ -58,7 +58,7 @@ pub give-requires-clause-inside : goal.give-requires-clause-inside
 give-requires-clause-inside c =
     let k = c.args.parts.now in
     let o = c.args.outcome in
-    let regular = subst Regular c.parts.view_is c.parts.invariant.0 in
+    let regular = subst Regular c.parts.view_is c.parts.invariant.0.0 in
     let r = runs_in k c.args.call.pid regular (can_run_lives k.procs c.args.call.pid c.requires.ready) in
     reach_inside k regular r.0.value.space r.1.0 r.1.1.home c.args.reach (written_of c.args.outcome) (none_beyond o _ c.deref.ensures.value c.args.reach k c.args.call.pid c.stray_of.result c.stray_of.ensures r.0 r.1.0 r.1.1 c.in_default.is)
 
@@ -94,7 +94,7 @@ returns-clause-serves c = λ own a e h runs is.
 pub returns-clause-memory : goal.returns-clause-memory
 returns-clause-memory c = λ headers a e h runs is.
     let k = c.args.parts.now in
-    let regular = subst Regular c.parts.view_is c.parts.invariant.0 in
+    let regular = subst Regular c.parts.view_is c.parts.invariant.0.0 in
     let o = c.args.outcome in
     in_reach headers a (answered_in (physical_of headers a k) (ask_in a k e h c.args.call) (replies (given (ask_in a k e h c.args.call) o))) k c.give.new.self c.args.call.pid c.args.reach (Ok Replied)
     (given_serves_in headers a k e h c.args.call runs is o regular c.give.new.self (c.in_ok-give.ensures.memory a e h runs is) (room_by o _ c.deref-2.ensures.value (kept_of c.parts.inside) k c.parts.view_is c.args.call.sent.items c.has_room_with.result true c.has_room_with.ensures c.if-not-has_room_with.false) c.in_ok-give.ensures.lives)

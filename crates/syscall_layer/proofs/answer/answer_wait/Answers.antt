@@ -21,9 +21,12 @@ invariant_of-parts c =
     let k = kept_of c.parts.inside in
     let pid = c.args.call.now.pid in
     let ready = subst (λ (x : Kept). CanRun x.procs pid) (sym c.parts.view_is) c.requires in
-    let r = runs_in k pid c.parts.invariant.0 (can_run_lives k.procs pid ready) in (
-      subst (λ (s : Listed Task). Regular (record k { procs = s })) (sym c.wait_on.ensures)
-          (regular_waiting k pid r.0 (OnPipe c.args.pipe) refl c.parts.invariant.0 r.1.1.lives ready),
+    let r = runs_in k pid c.parts.invariant.0.0 (can_run_lives k.procs pid ready) in (
+      (
+        subst (λ (s : Listed Task). Regular (record k { procs = s })) (sym c.wait_on.ensures)
+            (regular_waiting k pid r.0 (OnPipe c.args.pipe) refl c.parts.invariant.0.0 r.1.1.lives ready),
+        c.parts.invariant.0.1,
+      ),
       c.parts.invariant.1,
     )
 
@@ -42,4 +45,4 @@ returns-clause-leaves c =
     let old = kept_of c.parts.inside in
     let pid = c.args.call.now.pid in
     let ready = subst (λ (x : Kept). CanRun x.procs pid) (sym c.parts.view_is) c.requires in
-    (waits_now old.procs pid ready (OnPipe c.args.pipe) refl c.wait_on.new.self c.wait_on.ensures, ap (λ (x : Kept). x.files) c.parts.view_is)
+    (waits_now old.procs pid ready (OnPipe c.args.pipe) refl c.wait_on.new.self c.wait_on.ensures, ap (λ (x : Kept). x.files) c.parts.view_is, ap (λ (x : Kept). x.notes) c.parts.view_is)

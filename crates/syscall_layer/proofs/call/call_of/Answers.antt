@@ -21,9 +21,9 @@ read_sent-requires c =
     let number = c.get-task.result.now.space in
     let whole = subst (λ (s : Kept). c.args.whole.now ≡ whole_table (length s.regions)) (sym c.parts.view_is) c.requires.whole in
     let lives = subst (λ (s : Kept). Lives s.procs c.args.pid) (sym c.parts.view_is) c.requires.lives in
-    let live = has_space k c.args.pid c.get-task.result.now c.parts.invariant.0 lives c.get-task.ensures in
+    let live = has_space k c.args.pid c.get-task.result.now c.parts.invariant.0.0 lives c.get-task.ensures in
     let reached = c.table_of-owners.ensures live.held (ap (λ (ss : List (Option Held)). slice_get ss number) c.deref.ensures.value ∙ live.there) in
-    record { memory = memory_reached k c.args.reach c.args.whole.now whole live.held c.table_of-owners.result.now reached c.parts.invariant.0 }
+    record { memory = memory_reached k c.args.reach c.args.whole.now whole live.held c.table_of-owners.result.now reached c.parts.invariant.0.0 }
 
 pub returns-in-Ok-clause-made : goal.returns-in-Ok-clause-made
 returns-in-Ok-clause-made c = λ e h runs.

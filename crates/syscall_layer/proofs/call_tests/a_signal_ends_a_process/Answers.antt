@@ -10,4 +10,4 @@ pub end_by_signal-requires : goal.end_by_signal-requires
 end_by_signal-requires g c =
     let k = kept_of c.parts.inside in
     subst (λ (s : Kept). CanRun s.procs c.runnable_at-pid.result) c.parts.view_is
-    (can_run_ready k.procs k.procs.next_pid 0 c.runnable_at-pid.result c.parts.invariant.0.falls c.runnable_at-pid.ensures)
+    (can_run_ready k.procs k.procs.next_pid 0 c.runnable_at-pid.result c.parts.invariant.0.0.falls c.runnable_at-pid.ensures)

@@ -10,7 +10,4 @@ pub serve-requires-clause-ready : goal.serve-requires-clause-ready
 serve-requires-clause-ready c =
     let k = kept_of c.parts-2.inside in
     subst (λ (s : Kept). CanRun s.procs c.runnable_at-pid.result) c.parts-2.view_is
-    (can_run_ready k.procs k.procs.next_pid 0 c.runnable_at-pid.result c.parts-2.invariant.0.falls c.runnable_at-pid.ensures)
-
-pub serve-requires-clause-strayed : goal.serve-requires-clause-strayed
-serve-requires-clause-strayed c = λ whole. absurd cc
+    (can_run_ready k.procs k.procs.next_pid 0 c.runnable_at-pid.result c.parts-2.invariant.0.0.falls c.runnable_at-pid.ensures)

@@ -15,10 +15,13 @@ invariant_of-parts c =
     let k = kept_of c.parts.inside in
     let t = c.get_mut-task.result.now in
     let lives = subst (λ (s : Kept). Lives s.procs c.args.pid) (sym c.parts.view_is) c.requires in
-    let live = has_space k c.args.pid t c.parts.invariant.0 lives c.get_mut-task.ensures.value in
+    let live = has_space k c.args.pid t c.parts.invariant.0.0 lives c.get_mut-task.ensures.value in
     let regs : Regs = record { pc = t.regs.pc; x = slice_set (slice_set (slice_set (slice_set t.regs.x 17 c.args.number) 10 (slice_index c.args.args 0)) 11 (slice_index c.args.args 1)) 12 (slice_index c.args.args 2) } in (
-      regular_replied k c.args.pid t live.held c.parts.invariant.0 lives c.get_mut-task.ensures.value live.there
-          regs live.held.brk k.mem k.spaces k.tree k.files (with_value_at k.procs c.args.pid (record t { regs = regs })) k.notes k.console
-          refl (sym (set_kept k.spaces t.space (Some live.held) live.there)) refl (omega arith),
+      (
+        regular_replied k c.args.pid t live.held c.parts.invariant.0.0 lives c.get_mut-task.ensures.value live.there
+            regs live.held.brk k.mem k.spaces k.tree k.files (with_value_at k.procs c.args.pid (record t { regs = regs })) k.notes k.console
+            refl (sym (set_kept k.spaces t.space (Some live.held) live.there)) refl (omega arith),
+        c.parts.invariant.0.1,
+      ),
       c.parts.invariant.1,
     )

@@ -37,13 +37,13 @@ returns-clause-serves c = λ a e h runs is.
     let call = c.args.call in
     let few = ap (λ (x : Kept). nat_le most_entries (count x.procs)) (sym c.parts.view_is) ∙ sym c.full.ensures.full ∙ c.if-full.false in
     let room = room_is (kept_of c.parts.inside) k c.parts.view_is (length call.sent.items) c.has_room.result true c.has_room.ensures c.if-not-has_room.false in
-    fork_serves a k e h call is c.if-call-ne-VFORK_FLAGS.false few (subst IsRegular c.parts.view_is c.parts.invariant).0 runs.lives room c.fork.new.self (c.in_ok-fork.ensures.forks e h runs)
+    fork_serves a k e h call is c.if-call-ne-VFORK_FLAGS.false few (subst IsRegular c.parts.view_is c.parts.invariant.0).0 runs.lives room c.fork.new.self (c.in_ok-fork.ensures.forks e h runs)
 
 pub returns-clause-leaves : goal.returns-clause-leaves
 returns-clause-leaves c =
     let k = c.args.parts.now in
     let call = c.args.call in
-    let regular = (subst IsRegular c.parts.view_is c.parts.invariant).0 in
+    let regular = (subst IsRegular c.parts.view_is c.parts.invariant.0).0 in
     let r = runs_in k call.pid regular (can_run_lives k.procs call.pid c.requires) in
     fork_leaves k r.0 call regular r.1.1.lives c.fork.new.self (c.in_ok-fork.ensures.forks r.0 r.1.0 r.1.1)
 

@@ -49,8 +49,11 @@ returns-in_err-served-clause-memory c = λ headers a e h runs is.
 pub invariant_of-parts : goal.invariant_of-parts
 invariant_of-parts c =
     let k = kept_of c.parts-2.inside in (
-      subst (λ (s : Listed Task). Regular (record k { procs = s })) (sym c.wait.ensures.after)
-          (regular_told k c.parts-2.invariant.0 c.args.call.pid c.args.who c.wait.result c.wait.ensures.answer),
+      (
+        subst (λ (s : Listed Task). Regular (record k { procs = s })) (sym c.wait.ensures.after)
+            (regular_told k c.parts-2.invariant.0.0 c.args.call.pid c.args.who c.wait.result c.wait.ensures.answer),
+        c.parts-2.invariant.0.1,
+      ),
       c.parts-2.invariant.1,
     )
 

@@ -61,10 +61,13 @@ invariant_of-parts c =
     let k = kept_of c.parts.inside in
     let pid = c.args.call.pid in
     let ready = subst (λ (x : Kept). CanRun x.procs pid) (sym c.parts.view_is) c.requires.ready in
-    let r = runs_in k pid c.parts.invariant.0 (can_run_lives k.procs pid ready) in
+    let r = runs_in k pid c.parts.invariant.0.0 (can_run_lives k.procs pid ready) in
     let waits = c.wait.ensures.answer ∙ sym c.wait_look.ensures ∙ c.in-Ok.is ∙ ap Ok c.in-Waits.is in (
-      subst (λ (s : Listed Task). Regular (record k { procs = s })) (sym (c.wait.ensures.after ∙ ap (with_wait k.procs pid c.meant-who.result) waits))
-          (regular_waiting k pid r.0 (Waiting c.meant-who.result) refl c.parts.invariant.0 r.1.1.lives ready),
+      (
+        subst (λ (s : Listed Task). Regular (record k { procs = s })) (sym (c.wait.ensures.after ∙ ap (with_wait k.procs pid c.meant-who.result) waits))
+            (regular_waiting k pid r.0 (Waiting c.meant-who.result) refl c.parts.invariant.0.0 r.1.1.lives ready),
+        c.parts.invariant.0.1,
+      ),
       c.parts.invariant.1,
     )
 
@@ -140,7 +143,7 @@ returns-in-Waits-clause-leaves c =
     let who = c.meant-who.result in
     let ready = subst (λ (x : Kept). CanRun x.procs pid) (sym c.parts.view_is) c.requires.ready in
     let procs = c.wait.ensures.after ∙ ap (with_wait old.procs pid who) (c.wait.ensures.answer ∙ sym c.wait_look.ensures ∙ c.in-Ok.is ∙ ap Ok c.in-Waits.is) in
-    (waits_now old.procs pid ready (Waiting who) refl c.wait.new.self procs, ap (λ (x : Kept). x.files) c.parts.view_is)
+    (waits_now old.procs pid ready (Waiting who) refl c.wait.new.self procs, ap (λ (x : Kept). x.files) c.parts.view_is, ap (λ (x : Kept). x.notes) c.parts.view_is)
 
 pub returns-clause-leaves : goal.returns-clause-leaves
 returns-clause-leaves c = c.answer_told.ensures.leaves

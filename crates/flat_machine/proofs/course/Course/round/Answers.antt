@@ -4,7 +4,7 @@ use Rattle.std.proofs.lemmas.List.Sums.{sum_by-drop_more}
 use Rattle.quantum_sched.specs.declared.Quantum.{Quantum}
 use Rattle.machine_world.proofs.RunLaws.{comes_none}
 use Rattle.physical_turns.proofs.TurnsIn.{comes_in_none}
-use Rattle.flat_machine.specs.declared.machine.Mode.TheVariants.{GoOn}
+use Rattle.syscall_layer.specs.declared.mode.Mode.TheVariants.{GoOn}
 use Rattle.flat_machine.specs.State.{State, world, one_memory, told}
 use Rattle.flat_machine.specs.LeavesIn.{LeavesIn}
 use Rattle.flat_machine.proofs.Rounds.{round_on, round_ends, round_fails}

@@ -5,7 +5,7 @@ use Rattle.quantum_sched.specs.declared.Quantum.{Quantum}
 use Rattle.machine_world.specs.Turns.{turns}
 use Rattle.machine_world.proofs.RunLaws.{comes_none}
 use Rattle.physical_turns.proofs.TurnsIn.{comes_in_none}
-use Rattle.flat_machine.specs.declared.machine.Mode.TheVariants.{GoOn}
+use Rattle.syscall_layer.specs.declared.mode.Mode.TheVariants.{GoOn}
 use Rattle.flat_machine.specs.State.{State, about_of, world, one_memory, told}
 use Rattle.flat_machine.specs.Inside.{state_of}
 use Rattle.flat_machine.specs.Runs.{repeated, Ends}

@@ -5,8 +5,8 @@ use Rattle.machine_world.specs.Families.{ready_pids}
 use Rattle.physical_turns.specs.Physical.{Physical, has_stray}
 use Rattle.syscall_layer.specs.declared.reach.Reach.{Reach}
 use Rattle.syscall_layer.specs.declared.reach.Reach.TheVariants.{Own, Whole}
-use Rattle.flat_machine.specs.declared.machine.Mode.{Mode}
-use Rattle.flat_machine.specs.declared.machine.Mode.TheVariants.{GoOn}
+use Rattle.syscall_layer.specs.declared.mode.Mode.{Mode}
+use Rattle.syscall_layer.specs.declared.mode.Mode.TheVariants.{GoOn}
 use Rattle.flat_machine.specs.declared.run.End.TheVariants as stop
 use Rattle.flat_machine.specs.State.{State, about_of, world, one_memory, is_whole, told}
 use Rattle.flat_machine.specs.Inside.{state_of}

@@ -1,7 +1,7 @@
 -- The bytes don't go by the notes.
 use Rattle.std.proofs.Common.{◌≡◌, ℕ, List, Option, sym, ap, subst, ◌∙◌}
 use Rattle.std.specs.Prelude.{IfOk, option_map}
-use Rattle.flat_machine.specs.declared.machine.Mode.TheVariants.{Halt, GoOn}
+use Rattle.syscall_layer.specs.declared.mode.Mode.TheVariants.{Halt, GoOn}
 use Rattle.flat_machine.specs.declared.machine.Machine.TheInside.{Inside}
 use Rattle.flat_machine.specs.State.{State, about_of, told}
 use Rattle.flat_machine.specs.Inside.{state_of}

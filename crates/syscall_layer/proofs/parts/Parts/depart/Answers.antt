@@ -12,20 +12,20 @@ pub invariant_of-self : goal.invariant_of-self
 invariant_of-self c =
     let k = kept_of c.self.inside in
     let runs = subst (λ (s : Kept). CanRun s.procs c.args.pid) (sym c.self.view_is) c.requires in
-    kept_ended k c.args.pid c.args.how c.get.result.now runs c.get.ensures c.drop_table.new.tree c.drop_table.new.self.open_files c.end.new.self c.drop_table.ensures.storage c.end.ensures c.self.invariant
+    (kept_ended k c.args.pid c.args.how c.get.result.now runs c.get.ensures c.drop_table.new.tree c.drop_table.new.self.open_files c.end.new.self c.drop_table.ensures.storage c.end.ensures c.self.invariant.0, c.self.invariant.1)
 
 pub give_up-requires-clause-nobody : goal.give_up-requires-clause-nobody
 give_up-requires-clause-nobody c =
     let k = kept_of c.self.inside in
     let runs = subst (λ (s : Kept). CanRun s.procs c.args.pid) (sym c.self.view_is) c.requires in
-    nobody_ended k c.args.pid c.args.how c.get.result.now runs c.get.ensures c.drop_table.new.tree c.drop_table.new.self.open_files c.end.new.self c.drop_table.ensures.storage c.end.ensures c.self.invariant
+    nobody_ended k c.args.pid c.args.how c.get.result.now runs c.get.ensures c.drop_table.new.tree c.drop_table.new.self.open_files c.end.new.self c.drop_table.ensures.storage c.end.ensures c.self.invariant.0
     (sym c.borrows-lent.ensures ∙ c.if-not-lent.true)
 
 pub invariant_of-self-else-not-lent : goal.invariant_of-self-else-not-lent
 invariant_of-self-else-not-lent c =
     let k = kept_of c.self.inside in
     let runs = subst (λ (s : Kept). CanRun s.procs c.args.pid) (sym c.self.view_is) c.requires in
-    kept_ended k c.args.pid c.args.how c.get.result.now runs c.get.ensures c.drop_table.new.tree c.drop_table.new.self.open_files c.end.new.self c.drop_table.ensures.storage c.end.ensures c.self.invariant
+    (kept_ended k c.args.pid c.args.how c.get.result.now runs c.get.ensures c.drop_table.new.tree c.drop_table.new.self.open_files c.end.new.self c.drop_table.ensures.storage c.end.ensures c.self.invariant.0, c.self.invariant.1)
 
 pub returns-then-not-lent : goal.returns-then-not-lent
 returns-then-not-lent c = λ e h.

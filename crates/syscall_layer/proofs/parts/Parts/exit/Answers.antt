@@ -26,4 +26,4 @@ returns-clause-memory c =
     let pid = c.args.call.pid in
     let k = kept_of c.self.inside in
     let lives = can_run_lives k.procs pid (subst (λ (s : Kept). CanRun s.procs pid) (sym c.self.view_is) c.requires.ready) in
-    end_mem k pid c.self.invariant.0 lives c.keep-2.new.log.notes (exit_of c.args.call) c.depart.new.self c.depart.ensures ∙ ap (λ (s : Kept). s.mem) c.self.view_is
+    end_mem k pid c.self.invariant.0.0 lives c.keep-2.new.log.notes (exit_of c.args.call) c.depart.new.self c.depart.ensures ∙ ap (λ (s : Kept). s.mem) c.self.view_is

@@ -11,7 +11,7 @@ use Rattle.syscall_layer.proofs.Settled.{items_set, regular_given_up}
 use Rattle.syscall_layer.proofs.parts.Parts.give_up.Goals as goal
 
 pub release-requires : goal.release-requires
-release-requires c = can_give_up (kept_of c.self.inside) c.args.number c.take_space-space.result c.self.invariant.0
+release-requires c = can_give_up (kept_of c.self.inside) c.args.number c.take_space-space.result c.self.invariant.0.0
     (sym (ap (λ (ss : List (Option Held)). slice_get ss c.args.number) c.deref_mut.ensures.value) ∙ c.take_space-space.ensures.space)
 
 pub invariant_of-self : goal.invariant_of-self
@@ -19,8 +19,11 @@ invariant_of-self c =
     let k = kept_of c.self.inside in
     let there = sym (ap (λ (ss : List (Option Held)). slice_get ss c.args.number) c.deref_mut.ensures.value) ∙ c.take_space-space.ensures.space in
     let gone = c.take_space-space.ensures.gone ∙ ap (λ (ss : List (Option Held)). slice_set ss c.args.number None) c.deref_mut.ensures.value in (
-      regular_ids _ (regular_given_up c.args.self.now k c.self.view_is c.args.number c.take_space-space.result c.self.invariant.0 there c.requires.nobody
-          c.release.new.regions.regions (with_items c.self.inside.spaces c.take_space-space.new.spaces).items c.release.ensures.released
-          (items_set c.self.inside.spaces c.take_space-space.new.spaces c.args.number None gone)) c.release.new.regions.starts,
-      copies_without k c.self.invariant.1 c.take_space-space.result.maps c.release.new.regions.regions c.release.ensures.released,
+      (
+        regular_ids _ (regular_given_up c.args.self.now k c.self.view_is c.args.number c.take_space-space.result c.self.invariant.0.0 there c.requires.nobody
+            c.release.new.regions.regions (with_items c.self.inside.spaces c.take_space-space.new.spaces).items c.release.ensures.released
+            (items_set c.self.inside.spaces c.take_space-space.new.spaces c.args.number None gone)) c.release.new.regions.starts,
+        copies_without k c.self.invariant.0.1 c.take_space-space.result.maps c.release.new.regions.regions c.release.ensures.released,
+      ),
+      c.self.invariant.1,
     )

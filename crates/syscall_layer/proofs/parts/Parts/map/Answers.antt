@@ -1,5 +1,5 @@
 -- Pages are mapped, and the call has its reply.
-use Rattle.std.proofs.Common.{◌≡◌, true, false, List, [], Option, ◌∷◌, length, refl, sym, ap, subst, arith, ◌∙◌}
+use Rattle.std.proofs.Common.{rules, ◌≡◌, true, false, List, [], Option, ◌∷◌, length, refl, sym, ap, subst, arith, ◌∙◌}
 use Rattle.std.specs.Prelude.{Some, map, slice_get, slice_set}
 use Rattle.std.specs.Vec.{with_items}
 use Rattle.std.proofs.lemmas.Result.{err_from_is_err_and}
@@ -41,12 +41,12 @@ pub map_in-mapped-requires-clause-names : goal.map_in-mapped-requires-clause-nam
 map_in-mapped-requires-clause-names g c = λ h there.
     let k = kept_of c.self.inside in
     let number = c.get.result.now.space in
-    name_regions k c.self.invariant.0 number h (sym (ap (λ (ss : List (Option Held)). slice_get ss number) c.deref_mut.ensures.value) ∙ there)
+    name_regions k c.self.invariant.0.0 number h (sym (ap (λ (ss : List (Option Held)). slice_get ss number) c.deref_mut.ensures.value) ∙ there)
 
 pub map_in-mapped-requires-clause-few : goal.map_in-mapped-requires-clause-few
 map_in-mapped-requires-clause-few g c =
     let room = subst (λ (s : Kept). has_room s.notes (length c.args.call.sent.items) ≡ true) (sym c.self.view_is) c.requires.room in
-    few_uses (kept_of c.self.inside) c.self.invariant.1 (room_counts c.self.inside.log.notes (length c.args.call.sent.items) room)
+    few_uses (kept_of c.self.inside) c.self.invariant.0.1 (room_counts c.self.inside.log.notes (length c.args.call.sent.items) room)
 
 -- ---- out of memory
 
@@ -56,14 +56,14 @@ stays : (g : Over) (c : goal.After-drop-call-in_err-value g) → kept_of c.self.
       regions = c.map_in-mapped.new.regions.regions;
       starts = c.map_in-mapped.new.regions.starts;
       spaces = (with_items c.self.inside.spaces c.map_in-mapped.new.spaces).items;
-      notes = c.reserve.new.self.notes;
+      notes = c.or_unreserve.new.log.notes;
     }
 stays g c =
     let k = kept_of c.self.inside in
     let number = c.get.result.now.space in
     let lives = subst (λ (s : Kept). Lives s.procs c.args.call.pid) (sym c.self.view_is) c.requires.lives in
     let known = subst (λ (s : Kept). IsKnown s.tree c.args.want) (sym c.self.view_is) c.requires.known in
-    let live = has_space k c.args.call.pid c.get.result.now c.self.invariant.0 lives c.get.ensures in
+    let live = has_space k c.args.call.pid c.get.result.now c.self.invariant.0.0 lives c.get.ensures in
     let is = c.map_in-mapped.ensures.maps live.held (ap (λ (ss : List (Option Held)). slice_get ss number) c.deref_mut.ensures.value ∙ live.there) in
     let spaces = (with_items c.self.inside.spaces c.map_in-mapped.new.spaces).items in
     let at : MapsIn (kind_of c.args.chooser.now) (bytes_of k.tree (file_in c.args.want)) c.args.want number live.held k.spaces spaces k.regions c.map_in-mapped.new.regions.regions k.mem
@@ -73,12 +73,12 @@ stays g c =
           (is.spaces ∙ ap (λ (ss : List (Option Held)). slice_set ss number (Some is.held)) c.deref_mut.ensures.value);
       maps = is.maps;
     } in
-    let same = same_mapped k c.self.invariant.0 c.self.invariant.1 number live.held live.there (kind_of c.args.chooser.now) c.args.want c.requires.pages known spaces
-    c.map_in-mapped.new.regions.regions c.map_in-mapped.new.mem c.map_in-mapped.result c.in_err-value.field-0.0 at c.in_err-value.ensures in
-    λ i. record (same i) { starts = sym c.map_in-mapped.ensures.ids i; notes = sym c.reserve.ensures.same i }
+    let same = same_mapped k c.self.invariant.0.0 c.self.invariant.0.1 number live.held live.there (kind_of c.args.chooser.now) c.args.want c.requires.pages known spaces
+    c.map_in-mapped.new.regions.regions c.map_in-mapped.new.mem c.map_in-mapped.result c.in_err-value.field-0.0 at (rw (← c.in_err-value.ensures.same) at c.address.ensures) in
+    λ i. record (same i) { starts = sym c.map_in-mapped.ensures.ids i; notes = sym (c.or_unreserve.ensures.notes ∙ c.reserve.ensures.same) i }
 
 pub invariant_of-self-in_err-value : goal.invariant_of-self-in_err-value
-invariant_of-self-in_err-value g c = subst IsRegular (stays g c) c.self.invariant
+invariant_of-self-in_err-value g c = (subst IsRegular (stays g c) c.self.invariant.0, search rules)
 
 pub returns-in_err-value-clause-changes : goal.returns-in_err-value-clause-changes
 returns-in_err-value-clause-changes g c = λ a kind unstrayed e h runs is.
@@ -117,21 +117,24 @@ left g c kind same h there =
     })
 
 noted : (g : Over) (c : goal.After-finish g) → c.finish.new.log.notes ≡ noted_call c.args.call c.in_ok-value.value [] ∷ c.self.inside.log.notes
-noted g c = c.finish.ensures.notes ∙ (λ i. noted_call c.args.call c.in_ok-value.value (map written_value (c.new-got.ensures.items i)) ∷ c.reserve.ensures.same i)
+noted g c = c.finish.ensures.notes ∙ (λ i. noted_call c.args.call c.in_ok-value.value (map written_value (c.new-got.ensures.items i)) ∷ (c.or_unreserve.ensures.notes ∙ c.reserve.ensures.same) i)
 
 pub invariant_of-self-2 : goal.invariant_of-self-2
 invariant_of-self-2 g c =
     let k = kept_of c.self.inside in
     let lives = subst (λ (s : Kept). Lives s.procs c.args.call.pid) (sym c.self.view_is) c.requires.lives in
     let known = subst (λ (s : Kept). IsKnown s.tree c.args.want) (sym c.self.view_is) c.requires.known in
-    let live = has_space k c.args.call.pid c.get.result.now c.self.invariant.0 lives c.get.ensures in
+    let live = has_space k c.args.call.pid c.get.result.now c.self.invariant.0.0 lives c.get.ensures in
     let is = left g c (kind_of c.args.chooser.now) refl live.held live.there in
-    let keeps = keeps_mapped k c.self.invariant.0 c.self.invariant.1 c.get.result.now.space live.held live.there (kind_of c.args.chooser.now) c.args.want c.requires.pages known
+    let keeps = keeps_mapped k c.self.invariant.0.0 c.self.invariant.0.1 c.get.result.now.space live.held live.there (kind_of c.args.chooser.now) c.args.want c.requires.pages known
     (new_parts g c).spaces c.map_in-mapped.new.regions.regions c.map_in-mapped.new.mem c.map_in-mapped.result is in
     let now = with_maps k c.map_in-mapped.new.mem c.map_in-mapped.new.regions.regions (new_parts g c).spaces in
     let counted = counts c.args.call c.in_ok-value.value [] k.notes c.finish.new.log.notes (noted g c) in (
-      regular_ids _ (regular_finished now c.args.call.pid keeps.0 lives c.in_ok-value.value now.mem k.tree k.files c.finish.new.procs c.finish.new.log.notes k.console refl c.finish.ensures.procs (omega (arith, counted))) (new_parts g c).starts,
-      keeps.1 c.finish.new.log.notes (omega (arith, counted)) (call_strays c.args.call c.in_ok-value.value [] k.notes c.finish.new.log.notes (noted g c)),
+      (
+        regular_ids _ (regular_finished now c.args.call.pid keeps.0 lives c.in_ok-value.value now.mem k.tree k.files c.finish.new.procs c.finish.new.log.notes k.console refl c.finish.ensures.procs (omega (arith, counted))) (new_parts g c).starts,
+        keeps.1 c.finish.new.log.notes (omega (arith, counted)) (call_strays c.args.call c.in_ok-value.value [] k.notes c.finish.new.log.notes (noted g c)),
+      ),
+      search rules,
     )
 
 -- the same by the entry of the process
@@ -156,8 +159,8 @@ returns-clause-changes g c = λ a kind unstrayed e h.
     subst (λ (old : Kept). RunsIn old call.pid e h → IsCall e call → Changed a old e h call (mapped (ask_in a old e h call) want) (new_parts g c)) c.self.view_is
     (λ runs is_call. changed_ids a k e h call _ _ (
     changed_mapped a k e h call runs is_call c.in_ok-value.value (new_parts g c).spaces c.map_in-mapped.new.regions.regions c.finish.new.procs c.finish.new.log.notes
-    c.finish.ensures.procs (noted g c) c.self.invariant.0 c.self.invariant.1 clean want c.requires.pages known c.map_in-mapped.new.mem c.map_in-mapped.result
-    (left_at g c a.kind kind e h runs) c.in_ok-value.ensures) (new_parts g c).starts)
+    c.finish.ensures.procs (noted g c) c.self.invariant.0.0 c.self.invariant.0.1 clean want c.requires.pages known c.map_in-mapped.new.mem c.map_in-mapped.result
+    (left_at g c a.kind kind e h runs) (rw (← c.in_ok-value.ensures.same) at c.address.ensures)) (new_parts g c).starts)
 
 pub returns-clause-memory : goal.returns-clause-memory
 returns-clause-memory g c = λ headers a kind e h.
@@ -171,11 +174,11 @@ returns-clause-memory g c = λ headers a kind e h.
     c.self.view_is
     (λ runs is_call.
     memory_mapped headers a k e h call runs is_call c.in_ok-value.value (new_parts g c).spaces c.map_in-mapped.new.regions.regions c.finish.new.procs c.finish.new.log.notes
-    c.finish.ensures.procs (noted g c) room c.self.invariant.0 c.self.invariant.1 want c.requires.pages known c.map_in-mapped.new.mem c.map_in-mapped.result
-    (left_at g c a.kind kind e h runs) c.in_ok-value.ensures
+    c.finish.ensures.procs (noted g c) room c.self.invariant.0.0 c.self.invariant.0.1 want c.requires.pages known c.map_in-mapped.new.mem c.map_in-mapped.result
+    (left_at g c a.kind kind e h runs) (rw (← c.in_ok-value.ensures.same) at c.address.ensures)
     ∙ ap (λ (x : Physical). after x false) (sym (physical_ids headers (later 1 a) _ (new_parts g c).starts)))
 
 pub returns-clause-lives : goal.returns-clause-lives
 returns-clause-lives g c =
     let lives = subst (λ (s : Kept). Lives s.procs c.args.call.pid) (sym c.self.view_is) c.requires.lives in
-    lives_finished (kept_of c.self.inside) c.args.call.pid c.self.invariant.0 lives c.in_ok-value.value c.finish.new.procs c.finish.ensures.procs
+    lives_finished (kept_of c.self.inside) c.args.call.pid c.self.invariant.0.0 lives c.in_ok-value.value c.finish.new.procs c.finish.ensures.procs

@@ -1,5 +1,5 @@
 -- The break may move, and the call has its reply.
-use Rattle.std.proofs.Common.{◌≡◌, arith, List, Option, ◌∷◌, Ok, sym, ap, subst, ◌∙◌}
+use Rattle.std.proofs.Common.{rules, ◌≡◌, arith, List, Option, ◌∷◌, Ok, sym, ap, subst, ◌∙◌}
 use Rattle.std.specs.Prelude.{ℕ, map, slice_get, slice_set, Some}
 use Rattle.std.specs.Vec.{with_items}
 use Rattle.call_log.specs.Notes.{Note}
@@ -41,9 +41,12 @@ invariant_of-self-2 c =
     let lives = subst (λ (s : Kept). Lives s.procs c.args.call.pid) (sym c.self.view_is) c.requires.lives in
     let noted = c.finish.ensures.notes ∙ ap (λ (ns : List Note). noted_call c.args.call c.settle-value.result (map written_value c.new-got.result.items) ∷ ns) c.reserve.ensures.same in
     let counted = counts c.args.call c.settle-value.result _ k.notes _ noted in (
-      regular_settled k c.args.call.pid c.self.invariant.0 lives c.get.result.now c.get.ensures c.settle-value.result (λ h. brk_of (next_brk h) h.brk c.args.effect)
-          (new_parts c).spaces c.finish.new.procs c.finish.new.log.notes (λ h there. (settled c h there).1) c.finish.ensures.procs (omega (arith, counted)),
-      copies_called k c.self.invariant.1 c.finish.new.log.notes counted (call_strays c.args.call c.settle-value.result _ k.notes _ noted),
+      (
+        regular_settled k c.args.call.pid c.self.invariant.0.0 lives c.get.result.now c.get.ensures c.settle-value.result (λ h. brk_of (next_brk h) h.brk c.args.effect)
+            (new_parts c).spaces c.finish.new.procs c.finish.new.log.notes (λ h there. (settled c h there).1) c.finish.ensures.procs (omega (arith, counted)),
+        copies_called k c.self.invariant.0.1 c.finish.new.log.notes counted (call_strays c.args.call c.settle-value.result _ k.notes _ noted),
+      ),
+      search rules,
     )
 
 pub returns-clause-replies : goal.returns-clause-replies

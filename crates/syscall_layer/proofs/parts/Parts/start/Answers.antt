@@ -15,14 +15,14 @@ use Rattle.syscall_layer.proofs.parts.Parts.start.Goals as goal
 
 pub returns-in_err-space-clause-starts : goal.returns-in_err-space-clause-starts
 returns-in_err-space-clause-starts g c =
-    refuses_by _ (kept_of c.self.inside) _ _ (search rules) c.self.invariant.0 _ _ _ _ c.in_err-space.field-0.0 c.in_err-space.ensures.loads
-    c.load.ensures.ids c.reserve.ensures.items refl c.ready.ensures.same refl c.reserve-else-is_err.ensures.same refl (search rules)
+    refuses_by _ (kept_of c.self.inside) _ _ (search rules) c.self.invariant.0.0 _ _ _ _ c.in_err-space.field-0.0 (rw (← c.in_err-space.ensures.same) at c.load-loaded.ensures.loads)
+    c.load-loaded.ensures.ids c.reserve.ensures.items refl c.ready.ensures.same refl (c.or_unreserve.ensures.notes ∙ c.reserve-else-is_err-2.ensures.same) refl (search rules)
 
 abbrev new_parts : (g : Over) → goal.After-unwrap g → Kept
 new_parts g c = record {
-  mem = c.load.new.mem;
-  regions = c.load.new.regions.regions;
-  starts = c.load.new.regions.starts;
+  mem = c.load-loaded.new.mem;
+  regions = c.load-loaded.new.regions.regions;
+  starts = c.load-loaded.new.regions.starts;
   spaces = c.push_reserved.new.self.items;
   tree = c.self.inside.tree;
   files = c.new_table.new.self.open_files;
@@ -44,19 +44,22 @@ begun g c =
     if_ok (λ _. c.new_table.new.self.open_files ≡ with_table c.ready.new.self.open_files) _ _ c.unwrap-table.ensures c.new_table.ensures.added ∙ ap with_table c.ready.ensures.same in
     let loaded = c.in_ok-space.field-0 in
     let note = load_note (record { pid = c.unwrap-pid.result; program = c.args.index; base = loaded.base; pages = loaded.pages }) in
-    begun_by (kept_of c.self.inside) (new_parts g c) _ _ _ _ loaded c.unwrap-pid.result c.len-number.result c.unwrap-table.result c.in_ok-space.ensures.loads c.load.ensures.ids spaces number
+    begun_by (kept_of c.self.inside) (new_parts g c) _ _ _ _ loaded c.unwrap-pid.result c.len-number.result c.unwrap-table.result (rw (← c.in_ok-space.ensures.same) at c.load-loaded.ensures.loads) c.load-loaded.ensures.ids spaces number
     (process_started _ _ _ _ _ c.start.ensures c.unwrap-pid.ensures) table refl files
-    (note_pushed c.reserve-else-is_err.new.self _ note c.push.new.self c.push.result c.unwrap.result c.reserve-else-is_err.ensures.same c.push.ensures c.unwrap.ensures)
+    (note_pushed c.or_unreserve.new.log _ note c.push.new.self c.push.result c.unwrap.result (c.or_unreserve.ensures.notes ∙ c.reserve-else-is_err-2.ensures.same) c.push.ensures c.unwrap.ensures)
     refl
 
 pub invariant_of-self-2 : goal.invariant_of-self-2
 invariant_of-self-2 g c = (
-  regular_by c.args.self.now (kept_of c.self.inside) (new_parts g c) (search rules) c.requires.few c.requires.pids c.requires.spaces c.self.invariant.0 _ _ _ _ (begun g c),
-  copies_by (kept_of c.self.inside) (new_parts g c) c.self.invariant.0 c.self.invariant.1 _ _ _ _ (begun g c),
+  (
+    regular_by c.args.self.now (kept_of c.self.inside) (new_parts g c) (search rules) c.requires.few c.requires.pids c.requires.spaces c.self.invariant.0.0 _ _ _ _ (begun g c),
+    copies_by (kept_of c.self.inside) (new_parts g c) c.self.invariant.0.0 c.self.invariant.0.1 _ _ _ _ (begun g c),
+  ),
+  search rules,
 )
 
 pub returns-clause-starts : goal.returns-clause-starts
-returns-clause-starts g c = starts_by c.args.self.now (kept_of c.self.inside) (new_parts g c) (search rules) c.self.invariant.0 _ _ _ _ (begun g c)
+returns-clause-starts g c = starts_by c.args.self.now (kept_of c.self.inside) (new_parts g c) (search rules) c.self.invariant.0.0 _ _ _ _ (begun g c)
 
 pub returns-clause-memory : goal.returns-clause-memory
-returns-clause-memory g c = lays_by c.args.self.now (kept_of c.self.inside) (new_parts g c) (search rules) c.self.invariant.0 _ _ _ _ (begun g c)
+returns-clause-memory g c = lays_by c.args.self.now (kept_of c.self.inside) (new_parts g c) (search rules) c.self.invariant.0.0 _ _ _ _ (begun g c)

@@ -1,5 +1,5 @@
 -- Pages are unmapped, and the call has its reply.
-use Rattle.std.proofs.Common.{◌≡◌, List, [], Option, ◌∷◌, refl, sym, ap, subst, arith, ◌∙◌}
+use Rattle.std.proofs.Common.{rules, ◌≡◌, List, [], Option, ◌∷◌, refl, sym, ap, subst, arith, ◌∙◌}
 use Rattle.std.specs.Prelude.{Some, map, slice_get, slice_set, slice_index}
 use Rattle.std.specs.Vec.{with_items}
 use Rattle.call_log.specs.Values.{written_value}
@@ -25,7 +25,7 @@ pub unmap_in-unmapped-requires-clause-names : goal.unmap_in-unmapped-requires-cl
 unmap_in-unmapped-requires-clause-names c = λ h there.
     let k = kept_of c.self.inside in
     let number = c.get.result.now.space in
-    name_regions k c.self.invariant.0 number h (sym (ap (λ (ss : List (Option Held)). slice_get ss number) c.deref_mut.ensures.value) ∙ there)
+    name_regions k c.self.invariant.0.0 number h (sym (ap (λ (ss : List (Option Held)). slice_get ss number) c.deref_mut.ensures.value) ∙ there)
 
 abbrev new_parts : goal.After-finish → Kept
 new_parts c = record (kept_of c.self.inside) {
@@ -58,14 +58,17 @@ pub invariant_of-self-2 : goal.invariant_of-self-2
 invariant_of-self-2 c =
     let k = kept_of c.self.inside in
     let lives = subst (λ (s : Kept). Lives s.procs c.args.call.pid) (sym c.self.view_is) c.requires.lives in
-    let live = has_space k c.args.call.pid c.get.result.now c.self.invariant.0 lives c.get.ensures in
+    let live = has_space k c.args.call.pid c.get.result.now c.self.invariant.0.0 lives c.get.ensures in
     let is = left c live.held live.there in
-    let keeps = keeps_unmapped k c.self.invariant.0 c.self.invariant.1 c.get.result.now.space live.held live.there (slice_index c.args.call.args 0) (slice_index c.args.call.args 1)
+    let keeps = keeps_unmapped k c.self.invariant.0.0 c.self.invariant.0.1 c.get.result.now.space live.held live.there (slice_index c.args.call.args 0) (slice_index c.args.call.args 1)
     (new_parts c).spaces c.unmap_in-unmapped.new.regions.regions c.unmap_in-unmapped.result is in
     let now = with_maps k k.mem c.unmap_in-unmapped.new.regions.regions (new_parts c).spaces in
     let counted = counts c.args.call c.status-value.result [] k.notes c.finish.new.log.notes (noted c) in (
-      regular_ids _ (regular_finished now c.args.call.pid keeps.0 lives c.status-value.result k.mem k.tree k.files c.finish.new.procs c.finish.new.log.notes k.console refl c.finish.ensures.procs (omega (arith, counted))) (new_parts c).starts,
-      keeps.1 c.finish.new.log.notes (omega (arith, counted)) (call_strays c.args.call c.status-value.result [] k.notes c.finish.new.log.notes (noted c)),
+      (
+        regular_ids _ (regular_finished now c.args.call.pid keeps.0 lives c.status-value.result k.mem k.tree k.files c.finish.new.procs c.finish.new.log.notes k.console refl c.finish.ensures.procs (omega (arith, counted))) (new_parts c).starts,
+        keeps.1 c.finish.new.log.notes (omega (arith, counted)) (call_strays c.args.call c.status-value.result [] k.notes c.finish.new.log.notes (noted c)),
+      ),
+      search rules,
     )
 
 pub returns-clause-changes : goal.returns-clause-changes

@@ -1,0 +1,163 @@
+-- A call of a run that goes on, by the call within reach.
+use Rattle.std.proofs.Common.{◌≡◌, ◌≢◌, ℕ, Bool, true, false, List, Option, Some, None, Ok, refl, sym, ap, subst, ◌∙◌}
+use Rattle.std.specs.Prelude.{if◌then◌else◌, Result, Err, IsOk, OnErr}
+use Rattle.std.specs.declared.alloc.AllocError.{AllocError}
+use Rattle.rv32im_step.specs.declared.access.Access.{Access}
+use Rattle.machine_world.specs.Event.{Outcome, went, strays, full, idle, called, stray_in}
+use Rattle.physical_turns.specs.Physical.{Physical, After, after, no_room, nobody, has_stray, with_stray, called_in}
+use Rattle.syscall_layer.specs.declared.answer.Served.{Served}
+use Rattle.syscall_layer.specs.declared.answer.Served.TheVariants as served
+use Rattle.syscall_layer.specs.declared.reach.Reach.{Reach}
+use Rattle.syscall_layer.specs.declared.reach.Reach.TheVariants.{Own, Whole}
+use Rattle.syscall_layer.specs.Kept.{Kept}
+use Rattle.syscall_layer.specs.Reach.{is_whole}
+use Rattle.syscall_layer.specs.Stands.{About, world_of}
+use Rattle.syscall_layer.specs.Serves.{Answered}
+use Rattle.syscall_layer.specs.InMemory.{physical_of, GoesIn, InReach, ServesOn, first_range, called_on, with_range, without_newest, reach_on}
+
+abbrev IsStray : Served → Type 0
+IsStray (served.Stray access) = Unit {0}
+IsStray served.Replied = ⊥
+IsStray served.TurnEnds = ⊥
+IsStray served.Waits = ⊥
+IsStray served.Ended = ⊥
+IsStray served.LogFull = ⊥
+
+not_stray : (s : Served) → ((access : Access) → s ≢ served.Stray access) → IsStray s → ⊥
+not_stray (served.Stray access) other is = other access refl
+not_stray served.Replied other is = is
+not_stray served.TurnEnds other is = is
+not_stray served.Waits other is = is
+not_stray served.Ended other is = is
+not_stray served.LogFull other is = is
+
+-- ---- the note of its range
+
+-- without it the parts are as they were
+pub without_range : (pid : ℕ) (access : Access) (k mid : Kept) → mid ≡ with_range pid (Some access) k → without_newest mid ≡ k
+without_range pid access k mid is = ap without_newest is
+
+module _ (headers : List (List ℕ)) (a : About) (old : Kept) (pid : ℕ) where
+  abbrev there : Physical
+  there = physical_of headers a old
+
+  abbrev outcome : Outcome
+  outcome = called (world_of a old) pid
+
+  range_is : (was : Bool) → has_stray old.notes ≡ was → first_range there pid ≡ (if was then None else stray_in outcome)
+  unfolding physical_of world_of first_range
+  range_is was is = ap (λ (b : Bool). if b then None else stray_in outcome) is
+
+  noted_in : (access : Access) → physical_of headers a (with_range pid (Some access) old) ≡ with_stray pid (Some access) there
+  unfolding physical_of world_of
+  noted_in access = refl
+
+  -- ---- none strays, or one did before
+
+  quiet_by : (o : Outcome) (new : Kept) (s : Served) → (IsStray s → ⊥) → Answered a o old new pid s → stray_in o ≡ None
+  quiet_by (went now t) new s other x = refl
+  quiet_by full new s other x = refl
+  quiet_by idle new s other x = absurd x
+  quiet_by (strays access) new (served.Stray seen) other x = absurd (other tt)
+  quiet_by (strays access) new served.Replied other x = absurd x
+  quiet_by (strays access) new served.TurnEnds other x = absurd x
+  quiet_by (strays access) new served.Waits other x = absurd x
+  quiet_by (strays access) new served.Ended other x = absurd x
+  quiet_by (strays access) new served.LogFull other x = absurd x
+
+  goes_of : (reach : Reach) (o : After) (new : Kept) (s : Served) → (IsStray s → ⊥) → InReach reach headers a o old new pid (Ok s) → GoesIn headers a o old new pid s
+  goes_of Whole o new s other x = x
+  goes_of Own o new (served.Stray access) other x = absurd (other tt)
+  goes_of Own o new served.Replied other x = x
+  goes_of Own o new served.TurnEnds other x = x
+  goes_of Own o new served.Waits other x = x
+  goes_of Own o new served.Ended other x = x
+  goes_of Own o new served.LogFull other x = x
+
+  none_first : (reach : Reach) → has_stray old.notes ≡ is_whole reach → (reach ≡ Own → stray_in outcome ≡ None) → first_range there pid ≡ None
+  none_first Own strayed quiet = range_is false strayed ∙ quiet refl
+  none_first Whole strayed quiet = range_is true strayed
+
+  as_found : (range : Option Access) → first_range there pid ≡ range → (new : Kept) (s : Served) → GoesIn headers a (called_in (with_stray pid range there) pid) (with_range pid range old) new pid s
+      → ServesOn headers a old new pid (Ok s)
+  unfolding called_on
+  as_found range is new s x =
+      subst (λ (found : Option Access). GoesIn headers a (called_in (with_stray pid found there) pid) (with_range pid found old) new pid s) (sym is) x
+
+  module _ (reach : Reach) (strayed : has_stray old.notes ≡ is_whole reach) (new : Kept) (s : Served) (other : (access : Access) → s ≢ served.Stray access)
+      (serves : reach ≡ Own → Answered a outcome old new pid s) where
+    unstrayed : first_range there pid ≡ None
+    unstrayed = none_first reach strayed (λ own. quiet_by outcome new s (not_stray s other) (serves own))
+
+    pub serves_unstrayed : InReach reach headers a (called_in there pid) old new pid (Ok s) → ServesOn headers a old new pid (Ok s)
+    serves_unstrayed x = as_found None unstrayed new s (goes_of reach (called_in there pid) new s (not_stray s other) x)
+
+    pub notes_unstrayed : new.notes ≡ old.notes → new.notes ≡ (with_range pid (first_range there pid) old).notes
+    notes_unstrayed is = is ∙ ap (λ (found : Option Access). (with_range pid found old).notes) (sym unstrayed)
+
+    pub reach_unstrayed : reach ≡ reach_on reach (first_range there pid) (Ok s)
+    reach_unstrayed = ap (λ (found : Option Access). reach_on reach found (Ok s)) (sym unstrayed)
+
+  -- ---- one strays
+
+  never_strays : (o : After) (new : Kept) (access : Access) → GoesIn headers a o old new pid (served.Stray access) → ⊥
+  never_strays (after p over) new access x = absurd x.1
+  never_strays (no_room p) new access x = absurd x.2
+  never_strays nobody new access x = absurd x
+
+  -- it is within its own bytes that one strays
+  stray_own : (reach : Reach) (o : After) (new : Kept) (access : Access) → InReach reach headers a o old new pid (Ok (served.Stray access)) → reach ≡ Own
+  stray_own Own o new access x = refl
+  stray_own Whole o new access x = absurd (never_strays o new access x)
+
+  stray_is : (o : Outcome) (new : Kept) (access : Access) → Answered a o old new pid (served.Stray access) → stray_in o ≡ Some access
+  stray_is (strays seen) new access x = ap Some (sym x.0)
+  stray_is (went now t) new access x = absurd x.1
+  stray_is full new access x = absurd x
+  stray_is idle new access x = absurd x
+
+  -- none was noted before, and it is this one
+  pub record IsFirst (access : Access) : Type 0 where
+    pub quiet : has_stray old.notes ≡ false
+    pub is : stray_in outcome ≡ Some access
+
+  pub strays_by : (reach : Reach) → has_stray old.notes ≡ is_whole reach → (mid : Kept) (access : Access) (s : Served) → s ≡ served.Stray access
+      → (reach ≡ Own → has_stray old.notes ≡ false → Answered a outcome old mid pid s) → InReach reach headers a (called_in there pid) old mid pid (Ok s) → IsFirst access
+  strays_by reach strayed mid access s same serves memory =
+      let own = stray_own reach (called_in there pid) mid access (subst (λ (t : Served). InReach reach headers a (called_in there pid) old mid pid (Ok t)) same memory) in
+      let quiet = strayed ∙ ap is_whole own in
+      record { quiet = quiet; is = stray_is outcome mid access (subst (Answered a outcome old mid pid) same (serves own quiet)) }
+
+  module _ (access : Access) (quiet : has_stray old.notes ≡ false) (is : stray_in outcome ≡ Some access) where
+    pub first_is : first_range there pid ≡ Some access
+    first_is = range_is false quiet ∙ is
+
+    pub serves_noted : (mid new : Kept) (s : Served) → mid ≡ with_range pid (Some access) old → InReach Whole headers a (called_in (physical_of headers a mid) pid) mid new pid (Ok s)
+        → ServesOn headers a old new pid (Ok s)
+    serves_noted mid new s same x =
+        as_found (Some access) first_is new s
+        (subst (λ (p : Physical). GoesIn headers a (called_in p pid) (with_range pid (Some access) old) new pid s) (noted_in access)
+        (subst (λ (k : Kept). GoesIn headers a (called_in (physical_of headers a k) pid) k new pid s) same x))
+
+    pub notes_noted : (mid new : Kept) → mid ≡ old → new.notes ≡ (with_range pid (Some access) mid).notes → new.notes ≡ (with_range pid (first_range there pid) old).notes
+    notes_noted mid new same is =
+        is ∙ ap (λ (k : Kept). (with_range pid (Some access) k).notes) same ∙ ap (λ (found : Option Access). (with_range pid found old).notes) (sym first_is)
+
+    pub reach_noted : (reach : Reach) (s : Served) → Whole ≡ reach_on reach (first_range there pid) (Ok s)
+    reach_noted reach s = ap (λ (found : Option Access). reach_on reach found (Ok s)) (sym first_is)
+
+    pub noted_result : (mid new : Kept) → mid ≡ with_range pid (Some access) old → (r : Result Served AllocError) → IsOk r → InReach Whole headers a (called_in (physical_of headers a mid) pid) mid new pid r
+        → ServesOn headers a old new pid r
+    noted_result mid new same (Ok s) ok x = serves_noted mid new s same x
+    noted_result mid new same (Err error) ok x = absurd cc
+
+-- ---- out of memory
+
+pub unchanged_by : (headers : List (List ℕ)) (a : About) (o : After) (old new : Kept) (pid : ℕ) (reach : Reach) (r : Result Served AllocError) → InReach reach headers a o old new pid r → OnErr r (new ≡ old)
+unchanged_by headers a o old new pid reach (Ok s) x = tt
+unchanged_by headers a o old new pid Own (Err error) x = x
+unchanged_by headers a o old new pid Whole (Err error) x = x
+
+pub on_err : {A E : Type 0} (P : Type 0) (r : Result A E) → P → OnErr r P
+on_err P (Ok x) is = tt
+on_err P (Err error) is = is

@@ -1,0 +1,79 @@
+-- The call that is read, and the range that isn't within reach.
+use Rattle.std.proofs.Common.{◌≡◌, ℕ, true, false, refl, subst}
+use Rattle.std.specs.Prelude.{Some, Err, Ok}
+use Rattle.std.proofs.lemmas.Result.{err_from_is_err_and}
+use Rattle.page_runs.specs.Choosers.{kind_of}
+use Rattle.vfork_exec.specs.Procs.{value_at}
+use Rattle.physical_turns.specs.Physical.{called_in}
+use Rattle.syscall_layer.specs.declared.reading.Unread.{Unread}
+use Rattle.syscall_layer.specs.declared.reading.Unread.TheVariants.{Stray}
+use Rattle.syscall_layer.specs.Kept.{Kept}
+use Rattle.syscall_layer.specs.Regular.{IsRegular}
+use Rattle.syscall_layer.specs.Serves.{WaitsAt}
+use Rattle.syscall_layer.specs.InMemory.{headers_of, physical_of}
+use Rattle.syscall_layer.proofs.Abouts.{some_about, about_with, some_are_flats}
+use Rattle.syscall_layer.proofs.CallsOn.{unchanged_by, on_err}
+use Rattle.syscall_layer.proofs.Families.{can_run_lives}
+use Rattle.syscall_layer.proofs.Outcomes.{serve_call, serve_stray}
+use Rattle.syscall_layer.proofs.CallsIn.{MadeAs, own_made, call_goes, outside_ends, in_reach}
+use Rattle.syscall_layer.proofs.answer.serve_within.Goals as goal
+
+pub returns-in-Ok-clause-serves : goal.returns-in-Ok-clause-serves
+returns-in-Ok-clause-serves g c = λ own a kind flats fresh.
+    serve_call a c.args.parts.now c.args.pid (subst IsRegular c.parts.view_is c.parts.invariant.0).0 (can_run_lives c.args.parts.now.procs c.args.pid c.requires.ready) c.in-Ok.call c.in-Ok.ensures.pid
+    (own_made c.args.parts.now c.args.pid c.args.reach own (Ok c.in-Ok.call) c.in-Ok.ensures.made)
+    c.answer_and_wake.new.parts c.answer_and_wake.result (c.answer_and_wake.ensures.serves own a kind flats fresh)
+
+pub returns-in-Ok-clause-memory : goal.returns-in-Ok-clause-memory
+returns-in-Ok-clause-memory g c = λ a kind flats.
+    call_goes (headers_of c.args.programs.now) a c.args.parts.now c.args.pid (subst IsRegular c.parts.view_is c.parts.invariant.0).0 (can_run_lives c.args.parts.now.procs c.args.pid c.requires.ready) c.args.reach
+    c.in-Ok.call c.in-Ok.ensures.pid c.in-Ok.ensures.made c.answer_and_wake.new.parts c.answer_and_wake.result (c.answer_and_wake.ensures.memory a kind flats)
+
+pub returns-in-Own-clause-serves : goal.returns-in-Own-clause-serves
+returns-in-Own-clause-serves g c = λ own a kind flats fresh.
+    let k = c.args.parts.now in
+    let kept = subst (λ (now : Kept). value_at now.procs c.args.pid ≡ Some c.get.result.now) c.parts.view_is c.get.ensures in
+    serve_stray a k c.args.pid (subst IsRegular c.parts.view_is c.parts.invariant.0).0 (can_run_lives k.procs c.args.pid c.requires.ready) c.get.result.now kept (record { addr = c.in-Err-Stray.addr; len = c.in-Err-Stray.len })
+    (own_made k c.args.pid c.args.reach own (Err (Stray c.in-Err-Stray.addr c.in-Err-Stray.len))
+    (subst (λ (unread : Unread). MadeAs k c.args.pid c.args.reach (Err unread)) c.in-Err-Stray.field-0-is c.in-Err-Stray.ensures.made))
+
+pub returns-in_err-end_by_signal-in-Whole-clause-memory : goal.returns-in_err-end_by_signal-in-Whole-clause-memory
+returns-in_err-end_by_signal-in-Whole-clause-memory g c = λ a kind flats.
+    let k = c.args.parts.now in
+    let headers = headers_of c.args.programs.now in
+    let p = err_from_is_err_and c.from_residual.result c.from_residual.ensures.1 in
+    in_reach headers a (called_in (physical_of headers a k) c.args.pid) k c.end_by_signal.new.self c.args.pid c.args.reach c.from_residual.result (rw p.1 (c.in_err-end_by_signal-in-Whole.ensures.dies a))
+
+pub returns-in_ok-end_by_signal-in-Whole-clause-memory : goal.returns-in_ok-end_by_signal-in-Whole-clause-memory
+returns-in_ok-end_by_signal-in-Whole-clause-memory g c = λ a kind flats.
+    let k = c.args.parts.now in
+    let headers = headers_of c.args.programs.now in
+    outside_ends headers a k c.args.pid (subst IsRegular c.parts.view_is c.parts.invariant.0).0 (can_run_lives k.procs c.args.pid c.requires.ready) c.args.reach c.in-Whole.is c.in-Err-Stray.addr c.in-Err-Stray.len
+    (subst (λ (unread : Unread). MadeAs k c.args.pid c.args.reach (Err unread)) c.in-Err-Stray.field-0-is c.in-Err-Stray.ensures.made)
+    c.end_by_signal.new.self (c.in_ok-end_by_signal-in-Whole.ensures.memory headers a)
+
+-- ---- by the answer
+
+pub returns-in-Ok-clause-yields : goal.returns-in-Ok-clause-yields
+returns-in-Ok-clause-yields g c = λ is. subst (λ (p : ℕ). WaitsAt c.answer_and_wake.new.parts.procs p false) c.in-Ok.ensures.pid (c.answer_and_wake.ensures.yields is)
+
+pub returns-in-Ok-clause-waits : goal.returns-in-Ok-clause-waits
+returns-in-Ok-clause-waits g c = λ is marks. subst (λ (p : ℕ). WaitsAt c.answer_and_wake.new.parts.procs p true) c.in-Ok.ensures.pid (c.answer_and_wake.ensures.waits is marks)
+
+pub returns-in-Ok-clause-unnoted : goal.returns-in-Ok-clause-unnoted
+returns-in-Ok-clause-unnoted g c = c.answer_and_wake.ensures.unnoted
+
+-- ---- out of memory
+
+pub returns-in-Ok-clause-unchanged : goal.returns-in-Ok-clause-unchanged
+returns-in-Ok-clause-unchanged g c =
+    let k = c.args.parts.now in
+    let flats = c.args.programs.now in
+    let a = about_with (kind_of c.args.chooser.now) flats in
+    unchanged_by (headers_of flats) a (called_in (physical_of (headers_of flats) a k) c.args.pid) k c.answer_and_wake.new.parts c.args.pid c.args.reach c.answer_and_wake.result
+    (call_goes (headers_of flats) a k c.args.pid (subst IsRegular c.parts.view_is c.parts.invariant.0).0 (can_run_lives k.procs c.args.pid c.requires.ready) c.args.reach
+    c.in-Ok.call c.in-Ok.ensures.pid c.in-Ok.ensures.made c.answer_and_wake.new.parts c.answer_and_wake.result (c.answer_and_wake.ensures.memory a refl (some_are_flats flats)))
+
+pub returns-in_err-end_by_signal-in-Whole-clause-unchanged : goal.returns-in_err-end_by_signal-in-Whole-clause-unchanged
+returns-in_err-end_by_signal-in-Whole-clause-unchanged g c =
+    on_err (c.end_by_signal.new.self ≡ c.args.parts.now) c.from_residual.result (c.in_err-end_by_signal-in-Whole.ensures.dies some_about)
