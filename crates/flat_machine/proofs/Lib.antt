@@ -2,6 +2,7 @@
 -- Within    what may be written is own, and lies in memory
 -- Advanced  the parts after instructions of one process
 -- AdvancedIn  and the one memory
+-- NoneDone  and the parts where none was carried out
 -- Windows   the block's own range may be used whole
 -- Events    the next event of a process, by the step at which it stands
 -- StillIn   who may run is somebody to an event over one memory, and may run still
@@ -11,8 +12,8 @@
 -- TurnsIn   a turn in the one memory
 -- Picks     the process of a turn
 -- Rounds    runs by quanta
--- Told      what is told of a run: nothing of a note that is ahead of its event
 -- StraysOn  a turn goes on behind the note of its first stray access
+-- TakenBack  that note is taken back where its event finds no memory
 -- TurnsOf   what holds of a machine behind a turn
 -- RoundsIn  runs by quanta in the one memory, and up to their first stray access
 -- Waiting   who waits in a machine's world, and why where a run is stuck
@@ -25,6 +26,7 @@ pub mod Readers
 pub mod Within
 pub mod Advanced
 pub mod AdvancedIn
+pub mod NoneDone
 pub mod Windows
 pub mod Events
 pub mod StillIn
@@ -34,8 +36,8 @@ pub mod NotedIn
 pub mod TurnsIn
 pub mod Picks
 pub mod Rounds
-pub mod Told
 pub mod StraysOn
+pub mod TakenBack
 pub mod TurnsOf
 pub mod RoundsIn
 pub mod Waiting

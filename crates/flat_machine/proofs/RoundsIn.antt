@@ -30,11 +30,10 @@ use Rattle.flat_machine.specs.State.{State, about_of, world, one_memory, is_whol
 use Rattle.flat_machine.specs.Runs.{repeated, Ends}
 use Rattle.flat_machine.specs.RunsIn.{RunsIn, GoesOn}
 use Rattle.flat_machine.specs.Leaves.{Leaves}
-use Rattle.flat_machine.specs.LeavesIn.{StraysNext, StopsIn, TurnLeavesIn, LeavesIn, LeavesFirst, GoesPast, is_stray, is_ahead, reach_behind}
+use Rattle.flat_machine.specs.LeavesIn.{StopsIn, TurnLeavesIn, LeavesIn, LeavesFirst, GoesPast, is_stray, is_undone, reach_behind}
 use Rattle.flat_machine.proofs.NotedIn.{adds_stray}
 use Rattle.flat_machine.proofs.Rounds.{quantum_none, leaves_front, leaves_ended, next_is, all_are, repeated_more, split, machine_ends}
-use Rattle.flat_machine.proofs.StraysOn.{ahead_strays, joined, turn_adds}
-use Rattle.flat_machine.proofs.Told.{told_in}
+use Rattle.flat_machine.proofs.StraysOn.{taken_in, joined, turn_adds}
 use Rattle.flat_machine.proofs.TurnsOf.{own_of}
 use Rattle.flat_machine.proofs.Picks.{may_run}
 
@@ -112,23 +111,13 @@ calm_reach reach (Err error) calm = refl
 -- a turn that strays, and what is left of it over all of memory
 module _ (q : Quantum) (pid done later : ℕ) (old mid new : Physical) (chosen : picked q.pick (ready_pids old.world.procs) ≡ Some pid) (less : done < q.count) (may : MayRun mid.world pid) where
   pub quantum_goes_past : (reach : Reach) (first r : Result (Option Told) AllocError) → is_stray first ≡ true → TurnLeavesIn reach pid q.count old done mid first
-      → TurnLeavesIn Whole pid (q.count - done) mid later new r → LeavesIn (q ∷ []) old (told_in (is_ahead later r) new) r
+      → TurnLeavesIn Whole pid (q.count - done) mid later new r → LeavesIn (q ∷ []) old (taken_in (is_undone later r) new) r
   quantum_goes_past reach first r strays x y =
       let s = stray_is first strays in
       by reach s.access (subst (TurnLeavesIn reach pid q.count old done mid) s.is x)
     where
-      by : (t : Reach) (access : Access) → TurnLeavesIn t pid q.count old done mid (Ok (Some (told.Stray access))) → LeavesIn (q ∷ []) old (told_in (is_ahead later r) new) r
-      by Own access z = whole_leaves q old pid chosen (done + later) (told_in (is_ahead later r) new) r (joined pid q.count old mid new done z less may later r y)
-      by Whole access z = absurd z
-
-  pub quantum_strays : (reach : Reach) (first r : Result (Option Told) AllocError) → is_stray first ≡ true → TurnLeavesIn reach pid q.count old done mid first
-      → TurnLeavesIn Whole pid (q.count - done) mid later new r → is_ahead later r ≡ true → StraysNext (told_in (is_ahead later r) new)
-  quantum_strays reach first r strays x y ahead =
-      let s = stray_is first strays in
-      by reach s.access (subst (TurnLeavesIn reach pid q.count old done mid) s.is x)
-    where
-      by : (t : Reach) (access : Access) → TurnLeavesIn t pid q.count old done mid (Ok (Some (told.Stray access))) → StraysNext (told_in (is_ahead later r) new)
-      by Own access z = ahead_strays pid q.count old mid new done z less may later r y ahead
+      by : (t : Reach) (access : Access) → TurnLeavesIn t pid q.count old done mid (Ok (Some (told.Stray access))) → LeavesIn (q ∷ []) old (taken_in (is_undone later r) new) r
+      by Own access z = whole_leaves q old pid chosen (done + later) (taken_in (is_undone later r) new) r (joined pid q.count old mid new done z less may later r y)
       by Whole access z = absurd z
 
 -- ---- up to the first stray access

@@ -1,5 +1,5 @@
 -- A turn goes on from behind the note of its first stray access as from before it.
-use Rattle.std.proofs.Common.{◌≡◌, ℕ, zero, suc, ◌+◌, ◌-◌, ◌<◌, Bool, true, false, Option, Some, None, Result, Ok, Err, refl, sym, ap, subst, ◌∙◌, arith}
+use Rattle.std.proofs.Common.{◌≡◌, ℕ, zero, suc, ◌+◌, ◌-◌, ◌<◌, Bool, true, false, drop, Option, Some, None, Result, Ok, Err, refl, sym, ap, subst, ◌∙◌, arith}
 use Rattle.std.specs.Prelude.{◌==◌, if◌then◌else◌}
 use Rattle.std.proofs.lemmas.Bool.{false≢true}
 use Rattle.std.proofs.lemmas.Bool.Decides.{nat_tests}
@@ -22,9 +22,8 @@ use Rattle.physical_turns.proofs.TurnsIn.{turn_in_next, turn_in_used}
 use Rattle.syscall_layer.specs.declared.reach.Reach.TheVariants.{Whole}
 use Rattle.flat_machine.specs.declared.run.End.{End as Told}
 use Rattle.flat_machine.specs.declared.run.End.TheVariants as told
-use Rattle.flat_machine.specs.LeavesIn.{StraysIn, StraysNext, StandsStillIn, TurnStopsIn, TurnStraysIn, TurnLeavesIn, is_ahead}
+use Rattle.flat_machine.specs.LeavesIn.{StraysIn, StandsStillIn, TurnStopsIn, TurnStraysIn, TurnLeavesIn, is_undone}
 use Rattle.flat_machine.proofs.StillIn.{StillIn, still_in}
-use Rattle.flat_machine.proofs.Told.{told_in}
 
 -- ---- who strays lives in a space
 
@@ -58,7 +57,7 @@ first_is_stray p pid access is = by (has_stray p.world.notes) (stray p.world pid
     by false o is = is
 
 -- and no stray access was noted before
-first_is_quiet : (p : Physical) (pid : ℕ) (access : Access) → first_stray p pid ≡ Some access → has_stray p.world.notes ≡ false
+pub first_is_quiet : (p : Physical) (pid : ℕ) (access : Access) → first_stray p pid ≡ Some access → has_stray p.world.notes ≡ false
 first_is_quiet p pid access is = by (has_stray p.world.notes) (stray p.world pid) is
   where
     by : (was : Bool) (o : Option Access) → (if was then None else o) ≡ Some access → was ≡ false
@@ -115,7 +114,11 @@ module _ (pid : ℕ) (at mid : Physical) (x : StraysIn pid at mid) where
 
 -- ---- what is left of the turn
 
-none_of : (p : Physical) (pid : ℕ) → physical_turn zero pid p ≡ stays_at p None
+-- without its newest note, where that is taken back
+abbrev pub taken_in : Bool → Physical → Physical
+taken_in undone p = record p { world = record p.world { notes = if undone then drop 1 p.world.notes else p.world.notes } }
+
+pub none_of : (p : Physical) (pid : ℕ) → physical_turn zero pid p ≡ stays_at p None
 unfolding physical_turn
 none_of p pid = refl
 
@@ -130,13 +133,13 @@ module _ (pid count : ℕ) (old mid new : Physical) (done : ℕ) (x : TurnStrays
   ends_joined : (walk : Walk) → physical_turn (count - done) pid mid ≡ walk → physical_turn count pid old ≡ walk
   ends_joined walk is = left_of (count - done) refl ∙ is
 
-  -- out of memory in the event that strays it stands before that
-  before_it : TurnStopsIn pid (count - done) mid 0 new → told_in true new ≡ x.at
+  -- out of memory in the event that strays it stands before that, once its note is taken back
+  before_it : TurnStopsIn pid (count - done) mid 0 new → taken_in true new ≡ x.at
   before_it y =
       let same : new ≡ mid = ap (λ (w : Walk). w.now) (sym y.walked ∙ none_of mid pid) in
-      ap (told_in true) (same ∙ x.strays.noted)
+      ap (taken_in true) (same ∙ x.strays.noted)
 
-  stops_joined : (later : ℕ) → TurnStopsIn pid (count - done) mid later new → TurnStopsIn pid count old (done + later) (told_in (later == 0) new)
+  stops_joined : (later : ℕ) → TurnStopsIn pid (count - done) mid later new → TurnStopsIn pid count old (done + later) (taken_in (later == 0) new)
   stops_joined zero y =
       let less_still = y.less in
       let sum : done ≡ done + 0 = omega arith in
@@ -148,16 +151,10 @@ module _ (pid count : ℕ) (old mid new : Physical) (done : ℕ) (x : TurnStrays
   stops_joined (suc later) y =
       let less_still = y.less in
       let other : (suc later == 0) ≡ false = grind (arith, nat_tests) in
-      let stops : TurnStopsIn pid count old (done + suc later) (told_in false new) = record { less = omega (arith, less_still); walked = from_mid later ∙ y.walked; still = y.still } in
-      subst (λ (b : Bool). TurnStopsIn pid count old (done + suc later) (told_in b new)) (sym other) stops
+      let stops : TurnStopsIn pid count old (done + suc later) (taken_in false new) = record { less = omega (arith, less_still); walked = from_mid later ∙ y.walked; still = y.still } in
+      subst (λ (b : Bool). TurnStopsIn pid count old (done + suc later) (taken_in b new)) (sym other) stops
 
-  -- and where a note is ahead of its event, that is this one
-  pub ahead_strays : (later : ℕ) (r : Result (Option Told) AllocError) → TurnLeavesIn Whole pid (count - done) mid later new r → is_ahead later r ≡ true → StraysNext (told_in (is_ahead later r) new)
-  ahead_strays later (Ok end) y ahead = absurd (false≢true ahead)
-  ahead_strays zero (Err error) y ahead = subst StraysNext (sym (before_it y)) (record { pid = pid; access = x.strays.access; first = x.strays.first })
-  ahead_strays (suc later) (Err error) y ahead = absurd (grind (arith, nat_tests, ahead))
-
-  pub joined : (later : ℕ) (r : Result (Option Told) AllocError) → TurnLeavesIn Whole pid (count - done) mid later new r → TurnLeavesIn Whole pid count old (done + later) (told_in (is_ahead later r) new) r
+  pub joined : (later : ℕ) (r : Result (Option Told) AllocError) → TurnLeavesIn Whole pid (count - done) mid later new r → TurnLeavesIn Whole pid count old (done + later) (taken_in (is_undone later r) new) r
   joined later (Ok None) y = ends_joined (stays_at new None) y
   joined later (Ok (Some told.LogFull)) y = ends_joined (stays_at new (Some log_full)) y
   joined later (Ok (Some (told.Stray access))) y = absurd y

@@ -1,8 +1,8 @@
--- The fields of `Course` as what it keeps, and what holds of them.
+-- The fields of `Machine` as what it keeps, and what holds of them.
 use Rattle.std.specs.Prelude.{◌≡◌, false, length}
 use Rattle.call_log.specs.Programs.{paths_of}
 use Rattle.machine_world.specs.Programs.{AreLoaded}
-use Rattle.flat_machine.specs.declared.course.Course.TheInside.{Inside}
+use Rattle.flat_machine.specs.declared.machine.Machine.TheInside.{Inside}
 use Rattle.stays_laws.specs.Sound.{IsSound}
 use Rattle.physical_turns.specs.Physical.{has_stray}
 use Rattle.syscall_layer.specs.Reach.{whole_table}
@@ -17,7 +17,6 @@ state_of m = record {
   events = m.events;
   mode = m.mode;
   reach = m.reach;
-  ahead = m.ahead;
 }
 
 -- each program has a path, each load note names a program that is there, the world is a sound one up to the first stray access, and

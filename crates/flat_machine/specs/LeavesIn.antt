@@ -48,12 +48,6 @@ pub record StraysIn (pid : ℕ) (old new : Physical) : Type 0 where
   pub first : first_stray old pid ≡ Some access
   pub noted : new ≡ with_stray pid (Some access) old
 
--- the next event of some process is the first that strays
-pub record StraysNext (p : Physical) : Type 0 where
-  pub pid : ℕ
-  pub access : Access
-  pub first : first_stray p pid ≡ Some access
-
 -- within a process's own bytes its event may stray
 abbrev pub CarriedWithin : Reach → List (List ℕ) → About → Kept → Kept → ℕ → Result After AllocError → Type 0
 CarriedWithin Own headers a old new pid (Ok (after.RunEnds (told.Stray access))) = StraysIn pid (physical_of headers a old) (physical_of headers a new)
@@ -122,9 +116,9 @@ has_rest Halt result = false
 has_rest GoOn result = is_stray result
 
 -- out of memory before any of its events was carried out
-abbrev pub is_ahead : {A : Type 0} → ℕ → Result A AllocError → Bool
-is_ahead events (Ok end) = false
-is_ahead events (Err error) = events == 0
+abbrev pub is_undone : {A : Type 0} → ℕ → Result A AllocError → Bool
+is_undone events (Ok end) = false
+is_undone events (Err error) = events == 0
 
 -- ---- a run
 

@@ -5,7 +5,7 @@
 -- RunsIn    the same of a run that goes on behind its first stray access, over one memory
 -- LeavesIn  and of its events and turns
 -- OwnBytes  bytes of a process
--- Inside    the fields of `Course` as what it keeps
+-- Inside    the fields of `Machine` as what it keeps
 pub mod State
 pub mod Boots
 pub mod Runs

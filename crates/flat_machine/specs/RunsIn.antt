@@ -5,24 +5,15 @@ use Rattle.quantum_sched.specs.declared.Quantum.{Quantum}
 use Rattle.machine_world.specs.Turns.{turns}
 use Rattle.physical_turns.specs.Physical.{has_stray, physical_turns}
 use Rattle.flat_machine.specs.declared.run.End.{End as Told}
-use Rattle.syscall_layer.specs.declared.mode.Mode.TheVariants.{Halt, GoOn}
+use Rattle.syscall_layer.specs.declared.mode.Mode.TheVariants.{Halt}
 use Rattle.flat_machine.specs.State.{State, world, one_memory}
 use Rattle.flat_machine.specs.Runs.{Ends, Runs}
-use Rattle.flat_machine.specs.LeavesIn.{StraysNext, StopsIn, GoesPast}
+use Rattle.flat_machine.specs.LeavesIn.{StopsIn, GoesPast}
 
 -- a run that ends at its first stray access, and met none yet
 pub record IsHalting (s : State) : Type 0 where
   pub halts : s.mode ≡ Halt
   pub quiet : has_stray (world s).notes ≡ false
-
--- where a note is ahead of its event the run goes on, and comes to its first stray access
-abbrev pub AheadAtStray : State → Type 0
-AheadAtStray s = s.ahead ≡ true → (s.mode ≡ GoOn) × StraysNext (one_memory s)
-
--- none is where the run isn't out of memory
-abbrev pub KeepsPace : {A : Type 0} → State → Result A AllocError → Type 0
-KeepsPace s (Ok end) = s.ahead ≡ false
-KeepsPace s (Err error) = AheadAtStray s
 
 -- the machine stands for the one memory that the turns lead to, and tells their end
 abbrev pub RunsIn : List Quantum → State → State → Result Told AllocError → Type 0

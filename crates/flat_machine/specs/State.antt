@@ -1,10 +1,9 @@
 -- What a machine keeps, and the world that it stands for.
 pub use Rattle.machine_world.specs.Programs.{programs_of}
 pub use Rattle.syscall_layer.specs.Reach.{is_whole}
-use Rattle.std.specs.Prelude.{ℕ, Bool, if◌then◌else◌, List, [], drop, map, Vec}
+use Rattle.std.specs.Prelude.{ℕ, List, [], map, Vec}
 use Rattle.page_runs.specs.declared.place.Kind.{Kind}
 use Rattle.bflt_format.specs.Values.{Values}
-use Rattle.call_log.specs.Notes.{Note}
 use Rattle.call_log.specs.Programs.{paths_of}
 use Rattle.manifest_text.specs.declared.manifest.Start.{Start as StartItem}
 use Rattle.manifest_text.specs.Values.{vec_texts}
@@ -16,13 +15,11 @@ use Rattle.syscall_layer.specs.Kept.{Kept}
 use Rattle.syscall_layer.specs.Stands.{About, world_of}
 use Rattle.syscall_layer.specs.InMemory.{headers_of, physical_of}
 use Rattle.syscall_layer.specs.declared.reach.Reach.{Reach}
-use Rattle.syscall_layer.specs.declared.reach.Reach.TheVariants.{Own}
 use Rattle.physical_turns.specs.Physical.{Physical}
 use Rattle.syscall_layer.specs.declared.mode.Mode.{Mode}
 
 -- the parts; how free runs are chosen; the paths of the programs, and their flat files; the number of events; what becomes of the run
--- at its first stray access; what it reaches, all of memory behind that; and whether that access was noted ahead of its event, which
--- found no memory
+-- at its first stray access; and what it reaches, all of memory behind that
 pub record State : Type 0 where
   pub kept : Kept
   pub kind : Kind
@@ -31,7 +28,6 @@ pub record State : Type 0 where
   pub events : ℕ
   pub mode : Mode
   pub reach : Reach
-  pub ahead : Bool
 
 abbrev pub about_of : State → About
 about_of s = record { kind = s.kind; programs = programs_of s.paths s.programs; events = s.events }
@@ -42,17 +38,6 @@ world s = world_of (about_of s) s.kept
 -- the one memory, and the world that shows it
 abbrev pub one_memory : State → Physical
 one_memory s = physical_of (headers_of s.programs) (about_of s) s.kept
-
--- the notes without one that is ahead of its event, and what is reached before that
-abbrev pub told_notes : Bool → List Note → List Note
-told_notes ahead notes = if ahead then drop 1 notes else notes
-
-abbrev pub told_reach : Bool → Reach → Reach
-told_reach ahead reach = if ahead then Own else reach
-
--- as the events that were carried out leave it
-abbrev pub told : State → State
-told s = record s { kept = record s.kept { notes = told_notes s.ahead s.kept.notes }; reach = told_reach s.ahead s.reach }
 
 -- before the first program, with what no space holds: these files, and this input of the console
 abbrev pub rest_of : {Y : Type 0} → ℕ → Kind → List (Vec ℕ Y) → List Values → Inodes → List ℕ → Rest

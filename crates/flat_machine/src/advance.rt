@@ -89,6 +89,7 @@ pub(crate) fn advance(
     ensures within { result.done ≤ count }
     ensures notes { parts.new.notes ≡ parts.old.notes }
     ensures regions { length parts.new.regions ≡ length parts.old.regions }
+    ensures still { result.done ≡ 0 → parts.new ≡ parts.old }
     ensures leads { reach ≡ Own → (a : About) → Leads pid (world_of a parts.old) result.done (world_of (later result.done a) parts.new) }
     ensures halts { reach ≡ Own → (a : About) → Halts (world_of (later result.done a) parts.new) pid count result.done result.stop }
     ensures leads_in { (headers : List (List ℕ)) → (a : About) → LeadsIn pid (physical_of headers a parts.old) result.done (physical_of headers (later result.done a) parts.new) }

@@ -14,7 +14,6 @@ ghost use Rattle.syscall_layer.specs.InMemory.{headers_of, LaysOn};
 ghost use Rattle.flat_machine.specs.State.{world, one_memory, rest_of, line_of, lines_of, about_boot};
 ghost use Rattle.flat_machine.specs.Boots.{marked, Boots, Begins, BeginsStays, BeginsWaits};
 
-use crate::course::Course;
 use crate::machine::Machine;
 use bflt_format::Flat;
 use fd_tables::Files;
@@ -129,7 +128,6 @@ impl Machine {
         ensures memory { IfOk result (λ machine. one_memory machine ≡ opening (headers_of setup.programs.items) (world machine)) }
         ensures mode { IfOk result (λ machine. machine.mode ≡ setup.mode) }
         ensures quiet { IfOk result (λ machine. has_stray (world machine).notes ≡ false) }
-        ensures ahead { IfOk result (λ machine. machine.ahead ≡ false) }
         ensures waits { BeginsWaits (rest_of setup.pages (kind_of chooser.now) setup.paths.items setup.programs.items setup.tree setup.stdin.items) result }
         ensures alone { BeginsStays (rest_of setup.pages (kind_of chooser.now) setup.paths.items setup.programs.items setup.tree setup.stdin.items) (lines_of setup.starts.items) result }
     {
@@ -148,7 +146,7 @@ impl Machine {
         for start in &starts {
             begin(&mut parts, &paths, &programs, start, chooser)?;
         }
-        let course = Course {
+        Ok(Machine {
             parts,
             kind: chooser.kind(),
             paths,
@@ -157,8 +155,6 @@ impl Machine {
             mode,
             reach: Reach::Own,
             whole,
-            ahead: false,
-        };
-        Ok(Machine { course })
+        })
     }
 }

@@ -66,13 +66,13 @@ impl Machine {
         ensures memory { self.now.mode ≡ GoOn → IfOk result (λ found. option_map (λ bytes. bytes.items) found ≡ memory_bytes (one_memory self.now) pid addr len) }
     {
         copied(
-            &self.course.parts,
+            &self.parts,
             alloc,
             pid,
             addr,
             len,
-            shown(self.course.mode),
-            &self.course.whole,
+            shown(self.mode),
+            &self.whole,
         )
     }
 }

@@ -7,7 +7,6 @@
 mod advance;
 mod boot;
 mod bytes;
-mod course;
 mod machine;
 mod run;
 mod turn;

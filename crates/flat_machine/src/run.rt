@@ -1,24 +1,25 @@
 //! A run by quanta.
 
-ghost use Rattle.std.specs.Prelude.{◌≡◌, ◌+◌, ◌*◌, ◌^◌, ◌<◌, ◌≤◌, true, false, [], ◌∷◌, sum_by, Some, None, IfSome, Ok};
+ghost use Rattle.std.specs.Prelude.{◌≡◌, ◌+◌, ◌*◌, ◌^◌, ◌<◌, ◌≤◌, false, [], ◌∷◌, sum_by, Some, None, IfSome, Ok, OnErr};
 ghost use Rattle.page_runs.specs.Choosers.{IsChooser, kind_of};
 ghost use Rattle.vfork_exec.specs.Procs.{CanRun};
 ghost use Rattle.quantum_sched.specs.Picked.{picked};
 ghost use Rattle.machine_world.specs.Families.{ready_pids};
 ghost use Rattle.machine_world.specs.Turns.{none_runs, turns};
+ghost use Rattle.syscall_layer.specs.InMemory.{without_newest};
+ghost use Rattle.syscall_layer.specs.Regular.{IsRegular};
 ghost use Rattle.syscall_layer.specs.Stands.{About, world_of};
 ghost use Rattle.rv32im_step.specs.declared.access.Access.{Access};
 ghost use Rattle.physical_turns.specs.Physical.{has_stray};
 ghost use Rattle.syscall_layer.specs.declared.reach.Reach.TheVariants.{Own};
 ghost use Rattle.syscall_layer.specs.declared.mode.Mode.TheVariants.{GoOn};
 ghost use Rattle.flat_machine.specs.declared.run.End.TheVariants.{Stray};
-ghost use Rattle.flat_machine.specs.State.{is_whole, world, one_memory, told};
+ghost use Rattle.flat_machine.specs.State.{is_whole, world, one_memory};
 ghost use Rattle.flat_machine.specs.Runs.{Ends, Runs, KeepsStays, KeepsWaits, WaitsWhereStuck, repeated};
-ghost use Rattle.flat_machine.specs.RunsIn.{IsHalting, RunsIn, GoesOn, KeepsPace};
+ghost use Rattle.flat_machine.specs.RunsIn.{IsHalting, RunsIn, GoesOn};
 ghost use Rattle.flat_machine.specs.Leaves.{Leaves, TurnLeaves};
-ghost use Rattle.flat_machine.specs.LeavesIn.{LeavesIn, LeavesFirst, TurnLeavesIn, reach_behind, has_rest, is_ahead};
+ghost use Rattle.flat_machine.specs.LeavesIn.{LeavesIn, LeavesFirst, TurnLeavesIn, reach_behind, has_rest, is_undone};
 
-use crate::course::Course;
 use crate::machine::Machine;
 use crate::turn::{TurnEnd, turn};
 use page_runs::{Chooser, Run};
@@ -92,9 +93,9 @@ fn has_rest(mode: Mode, end: &Result<Option<End>, AllocError>) -> bool
     }
 }
 
-/// Whether what is left of a turn met want of memory in its first event, whose stray access is noted.
-fn is_ahead(events: u32, end: &Result<Option<End>, AllocError>) -> bool
-    ensures { result ≡ is_ahead events end.now }
+/// Whether memory ended before any event of a turn was carried out.
+fn is_undone(events: u32, end: &Result<Option<End>, AllocError>) -> bool
+    ensures { result ≡ is_undone events end.now }
 {
     match end {
         Ok(_) => false,
@@ -102,8 +103,8 @@ fn is_ahead(events: u32, end: &Result<Option<End>, AllocError>) -> bool
     }
 }
 
-impl Course {
-    /// Gives a process its turn within reach of the run.
+impl Machine {
+    /// Gives a process its turn within reach of the machine.
     fn turn_of<F: Fn(&[Run], u32) -> Option<usize>>(
         &mut self,
         pid: u32,
@@ -118,11 +119,12 @@ impl Course {
         ensures programs { self.new.programs ≡ self.old.programs }
         ensures mode { self.new.mode ≡ self.old.mode }
         ensures reach { self.new.reach ≡ reach_behind self.old.reach result.end }
-        ensures ahead { self.new.ahead ≡ self.old.ahead }
         ensures events { self.new.events ≡ self.old.events + result.events }
         ensures within { result.events ≤ count }
         ensures notes { has_stray (world self.new).notes ≡ is_whole self.new.reach }
         ensures strays { (access : Access) → result.end ≡ Ok (Some (Stray access)) → result.events < count × CanRun self.new.kept.procs pid }
+        ensures sound { (access : Access) → result.end ≡ Ok (Some (Stray access)) → IsRegular (without_newest self.new.kept) }
+        ensures still { OnErr result.end (result.events ≡ 0 → self.new.kept ≡ self.old.kept) }
         ensures leaves { self.old.reach ≡ Own → TurnLeaves pid count (world self.old) result.events (world self.new) result.end }
         ensures memory { TurnLeavesIn self.old.reach pid count (one_memory self.old) result.events (one_memory self.new) result.end }
     {
@@ -140,7 +142,8 @@ impl Course {
         TurnEnd { events, end }
     }
 
-    /// Gives the process of a quantum its turn. A run that goes on has what is left of the turn behind the first stray access too.
+    /// Gives the process of a quantum its turn. A run that goes on has what is left of the turn behind the first stray access too; where
+    /// memory ends in the event of that access, its note is taken back.
     fn take_turn<F: Fn(&[Run], u32) -> Option<usize>>(
         &mut self,
         quantum: Quantum,
@@ -149,14 +152,12 @@ impl Course {
         requires chooser { IsChooser F.pre F.post chooser.now }
         requires kind { kind_of chooser.now ≡ self.old.kind }
         requires events { self.old.events + quantum.count < 2 ^ 64 }
-        requires ahead { self.old.ahead ≡ false }
         ensures kind { self.new.kind ≡ self.old.kind }
         ensures mode { self.new.mode ≡ self.old.mode }
         ensures events { self.new.events ≤ self.old.events + quantum.count }
-        ensures ahead { KeepsPace (told self.new) result }
         ensures quiet { IsHalting self.old → result ≡ Ok None → IsHalting self.new }
         ensures leaves { IsHalting self.old → Leaves (quantum ∷ []) (world self.old) (world self.new) result }
-        ensures memory { self.old.mode ≡ GoOn → LeavesIn (quantum ∷ []) (one_memory self.old) (one_memory (told self.new)) result }
+        ensures memory { self.old.mode ≡ GoOn → LeavesIn (quantum ∷ []) (one_memory self.old) (one_memory self.new) result }
         ensures first { self.old.mode ≡ GoOn → has_stray (world self.old).notes ≡ false → LeavesFirst (quantum ∷ []) (world self.old) (world self.new) result }
     {
         let Some(pid) = chosen(&self.parts, quantum) else {
@@ -165,7 +166,10 @@ impl Course {
         let TurnEnd { events, end } = self.turn_of(pid, quantum.count, chooser);
         if has_rest(self.mode, &end) {
             let rest = self.turn_of(pid, quantum.count - events, chooser);
-            self.ahead = is_ahead(rest.events, &rest.end);
+            if is_undone(rest.events, &rest.end) {
+                self.parts.take_back();
+                self.reach = Reach::Own;
+            }
             return rest.end;
         }
         end
@@ -180,14 +184,12 @@ impl Course {
         requires chooser { IsChooser F.pre F.post chooser.now }
         requires kind { kind_of chooser.now ≡ self.old.kind }
         requires events { self.old.events + sum_by (λ q. q.count) quanta.now < 2 ^ 64 }
-        requires ahead { self.old.ahead ≡ false }
         ensures kind { self.new.kind ≡ self.old.kind }
         ensures mode { self.new.mode ≡ self.old.mode }
         ensures events { self.new.events ≤ self.old.events + sum_by (λ q. q.count) quanta.now }
-        ensures ahead { KeepsPace (told self.new) result }
         ensures quiet { IsHalting self.old → result ≡ Ok None → IsHalting self.new }
         ensures leaves { IsHalting self.old → Leaves quanta.now (world self.old) (world self.new) result }
-        ensures memory { self.old.mode ≡ GoOn → LeavesIn quanta.now (one_memory self.old) (one_memory (told self.new)) result }
+        ensures memory { self.old.mode ≡ GoOn → LeavesIn quanta.now (one_memory self.old) (one_memory self.new) result }
         ensures first { self.old.mode ≡ GoOn → has_stray (world self.old).notes ≡ false → LeavesFirst quanta.now (world self.old) (world self.new) result }
     {
         for quantum in quanta {
@@ -198,42 +200,8 @@ impl Course {
         Ok(None)
     }
 
-    /// Gives each quantum its turn, and all of them so many times, until the run stops.
-    fn run_repeated<F: Fn(&[Run], u32) -> Option<usize>>(
-        &mut self,
-        quanta: &[Quantum],
-        count: u32,
-        chooser: &Chooser<F>,
-    ) -> Result<End, AllocError>
-        requires chooser { IsChooser F.pre F.post chooser.now }
-        requires kind { kind_of chooser.now ≡ self.old.kind }
-        requires events { self.old.events + count * sum_by (λ q. q.count) quanta.now < 2 ^ 64 }
-        requires ahead { self.old.ahead ≡ false }
-        ensures kind { self.new.kind ≡ self.old.kind }
-        ensures mode { self.new.mode ≡ self.old.mode }
-        ensures events { self.new.events ≤ self.old.events + count * sum_by (λ q. q.count) quanta.now }
-        ensures ahead { KeepsPace (told self.new) result }
-        ensures turns { IsHalting self.old → Runs (repeated count quanta.now) self.old self.new result }
-        ensures memory { self.old.mode ≡ GoOn → RunsIn (repeated count quanta.now) self.old (told self.new) result }
-        ensures first { self.old.mode ≡ GoOn → has_stray (world self.old).notes ≡ false → GoesOn (repeated count quanta.now) self.old self.new result }
-        ensures waits { IsHalting self.old → KeepsWaits self.old self.new }
-        ensures stuck { IsHalting self.old → WaitsWhereStuck self.old self.new result }
-        ensures alone { IsHalting self.old → KeepsStays (repeated count quanta.now) self.old self.new result }
-    {
-        let _kind = self.kind();
-        for _time in 0..count {
-            if let Some(end) = self.round(quanta, chooser)? {
-                return Ok(end);
-            }
-        }
-        Ok(last_end(&self.parts))
-    }
-}
-
-impl Machine {
     /// Gives each quantum its turn, and all of them so many times, until the run stops. The chooser is of
-    /// the kind that booted. Where memory ended in the event of its first stray access, behind the note, the machine stands before that
-    /// event and can't go on: each later run is out of memory.
+    /// the kind that booted.
     pub fn run_repeated<F: Fn(&[Run], u32) -> Option<usize>>(
         &mut self,
         quanta: &[Quantum],
@@ -246,18 +214,19 @@ impl Machine {
         ensures kind { self.new.kind ≡ self.old.kind }
         ensures mode { self.new.mode ≡ self.old.mode }
         ensures events { self.new.events ≤ self.old.events + count * sum_by (λ q. q.count) quanta.now }
-        ensures ahead { KeepsPace self.new result }
-        ensures stays { self.old.ahead ≡ true → self.new ≡ self.old }
         ensures turns { IsHalting self.old → Runs (repeated count quanta.now) self.old self.new result }
-        ensures memory { self.old.mode ≡ GoOn → self.old.ahead ≡ false → RunsIn (repeated count quanta.now) self.old self.new result }
+        ensures memory { self.old.mode ≡ GoOn → RunsIn (repeated count quanta.now) self.old self.new result }
         ensures first { self.old.mode ≡ GoOn → has_stray (world self.old).notes ≡ false → GoesOn (repeated count quanta.now) self.old self.new result }
         ensures waits { IsHalting self.old → KeepsWaits self.old self.new }
         ensures stuck { IsHalting self.old → WaitsWhereStuck self.old self.new result }
         ensures alone { IsHalting self.old → KeepsStays (repeated count quanta.now) self.old self.new result }
     {
-        if self.course.ahead {
-            return Err(AllocError);
+        let _kind = self.kind();
+        for _time in 0..count {
+            if let Some(end) = self.round(quanta, chooser)? {
+                return Ok(end);
+            }
         }
-        self.course.run_repeated(quanta, count, chooser)
+        Ok(last_end(&self.parts))
     }
 }

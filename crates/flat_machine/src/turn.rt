@@ -1,6 +1,6 @@
 //! The turn of a process.
 
-ghost use Rattle.std.specs.Prelude.{◌≡◌, ◌≤◌, ◌<◌, ℕ, Some, List, length, Ok};
+ghost use Rattle.std.specs.Prelude.{◌≡◌, ◌≤◌, ◌<◌, ℕ, Some, List, length, Ok, OnErr};
 ghost use Rattle.page_runs.specs.Choosers.{IsChooser, kind_of};
 ghost use Rattle.vfork_exec.specs.Procs.{CanRun};
 ghost use Rattle.machine_world.specs.Event.{event};
@@ -9,10 +9,12 @@ ghost use Rattle.rv32im_step.specs.declared.access.Access.{Access};
 ghost use Rattle.physical_turns.specs.Physical.{outside, has_stray, died_in};
 ghost use Rattle.syscall_layer.specs.declared.reach.Reach.TheVariants.{Own, Whole};
 ghost use Rattle.syscall_layer.specs.Flats.{AreFlats};
-ghost use Rattle.syscall_layer.specs.InMemory.{headers_of, physical_of};
+ghost use Rattle.syscall_layer.specs.InMemory.{headers_of, physical_of, without_newest};
 ghost use Rattle.syscall_layer.specs.Reach.{whole_table};
+ghost use Rattle.syscall_layer.specs.Regular.{IsRegular};
 ghost use Rattle.syscall_layer.specs.Stands.{About, later, world_of};
 ghost use Rattle.flat_machine.specs.declared.run.End.TheVariants.{Stray};
+ghost use Rattle.flat_machine.specs.declared.turn.After.TheVariants.{RunEnds};
 ghost use Rattle.flat_machine.specs.Leaves.{Carried, TellsStray, TurnLeaves};
 ghost use Rattle.flat_machine.specs.State.{is_whole};
 ghost use Rattle.flat_machine.specs.LeavesIn.{CarriedIn, CarriedWithin, StandsWithin, TurnLeavesIn, reach_behind};
@@ -42,7 +44,8 @@ enum After {
 
 /// Notes an access that isn't carried out.
 fn stray(parts: &mut Parts, pid: u32, access: Access) -> Result<After, AllocError>
-    ensures { TellsStray pid access parts.old parts.new result }
+    ensures tells { TellsStray pid access parts.old parts.new result }
+    ensures sound { (seen : Access) → result ≡ Ok (RunEnds (Stray seen)) → IsRegular (without_newest parts.new) }
 {
     parts.note_stray(pid, access)?;
     Ok(After::RunEnds(End::Stray(access)))
@@ -54,6 +57,7 @@ fn refused(parts: &mut Parts, pid: u32, access: Access, reach: Reach) -> Result<
     requires { CanRun parts.old.procs pid }
     ensures strays { reach ≡ Own → TellsStray pid access parts.old parts.new result }
     ensures memory { reach ≡ Whole → (headers : List (List ℕ)) → (a : About) → CarriedIn headers a (died_in (physical_of headers a parts.old) pid outside) parts.old parts.new pid result }
+    ensures sound { (seen : Access) → result ≡ Ok (RunEnds (Stray seen)) → IsRegular (without_newest parts.new) }
 {
     match reach {
         Reach::Own => stray(parts, pid, access),
@@ -84,6 +88,7 @@ fn next_event<F: Fn(&[Run], u32) -> Option<usize>>(
         Carried a (event (world_of a parts.old) pid) parts.old parts.new pid result }
     ensures memory { (a : About) → a.kind ≡ kind_of chooser.now → AreFlats a.programs programs.now →
         CarriedWithin reach (headers_of programs.now) a parts.old parts.new pid result }
+    ensures sound { (seen : Access) → result ≡ Ok (RunEnds (Stray seen)) → IsRegular (without_newest parts.new) }
 {
     match stop {
         Stop::Next => Ok(After::GoesOn),
@@ -128,6 +133,8 @@ pub(crate) fn turn<F: Fn(&[Run], u32) -> Option<usize>>(
     ensures regions { length parts.new.regions ≡ length parts.old.regions }
     ensures notes { has_stray parts.new.notes ≡ is_whole (reach_behind reach result.end) }
     ensures strays { (access : Access) → result.end ≡ Ok (Some (Stray access)) → result.events < count × CanRun parts.new.procs pid }
+    ensures sound { (access : Access) → result.end ≡ Ok (Some (Stray access)) → IsRegular (without_newest parts.new) }
+    ensures still { OnErr result.end (result.events ≡ 0 → parts.new ≡ parts.old) }
     ensures leaves { reach ≡ Own → (a : About) → a.kind ≡ kind_of chooser.now → AreFlats a.programs programs.now →
         TurnLeaves pid count (world_of a parts.old) result.events (world_of (later result.events a) parts.new) result.end }
     ensures memory { (a : About) → a.kind ≡ kind_of chooser.now → AreFlats a.programs programs.now →

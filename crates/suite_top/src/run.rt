@@ -203,7 +203,6 @@ fn run_machine<F: Fn(&[Run], u32) -> Option<usize>>(
     requires kind { kind_of chooser.now ≡ machine.kind }
     requires events { machine.events + repeat * sum_by (λ q. q.count) quanta.now < 2 ^ 64 }
     requires quiet { has_stray (world machine).notes ≡ false }
-    requires ahead { machine.ahead ≡ false }
     ensures halt { machine.mode ≡ Halt → OrMemory (world_ending telling (repeated repeat quanta.now) dumps.now (world machine)) (ending_of result) }
     ensures go_on { machine.mode ≡ GoOn → OrMemory (memory_run_ending telling (repeated repeat quanta.now) dumps.now (one_memory machine)) (ending_of result) }
 {

@@ -5,32 +5,33 @@ use Rattle.syscall_layer.specs.Kept.{Kept}
 use Rattle.syscall_layer.specs.Inside.{kept_of}
 use Rattle.flat_machine.proofs.Advanced.{has_space, never_none, below}
 use Rattle.flat_machine.proofs.AdvancedIn.{whole_paged, home_paged, reach_paged, advances}
+use Rattle.flat_machine.proofs.NoneDone.{none_done}
 use Rattle.flat_machine.proofs.advance.advance.Goals as goal
 
 pub index-requires : goal.index-requires
 index-requires c =
-    let h = has_space (kept_of c.parts.inside) c.args.pid c.get_mut-task.result.now c.parts.invariant.0 c.get_mut-task.ensures.value in
+    let h = has_space (kept_of c.parts.inside) c.args.pid c.get_mut-task.result.now c.parts.invariant.0.0 c.get_mut-task.ensures.value in
     omega (arith, below c.parts.inside.spaces.items c.get_mut-task.result.now.space h)
 
 pub window_within-window-requires : goal.window_within-window-requires
 window_within-window-requires c =
     let pages = rw (← c.parts.view_is) at c.requires.whole in
-    let fits = whole_paged (kept_of c.parts.inside) c.args.whole.now c.parts.invariant.0 pages in
+    let fits = whole_paged (kept_of c.parts.inside) c.args.whole.now c.parts.invariant.0.0 pages in
     record { pages = fits.0; most = fits.1; whole = fits.2 }
 
 pub table_within-owners-requires : goal.table_within-owners-requires
 table_within-owners-requires c =
     let pages = rw (← c.parts.view_is) at c.requires.whole in
-    let h = has_space (kept_of c.parts.inside) c.args.pid c.get_mut-task.result.now c.parts.invariant.0 c.get_mut-task.ensures.value in
+    let h = has_space (kept_of c.parts.inside) c.args.pid c.get_mut-task.result.now c.parts.invariant.0.0 c.get_mut-task.ensures.value in
     record {
-      pages = home_paged (kept_of c.parts.inside) c.args.whole.now c.get_mut-task.result.now.space c.index.result.now c.in-Some.space c.parts.invariant.0 h c.index.ensures c.in-Some.is pages;
-      whole = (whole_paged (kept_of c.parts.inside) c.args.whole.now c.parts.invariant.0 pages).2;
+      pages = home_paged (kept_of c.parts.inside) c.args.whole.now c.get_mut-task.result.now.space c.index.result.now c.in-Some.space c.parts.invariant.0.0 h c.index.ensures c.in-Some.is pages;
+      whole = (whole_paged (kept_of c.parts.inside) c.args.whole.now c.parts.invariant.0.0 pages).2;
     }
 
 pub new-watch-requires-clause-paged : goal.new-watch-requires-clause-paged
 new-watch-requires-clause-paged c =
     let pages = rw (← c.parts.view_is) at c.requires.whole in
-    reach_paged c.args.reach (kept_of c.parts.inside) c.args.whole.now c.table_within-owners.result.now c.in-Some.space c.parts.invariant.0 pages c.table_within-owners.ensures
+    reach_paged c.args.reach (kept_of c.parts.inside) c.args.whole.now c.table_within-owners.result.now c.in-Some.space c.parts.invariant.0.0 pages c.table_within-owners.ensures
 
 pub new-watch-requires-clause-window : goal.new-watch-requires-clause-window
 new-watch-requires-clause-window c =
@@ -41,11 +42,13 @@ pub invariant_of-parts : goal.invariant_of-parts
 invariant_of-parts c =
     let ready = subst (λ (k : Kept). CanRun k.procs c.args.pid) (sym c.parts.view_is) c.requires.ready in
     let pages = rw (← c.parts.view_is) at c.requires.whole in
-    let strayed = rw (← c.parts.view_is) at c.requires.strayed in
-    (advances c.args.reach (kept_of c.parts.inside) c.args.whole.now c.args.pid c.args.count c.get_mut-task.result.now c.index.result.now c.in-Some.space c.table_within-owners.result.now
-    c.new-watch.result.owners.now c.new-watch.result.mem.now c.run_steps.new.watch.mem.now c.run_steps.new.regs c.run_steps.result.done c.run_steps.result.stop
-    c.parts.invariant ready pages strayed c.get_mut-task.ensures.value c.index.ensures c.in-Some.is c.table_within-owners.ensures c.new-watch.ensures.owners c.new-watch.ensures.mem
-    c.run_steps.ensures.leaves c.run_steps.ensures.frozen c.run_steps.ensures.length).regular
+    let strayed = rw (← c.parts.view_is) at c.requires.strayed in (
+      (advances c.args.reach (kept_of c.parts.inside) c.args.whole.now c.args.pid c.args.count c.get_mut-task.result.now c.index.result.now c.in-Some.space c.table_within-owners.result.now
+          c.new-watch.result.owners.now c.new-watch.result.mem.now c.run_steps.new.watch.mem.now c.run_steps.new.regs c.run_steps.result.done c.run_steps.result.stop
+          c.parts.invariant.0 ready pages strayed c.get_mut-task.ensures.value c.index.ensures c.in-Some.is c.table_within-owners.ensures c.new-watch.ensures.owners c.new-watch.ensures.mem
+          c.run_steps.ensures.leaves c.run_steps.ensures.frozen c.run_steps.ensures.length).regular,
+      c.parts.invariant.1,
+    )
 
 pub returns-in-Some-clause-ready : goal.returns-in-Some-clause-ready
 returns-in-Some-clause-ready c =
@@ -54,7 +57,7 @@ returns-in-Some-clause-ready c =
     let strayed = rw (← c.parts.view_is) at c.requires.strayed in
     (advances c.args.reach (kept_of c.parts.inside) c.args.whole.now c.args.pid c.args.count c.get_mut-task.result.now c.index.result.now c.in-Some.space c.table_within-owners.result.now
     c.new-watch.result.owners.now c.new-watch.result.mem.now c.run_steps.new.watch.mem.now c.run_steps.new.regs c.run_steps.result.done c.run_steps.result.stop
-    c.parts.invariant ready pages strayed c.get_mut-task.ensures.value c.index.ensures c.in-Some.is c.table_within-owners.ensures c.new-watch.ensures.owners c.new-watch.ensures.mem
+    c.parts.invariant.0 ready pages strayed c.get_mut-task.ensures.value c.index.ensures c.in-Some.is c.table_within-owners.ensures c.new-watch.ensures.owners c.new-watch.ensures.mem
     c.run_steps.ensures.leaves c.run_steps.ensures.frozen c.run_steps.ensures.length).ready
 
 pub returns-in-Some-clause-within : goal.returns-in-Some-clause-within
@@ -64,8 +67,14 @@ returns-in-Some-clause-within c =
     let strayed = rw (← c.parts.view_is) at c.requires.strayed in
     (advances c.args.reach (kept_of c.parts.inside) c.args.whole.now c.args.pid c.args.count c.get_mut-task.result.now c.index.result.now c.in-Some.space c.table_within-owners.result.now
     c.new-watch.result.owners.now c.new-watch.result.mem.now c.run_steps.new.watch.mem.now c.run_steps.new.regs c.run_steps.result.done c.run_steps.result.stop
-    c.parts.invariant ready pages strayed c.get_mut-task.ensures.value c.index.ensures c.in-Some.is c.table_within-owners.ensures c.new-watch.ensures.owners c.new-watch.ensures.mem
+    c.parts.invariant.0 ready pages strayed c.get_mut-task.ensures.value c.index.ensures c.in-Some.is c.table_within-owners.ensures c.new-watch.ensures.owners c.new-watch.ensures.mem
     c.run_steps.ensures.leaves c.run_steps.ensures.frozen c.run_steps.ensures.length).within
+
+pub returns-in-Some-clause-still : goal.returns-in-Some-clause-still
+returns-in-Some-clause-still c none =
+    let v = c.parts.view_is in
+    rw (← v) (none_done (kept_of c.parts.inside) c.args.pid c.args.count c.get_mut-task.result.now c.new-watch.result.owners.now c.new-watch.result.mem.now c.run_steps.new.watch.mem.now c.run_steps.new.regs
+    c.run_steps.result.done c.run_steps.result.stop c.get_mut-task.ensures.value c.new-watch.ensures.mem c.run_steps.ensures.leaves c.run_steps.ensures.frozen none)
 
 pub returns-in-Some-clause-leads : goal.returns-in-Some-clause-leads
 returns-in-Some-clause-leads c =
@@ -75,7 +84,7 @@ returns-in-Some-clause-leads c =
     let strayed = rw (← c.parts.view_is) at c.requires.strayed in
     rw (← v) (advances c.args.reach (kept_of c.parts.inside) c.args.whole.now c.args.pid c.args.count c.get_mut-task.result.now c.index.result.now c.in-Some.space c.table_within-owners.result.now
     c.new-watch.result.owners.now c.new-watch.result.mem.now c.run_steps.new.watch.mem.now c.run_steps.new.regs c.run_steps.result.done c.run_steps.result.stop
-    c.parts.invariant ready pages strayed c.get_mut-task.ensures.value c.index.ensures c.in-Some.is c.table_within-owners.ensures c.new-watch.ensures.owners c.new-watch.ensures.mem
+    c.parts.invariant.0 ready pages strayed c.get_mut-task.ensures.value c.index.ensures c.in-Some.is c.table_within-owners.ensures c.new-watch.ensures.owners c.new-watch.ensures.mem
     c.run_steps.ensures.leaves c.run_steps.ensures.frozen c.run_steps.ensures.length).leads
 
 pub returns-in-Some-clause-halts : goal.returns-in-Some-clause-halts
@@ -85,7 +94,7 @@ returns-in-Some-clause-halts c =
     let strayed = rw (← c.parts.view_is) at c.requires.strayed in
     (advances c.args.reach (kept_of c.parts.inside) c.args.whole.now c.args.pid c.args.count c.get_mut-task.result.now c.index.result.now c.in-Some.space c.table_within-owners.result.now
     c.new-watch.result.owners.now c.new-watch.result.mem.now c.run_steps.new.watch.mem.now c.run_steps.new.regs c.run_steps.result.done c.run_steps.result.stop
-    c.parts.invariant ready pages strayed c.get_mut-task.ensures.value c.index.ensures c.in-Some.is c.table_within-owners.ensures c.new-watch.ensures.owners c.new-watch.ensures.mem
+    c.parts.invariant.0 ready pages strayed c.get_mut-task.ensures.value c.index.ensures c.in-Some.is c.table_within-owners.ensures c.new-watch.ensures.owners c.new-watch.ensures.mem
     c.run_steps.ensures.leaves c.run_steps.ensures.frozen c.run_steps.ensures.length).halts
 
 pub returns-in-Some-clause-leads_in : goal.returns-in-Some-clause-leads_in
@@ -96,7 +105,7 @@ returns-in-Some-clause-leads_in c =
     let strayed = rw (← c.parts.view_is) at c.requires.strayed in
     rw (← v) (advances c.args.reach (kept_of c.parts.inside) c.args.whole.now c.args.pid c.args.count c.get_mut-task.result.now c.index.result.now c.in-Some.space c.table_within-owners.result.now
     c.new-watch.result.owners.now c.new-watch.result.mem.now c.run_steps.new.watch.mem.now c.run_steps.new.regs c.run_steps.result.done c.run_steps.result.stop
-    c.parts.invariant ready pages strayed c.get_mut-task.ensures.value c.index.ensures c.in-Some.is c.table_within-owners.ensures c.new-watch.ensures.owners c.new-watch.ensures.mem
+    c.parts.invariant.0 ready pages strayed c.get_mut-task.ensures.value c.index.ensures c.in-Some.is c.table_within-owners.ensures c.new-watch.ensures.owners c.new-watch.ensures.mem
     c.run_steps.ensures.leaves c.run_steps.ensures.frozen c.run_steps.ensures.length).leads_in
 
 pub returns-in-Some-clause-halts_in : goal.returns-in-Some-clause-halts_in
@@ -106,29 +115,33 @@ returns-in-Some-clause-halts_in c =
     let strayed = rw (← c.parts.view_is) at c.requires.strayed in
     (advances c.args.reach (kept_of c.parts.inside) c.args.whole.now c.args.pid c.args.count c.get_mut-task.result.now c.index.result.now c.in-Some.space c.table_within-owners.result.now
     c.new-watch.result.owners.now c.new-watch.result.mem.now c.run_steps.new.watch.mem.now c.run_steps.new.regs c.run_steps.result.done c.run_steps.result.stop
-    c.parts.invariant ready pages strayed c.get_mut-task.ensures.value c.index.ensures c.in-Some.is c.table_within-owners.ensures c.new-watch.ensures.owners c.new-watch.ensures.mem
+    c.parts.invariant.0 ready pages strayed c.get_mut-task.ensures.value c.index.ensures c.in-Some.is c.table_within-owners.ensures c.new-watch.ensures.owners c.new-watch.ensures.mem
     c.run_steps.ensures.leaves c.run_steps.ensures.frozen c.run_steps.ensures.length).halts_in
 
 pub invariant_of-parts-in-None : goal.invariant_of-parts-in-None
 invariant_of-parts-in-None c = absurd (never_none c.parts.inside.spaces.items c.get_mut-task.result.now.space c.index.result.now
-    (has_space (kept_of c.parts.inside) c.args.pid c.get_mut-task.result.now c.parts.invariant.0 c.get_mut-task.ensures.value) c.index.ensures c.in-None.is)
+    (has_space (kept_of c.parts.inside) c.args.pid c.get_mut-task.result.now c.parts.invariant.0.0 c.get_mut-task.ensures.value) c.index.ensures c.in-None.is)
 
 pub returns-in-None-clause-ready : goal.returns-in-None-clause-ready
 returns-in-None-clause-ready c = absurd (never_none c.parts.inside.spaces.items c.get_mut-task.result.now.space c.index.result.now
-    (has_space (kept_of c.parts.inside) c.args.pid c.get_mut-task.result.now c.parts.invariant.0 c.get_mut-task.ensures.value) c.index.ensures c.in-None.is)
+    (has_space (kept_of c.parts.inside) c.args.pid c.get_mut-task.result.now c.parts.invariant.0.0 c.get_mut-task.ensures.value) c.index.ensures c.in-None.is)
+
+pub returns-in-None-clause-still : goal.returns-in-None-clause-still
+returns-in-None-clause-still c = absurd (never_none c.parts.inside.spaces.items c.get_mut-task.result.now.space c.index.result.now
+    (has_space (kept_of c.parts.inside) c.args.pid c.get_mut-task.result.now c.parts.invariant.0.0 c.get_mut-task.ensures.value) c.index.ensures c.in-None.is)
 
 pub returns-in-None-clause-leads : goal.returns-in-None-clause-leads
 returns-in-None-clause-leads c = absurd (never_none c.parts.inside.spaces.items c.get_mut-task.result.now.space c.index.result.now
-    (has_space (kept_of c.parts.inside) c.args.pid c.get_mut-task.result.now c.parts.invariant.0 c.get_mut-task.ensures.value) c.index.ensures c.in-None.is)
+    (has_space (kept_of c.parts.inside) c.args.pid c.get_mut-task.result.now c.parts.invariant.0.0 c.get_mut-task.ensures.value) c.index.ensures c.in-None.is)
 
 pub returns-in-None-clause-halts : goal.returns-in-None-clause-halts
 returns-in-None-clause-halts c = absurd (never_none c.parts.inside.spaces.items c.get_mut-task.result.now.space c.index.result.now
-    (has_space (kept_of c.parts.inside) c.args.pid c.get_mut-task.result.now c.parts.invariant.0 c.get_mut-task.ensures.value) c.index.ensures c.in-None.is)
+    (has_space (kept_of c.parts.inside) c.args.pid c.get_mut-task.result.now c.parts.invariant.0.0 c.get_mut-task.ensures.value) c.index.ensures c.in-None.is)
 
 pub returns-in-None-clause-leads_in : goal.returns-in-None-clause-leads_in
 returns-in-None-clause-leads_in c = absurd (never_none c.parts.inside.spaces.items c.get_mut-task.result.now.space c.index.result.now
-    (has_space (kept_of c.parts.inside) c.args.pid c.get_mut-task.result.now c.parts.invariant.0 c.get_mut-task.ensures.value) c.index.ensures c.in-None.is)
+    (has_space (kept_of c.parts.inside) c.args.pid c.get_mut-task.result.now c.parts.invariant.0.0 c.get_mut-task.ensures.value) c.index.ensures c.in-None.is)
 
 pub returns-in-None-clause-halts_in : goal.returns-in-None-clause-halts_in
 returns-in-None-clause-halts_in c = absurd (never_none c.parts.inside.spaces.items c.get_mut-task.result.now.space c.index.result.now
-    (has_space (kept_of c.parts.inside) c.args.pid c.get_mut-task.result.now c.parts.invariant.0 c.get_mut-task.ensures.value) c.index.ensures c.in-None.is)
+    (has_space (kept_of c.parts.inside) c.args.pid c.get_mut-task.result.now c.parts.invariant.0.0 c.get_mut-task.ensures.value) c.index.ensures c.in-None.is)

@@ -10,4 +10,4 @@ pub returns-clause-ready : goal.returns-clause-ready
 returns-clause-ready c =
     let v = c.parts.view_is in
     let k = kept_of c.parts.inside in
-    rw (← v) (picked_can_run k k.procs.next_pid c.parts.invariant.0.falls c.args.quantum.pick c.pick.result c.pick.ensures.picked)
+    rw (← v) (picked_can_run k k.procs.next_pid c.parts.invariant.0.0.falls c.args.quantum.pick c.pick.result c.pick.ensures.picked)

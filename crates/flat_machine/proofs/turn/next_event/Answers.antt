@@ -37,12 +37,12 @@ returns-in-LogFull-clause-memory g c a so are =
 pub returns-in-Stray-clause-carried : goal.returns-in-Stray-clause-carried
 returns-in-Stray-clause-carried g c own a so are =
     call_strays a c.args.parts.now c.stray.new.parts c.args.pid c.args.stop c.in-Call.is (c.requires.stands own a) c.in_ok-serve_within-in-Call.field-0 c.in-Stray.access c.serve_within.new.parts c.in-Stray.is
-    (c.in_ok-serve_within-in-Call.ensures.serves own a so are (quiet_own c.args.reach c.args.parts.now.notes own c.requires.strayed)) c.stray.result c.stray.ensures
+    (c.in_ok-serve_within-in-Call.ensures.serves own a so are (quiet_own c.args.reach c.args.parts.now.notes own c.requires.strayed)) c.stray.result c.stray.ensures.tells
 
 pub returns-in-Stray-clause-memory : goal.returns-in-Stray-clause-memory
 returns-in-Stray-clause-memory g c a so are =
     call_strays_in (headers_of c.args.programs.now) a c.args.reach c.args.parts.now c.args.pid c.args.stop c.requires.strayed (λ own. c.requires.stands own a) (c.requires.stands_in (headers_of c.args.programs.now) a)
-    c.in-Call.is c.serve_within.new.parts c.stray.new.parts c.in-Stray.access c.in_ok-serve_within-in-Call.field-0 c.in-Stray.is (λ own. c.in_ok-serve_within-in-Call.ensures.serves own a so are (quiet_own c.args.reach c.args.parts.now.notes own c.requires.strayed)) (c.in_ok-serve_within-in-Call.ensures.memory a so are) c.stray.result c.stray.ensures
+    c.in-Call.is c.serve_within.new.parts c.stray.new.parts c.in-Stray.access c.in_ok-serve_within-in-Call.field-0 c.in-Stray.is (λ own. c.in_ok-serve_within-in-Call.ensures.serves own a so are (quiet_own c.args.reach c.args.parts.now.notes own c.requires.strayed)) (c.in_ok-serve_within-in-Call.ensures.memory a so are) c.stray.result c.stray.ensures.tells
 
 pub returns-in_err-serve_within-in-Call-clause-carried : goal.returns-in_err-serve_within-in-Call-clause-carried
 returns-in_err-serve_within-in-Call-clause-carried g c own a so are =

@@ -1,5 +1,5 @@
 -- The events so far, the instructions behind them, and the event behind these.
-use Rattle.std.proofs.Common.{refl, ◌≡◌, ◌≢◌, ◌+◌, ◌-◌, ◌∙◌, length, sym, ap, rules, arith}
+use Rattle.std.proofs.Common.{Ok, refl, ◌≡◌, ◌≢◌, ◌+◌, ◌-◌, ◌∙◌, length, sym, ap, rules, arith}
 use Rattle.page_runs.specs.Choosers.{kind_of}
 use Rattle.rv32im_step.specs.declared.stop.Stop.TheVariants.{Next}
 use Rattle.physical_turns.specs.Physical.{has_stray}
@@ -7,7 +7,9 @@ use Rattle.syscall_layer.specs.Stands.{later}
 use Rattle.syscall_layer.specs.InMemory.{headers_of, physical_of}
 use Rattle.syscall_layer.specs.Kept.{Kept}
 use Rattle.syscall_layer.specs.Reach.{whole_table}
+use Rattle.flat_machine.specs.declared.run.End.{End}
 use Rattle.flat_machine.specs.declared.run.End.TheVariants.{Stray}
+use Rattle.flat_machine.specs.declared.turn.After.TheVariants.{RunEnds}
 use Rattle.syscall_layer.proofs.Abouts.{some_about}
 use Rattle.flat_machine.proofs.Turned.{reached_none, reached_on, halts_stands, turn_all, turn_ends, turn_stops, turn_fails}
 use Rattle.flat_machine.proofs.TurnsIn.{all_within, less_within, standing, reached_in_none, reached_in_on, continues, ends_notes, ends_regions, turn_ends_in, is_stopped, turn_stops_in, fails_same, still_within, turn_fails_in, turn_all_in}
@@ -21,6 +23,7 @@ loop-events-init g c = record {
   regions = refl;
   leads = λ own. reached_none (kind_of c.args.chooser.now) c.args.programs.now c.args.pid c.args.parts.now;
   leads_in = reached_in_none (kind_of c.args.chooser.now) c.args.programs.now c.args.pid c.args.parts.now;
+  still = λ none. refl;
 }
 
 pub advance-progress-requires-clause-whole : goal.advance-progress-requires-clause-whole
@@ -102,6 +105,7 @@ loop-events-preserved g c =
       leads_in = reached_in_on (kind_of c.args.chooser.now) c.args.programs.now c.args.pid c.args.parts.now c.advance-progress.new.parts c.next_event.new.parts (c.loop-events.events + c.advance-progress.result.done) 1
           (reached_in_on (kind_of c.args.chooser.now) c.args.programs.now c.args.pid c.args.parts.now c.loop-events.parts c.advance-progress.new.parts c.loop-events.events c.advance-progress.result.done c.loop-events.invariant.leads_in
           (λ b same are. c.advance-progress.ensures.leads_in (headers_of c.args.programs.now) b)) on.leads_in;
+      still = λ none. absurd (omega (arith, none));
     }
 
 pub returns-in-Ok-TurnEnds-clause-within : goal.returns-in-Ok-TurnEnds-clause-within
@@ -163,6 +167,11 @@ returns-in-Ok-RunEnds-clause-strays g c access is =
     let same : c.in-Ok-RunEnds.end ≡ Stray access = cc in
     (omega arith, (is_stopped (kind_of c.args.chooser.now) c.args.programs.now c.args.reach c.args.pid c.args.parts.now c.advance-progress.new.parts c.next_event.new.parts c.in-Ok-RunEnds.end (ap has_stray c.advance-progress.ensures.notes ∙ c.loop-events.invariant.notes) memory).strays access same c.advance-progress.ensures.ready)
 
+pub returns-in-Ok-RunEnds-clause-sound : goal.returns-in-Ok-RunEnds-clause-sound
+returns-in-Ok-RunEnds-clause-sound g c access is =
+    let same : c.in-Ok-RunEnds.end ≡ Stray access = cc in
+    c.in-Ok-RunEnds.ensures.sound access (ap Ok c.in-Ok-RunEnds.field-0-is ∙ ap (λ (e : End). Ok (RunEnds e)) same)
+
 pub returns-in-Ok-RunEnds-clause-leaves : goal.returns-in-Ok-RunEnds-clause-leaves
 returns-in-Ok-RunEnds-clause-leaves g c own =
     let carried = rw c.in-Ok-RunEnds.field-0-is at c.in-Ok-RunEnds.ensures.carried in
@@ -214,6 +223,11 @@ returns-in-Err-clause-memory g c =
     (λ b. still_within c.args.reach (headers_of c.args.programs.now) b c.advance-progress.new.parts c.args.pid c.advance-progress.result.stop (ap has_stray c.advance-progress.ensures.notes ∙ c.loop-events.invariant.notes)
     (λ own. halts_stands c.advance-progress.new.parts c.args.pid (c.args.count - c.loop-events.events) c.advance-progress.result.done c.advance-progress.result.stop other (c.advance-progress.ensures.halts own) b)
     (standing c.args.reach c.advance-progress.new.parts c.args.pid (c.args.count - c.loop-events.events) c.advance-progress.result.done c.advance-progress.result.stop other c.advance-progress.ensures.halts_in (headers_of c.args.programs.now) b))
+
+pub returns-in-Err-clause-still : goal.returns-in-Err-clause-still
+returns-in-Err-clause-still g c = λ none.
+    let same = fails_same (kind_of c.args.chooser.now) c.args.programs.now c.args.reach c.args.pid c.args.parts.now c.advance-progress.new.parts c.next_event.new.parts c.in-Err.error c.in-Err.ensures.memory in
+    same ∙ c.advance-progress.ensures.still (omega (arith, none)) ∙ c.loop-events.invariant.still (omega (arith, none))
 
 pub returns-clause-leaves : goal.returns-clause-leaves
 returns-clause-leaves g c own =

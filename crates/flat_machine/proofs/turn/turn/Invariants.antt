@@ -17,6 +17,7 @@ invariant-loop-events g l = record {
   regions : length l.parts.regions ≡ length l.fn.parts.regions;
   leads : l.reach ≡ Own → Reached (kind_of l.chooser) l.programs l.pid l.fn.parts l.events l.parts;
   leads_in : ReachedIn (kind_of l.chooser) l.programs l.pid l.fn.parts l.events l.parts;
+  still : l.events ≡ 0 → l.parts ≡ l.fn.parts;
 }
 
 abbrev pub decreases-loop-events : goal.decreases-loop-events

@@ -12,4 +12,4 @@ returns-clause-halt g c =
 pub returns-clause-go_on : goal.returns-clause-go_on
 returns-clause-go_on g c =
     λ is. goes_on c.args.telling (repeated c.args.repeat c.args.quanta.now) c.args.dumps.now c.args.machine c.run_repeated.new.self c.in_ok-end.ensures.mode c.in_ok-end.end
-    (ending_of c.told.result) c.told.ensures is (λ go. c.in_ok-end.ensures.memory go c.requires.ahead)
+    (ending_of c.told.result) c.told.ensures is c.in_ok-end.ensures.memory

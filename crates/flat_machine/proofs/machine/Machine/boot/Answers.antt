@@ -1,5 +1,5 @@
 -- Each start line in order.
-use Rattle.std.proofs.Common.{refl, sym, ap, ◌∙◌, ◌≡◌, ◌+◌, ◌≤◌, false, List, length, subst, arith}
+use Rattle.std.proofs.Common.{refl, sym, ap, ◌∙◌, ◌≡◌, ◌+◌, ◌≤◌, List, length, subst, arith}
 use Rattle.std.proofs.lemmas.List.{length-map, length-replicate}
 use Rattle.call_log.specs.Programs.{paths_of}
 use Rattle.machine_world.specs.Programs.{AreLoaded}
@@ -67,8 +67,8 @@ returns-in_err-begin-clause-world g c =
     c.from_residual-in_err-begin.ensures.0 c.from_residual-in_err-begin.ensures.1 fails in
     rw (← c.deref-start-items.ensures.value, ← first_is) told
 
-pub invariant_of-course : goal.invariant_of-course
-invariant_of-course g c =
+pub invariant_of-result : goal.invariant_of-result
+invariant_of-result g c =
     let a = about_boot (kind_of c.args.chooser.now) c.args.setup.paths.items c.args.setup.programs.items in
     let rest = rest_of c.args.setup.pages (kind_of c.args.chooser.now) c.args.setup.paths.items c.args.setup.programs.items c.args.setup.tree c.args.setup.stdin.items in
     let first_is = boots_from a c.args.setup.pages c.args.setup.tree c.in_ok-files.files.open_files rest c.in_ok-parts.parts (lines_of c.deref-start-items.result.now) c.in_ok-parts.ensures (ap (λ (files : OpenFiles). record rest { files = files }) c.in_ok-files.ensures) refl in
@@ -95,7 +95,7 @@ returns-clause-world g c =
     let kind = c.kind.ensures in
     rw (← c.deref-start-items.ensures.value, kind)
     (machine_boots (world_of a c.loop-start.parts)
-    (record { kept = c.loop-start.parts; kind = kind_of c.args.chooser.now; paths = paths_of c.args.setup.paths.items; programs = c.args.setup.programs.items; events = 0; mode = c.args.setup.mode; reach = Own; ahead = false })
+    (record { kept = c.loop-start.parts; kind = kind_of c.args.chooser.now; paths = paths_of c.args.setup.paths.items; programs = c.args.setup.programs.items; events = 0; mode = c.args.setup.mode; reach = Own })
     (boot rest (lines_of c.deref-start-items.result.now)) (all ∙ first_is) refl)
 
 pub returns-clause-alone : goal.returns-clause-alone

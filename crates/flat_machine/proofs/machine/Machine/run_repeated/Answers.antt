@@ -1,53 +1,129 @@
--- What the run leaves is told.
-use Rattle.std.proofs.Common.{◌≡◌, false, sym, ap, subst, ◌∙◌}
-use Rattle.physical_turns.specs.Physical.{has_stray}
-use Rattle.flat_machine.specs.declared.machine.Machine.TheInside.{Inside}
-use Rattle.flat_machine.specs.State.{State, world, told}
-use Rattle.flat_machine.specs.Runs.{KeepsStays, KeepsWaits, WaitsWhereStuck, repeated}
-use Rattle.flat_machine.specs.RunsIn.{IsHalting, GoesOn}
-use Rattle.flat_machine.proofs.Told.{told_same, told_halts, paced, goes_on_told}
-use Rattle.flat_machine.proofs.machine.Machine.run_repeated.Given.{Over}
+-- The times so far, and the next.
+use Rattle.std.proofs.Common.{ℕ, ◌≡◌, [], refl, ap, subst, ◌∙◌, arith, None, Ok}
+use Rattle.std.specs.Prelude.{sum_by}
+use Rattle.quantum_sched.specs.declared.Quantum.{Quantum}
+use Rattle.machine_world.specs.Turns.{turns}
+use Rattle.machine_world.proofs.RunLaws.{comes_none}
+use Rattle.physical_turns.proofs.TurnsIn.{comes_in_none}
+use Rattle.flat_machine.specs.State.{State, about_of, world, one_memory}
+use Rattle.flat_machine.specs.Inside.{state_of}
+use Rattle.flat_machine.specs.Runs.{repeated, Ends}
+use Rattle.flat_machine.proofs.Rounds.{time_fits, one_more_time, time_on, time_ends, time_fails, machine_ends, runs_fail, run_keeps_stays}
+use Rattle.flat_machine.proofs.RoundsIn.{first_quiet, time_on_in, time_ends_in, time_fails_in, time_first, time_first_ends, all_comes_in, all_first, runs_fail_in, goes_on_fails}
+use Rattle.flat_machine.proofs.Waiting.{run_keeps_waits, run_waits_where_stuck}
 use Rattle.flat_machine.proofs.machine.Machine.run_repeated.Goals as goal
 
--- no note was ahead before
-here : (g : Over) (c : goal.After-run_repeated g) → c.self.inside.course ≡ c.args.self.now
-here g c =
-    let calm : c.self.inside.course.ahead ≡ false = sym (ap (λ (m : Inside). m.course.ahead) c.self-inside.view_is) ∙ c.if-self.false in
-    sym (told_same c.self.inside.course calm) ∙ c.self.view_is
+pub loop-time-init : goal.loop-time-init
+loop-time-init g c = record {
+  kind = refl;
+  mode = refl;
+  halts = λ halting. halting;
+  comes = λ halting. comes_none (world c.args.self.now);
+  memory = λ go. comes_in_none (one_memory c.args.self.now);
+  first = λ go quiet. first_quiet [] (world c.args.self.now) (world c.args.self.now) (Ok None) quiet (comes_none (world c.args.self.now));
+  events = omega arith;
+}
 
--- nor is one behind a run that halts
-there : (g : Over) (c : goal.After-run_repeated g) → IsHalting c.args.self.now → told c.run_repeated.new.self ≡ c.run_repeated.new.self
-there g c halting =
-    told_halts c.run_repeated.new.self c.run_repeated.result c.run_repeated.ensures.ahead (c.run_repeated.ensures.mode ∙ ap (λ (s : State). s.mode) (here g c) ∙ halting.halts)
+pub round-requires-clause-events : goal.round-requires-clause-events
+round-requires-clause-events g c =
+    let sum : ℕ = sum_by (λ (q : Quantum). q.count) c.args.quanta.now in
+    let fits = time_fits c.loop-time._time c.args.count sum c.loop-time-test.true in
+    let events = c.loop-time.invariant.events in
+    omega arith
+
+pub returns-in_err-end-clause-turns : goal.returns-in_err-end-clause-turns
+returns-in_err-end-clause-turns g c halting =
+    runs_fail (repeated c.args.count c.args.quanta.now) c.args.self.now c.round.new.self c.from_residual.result c.from_residual.ensures.0
+    (time_fails c.args.quanta.now c.loop-time._time c.args.count c.loop-time-test.true (world c.args.self.now) (world c.loop-time.self) (world c.round.new.self) (c.loop-time.invariant.comes halting) (c.in_err-end.ensures.leaves (c.loop-time.invariant.halts halting)))
+
+pub returns-in_err-end-clause-memory : goal.returns-in_err-end-clause-memory
+returns-in_err-end-clause-memory g c go =
+    runs_fail_in (repeated c.args.count c.args.quanta.now) c.args.self.now c.round.new.self c.from_residual.result c.from_residual.ensures.0
+    (time_fails_in c.args.quanta.now c.loop-time._time c.args.count c.loop-time-test.true (one_memory c.args.self.now) (one_memory c.loop-time.self) (one_memory c.round.new.self) (c.loop-time.invariant.memory go) (c.in_err-end.ensures.memory (c.loop-time.invariant.mode ∙ go)))
+
+pub returns-in_err-end-clause-first : goal.returns-in_err-end-clause-first
+returns-in_err-end-clause-first g c go quiet =
+    goes_on_fails (repeated c.args.count c.args.quanta.now) c.args.self.now c.round.new.self c.from_residual.result c.from_residual.ensures.0
+
+pub returns-in-Some-clause-turns : goal.returns-in-Some-clause-turns
+returns-in-Some-clause-turns g c halting =
+    let leaves = rw c.in-Some.is at (c.in_ok-end.ensures.leaves (c.loop-time.invariant.halts halting)) in
+    time_ends c.args.quanta.now c.loop-time._time c.args.count c.loop-time-test.true (world c.args.self.now) (world c.loop-time.self) (world c.round.new.self) (c.loop-time.invariant.comes halting) c.in-Some.end leaves
+
+pub returns-in-Some-clause-memory : goal.returns-in-Some-clause-memory
+returns-in-Some-clause-memory g c go =
+    let memory = rw c.in-Some.is at (c.in_ok-end.ensures.memory (c.loop-time.invariant.mode ∙ go)) in
+    time_ends_in c.args.quanta.now c.loop-time._time c.args.count c.loop-time-test.true (one_memory c.args.self.now) (one_memory c.loop-time.self) (one_memory c.round.new.self) (c.loop-time.invariant.memory go) c.in-Some.end memory
+
+pub returns-in-Some-clause-first : goal.returns-in-Some-clause-first
+returns-in-Some-clause-first g c go quiet =
+    let memory = rw c.in-Some.is at (c.in_ok-end.ensures.memory (c.loop-time.invariant.mode ∙ go)) in
+    let first = rw c.in-Some.is at (c.in_ok-end.ensures.first (c.loop-time.invariant.mode ∙ go)) in
+    time_first_ends c.args.quanta.now c.loop-time._time c.args.count c.loop-time-test.true c.args.self.now c.loop-time.self c.round.new.self (c.loop-time.invariant.first go quiet) c.in-Some.end memory first
+
+pub loop-time-preserved : goal.loop-time-preserved
+loop-time-preserved g c =
+    let leaves = rw c.in_default.is at c.in_ok-end.ensures.leaves in
+    let memory = rw c.in_default.is at c.in_ok-end.ensures.memory in
+    let first = rw c.in_default.is at c.in_ok-end.ensures.first in
+    let sum : ℕ = sum_by (λ (q : Quantum). q.count) c.args.quanta.now in
+    let more = one_more_time c.loop-time._time sum in
+    let events = c.loop-time.invariant.events in
+    let here = c.in_ok-end.ensures.events in
+    record {
+      kind = c.in_ok-end.ensures.kind ∙ c.loop-time.invariant.kind;
+      mode = c.in_ok-end.ensures.mode ∙ c.loop-time.invariant.mode;
+      halts = λ halting. c.in_ok-end.ensures.quiet (c.loop-time.invariant.halts halting) (ap Ok c.in_default.is);
+      comes = λ halting. time_on c.args.quanta.now c.loop-time._time c.args.count c.loop-time-test.true (world c.args.self.now) (world c.loop-time.self) (world c.round.new.self) (c.loop-time.invariant.comes halting) (leaves (c.loop-time.invariant.halts halting));
+      memory = λ go. time_on_in c.args.quanta.now c.loop-time._time c.args.count c.loop-time-test.true (one_memory c.args.self.now) (one_memory c.loop-time.self) (one_memory c.round.new.self) (c.loop-time.invariant.memory go) (memory (c.loop-time.invariant.mode ∙ go));
+      first = λ go quiet. time_first c.args.quanta.now c.loop-time._time c.args.count c.loop-time-test.true c.args.self.now c.loop-time.self c.round.new.self (c.loop-time.invariant.first go quiet) (memory (c.loop-time.invariant.mode ∙ go)) (first (c.loop-time.invariant.mode ∙ go));
+      events = omega arith;
+    }
+
+pub returns-clause-turns : goal.returns-clause-turns
+returns-clause-turns g c halting =
+    let all : c.loop-time._time ≡ c.args.count = omega (arith, c.loop-time.auto._time-end) in
+    machine_ends (repeated c.args.count c.args.quanta.now) (world c.args.self.now) c.loop-time.self (state_of c.self-2.inside) c.last_end.result c.self-2.view_is
+    (rw all at (c.loop-time.invariant.comes halting)) (c.last_end.ensures (about_of (state_of c.self-2.inside)))
+
+pub returns-clause-memory : goal.returns-clause-memory
+returns-clause-memory g c go =
+    let all : c.loop-time._time ≡ c.args.count = omega (arith, c.loop-time.auto._time-end) in
+    let last : Ends (turns [] (world c.loop-time.self)).end c.last_end.result =
+    subst (λ (s : State). Ends (turns [] (world s)).end c.last_end.result) c.self-2.view_is (c.last_end.ensures (about_of (state_of c.self-2.inside))) in
+    all_comes_in (repeated c.args.count c.args.quanta.now) c.args.self.now c.loop-time.self c.last_end.result last (rw all at (c.loop-time.invariant.memory go))
 
 pub returns-clause-first : goal.returns-clause-first
 returns-clause-first g c go quiet =
-    let qs = repeated c.args.count c.args.quanta.now in
-    let new = c.run_repeated.new.self in
-    let first : GoesOn qs c.self.inside.course new c.run_repeated.result =
-    c.run_repeated.ensures.first (ap (λ (s : State). s.mode) (here g c) ∙ go) (ap (λ (s : State). has_stray (world s).notes) (here g c) ∙ quiet) in
-    subst (λ (s : State). GoesOn qs s (told new) c.run_repeated.result) (here g c) (goes_on_told qs c.self.inside.course new c.run_repeated.result c.run_repeated.ensures.ahead first)
+    let all : c.loop-time._time ≡ c.args.count = omega (arith, c.loop-time.auto._time-end) in
+    let last : Ends (turns [] (world c.loop-time.self)).end c.last_end.result =
+    subst (λ (s : State). Ends (turns [] (world s)).end c.last_end.result) c.self-2.view_is (c.last_end.ensures (about_of (state_of c.self-2.inside))) in
+    all_first (repeated c.args.count c.args.quanta.now) c.args.self.now c.loop-time.self c.last_end.result last (rw all at (c.loop-time.invariant.first go quiet))
 
-pub returns-clause-waits : goal.returns-clause-waits
-returns-clause-waits g c halting =
-    let new = c.run_repeated.new.self in
-    let waits : KeepsWaits c.self.inside.course new = c.run_repeated.ensures.waits (subst IsHalting (sym (here g c)) halting) in
-    subst (λ (s : State). KeepsWaits s (told new)) (here g c) (subst (λ (t : State). KeepsWaits c.self.inside.course t) (sym (there g c halting)) waits)
+pub returns-in-Some-clause-alone : goal.returns-in-Some-clause-alone
+returns-in-Some-clause-alone g c halting =
+    run_keeps_stays (repeated c.args.count c.args.quanta.now) c.args.self.now c.round.new.self (Ok c.in-Some.end) (c.kind-kind.ensures.sound halting.quiet) (returns-in-Some-clause-turns g c halting)
 
-pub returns-clause-stuck : goal.returns-clause-stuck
-returns-clause-stuck g c halting =
-    let new = c.run_repeated.new.self in
-    let stuck : WaitsWhereStuck c.self.inside.course new c.run_repeated.result = c.run_repeated.ensures.stuck (subst IsHalting (sym (here g c)) halting) in
-    subst (λ (s : State). WaitsWhereStuck s (told new) c.run_repeated.result) (here g c)
-    (subst (λ (t : State). WaitsWhereStuck c.self.inside.course t c.run_repeated.result) (sym (there g c halting)) stuck)
+pub returns-in-Some-clause-waits : goal.returns-in-Some-clause-waits
+returns-in-Some-clause-waits g c halting =
+    run_keeps_waits (repeated c.args.count c.args.quanta.now) c.args.self.now c.round.new.self (Ok c.in-Some.end) (returns-in-Some-clause-turns g c halting)
+
+pub returns-in-Some-clause-stuck : goal.returns-in-Some-clause-stuck
+returns-in-Some-clause-stuck g c halting =
+    run_waits_where_stuck (repeated c.args.count c.args.quanta.now) c.args.self.now c.round.new.self (Ok c.in-Some.end) (returns-in-Some-clause-turns g c halting)
 
 pub returns-clause-alone : goal.returns-clause-alone
 returns-clause-alone g c halting =
-    let qs = repeated c.args.count c.args.quanta.now in
-    let new = c.run_repeated.new.self in
-    let alone : KeepsStays qs c.self.inside.course new c.run_repeated.result = c.run_repeated.ensures.alone (subst IsHalting (sym (here g c)) halting) in
-    subst (λ (s : State). KeepsStays qs s (told new) c.run_repeated.result) (here g c)
-    (subst (λ (t : State). KeepsStays qs c.self.inside.course t c.run_repeated.result) (sym (there g c halting)) alone)
+    run_keeps_stays (repeated c.args.count c.args.quanta.now) c.args.self.now c.loop-time.self (Ok c.last_end.result) (c.kind-kind.ensures.sound halting.quiet) (returns-clause-turns g c halting)
 
-pub invariant_of-self : goal.invariant_of-self
-invariant_of-self g c = paced (told c.run_repeated.new.self) c.run_repeated.result c.run_repeated.ensures.ahead
+pub returns-clause-waits : goal.returns-clause-waits
+returns-clause-waits g c halting =
+    run_keeps_waits (repeated c.args.count c.args.quanta.now) c.args.self.now c.loop-time.self (Ok c.last_end.result) (returns-clause-turns g c halting)
+
+pub returns-clause-stuck : goal.returns-clause-stuck
+returns-clause-stuck g c halting =
+    run_waits_where_stuck (repeated c.args.count c.args.quanta.now) c.args.self.now c.loop-time.self (Ok c.last_end.result) (returns-clause-turns g c halting)
+
+pub returns-in_err-end-clause-waits : goal.returns-in_err-end-clause-waits
+returns-in_err-end-clause-waits g c halting =
+    run_keeps_waits (repeated c.args.count c.args.quanta.now) c.args.self.now c.round.new.self c.from_residual.result (returns-in_err-end-clause-turns g c halting)

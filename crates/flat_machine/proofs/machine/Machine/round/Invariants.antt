@@ -8,13 +8,12 @@ use Rattle.syscall_layer.specs.declared.mode.Mode.TheVariants.{GoOn}
 use Rattle.flat_machine.specs.State.{world, one_memory}
 use Rattle.flat_machine.specs.RunsIn.{IsHalting}
 use Rattle.flat_machine.specs.LeavesIn.{LeavesFirst}
-use Rattle.flat_machine.proofs.course.Course.round.Given as goal
+use Rattle.flat_machine.proofs.machine.Machine.round.Given as goal
 
 abbrev pub invariant-loop-quantum : goal.invariant-loop-quantum
 invariant-loop-quantum g l = record {
   kind : l.self.kind ≡ l.fn.self.kind;
   mode : l.self.mode ≡ l.fn.self.mode;
-  ahead : l.self.ahead ≡ false;
   halts : IsHalting l.fn.self → IsHalting l.self;
   comes : IsHalting l.fn.self → Comes (take l.quantum-index l.quanta) (world l.fn.self) (world l.self);
   memory : l.fn.self.mode ≡ GoOn → ComesIn (take l.quantum-index l.quanta) (one_memory l.fn.self) (one_memory l.self);

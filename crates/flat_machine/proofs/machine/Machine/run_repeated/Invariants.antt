@@ -9,13 +9,12 @@ use Rattle.flat_machine.specs.State.{world, one_memory}
 use Rattle.flat_machine.specs.Runs.{repeated}
 use Rattle.flat_machine.specs.RunsIn.{IsHalting}
 use Rattle.flat_machine.specs.LeavesIn.{LeavesFirst}
-use Rattle.flat_machine.proofs.course.Course.run_repeated.Given as goal
+use Rattle.flat_machine.proofs.machine.Machine.run_repeated.Given as goal
 
 abbrev pub invariant-loop-time : goal.invariant-loop-time
 invariant-loop-time g l = record {
   kind : l.self.kind ≡ l.fn.self.kind;
   mode : l.self.mode ≡ l.fn.self.mode;
-  ahead : l.self.ahead ≡ false;
   halts : IsHalting l.fn.self → IsHalting l.self;
   comes : IsHalting l.fn.self → Comes (repeated l._time l.quanta) (world l.fn.self) (world l.self);
   memory : l.fn.self.mode ≡ GoOn → ComesIn (repeated l._time l.quanta) (one_memory l.fn.self) (one_memory l.self);

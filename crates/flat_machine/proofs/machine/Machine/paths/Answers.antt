@@ -4,7 +4,7 @@ use Rattle.std.proofs.lemmas.List.{length-map}
 use Rattle.call_log.specs.Programs.{paths_of}
 use Rattle.flat_machine.specs.Inside.{state_of}
 use Rattle.flat_machine.proofs.Readers.{paths_of_world}
-use Rattle.flat_machine.proofs.course.Course.paths.Goals as goal
+use Rattle.flat_machine.proofs.machine.Machine.paths.Goals as goal
 
 pub returns : goal.returns
 returns c =

@@ -1,5 +1,6 @@
 -- The process has its turn, and the machine holds what it held.
 use Rattle.std.proofs.Common.{◌≡◌, length, sym, ap, subst, ◌∙◌}
+use Rattle.std.specs.Prelude.{OnErr}
 use Rattle.std.proofs.lemmas.List.{length-map}
 use Rattle.syscall_layer.specs.Flats.{AreFlats}
 use Rattle.syscall_layer.specs.InMemory.{headers_of}
@@ -9,7 +10,7 @@ use Rattle.flat_machine.specs.State.{State, about_of, is_whole}
 use Rattle.flat_machine.specs.Inside.{state_of}
 use Rattle.flat_machine.proofs.Readers.{are_flats, programs_count}
 use Rattle.flat_machine.proofs.TurnsOf.{loads_behind, sound_behind}
-use Rattle.flat_machine.proofs.course.Course.turn_of.Goals as goal
+use Rattle.flat_machine.proofs.machine.Machine.turn_of.Goals as goal
 
 pub invariant_of-self : goal.invariant_of-self
 invariant_of-self g c =
@@ -34,6 +35,9 @@ invariant_of-self g c =
 pub returns-clause-notes : goal.returns-clause-notes
 unfolding world_of
 returns-clause-notes g c = c.turn-events.ensures.notes ∙ ap is_whole (sym c.reach_behind-self-inside.ensures)
+
+pub returns-clause-still : goal.returns-clause-still
+returns-clause-still g c = subst (λ (s : State). OnErr c.turn-events.result.end (c.turn-events.result.events ≡ 0 → c.turn-events.new.parts ≡ s.kept)) c.self.view_is c.turn-events.ensures.still
 
 pub returns-clause-leaves : goal.returns-clause-leaves
 returns-clause-leaves g c own =
