@@ -1,14 +1,20 @@
 -- What a run that goes on behind its first stray access leaves, and why it stops.
-use Rattle.std.specs.Prelude.{◌≡◌, true, false, List, Result, Ok, Err}
+use Rattle.std.specs.Prelude.{◌≡◌, Bool, true, false, List, Result, Ok, Err}
 use Rattle.std.specs.declared.alloc.AllocError.{AllocError}
 use Rattle.quantum_sched.specs.declared.Quantum.{Quantum}
 use Rattle.machine_world.specs.Turns.{turns}
 use Rattle.physical_turns.specs.Physical.{has_stray, physical_turns}
 use Rattle.flat_machine.specs.declared.run.End.{End as Told}
+use Rattle.flat_machine.specs.declared.run.End.TheVariants as told
 use Rattle.syscall_layer.specs.declared.mode.Mode.TheVariants.{Halt}
 use Rattle.flat_machine.specs.State.{State, world, one_memory}
 use Rattle.flat_machine.specs.Runs.{Ends, Runs}
 use Rattle.flat_machine.specs.LeavesIn.{StopsIn, GoesPast}
+
+-- a run ended at a stray access
+abbrev pub ends_astray : Result Told AllocError → Bool
+ends_astray (Ok (told.Stray access)) = true
+ends_astray other = false
 
 -- a run that ends at its first stray access, and met none yet
 pub record IsHalting (s : State) : Type 0 where

@@ -16,9 +16,9 @@ ghost use Rattle.syscall_layer.specs.declared.mode.Mode.TheVariants.{GoOn};
 ghost use Rattle.flat_machine.specs.declared.run.End.TheVariants.{Stray};
 ghost use Rattle.flat_machine.specs.State.{is_whole, world, one_memory};
 ghost use Rattle.flat_machine.specs.Runs.{Ends, Runs, KeepsStays, KeepsWaits, WaitsWhereStuck, repeated};
-ghost use Rattle.flat_machine.specs.RunsIn.{IsHalting, RunsIn, GoesOn};
+ghost use Rattle.flat_machine.specs.RunsIn.{ends_astray, IsHalting, RunsIn, GoesOn};
 ghost use Rattle.flat_machine.specs.Leaves.{Leaves, TurnLeaves};
-ghost use Rattle.flat_machine.specs.LeavesIn.{LeavesIn, LeavesFirst, TurnLeavesIn, reach_behind, has_rest, is_undone};
+ghost use Rattle.flat_machine.specs.LeavesIn.{LeavesIn, LeavesFirst, TurnLeavesIn, reach_behind, has_rest, is_undone, is_stray};
 
 use crate::machine::Machine;
 use crate::turn::{TurnEnd, turn};
@@ -155,7 +155,7 @@ impl Machine {
         ensures kind { self.new.kind ≡ self.old.kind }
         ensures mode { self.new.mode ≡ self.old.mode }
         ensures events { self.new.events ≤ self.old.events + quantum.count }
-        ensures quiet { IsHalting self.old → result ≡ Ok None → IsHalting self.new }
+        ensures quiet { IsHalting self.old → is_stray result ≡ false → IsHalting self.new }
         ensures leaves { IsHalting self.old → Leaves (quantum ∷ []) (world self.old) (world self.new) result }
         ensures memory { self.old.mode ≡ GoOn → LeavesIn (quantum ∷ []) (one_memory self.old) (one_memory self.new) result }
         ensures first { self.old.mode ≡ GoOn → has_stray (world self.old).notes ≡ false → LeavesFirst (quantum ∷ []) (world self.old) (world self.new) result }
@@ -187,7 +187,7 @@ impl Machine {
         ensures kind { self.new.kind ≡ self.old.kind }
         ensures mode { self.new.mode ≡ self.old.mode }
         ensures events { self.new.events ≤ self.old.events + sum_by (λ q. q.count) quanta.now }
-        ensures quiet { IsHalting self.old → result ≡ Ok None → IsHalting self.new }
+        ensures quiet { IsHalting self.old → is_stray result ≡ false → IsHalting self.new }
         ensures leaves { IsHalting self.old → Leaves quanta.now (world self.old) (world self.new) result }
         ensures memory { self.old.mode ≡ GoOn → LeavesIn quanta.now (one_memory self.old) (one_memory self.new) result }
         ensures first { self.old.mode ≡ GoOn → has_stray (world self.old).notes ≡ false → LeavesFirst quanta.now (world self.old) (world self.new) result }
@@ -217,6 +217,7 @@ impl Machine {
         ensures turns { IsHalting self.old → Runs (repeated count quanta.now) self.old self.new result }
         ensures memory { self.old.mode ≡ GoOn → RunsIn (repeated count quanta.now) self.old self.new result }
         ensures first { self.old.mode ≡ GoOn → has_stray (world self.old).notes ≡ false → GoesOn (repeated count quanta.now) self.old self.new result }
+        ensures quiet { IsHalting self.old → ends_astray result ≡ false → IsHalting self.new }
         ensures waits { IsHalting self.old → KeepsWaits self.old self.new }
         ensures stuck { IsHalting self.old → WaitsWhereStuck self.old self.new result }
         ensures alone { IsHalting self.old → KeepsStays (repeated count quanta.now) self.old self.new result }

@@ -1,9 +1,11 @@
 -- The quanta so far, and the next.
-use Rattle.std.proofs.Common.{[], Some, None, Ok, refl, ap, ◌∙◌, arith}
+use Rattle.std.proofs.Common.{[], Option, Some, None, Ok, refl, ap, ◌∙◌, arith}
 use Rattle.std.proofs.lemmas.List.Sums.{sum_by-drop_more}
 use Rattle.quantum_sched.specs.declared.Quantum.{Quantum}
 use Rattle.machine_world.proofs.RunLaws.{comes_none}
 use Rattle.physical_turns.proofs.TurnsIn.{comes_in_none}
+use Rattle.flat_machine.specs.declared.run.End.{End as Told}
+use Rattle.flat_machine.specs.LeavesIn.{is_stray}
 use Rattle.flat_machine.specs.State.{world, one_memory}
 use Rattle.flat_machine.proofs.Rounds.{round_on, round_ends, round_fails}
 use Rattle.flat_machine.proofs.RoundsIn.{first_quiet, round_on_in, round_ends_in, round_fails_in, round_first, round_first_over, first_fails}
@@ -64,7 +66,7 @@ loop-quantum-preserved g c =
     record {
       kind = c.in_ok-end.ensures.kind ∙ c.loop-quantum.invariant.kind;
       mode = c.in_ok-end.ensures.mode ∙ c.loop-quantum.invariant.mode;
-      halts = λ halting. c.in_ok-end.ensures.quiet (c.loop-quantum.invariant.halts halting) (ap Ok c.in_default.is);
+      halts = λ halting. c.in_ok-end.ensures.quiet (c.loop-quantum.invariant.halts halting) (ap (λ (end : Option Told). is_stray (Ok end)) c.in_default.is);
       comes = λ halting. round_on c.args.quanta.now c.loop-quantum.quantum-index (record { pick = 0; count = 0 }) c.loop-quantum-test.true (world c.args.self.now) (world c.loop-quantum.self) (world c.take_turn.new.self)
           (c.loop-quantum.invariant.comes halting) (leaves (c.loop-quantum.invariant.halts halting));
       memory = λ go. round_on_in c.args.quanta.now c.loop-quantum.quantum-index (record { pick = 0; count = 0 }) c.loop-quantum-test.true (one_memory c.args.self.now) (one_memory c.loop-quantum.self) (one_memory c.take_turn.new.self)
@@ -73,3 +75,9 @@ loop-quantum-preserved g c =
           (c.loop-quantum.invariant.first go quiet) (Ok None) (memory (c.loop-quantum.invariant.mode ∙ go)) (first (c.loop-quantum.invariant.mode ∙ go));
       events = omega (arith, c.loop-quantum.invariant.events);
     }
+
+pub returns-in_err-end-clause-quiet : goal.returns-in_err-end-clause-quiet
+returns-in_err-end-clause-quiet g c halting is = c.in_err-end.ensures.quiet (c.loop-quantum.invariant.halts halting) refl
+
+pub returns-in-Some-clause-quiet : goal.returns-in-Some-clause-quiet
+returns-in-Some-clause-quiet g c halting is = (rw c.in-Some.is at c.in_ok-end.ensures.quiet) (c.loop-quantum.invariant.halts halting) is

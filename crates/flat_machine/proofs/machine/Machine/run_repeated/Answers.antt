@@ -1,10 +1,14 @@
 -- The times so far, and the next.
-use Rattle.std.proofs.Common.{ℕ, ◌≡◌, [], refl, ap, subst, ◌∙◌, arith, None, Ok}
+use Rattle.std.proofs.Common.{ℕ, ◌≡◌, [], refl, ap, subst, ◌∙◌, arith, Option, None, Some, Ok}
 use Rattle.std.specs.Prelude.{sum_by}
 use Rattle.quantum_sched.specs.declared.Quantum.{Quantum}
 use Rattle.machine_world.specs.Turns.{turns}
 use Rattle.machine_world.proofs.RunLaws.{comes_none}
 use Rattle.physical_turns.proofs.TurnsIn.{comes_in_none}
+use Rattle.flat_machine.specs.declared.run.End.{End as Told}
+use Rattle.flat_machine.specs.declared.run.End.TheVariants as told
+use Rattle.flat_machine.specs.LeavesIn.{is_stray}
+use Rattle.flat_machine.specs.RunsIn.{ends_astray}
 use Rattle.flat_machine.specs.State.{State, about_of, world, one_memory}
 use Rattle.flat_machine.specs.Inside.{state_of}
 use Rattle.flat_machine.specs.Runs.{repeated, Ends}
@@ -73,7 +77,7 @@ loop-time-preserved g c =
     record {
       kind = c.in_ok-end.ensures.kind ∙ c.loop-time.invariant.kind;
       mode = c.in_ok-end.ensures.mode ∙ c.loop-time.invariant.mode;
-      halts = λ halting. c.in_ok-end.ensures.quiet (c.loop-time.invariant.halts halting) (ap Ok c.in_default.is);
+      halts = λ halting. c.in_ok-end.ensures.quiet (c.loop-time.invariant.halts halting) (ap (λ (end : Option Told). is_stray (Ok end)) c.in_default.is);
       comes = λ halting. time_on c.args.quanta.now c.loop-time._time c.args.count c.loop-time-test.true (world c.args.self.now) (world c.loop-time.self) (world c.round.new.self) (c.loop-time.invariant.comes halting) (leaves (c.loop-time.invariant.halts halting));
       memory = λ go. time_on_in c.args.quanta.now c.loop-time._time c.args.count c.loop-time-test.true (one_memory c.args.self.now) (one_memory c.loop-time.self) (one_memory c.round.new.self) (c.loop-time.invariant.memory go) (memory (c.loop-time.invariant.mode ∙ go));
       first = λ go quiet. time_first c.args.quanta.now c.loop-time._time c.args.count c.loop-time-test.true c.args.self.now c.loop-time.self c.round.new.self (c.loop-time.invariant.first go quiet) (memory (c.loop-time.invariant.mode ∙ go)) (first (c.loop-time.invariant.mode ∙ go));
@@ -127,3 +131,18 @@ returns-clause-stuck g c halting =
 pub returns-in_err-end-clause-waits : goal.returns-in_err-end-clause-waits
 returns-in_err-end-clause-waits g c halting =
     run_keeps_waits (repeated c.args.count c.args.quanta.now) c.args.self.now c.round.new.self c.from_residual.result (returns-in_err-end-clause-turns g c halting)
+
+-- ---- whether it met a stray access
+
+stray_same : (end : Told) → is_stray (Ok (Some end)) ≡ ends_astray (Ok end)
+stray_same (told.Stray access) = refl
+stray_same told.AllEnded = refl
+stray_same told.Stuck = refl
+stray_same told.OutOfQuanta = refl
+stray_same told.LogFull = refl
+
+pub returns-in_err-end-clause-quiet : goal.returns-in_err-end-clause-quiet
+returns-in_err-end-clause-quiet g c halting is = c.in_err-end.ensures.quiet (c.loop-time.invariant.halts halting) refl
+
+pub returns-in-Some-clause-quiet : goal.returns-in-Some-clause-quiet
+returns-in-Some-clause-quiet g c halting is = (rw c.in-Some.is at c.in_ok-end.ensures.quiet) (c.loop-time.invariant.halts halting) (stray_same c.in-Some.end ∙ is)

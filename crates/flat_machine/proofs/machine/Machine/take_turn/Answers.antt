@@ -16,7 +16,7 @@ use Rattle.flat_machine.specs.declared.run.End.TheVariants as told
 use Rattle.flat_machine.specs.State.{State, about_of, world, one_memory, is_whole}
 use Rattle.flat_machine.specs.Inside.{state_of}
 use Rattle.flat_machine.specs.Leaves.{TurnLeaves}
-use Rattle.flat_machine.specs.LeavesIn.{LeavesIn, TurnLeavesIn, is_stray, has_rest, is_undone, reach_behind}
+use Rattle.flat_machine.specs.LeavesIn.{LeavesIn, TurnLeavesIn, is_stray, has_rest, is_undone}
 use Rattle.flat_machine.proofs.Rounds.{quantum_none, quantum_leaves}
 use Rattle.flat_machine.proofs.RoundsIn.{quantum_none_in, quantum_leaves_in, quantum_goes_past, stray_of, stray_reach, calm_reach, first_none, first_quiet, past_by, chosen_in, may_run_in, tells_in, own_here}
 use Rattle.flat_machine.proofs.StraysOn.{taken_in}
@@ -146,7 +146,7 @@ returns-clause-quiet g c halting is =
     let own : c.args.self.now.reach ≡ Own = own_here c.args.self.now quiet (rw (← v) c.self.invariant.strayed) in
     record {
       halts = c.turn_of-events.ensures.mode ∙ halting.halts;
-      quiet = c.turn_of-events.ensures.notes ∙ ap is_whole (c.turn_of-events.ensures.reach ∙ ap (reach_behind c.args.self.now.reach) is ∙ own);
+      quiet = c.turn_of-events.ensures.notes ∙ ap is_whole (c.turn_of-events.ensures.reach ∙ calm_reach c.args.self.now.reach c.turn_of-events.result.end is ∙ own);
     }
 
 pub returns-clause-leaves : goal.returns-clause-leaves
