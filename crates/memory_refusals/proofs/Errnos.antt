@@ -1,4 +1,4 @@
--- Over one memory each reply that is an errno is a refusal.
+-- Over one memory each reply that is an errno is a refusal, and with ENOMEM for want of a run.
 use Rattle.std.proofs.Common.{◌≡◌, ℕ, ◌⊎◌, inl, inr, Bool, true, false, List, [], ◌∷◌, Option, Some, None, Result, Ok, Err, refl, sym, ap, subst, ◌∙◌, arith}
 use Rattle.std.specs.Prelude.{if◌then◌else◌}
 use Rattle.std.proofs.lemmas.Bool.{false≢true}
@@ -20,6 +20,8 @@ use Rattle.machine_world.specs.Event.{Trace, Outcome, went, strays, full, idle, 
 use Rattle.machine_world.specs.Laws.{refused_outcome}
 use Rattle.machine_world.proofs.ByEvents.{Went}
 use Rattle.refusal_laws.specs.Bounded.{IsBounded}
+use Rattle.refusal_laws.specs.NoRun.{LacksRun}
+use Rattle.refusal_laws.proofs.Errnos.{is_enomem}
 use Rattle.refusal_laws.proofs.EachCall.{EachCall, each_call}
 use Rattle.refusal_laws.proofs.Small.{no_errno}
 use Rattle.refusal_laws.proofs.Refusals.{RefusesRow, IsLow, low_or_refuses}
@@ -28,7 +30,8 @@ use Rattle.physical_turns.specs.Growth.{AfterHas}
 use Rattle.physical_turns.proofs.Moves.{event_in_carried}
 use Rattle.go_on_laws.specs.Refusals.{CallIn, ask_in, over_memory, IsRefusedIn}
 use Rattle.go_on_laws.proofs.Refused.{refused_events_leave_memory}
-use Rattle.memory_refusals.specs.Refusals.{NotesCall, noted_in, IsRefusedCall, ErrnosAreRefusedIn}
+use Rattle.memory_refusals.specs.Regular.{IsRegularIn}
+use Rattle.memory_refusals.specs.Refusals.{NotesCall, noted_in, ErrnosAreRefusedIn}
 use Rattle.memory_refusals.proofs.Answers.{EachAnswer, by_classed_in}
 use Rattle.memory_refusals.proofs.Kept.{bounded_stray}
 use Rattle.memory_refusals.proofs.Noted.{IsPlain, Adds, adds_none, adds_stray, among}
@@ -96,9 +99,11 @@ module _ (p : Physical) (a : Ask) where
 
 -- ---- a call is refused, or notes no errno
 
+-- with ENOMEM for want of a run
 record Refuses (p : Physical) (a : Ask) (x : After) : Type 0 where
   errno : Errno
   is : x ≡ answered_in p a (refuses a errno)
+  lacks : is_enomem errno ≡ true → LacksRun p.world a
 
 abbrev Either : Physical → Ask → After → Type 0
 Either p a x = Refuses p a x ⊎ PlainIn p x
@@ -107,20 +112,23 @@ module _ (p : Physical) (h : IsBounded p.world) (pid : ℕ) (q : Process) (lives
   abbrev a : Ask
   a = ask_of p.world q s.space bytes
 
+  no_enomem : (e : Errno) → is_enomem e ≡ false → is_enomem e ≡ true → LacksRun p.world a
+  no_enomem e other is = absurd (false≢true (sym other ∙ is))
+
   by_row : RefusesRow p.world a (row a) ⊎ IsLow p.world a (row a) → Either p a (answered_in p a (row a))
-  by_row (inl r) = inl (record { errno = r.errno; is = ap (answered_in p a) r.is })
+  by_row (inl r) = inl (record { errno = r.errno; is = ap (answered_in p a) r.is; lacks = r.lacks })
   by_row (inr low) = inr (plain_answered_in p a (row a) low)
 
   -- the row of a call of a class that writes nothing
   by_quiet : RefusesRow p.world a (row a) ⊎ IsLow p.world a (row a) → Either p a (carried p p.memory (answered p.world a (row a)))
-  by_quiet (inl r) = inl (record { errno = r.errno; is = ap (λ (x : Row). carried p p.memory (answered p.world a x)) r.is })
+  by_quiet (inl r) = inl (record { errno = r.errno; is = ap (λ (x : Row). carried p p.memory (answered p.world a x)) r.is; lacks = r.lacks })
   by_quiet (inr low) = inr (plain_carried p p.memory (answered p.world a (row a)) (plain_answered p.world a (row a) low))
 
   calls : EachCall (λ o. Either p a (carried p p.memory o)) p.world a
   unfolding exited forked executed ended
   calls = record {
     row = by_quiet (low_or_refuses p.world h pid q lives s has bytes);
-    refused = λ e other. inl (record { errno = e; is = refl });
+    refused = λ e other. inl (record { errno = e; is = refl; lacks = no_enomem e other });
     exit = inr (plain_carried p p.memory (exited p.world a)
         (plain_if p.world (has_room p.world.notes (weight_of bytes [])) _ _ (λ room. record { more = _ ∷ _ ∷ []; is = refl; each = (tt, (no_errno 0 (omega arith), tt)) })));
     told = λ ended got. inr (plain_carried p p.memory _ (plain_answered (record p.world { ended = ended }) a (gives a 0 got p.world.rest) (λ room. no_errno 0 (omega arith))));
@@ -133,12 +141,12 @@ module _ (p : Physical) (h : IsBounded p.world) (pid : ℕ) (q : Process) (lives
         })));
     load = λ index page l is chosen. inr (plain_carried p p.memory (executed p.world a index l)
         (plain_if p.world (has_room p.world.notes (weight_of bytes [])) _ _ (λ room. record { more = _ ∷ _ ∷ []; is = refl; each = (tt, (no_errno 0 (omega arith), tt)) })));
-    no_run = λ number lacks. inl (record { errno = Enomem; is = refl });
+    no_run = λ number lacks. inl (record { errno = Enomem; is = refl; lacks = λ yes. inr (number, lacks) });
   }
 
   answers : EachAnswer (Either p a) p a
   answers = record {
-    refused = λ e. inl (record { errno = e; is = refl });
+    refused = λ e other. inl (record { errno = e; is = refl; lacks = no_enomem e other });
     row = by_row (low_or_refuses p.world h pid q lives s has bytes);
     calls = each_call (λ o. Either p a (carried p p.memory o)) p.world a calls;
     told = λ ended got. inr (plain_answered_in (record p { world = record p.world { ended = ended } }) a (gives a 0 got p.world.rest) (λ room. no_errno 0 (omega arith)));
@@ -152,10 +160,11 @@ module _ (p : Physical) (h : IsBounded p.world) (pid : ℕ) (q : Process) (lives
 -- ---- an event
 
 -- an event is a call of the process that is refused, or notes no errno
-record RefusesCall (p : Physical) (pid : ℕ) : Type 0 where
-  call : CallIn p pid
-  errno : Errno
-  is : IsRefusedIn p pid call errno
+pub record RefusesCall (p : Physical) (pid : ℕ) : Type 0 where
+  pub call : CallIn p pid
+  pub errno : Errno
+  pub is : IsRefusedIn p pid call errno
+  pub lacks : is_enomem errno ≡ true → LacksRun p.world (ask_in p pid call)
 
 abbrev OrPlain : Physical → ℕ → After → Type 0
 OrPlain p pid x = RefusesCall p pid ⊎ PlainIn p x
@@ -172,6 +181,7 @@ module _ (p : Physical) (h : IsBounded p.world) (pid : ℕ) where
               call = record { process = q; lives = lives; space = s; has = has; at_call = at_call; bytes = bytes; reads = reads };
               errno = refuses.errno;
               is = refuses.is;
+              lacks = refuses.lacks;
             })
         by (inr plain) = inr (plain_settled p (classed_in p (ask_of p.world q s.space bytes)) plain)
 
@@ -218,20 +228,29 @@ module _ (p : Physical) (pid : ℕ) (e : CallEntry) (h : NotesCall p pid e) wher
       among P p.world.notes h.now.world.notes h.later h.earlier e
       (adds_stray P p pid (first_stray p pid) h.now.world.notes (subst (AfterHas (λ now. Adds P n.world.notes now.notes)) h.goes added)) h.notes
 
-pub errnos_are_refused_in : ErrnosAreRefusedIn
-errnos_are_refused_in p pid e r h errno = by (or_plain (noted_in p pid) (bounded_stray p pid (first_stray p pid) r.bounded) pid)
+-- a call that is noted with an errno as its reply: it is refused, its note is that of the refusal, and the event is the refusal's
+pub record IsItsCall (p : Physical) (pid : ℕ) (e : CallEntry) : Type 0 where
+  pub refuses : RefusesCall (noted_in p pid) pid
+  pub note : e ≡ entry_of (ask_in (noted_in p pid) pid refuses.call) (refusal refuses.errno) []
+  pub outcome : physical_event p pid ≡ over_memory (noted_in p pid) (refused_outcome (noted_in p pid).world refuses.call.process (ask_in (noted_in p pid) pid refuses.call) refuses.errno)
+
+pub its_call : (p : Physical) (pid : ℕ) (e : CallEntry) → IsRegularIn p → NotesCall p pid e → is_errno e.reply ≡ true → IsItsCall p pid e
+its_call p pid e r h errno = by (or_plain (noted_in p pid) (bounded_stray p pid (first_stray p pid) r.bounded) pid)
   where
-    by : OrPlain (noted_in p pid) pid (carried_out (noted_in p pid) pid) → IsRefusedCall p pid e
+    by : OrPlain (noted_in p pid) pid (carried_out (noted_in p pid) pid) → IsItsCall p pid e
     by (inr plain) =
         absurd (false≢true (sym (of_it p pid e h IsPlain (subst (PlainIn (noted_in p pid)) (sym (event_in_carried p pid)) plain)) ∙ errno))
     by (inl c) =
         let outcome : physical_event p pid ≡ over_memory (noted_in p pid) (refused_outcome (noted_in p pid).world c.call.process (ask_in (noted_in p pid) pid c.call) c.errno) =
         refused_events_leave_memory p pid r.shown r.unmarked c.call c.errno c.is in
         record {
-          call = c.call;
-          errno = c.errno;
+          refuses = c;
           note = of_it p pid e h (λ entry. entry ≡ entry_of (ask_in (noted_in p pid) pid c.call) (refusal c.errno) [])
               (subst (AfterHas _) (sym outcome) (refusal_notes (noted_in p pid) c.call.process (ask_in (noted_in p pid) pid c.call) c.errno));
-          refused = c.is;
           outcome = outcome;
         }
+
+pub errnos_are_refused_in : ErrnosAreRefusedIn
+errnos_are_refused_in p pid e r h errno =
+    let its : IsItsCall p pid e = its_call p pid e r h errno in
+    record { call = its.refuses.call; errno = its.refuses.errno; note = its.note; refused = its.refuses.is; outcome = its.outcome }

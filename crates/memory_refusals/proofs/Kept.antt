@@ -153,7 +153,7 @@ module _ (p : Physical) (h : IsBounded p.world) (pid : ℕ) where
         let now : Ask = ask_of p.world q s.space bytes in
         let t : IsTidy p.world = tidy p.world h in
         record {
-          refused = λ e. bounded_gives p h pid q lives s has bytes (refusal e) [];
+          refused = λ e other. bounded_gives p h pid q lives s has bytes (refusal e) [];
           row = bounded_answered p h pid q lives s has bytes (row now) (rows_outside p.world t q s.space bytes) (row_in_memory p.world h pid q lives s has bytes);
           calls =
               bounded_carried p p.memory (classed p.world now) h

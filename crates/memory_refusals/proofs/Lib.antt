@@ -3,8 +3,10 @@
 -- Kept      the memory of a run stays regular
 -- Noted     the notes that an event adds
 -- Errnos    each reply that is an errno is a refusal
+-- Enomem    ENOMEM is for want of a run
 pub mod Answers
 pub mod Changes
 pub mod Kept
 pub mod Noted
 pub mod Errnos
+pub mod Enomem

@@ -6,4 +6,4 @@
 
 mod laws;
 
-pub use laws::{refusals_in_memory_law, regular_in_memory_law};
+pub use laws::{enomem_in_memory_law, refusals_in_memory_law, regular_in_memory_law};
