@@ -4,18 +4,18 @@ use Rattle.host_io.specs.Host.{Told}
 use Rattle.suite_top.specs.declared.status.Status.{Status}
 use Rattle.suite_top.specs.Status.{code_of}
 use Rattle.suite_top.specs.Ending.{done_ending, memory_ending}
-use Rattle.suite_top.specs.Observed.{Observed}
+use Rattle.suite_top.specs.Observed.{Observed, ObservedSink}
 use Rattle.suite_top.specs.Delivery.{Delivers}
 use Rattle.suite_top.specs.Call.{MeetsResult}
 
 -- a page goes to `out`, and the host isn't asked; the host and the two sinks before and after
-abbrev pub EndsBy : (page : Option (List ℕ)) (arguments : List (List ℕ)) (host host_after : Observed Told) (out out_after report report_after : Observed (List ℕ)) → Status → Type 0
+abbrev pub EndsBy : (page : Option (List ℕ)) (arguments : List (List ℕ)) (host host_after : Observed Told) (out out_after report report_after : ObservedSink) → Status → Type 0
 EndsBy (Some page) arguments host host_after out out_after report report_after status =
     (host_after ≡ host) × Delivers (done_ending page) out out_after report report_after status
 EndsBy None arguments host host_after out out_after report report_after status = MeetsResult arguments host host_after out out_after report report_after status
 
 -- arguments that aren't text are no command; or there was no memory to read them
-abbrev pub Ends : (page_of : List (List ℕ) → Option (List ℕ)) (arguments : Option (List (List ℕ))) (host host_after : Observed Told) (out out_after report report_after : Observed (List ℕ)) → Status → Type 0
+abbrev pub Ends : (page_of : List (List ℕ) → Option (List ℕ)) (arguments : Option (List (List ℕ))) (host host_after : Observed Told) (out out_after report report_after : ObservedSink) → Status → Type 0
 Ends page_of (Some arguments) host host_after out out_after report report_after status =
     EndsBy (page_of arguments) arguments host host_after out out_after report report_after status
 Ends page_of None host host_after out out_after report report_after status =
@@ -23,6 +23,6 @@ Ends page_of None host host_after out out_after report report_after status =
     ⊎ ((host_after ≡ host) × Delivers memory_ending out out_after report report_after status)
 
 -- the exit status is the code of the status that the program ends with
-abbrev pub Exits : (page_of : List (List ℕ) → Option (List ℕ)) (arguments : Option (List (List ℕ))) (host host_after : Observed Told) (out out_after report report_after : Observed (List ℕ)) → ℕ → Type 0
+abbrev pub Exits : (page_of : List (List ℕ) → Option (List ℕ)) (arguments : Option (List (List ℕ))) (host host_after : Observed Told) (out out_after report report_after : ObservedSink) → ℕ → Type 0
 Exits page_of arguments host host_after out out_after report report_after code =
     (status : Status) × (code ≡ code_of status) × Ends page_of arguments host host_after out out_after report report_after status

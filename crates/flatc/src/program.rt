@@ -6,7 +6,7 @@ ghost use Rattle.std.specs.Vec.Iter.{into_iter_items};
 ghost use Rattle.flatc.specs.Pages.{page_of};
 ghost use Rattle.flatc.specs.Program.{Ends, Exits};
 ghost use Rattle.page_runs.specs.Choosers.{IsChooser, kind_of};
-ghost use Rattle.suite_top.specs.Observed.{observed};
+ghost use Rattle.suite_top.specs.Observed.{observed, observed_sink};
 
 use crate::pages::{HELP, VERSION, page_of};
 use host_io::{Host, Sink};
@@ -51,8 +51,8 @@ where
     requires last_kind { kind_of place.now.last ≡ Kind.Last }
     ensures { Ends (page_of HELP.now VERSION.now) (Some (map string_bytes arguments.now))
         (observed H.told H.faults host.old) (observed H.told H.faults host.new)
-        (observed O.told O.faults out.old) (observed O.told O.faults out.new)
-        (observed R.told R.faults report.old) (observed R.told R.faults report.new) result }
+        (observed_sink O.told O.faults O.shortages out.old) (observed_sink O.told O.faults O.shortages out.new)
+        (observed_sink R.told R.faults R.shortages report.old) (observed_sink R.told R.faults R.shortages report.new) result }
 {
     match page_of(arguments) {
         Some(page) => deliver(alloc, Status::Done, page.as_bytes(), b"", out, report),
@@ -81,8 +81,8 @@ where
     requires last_kind { kind_of place.now.last ≡ Kind.Last }
     ensures { Ends (page_of HELP.now VERSION.now) (option_map (λ read. map string_bytes read.items) (result_ok arguments))
         (observed H.told H.faults host.old) (observed H.told H.faults host.new)
-        (observed O.told O.faults out.old) (observed O.told O.faults out.new)
-        (observed R.told R.faults report.old) (observed R.told R.faults report.new) result }
+        (observed_sink O.told O.faults O.shortages out.old) (observed_sink O.told O.faults O.shortages out.new)
+        (observed_sink R.told R.faults R.shortages report.old) (observed_sink R.told R.faults R.shortages report.new) result }
 {
     match arguments {
         Ok(arguments) => run(alloc, &arguments, host, out, report, place),
@@ -121,8 +121,8 @@ where
     requires last_kind { kind_of place.now.last ≡ Kind.Last }
     ensures { Exits (page_of HELP.now VERSION.now) (option_map (λ read. map string_bytes read.items) (result_ok arguments))
         (observed H.told H.faults host.old) (observed H.told H.faults host.new)
-        (observed O.told O.faults out.old) (observed O.told O.faults out.new)
-        (observed R.told R.faults report.old) (observed R.told R.faults report.new) (exit_status result) }
+        (observed_sink O.told O.faults O.shortages out.old) (observed_sink O.told O.faults O.shortages out.new)
+        (observed_sink R.told R.faults R.shortages report.old) (observed_sink R.told R.faults R.shortages report.new) (exit_status result) }
 {
     let status = run_read(alloc, arguments, host, out, report, place);
     ExitCode::from(status.code())

@@ -1,7 +1,9 @@
 -- How what a sink took grows, write after write.
 use Rattle.std.proofs.Common.{◌≡◌, ◌≢◌, ℕ, inl, inr, Ok, List, [], ◌++◌, take, drop, Option, Some, None, refl, sym, ◌∙◌, ap, append_assoc, rules}
 use Rattle.std.proofs.lemmas.List.{take-append-drop}
+use Rattle.host_io.specs.Faults.{HasCause}
 use Rattle.host_io.specs.Sink.{Takes, Sent, HasWriteCause}
+use Rattle.host_io.specs.declared.sink.SinkError.TheVariants.{Memory}
 
 pub takes-nothing : (told : Option (List ℕ)) → Takes told told []
 takes-nothing None = refl
@@ -27,3 +29,7 @@ no_fault-taken before now piece n cause some =
       | inl same ↦ same
       | inr fault ↦ elim fault [ inl failed ↦ cc | inr none ↦ absurd (some (let none_taken = none.0 in cc)) ]
     ]
+
+-- nor did it want memory
+pub no_shortage-taken : (before now n : ℕ) → HasCause Memory before now (Ok n) → now ≡ before
+no_shortage-taken before now n cause = elim cause.no_fault [ inl same ↦ same | inr short ↦ cc ]

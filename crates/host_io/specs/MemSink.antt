@@ -1,7 +1,7 @@
--- The memory sink: the bytes taken, the calls, and how much one write takes.
+-- The memory sink: the bytes taken, the calls, how much one write takes, and how often memory was short.
 use Rattle.std.specs.Prelude.{ℕ, ◌<◌, List, ◌++◌, length, min, if◌then◌else◌, Option, None, Some, IfSome, Result, Ok, Err, refl}
 use Rattle.std.specs.Coded.{Coded, code_by, coded×, coded_list, coded_option, coded_ℕ}
-use Rattle.host_io.specs.Calls.{CallCounts, call_counts_code, is_failing, counted, with_fault}
+use Rattle.host_io.specs.Calls.{CallCounts, call_counts_code, one_more, is_failing, counted, with_fault}
 use Rattle.host_io.specs.Sink.{bytes_taken}
 use Rattle.host_io.specs.declared.sink.SinkError.{SinkError}
 use Rattle.host_io.specs.declared.sink.SinkError.TheVariants.{Failed, Memory}
@@ -11,11 +11,13 @@ pub record SinkState : Type 0 where
   pub calls : CallCounts
   -- the most bytes that a write takes, if there is such a limit
   pub most : Option ℕ
+  -- how many writes were out of memory
+  pub shortages : ℕ
 
 abbrev pub sink_state_code : Coded SinkState
 sink_state_code =
-    code_by (List ℕ × (CallCounts × Option ℕ)) (coded× (coded_list coded_ℕ) (coded× call_counts_code (coded_option coded_ℕ)))
-    (λ s. (s.bytes, (s.calls, s.most))) (λ p. record { bytes = p.0; calls = p.1.0; most = p.1.1 }) (λ _. refl)
+    code_by (List ℕ × (CallCounts × (Option ℕ × ℕ))) (coded× (coded_list coded_ℕ) (coded× call_counts_code (coded× (coded_option coded_ℕ) coded_ℕ)))
+    (λ s. (s.bytes, (s.calls, (s.most, s.shortages)))) (λ p. record { bytes = p.0; calls = p.1.0; most = p.1.1.0; shortages = p.1.1.1 }) (λ _. refl)
 
 -- a limit is at least one byte
 abbrev pub TakesSome : Option ℕ → Type 0
@@ -35,5 +37,11 @@ calls_after (Err Failed) calls = with_fault (counted calls)
 calls_after (Err Memory) calls = counted calls
 calls_after (Ok n) calls = counted calls
 
+abbrev pub shortages_after : Result ℕ SinkError → ℕ → ℕ
+shortages_after (Err Memory) n = one_more n
+shortages_after (Err Failed) n = n
+shortages_after (Ok taken) n = n
+
 abbrev pub after_write : SinkState → List ℕ → Result ℕ SinkError → SinkState
-after_write s piece result = record { bytes = s.bytes ++ bytes_taken result piece; calls = calls_after result s.calls; most = s.most }
+after_write s piece result =
+    record { bytes = s.bytes ++ bytes_taken result piece; calls = calls_after result s.calls; most = s.most; shortages = shortages_after result s.shortages }

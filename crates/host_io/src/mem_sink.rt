@@ -1,6 +1,7 @@
 //! A sink in memory.
 ghost use Rattle.std.specs.Prelude.{◌≡◌, ◌≤◌, ◌<◌, ◌⊎◌, [], length, IfOk, OnOk, OnErr, Some, None};
 ghost use Rattle.host_io.specs.Calls.{no_calls, with_failing};
+ghost use Rattle.host_io.specs.Faults.{HasCause};
 ghost use Rattle.host_io.specs.MemSink.{TakesSome, part_taken, write_answer, after_write};
 ghost use Rattle.host_io.specs.Sink.{Takes, bytes_taken, HasWriteCause};
 ghost use Rattle.host_io.specs.declared.sink.SinkError.TheVariants.{Memory};
@@ -16,6 +17,7 @@ pub struct MemSink {
     bytes: Vec<u8>,
     calls: Calls,
     most: Option<u32>,
+    shortages: u64,
 }
 
 impl Model for MemSink {
@@ -25,19 +27,20 @@ impl Model for MemSink {
 
     ghost coded = { sink_state_code };
 
-    ghost view = { λ s. record { bytes = s.bytes.items; calls = s.calls; most = s.most } };
+    ghost view = { λ s. record { bytes = s.bytes.items; calls = s.calls; most = s.most; shortages = s.shortages } };
 
     ghost invariant = { λ s. TakesSome s.most };
 }
 
 impl MemSink {
     pub fn new(alloc: Global) -> Result<MemSink, AllocError>
-        ensures { IfOk result (λ sink. sink ≡ record { bytes = []; calls = no_calls; most = None }) }
+        ensures { IfOk result (λ sink. sink ≡ record { bytes = []; calls = no_calls; most = None; shortages = 0 }) }
     {
         Ok(MemSink {
             bytes: Vec::new(alloc),
             calls: Calls::new(alloc),
             most: None,
+            shortages: 0,
         })
     }
 
@@ -83,6 +86,8 @@ impl Sink for MemSink {
 
     ghost faults = { λ s. s.calls.faults };
 
+    ghost shortages = { λ s. s.shortages };
+
     fn write(&mut self, _alloc: Global, piece: &[u8]) -> Result<usize, SinkError>
         ensures answer { (result ≡ Err Memory) ⊎ (result ≡ write_answer self.old piece.now) }
         ensures after { self.new ≡ after_write self.old piece.now result }
@@ -90,13 +95,17 @@ impl Sink for MemSink {
         ensures fits { IfOk result (λ n. n ≤ length piece.now) }
         ensures takes { Takes (Some self.old.bytes) (Some self.new.bytes) (bytes_taken result piece.now) }
         ensures cause { HasWriteCause self.old.calls.faults self.new.calls.faults piece.now result }
+        ensures shortage { HasCause Memory self.old.shortages self.new.shortages result }
     {
         if self.calls.begin() {
             self.calls.fault();
             return Err(SinkError::Failed);
         }
         let size = part_taken(self.most, piece.len());
-        self.bytes.extend_from_slice(&piece[..size])?;
+        if self.bytes.extend_from_slice(&piece[..size]).is_err() {
+            self.shortages = self.shortages.saturating_add(1);
+            return Err(SinkError::Memory);
+        }
         Ok(size)
     }
 }

@@ -1,6 +1,7 @@
 //! Sinks over real streams. They tell no content as sinks; their lines over std are trusted.
 ghost use Rattle.std.specs.Prelude.{◌≡◌, ◌≤◌, length, None, IfOk, IfErr};
 ghost use Rattle.std.specs.Io.KnownBytes.{WriteAppends};
+ghost use Rattle.host_io.specs.Faults.{HasCause};
 ghost use Rattle.host_io.specs.Sink.{Takes, bytes_taken, HasWriteCause};
 ghost use Rattle.host_io.specs.declared.sink.SinkError.TheVariants as answer;
 
@@ -46,12 +47,15 @@ impl<W: Write> Sink for StreamSink<W> {
 
     ghost faults = { λ s. s.faults };
 
+    ghost shortages = { λ _. 0 };
+
     fn write(&mut self, _alloc: Global, piece: &[u8]) -> Result<usize, SinkError>
         ensures stream { WriteAppends self.old.contents self.new.contents result piece.now }
         ensures failed { IfErr result (λ error. error ≡ answer.Failed) }
         ensures fits { IfOk result (λ n. n ≤ length piece.now) }
         ensures takes { Takes None None (bytes_taken result piece.now) }
         ensures cause { HasWriteCause self.old.faults self.new.faults piece.now result }
+        ensures shortage { HasCause answer.Memory 0 0 result }
     {
         let outcome = write_some(&mut self.stream, piece);
         if outcome.is_err() {

@@ -7,14 +7,14 @@ use Rattle.suite_top.specs.declared.status.Status.{Status}
 use Rattle.suite_top.specs.declared.status.Status.TheVariants.{SinkWrite, HostWrite}
 use Rattle.suite_top.specs.Ending.{Ending}
 use Rattle.suite_top.specs.Outcome.{Inputs}
-use Rattle.suite_top.specs.Observed.{Observed}
+use Rattle.suite_top.specs.Observed.{Observed, ObservedSink}
 use Rattle.suite_top.specs.Result.{result_of}
 use Rattle.suite_top.specs.HostCourse.{Performs, inputs_in, PerformsOver, PerformsCommand}
 use Rattle.suite_top.specs.Delivery.{Delivers}
 use Rattle.suite_top.specs.Call.{Call}
 use Rattle.suite_top.proofs.StatusLaws.{writes_fail, sinks_fail}
 
-module _ (arguments : List (List ℕ)) (host host_after : Observed Told) (out out_after report report_after : Observed (List ℕ)) (ending : Ending) (status : Status) (delivers : Delivers ending out out_after report report_after status) where
+module _ (arguments : List (List ℕ)) (host host_after : Observed Told) (out out_after report report_after : ObservedSink) (ending : Ending) (status : Status) (delivers : Delivers ending out out_after report report_after status) where
   abbrev call : Inputs → Call
   call inputs = record {
     arguments = arguments;
@@ -42,10 +42,10 @@ module _ (arguments : List (List ℕ)) (host host_after : Observed Told) (out ou
   sink_at : (inputs : Inputs) → Performs host host_after (result_of arguments inputs) ending → status ≡ SinkWrite → Rose out.faults out_after.faults ⊎ Rose report.faults report_after.faults
   sink_at inputs p is =
       elim (sinks_fail (call inputs) (ending, p, delivers) is) [
-        | inl cut ↦ inl (cut.out.1)
-        | inr (inl cut) ↦ inr (cut.report.1)
-        | inr (inr (inl cut)) ↦ inr (cut.report.1)
-        | inr (inr (inr cut)) ↦ inr (cut.report.1)
+        | inl cut ↦ inl cut.out.1.0
+        | inr (inl cut) ↦ inr cut.report.1.0
+        | inr (inr (inl cut)) ↦ inr cut.report.1.0
+        | inr (inr (inr cut)) ↦ inr cut.report.1.0
       ]
 
   pub sink_rose : PerformsCommand host host_after (result_of arguments) ending → status ≡ SinkWrite → Rose out.faults out_after.faults ⊎ Rose report.faults report_after.faults

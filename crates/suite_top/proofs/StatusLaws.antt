@@ -7,11 +7,12 @@ use Rattle.host_io.specs.Sink.{TakesPrefix}
 use Rattle.suite_top.specs.declared.status.Status.{Status}
 use Rattle.suite_top.specs.declared.status.Status.TheVariants.{HostRead, SinkWrite, Memory, HostWrite}
 use Rattle.suite_top.specs.Ending.{Ending, memory_ending, OrMemory}
+use Rattle.suite_top.specs.Observed.{ObservedSink}
 use Rattle.suite_top.specs.Outcome.{Request, load, store, failure_ending}
 use Rattle.suite_top.specs.HostCourse.{HostCourse, complete, failed, out_of_memory, AreLoads, IsCourseOf, after_answers, told_after, FaultsAfter, EndsAfter, Performs}
 use Rattle.suite_top.specs.Delivery.{SinkStop, sink_failed, sink_memory, status_at, TookAll, CutShort, Delivery, whole, stopped_at_out, stopped_at_report, Delivered}
 use Rattle.suite_top.specs.Call.{Call, outcome_of}
-use Rattle.suite_top.specs.StatusLaws.{IsAnswer, IsWhole, AnswersAreWhole, Completes, FailsAt, ReadsFail, WritesFail, CutAtOut, CutAtReport, FilesStay, CutAtFailure, CutAtMemory, IsCut, SinksFail, IsMemoryTold, MemoryIsTold}
+use Rattle.suite_top.specs.StatusLaws.{IsAnswer, IsWhole, AnswersAreWhole, Completes, FailsAt, ReadsFail, WritesFail, CutAtOut, CutAtReport, FilesStay, CutAtFailure, CutAtMemory, IsCut, SinksFail, IsMemoryTold, MemoryIsTold, IsSupplied, MemoryIsOneLine, HasShortage, ShortagesStop}
 use Rattle.suite_top.proofs.Outcomes.{never}
 use Rattle.suite_top.proofs.HostLaws.{told_is, loads_keep}
 
@@ -197,9 +198,9 @@ answers_are_whole c (ending, performs, (d, delivered)) p =
 
 pub completes : Completes
 completes c (ending, performs, (whole, delivered)) calm = complete_at c ending delivered performs.course performs.told performs.faults performs.ends calm.host
-completes c (ending, performs, (stopped_at_out sink_failed, delivered)) calm = absurd (calm.out delivered.0.1)
+completes c (ending, performs, (stopped_at_out sink_failed, delivered)) calm = absurd (calm.out delivered.0.1.0)
 completes c (ending, performs, (stopped_at_out sink_memory, delivered)) calm = inl delivered.2
-completes c (ending, performs, (stopped_at_report sink_failed, delivered)) calm = absurd (calm.report delivered.1.1)
+completes c (ending, performs, (stopped_at_report sink_failed, delivered)) calm = absurd (calm.report delivered.1.1.0)
 completes c (ending, performs, (stopped_at_report sink_memory, delivered)) calm = inl delivered.2
 
 pub reads_fail : ReadsFail
@@ -226,3 +227,26 @@ memory_is_told c (ending, performs, (stopped_at_out sink_memory, delivered)) p =
 memory_is_told c (ending, performs, (stopped_at_report sink_memory, delivered)) p = inr (cut_at_report c ending performs sink_memory delivered.0 delivered.1)
 memory_is_told c (ending, performs, (stopped_at_out sink_failed, delivered)) p = absurd (let h : SinkWrite ≡ Memory = sym delivered.2 ∙ p in cc)
 memory_is_told c (ending, performs, (stopped_at_report sink_failed, delivered)) p = absurd (let h : SinkWrite ≡ Memory = sym delivered.2 ∙ p in cc)
+
+-- a text that was cut short for want of memory raised the count of its sink
+cut_short : (c : Call) → IsSupplied c → IsCut sink_memory c → ⊥
+cut_short c supplied (inl cut) = supplied.out cut.out.1.0
+cut_short c supplied (inr (inl cut)) = supplied.report cut.report.1.0
+cut_short c supplied (inr (inr (inl cut))) = supplied.report cut.report.1.0
+cut_short c supplied (inr (inr (inr cut))) = supplied.report cut.report.1.0
+
+pub memory_is_one_line : MemoryIsOneLine
+memory_is_one_line c meets supplied p = elim (memory_is_told c meets p) [ inl told ↦ told | inr cut ↦ absurd (cut_short c supplied cut) ]
+
+-- neither count of shortages changed
+no_shortage : (c : Call) → c.out_after.shortages ≡ c.out.shortages → c.report_after.shortages ≡ c.report.shortages → HasShortage c → ⊥
+no_shortage c out report (inl other) = other out
+no_shortage c out report (inr other) = other report
+
+pub shortages_stop : ShortagesStop
+shortages_stop c (ending, performs, (whole, delivered)) short = absurd (no_shortage c delivered.0.2 delivered.1.2 short)
+shortages_stop c (ending, performs, (stopped_at_out sink_failed, delivered)) short =
+    absurd (no_shortage c delivered.0.1.1 (ap (λ (s : ObservedSink). s.shortages) delivered.1) short)
+shortages_stop c (ending, performs, (stopped_at_out sink_memory, delivered)) short = (delivered.2, inl (cut_at_out c ending performs sink_memory delivered.0 delivered.1))
+shortages_stop c (ending, performs, (stopped_at_report sink_failed, delivered)) short = absurd (no_shortage c delivered.0.2 delivered.1.1.1 short)
+shortages_stop c (ending, performs, (stopped_at_report sink_memory, delivered)) short = (delivered.2, cut_at_report c ending performs sink_memory delivered.0 delivered.1)

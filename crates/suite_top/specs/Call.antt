@@ -5,7 +5,7 @@ use Rattle.suite_top.specs.declared.status.Status.{Status}
 use Rattle.suite_top.specs.Ending.{Ending}
 use Rattle.suite_top.specs.Outcome.{Outcome, Inputs}
 use Rattle.suite_top.specs.Result.{result_of}
-use Rattle.suite_top.specs.Observed.{Observed}
+use Rattle.suite_top.specs.Observed.{Observed, ObservedSink}
 use Rattle.suite_top.specs.HostCourse.{Performs, inputs_in}
 use Rattle.suite_top.specs.Delivery.{Delivers}
 
@@ -15,10 +15,10 @@ pub record Call : Type 0 where
   pub inputs : Inputs
   pub host : Observed Told
   pub host_after : Observed Told
-  pub out : Observed (List ℕ)
-  pub out_after : Observed (List ℕ)
-  pub report : Observed (List ℕ)
-  pub report_after : Observed (List ℕ)
+  pub out : ObservedSink
+  pub out_after : ObservedSink
+  pub report : ObservedSink
+  pub report_after : ObservedSink
   pub status : Status
 
 abbrev pub outcome_of : Call → Outcome
@@ -35,7 +35,7 @@ MeetsOver (Some t) call = MeetsOutcome (call (inputs_in t.files))
 MeetsOver None call = (inputs : Inputs) × MeetsOutcome (call inputs)
 
 -- the clause of `suite`: the call does what `result_of` says of its arguments
-abbrev pub MeetsResult : List (List ℕ) → (host host_after : Observed Told) (out out_after report report_after : Observed (List ℕ)) → Status → Type 0
+abbrev pub MeetsResult : List (List ℕ) → (host host_after : Observed Told) (out out_after report report_after : ObservedSink) → Status → Type 0
 MeetsResult arguments host host_after out out_after report report_after status =
     MeetsOver host.told (λ inputs. record {
       arguments = arguments;

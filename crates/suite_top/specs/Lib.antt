@@ -16,7 +16,7 @@
 -- Demo        the command `demo`
 -- Result      result_of: the outcome of each command line
 --
--- Observed    what a host or a sink tells at one moment, and its count of faults
+-- Observed    what a host or a sink tells at one moment, and its counts: of faults, and a sink's of shortages of memory
 -- HostCourse  how far a host came with the requests; Performs: what it then tells, and the ending that this gives
 -- Delivery    how far the two sinks took the texts of an ending, and the status that this gives
 -- Call        MeetsResult, the clause of `suite`: a course of the outcome, and a delivery of its ending

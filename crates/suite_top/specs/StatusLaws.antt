@@ -1,5 +1,5 @@
 -- When each status comes, and what was written then: laws over every call.
-use Rattle.std.specs.Prelude.{◌≡◌, ◌⊎◌, ◌++◌, ◌↔◌, ℕ, ◌≤◌, List, [], ◌∷◌, decimal, Some, None, option_map}
+use Rattle.std.specs.Prelude.{◌≡◌, ◌≢◌, ◌⊎◌, ◌++◌, ◌↔◌, ℕ, ◌≤◌, List, [], ◌∷◌, decimal, Some, None, option_map}
 use Rattle.host_io.specs.Faults.{Rose}
 use Rattle.host_io.specs.Host.{Told}
 use Rattle.suite_top.specs.declared.status.Status.{Status}
@@ -126,9 +126,26 @@ pub record IsMemoryTold (c : Call) : Type 0 where
   pub out : TookAll c.out c.out_after []
   pub report : TookAll c.report c.report_after memory_line
 
--- or a sink was out of memory, its count stands, and no other text was written behind its prefix
+-- or a sink was out of memory, so that its count of shortages rose, and no other text was written behind its prefix
 abbrev pub MemoryIsTold : Type 0
 MemoryIsTold = (c : Call) → MeetsOutcome c → c.status ≡ Memory → IsMemoryTold c ⊎ IsCut sink_memory c
+
+-- no sink was out of memory
+pub record IsSupplied (c : Call) : Type 0 where
+  pub out : Rose c.out.shortages c.out_after.shortages → ⊥
+  pub report : Rose c.report.shortages c.report_after.shortages → ⊥
+
+-- then Memory is told by its one line
+abbrev pub MemoryIsOneLine : Type 0
+MemoryIsOneLine = (c : Call) → MeetsOutcome c → IsSupplied c → c.status ≡ Memory → IsMemoryTold c
+
+-- the count of shortages of a sink isn't what it was
+abbrev pub HasShortage : Call → Type 0
+HasShortage c = (c.out_after.shortages ≢ c.out.shortages) ⊎ (c.report_after.shortages ≢ c.report.shortages)
+
+-- a sink that was out of memory stops all further writing, with the status Memory
+abbrev pub ShortagesStop : Type 0
+ShortagesStop = (c : Call) → MeetsOutcome c → HasShortage c → (c.status ≡ Memory) × IsCut sink_memory c
 
 -- Usage is the outcome exactly of arguments that are no command, and then nothing is requested
 abbrev pub UsageIsExact : Type 0

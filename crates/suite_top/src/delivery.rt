@@ -1,7 +1,7 @@
 //! The texts of a command go to the sinks.
 ghost use Rattle.std.specs.Prelude.{◌≡◌};
 ghost use Rattle.suite_top.specs.Ending.{Ending};
-ghost use Rattle.suite_top.specs.Observed.{observed};
+ghost use Rattle.suite_top.specs.Observed.{observed_sink};
 ghost use Rattle.suite_top.specs.Delivery.{Delivers, WroteText};
 
 use crate::status::Status;
@@ -10,7 +10,7 @@ use std::alloc::Global;
 
 /// Writes a whole text. The error is the status that the call then ends with.
 fn write_text<S: Sink>(alloc: Global, sink: &mut S, text: &[u8]) -> Result<(), Status>
-    ensures { WroteText (observed S.told S.faults sink.old) (observed S.told S.faults sink.new) text.now result }
+    ensures { WroteText (observed_sink S.told S.faults S.shortages sink.old) (observed_sink S.told S.faults S.shortages sink.new) text.now result }
 {
     match write_whole(alloc, sink, text) {
         Ok(()) => Ok(()),
@@ -29,8 +29,8 @@ pub fn deliver<O: Sink, R: Sink>(
     report: &mut R,
 ) -> Status
     ensures { Delivers (record { status = status; out = out_text.now; report = report_text.now })
-        (observed O.told O.faults out.old) (observed O.told O.faults out.new)
-        (observed R.told R.faults report.old) (observed R.told R.faults report.new) result }
+        (observed_sink O.told O.faults O.shortages out.old) (observed_sink O.told O.faults O.shortages out.new)
+        (observed_sink R.told R.faults R.shortages report.old) (observed_sink R.told R.faults R.shortages report.new) result }
 {
     if let Err(stopped) = write_text(alloc, out, out_text) {
         return stopped;

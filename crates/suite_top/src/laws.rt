@@ -1,6 +1,6 @@
 //! Laws over every call of `suite`, by what its clause says. No code runs. Those of one command stand
 //! with the command.
-ghost use Rattle.suite_top.specs.StatusLaws.{AnswersAreWhole, Completes, TextsAreApart, ReadsFail, WritesFail, SinksFail, MemoryIsTold, UsageIsExact, StackIsSpelled};
+ghost use Rattle.suite_top.specs.StatusLaws.{AnswersAreWhole, Completes, TextsAreApart, ReadsFail, WritesFail, SinksFail, MemoryIsTold, MemoryIsOneLine, ShortagesStop, UsageIsExact, StackIsSpelled};
 ghost use Rattle.suite_top.specs.HostLaws.{NamesAreAPrefix, NothingIsAsked, OthersChangeNoFile};
 
 /// When each status comes, and what was written then.
@@ -14,6 +14,8 @@ pub fn status_law()
     ensures host_write { WritesFail }
     ensures sink_write { SinksFail }
     ensures memory { MemoryIsTold }
+    ensures one_line { MemoryIsOneLine }
+    ensures shortage { ShortagesStop }
 {}
 
 /// What the host was asked, and which files changed.

@@ -2,7 +2,7 @@
 ghost use Rattle.std.specs.Prelude.{◌≡◌, ◌⊎◌, map, string_bytes};
 ghost use Rattle.host_io.specs.Faults.{Rose};
 ghost use Rattle.page_runs.specs.Choosers.{IsChooser, kind_of};
-ghost use Rattle.suite_top.specs.Observed.{observed};
+ghost use Rattle.suite_top.specs.Observed.{observed, observed_sink};
 ghost use Rattle.suite_top.specs.Answer.{ending_of};
 ghost use Rattle.suite_top.specs.Result.{result_of};
 ghost use Rattle.suite_top.specs.Run.{run_outcome};
@@ -111,8 +111,8 @@ where
     requires last_kind { kind_of place.now.last ≡ Kind.Last }
     ensures all { MeetsResult (map string_bytes arguments.now)
         (observed H.told H.faults host.old) (observed H.told H.faults host.new)
-        (observed O.told O.faults out.old) (observed O.told O.faults out.new)
-        (observed R.told R.faults report.old) (observed R.told R.faults report.new) result }
+        (observed_sink O.told O.faults O.shortages out.old) (observed_sink O.told O.faults O.shortages out.new)
+        (observed_sink R.told R.faults R.shortages report.old) (observed_sink R.told R.faults R.shortages report.new) result }
     ensures host_read { result ≡ Status.HostRead → Rose (H.faults host.old) (H.faults host.new) }
     ensures host_write { result ≡ Status.HostWrite → Rose (H.faults host.old) (H.faults host.new) }
     ensures sink_write { result ≡ Status.SinkWrite → Rose (O.faults out.old) (O.faults out.new) ⊎ Rose (R.faults report.old) (R.faults report.new) }

@@ -1,7 +1,7 @@
 -- Each law by its proof over plain values.
 use Rattle.suite_top.proofs.Outcomes.{texts_are_apart, usage_is_exact}
 use Rattle.suite_top.proofs.SpelledNumbers.{stack_is_spelled}
-use Rattle.suite_top.proofs.StatusLaws.{answers_are_whole, completes, reads_fail, writes_fail, sinks_fail, memory_is_told}
+use Rattle.suite_top.proofs.StatusLaws.{answers_are_whole, completes, reads_fail, writes_fail, sinks_fail, memory_is_told, memory_is_one_line, shortages_stop}
 use Rattle.suite_top.proofs.laws.status_law.Goals as goal
 
 pub returns : goal.returns
@@ -15,4 +15,6 @@ returns c = record {
   host_write = writes_fail;
   sink_write = sinks_fail;
   memory = memory_is_told;
+  one_line = memory_is_one_line;
+  shortage = shortages_stop;
 }
