@@ -26,6 +26,7 @@ impl Files {
     pub fn pipe(&mut self, table: u32, cloexec: bool) -> Result<Ends, FdFault>
         ensures pipes { Pipes (two_free self.old.open_files table) self.old.open_files table cloexec self.new.open_files result }
         ensures spare { self.old.spare ≤ self.new.spare + 2 }
+        ensures ready { 1 ≤ self.old.spare → 1 ≤ self.new.spare }
         ensures spare_tables { self.old.spare_tables ≤ self.new.spare_tables }
         ensures refused { OnErr result (KeepsSpare self.old self.new) }
     {
@@ -46,11 +47,11 @@ impl Files {
         table::two_free(&self.tables, table)
     }
 
-    /// A pipe more, that no descriptor leads to yet, and the memory to open its ends.
+    /// A pipe more, that no descriptor leads to yet, and the memory to open its ends and one file more.
     fn add_pipe(&mut self) -> Result<u32, AllocError>
         ensures id { IfOk result (λ id. id ≡ self.old.open_files.next_pipe) }
         ensures added { IfOk result (λ _. self.new.open_files ≡ with_pipe self.old.open_files) }
-        ensures spare { IfOk result (λ _. 2 ≤ self.new.spare) }
+        ensures spare { IfOk result (λ _. 3 ≤ self.new.spare) }
         ensures same { OnErr result (self.new.open_files ≡ self.old.open_files) }
         ensures keeps { KeepsSpare self.old self.new }
     {
@@ -59,7 +60,7 @@ impl Files {
         }
         let id = self.made + 1;
         let pipe = Pipe::new(*self.files.allocator(), id)?;
-        ready_places(&mut self.files, 2)?;
+        ready_places(&mut self.files, 3)?;
         self.changed.reserve(self.pipes.len() + 1)?;
         self.pipes.insert(0, pipe)?;
         self.made = id;

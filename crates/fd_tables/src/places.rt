@@ -33,9 +33,9 @@ pub(crate) fn first_free<T>(places: &[Option<T>]) -> Option<usize>
     places.iter().position(|place| place.is_none())
 }
 
-/// Takes the memory of one place more, or of two.
+/// Takes the memory of up to three places more.
 pub(crate) fn ready_places<T>(places: &mut Vec<Option<T>>, count: usize) -> Result<(), AllocError>
-    requires { count ≤ 2 }
+    requires { count ≤ 3 }
     ensures same { places.new.items ≡ places.old.items }
     ensures spare { IfOk result (λ _. count ≤ spare_places places.new) }
     ensures keeps { spare_places places.old ≤ spare_places places.new }

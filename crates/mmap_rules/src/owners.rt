@@ -176,20 +176,6 @@ impl Owners {
         remove_range(&mut self.entries, range);
     }
 
-    /// One byte at a distance from the first of memory.
-    #[inline]
-    #[tactic(auto, unfolding(crate::specs::Owners::owns_at))]
-    fn owns_at(&self, at: u64, write: bool) -> bool
-        ensures { result ≡ owns_at self.now write at }
-    {
-        let page = at / PAGE;
-        if page >= self.entries.len() as u64 {
-            return false;
-        }
-        let entry = self.entries[page as usize];
-        entry.uses > 0 && u64::from(entry.from) <= at % PAGE && (entry.write || !write)
-    }
-
     /// The entry of a page of memory. It counts one step.
     #[inline]
     pub fn look<L: Ledger>(&self, page: u32, steps: &mut Steps<L>) -> PageOwner
@@ -199,6 +185,19 @@ impl Owners {
     {
         steps.tick();
         self.entries[page as usize]
+    }
+
+    /// One byte at a distance from the first of memory. It looks at the entry of its page.
+    #[inline]
+    #[tactic(auto, unfolding(crate::specs::Owners::owns_at))]
+    fn owns_at<L: Ledger>(&self, at: u64, write: bool, steps: &mut Steps<L>) -> bool
+        requires inside { at < 4096 * length self.now }
+        requires small { at < 2 ^ 32 }
+        ensures owns { result ≡ owns_at self.now write at }
+        ensures step { steps.new ≡ steps.old + 1 }
+    {
+        let entry = self.look((at / PAGE) as u32, steps);
+        entry.uses > 0 && u64::from(entry.from) <= at % PAGE && (entry.write || !write)
     }
 
     /// Whether each of `len` bytes from `addr` on is own, and may be written where `write` asks for it.
@@ -228,8 +227,7 @@ impl Owners {
             return false;
         }
         while left > 0 {
-            steps.tick();
-            if !self.owns_at(at, write) {
+            if !self.owns_at(at, write, steps) {
                 return false;
             }
             let here = left.min(PAGE - at % PAGE);

@@ -1,5 +1,5 @@
 //! Own bytes at the ends of a block, and the worked example of the break.
-ghost use Rattle.std.specs.Prelude.{◌≡◌, ◌<◌, Some, IfOk, IfSome};
+ghost use Rattle.std.specs.Prelude.{◌≡◌, ◌<◌, Some, IfOk, IfSome, length};
 ghost use Rattle.page_runs.specs.Choosers.{IsChooser};
 ghost use Rattle.nommu_regions.specs.Ids.{Lives};
 
@@ -8,6 +8,8 @@ use nommu_regions::{Regions, Source};
 use page_runs::{Chooser, Kind, Run, first_fit};
 use phys_mem::{BASE, PhysMem};
 use std::alloc::Global;
+use std::marker::Brand;
+use std::sync::ledger::{Blank, Ledger};
 use std::test::*;
 
 /// A space whose block has two pages, in a memory of four: the image ends 172 bytes behind the block's first
@@ -29,6 +31,53 @@ fn space<F: Fn(&[Run], u32) -> Option<usize>>(
         return Err(Fail::from("another number of pages"));
     }
     Ok(Space::new(room, regions, block, 172, 4096))
+}
+
+/// What a table answers of a range, and its entry of a page, with the looks counted.
+fn looked<L: Ledger>(
+    owners: &Owners,
+    addr: u32,
+    len: u32,
+    page: u32,
+    blank: Blank,
+) -> (bool, PageOwner)
+    requires name { blank.name ≡ L.name }
+    requires parts { blank.parts ≡ L.parts }
+    requires some { 0 < blank.parts }
+    requires inside { page < length owners.now }
+{
+    let mut steps = Steps::<L>::new(blank);
+    let own = owners.own_counted(addr, len, true, &mut steps);
+    (own, owners.look(page, &mut steps))
+}
+
+/// A range over the end of a page that may be written, into one that may only be read.
+#[test]
+fn counted_looks(rt: HostRuntime) -> Result<(), Fail> {
+    let pages = [
+        PageOwner {
+            from: 64,
+            write: true,
+            uses: 1,
+        },
+        PageOwner {
+            from: 0,
+            write: false,
+            uses: 1,
+        },
+    ];
+    let owners = Owners::of(Vec::from_array(rt.alloc(), pages)?);
+    for (addr, len, page, own) in [
+        (BASE + 4094, 2, 0, true),
+        (BASE + 4094, 4, 1, false),
+        (BASE + 62, 4, 0, false),
+        (BASE + 8190, 4, 1, false),
+        (0, 0, 0, true),
+    ] {
+        let seen = looked::<Brand>(&owners, addr, len, page, Blank::new(1));
+        assert_eq!(rt; seen, (own, pages[page as usize]), "{addr:#x} {len}");
+    }
+    Ok(())
 }
 
 #[test]
