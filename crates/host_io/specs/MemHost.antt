@@ -39,10 +39,10 @@ load_answer s name limit = if is_failing s.calls then (Err Failed, []) else load
 abbrev pub store_answer : HostState → Result (Unit {0}) HostError
 store_answer s = if is_failing s.calls then Err Failed else Ok tt
 
--- the calls after one more call with this answer
+-- the calls after a call with this answer: one more, unless memory was missing
 abbrev pub calls_after : {T : Type 0} → Result T HostError → CallCounts → CallCounts
 calls_after (Err Failed) calls = with_fault (counted calls)
-calls_after (Err Memory) calls = counted calls
+calls_after (Err Memory) calls = calls
 calls_after (Ok x) calls = counted calls
 
 abbrev pub after_load : HostState → List ℕ → Result Loaded HostError → HostState

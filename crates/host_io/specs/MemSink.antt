@@ -32,9 +32,10 @@ part_taken (Some most) size = min most size
 abbrev pub write_answer : SinkState → List ℕ → Result ℕ SinkError
 write_answer s piece = if is_failing s.calls then Err Failed else Ok (part_taken s.most (length piece))
 
+-- the calls after a write with this answer: one more, unless memory was missing
 abbrev pub calls_after : Result ℕ SinkError → CallCounts → CallCounts
 calls_after (Err Failed) calls = with_fault (counted calls)
-calls_after (Err Memory) calls = counted calls
+calls_after (Err Memory) calls = calls
 calls_after (Ok n) calls = counted calls
 
 abbrev pub shortages_after : Result ℕ SinkError → ℕ → ℕ

@@ -44,14 +44,18 @@ impl Calls {
         Ok(())
     }
 
-    /// Counts one call, and says whether it is one that fails.
-    pub(crate) fn begin(&mut self) -> bool
-        ensures fails { result ≡ is_failing self.old }
-        ensures counted { self.new ≡ counted self.old }
+    /// Whether the next call is one that fails.
+    pub(crate) fn is_failing(&self) -> bool
+        ensures { result ≡ is_failing self.now }
     {
-        let number = self.made;
-        self.made = number.saturating_add(1);
-        self.failing.contains(&number)
+        self.failing.contains(&self.made)
+    }
+
+    /// Counts one call.
+    pub(crate) fn count(&mut self)
+        ensures { self.new ≡ counted self.old }
+    {
+        self.made = self.made.saturating_add(1);
     }
 
     /// Counts one fault.

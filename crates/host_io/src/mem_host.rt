@@ -159,9 +159,8 @@ impl Host for MemHost {
         ensures cause { HasCause answer.Failed self.old.calls.faults self.new.calls.faults result }
     {
         into.clear();
-        let fails = self.calls.begin();
         let copy = room_for(alloc, &mut self.asked, name)?;
-        let outcome = if fails {
+        let outcome = if self.calls.is_failing() {
             Err(HostError::Failed)
         } else {
             read_file(&self.files, name, limit, into)
@@ -170,6 +169,7 @@ impl Host for MemHost {
             return outcome;
         }
         self.asked.push(copy).unwrap();
+        self.calls.count();
         if outcome.is_err() {
             self.calls.fault();
         }
@@ -182,12 +182,13 @@ impl Host for MemHost {
         ensures told { StoreTold (told_of self.old) (told_of self.new) name.now bytes.now result }
         ensures cause { HasCause answer.Failed self.old.calls.faults self.new.calls.faults result }
     {
-        let fails = self.calls.begin();
         let copy = room_for(alloc, &mut self.asked, name)?;
+        let fails = self.calls.is_failing();
         if !fails {
             put_file(alloc, &mut self.files, name, bytes)?;
         }
         self.asked.push(copy).unwrap();
+        self.calls.count();
         if fails {
             self.calls.fault();
             return Err(HostError::Failed);

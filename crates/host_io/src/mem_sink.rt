@@ -97,7 +97,8 @@ impl Sink for MemSink {
         ensures cause { HasWriteCause self.old.calls.faults self.new.calls.faults piece.now result }
         ensures shortage { HasCause Memory self.old.shortages self.new.shortages result }
     {
-        if self.calls.begin() {
+        if self.calls.is_failing() {
+            self.calls.count();
             self.calls.fault();
             return Err(SinkError::Failed);
         }
@@ -106,6 +107,7 @@ impl Sink for MemSink {
             self.shortages = self.shortages.saturating_add(1);
             return Err(SinkError::Memory);
         }
+        self.calls.count();
         Ok(size)
     }
 }
