@@ -1,14 +1,17 @@
 -- Instructions one after the other: what was done and what is left give the whole.
-use Rattle.std.proofs.Common.{◌≡◌, ◌≢◌, ℕ, suc, ◌+◌, ◌-◌, ◌<◌, Bool, true, List, refl, sym, ◌∙◌, arith}
+use Rattle.std.proofs.Common.{◌≡◌, ◌≢◌, ℕ, suc, ◌+◌, ◌-◌, ◌<◌, Bool, true, List, [], Option, refl, sym, ◌∙◌, arith}
 use Rattle.byte_words.specs.ByteMap.{Bytes}
 use Rattle.rv32im_step.specs.declared.regs.Regs.{Regs}
 use Rattle.rv32im_step.specs.declared.stop.Stop.{Stop}
 use Rattle.rv32im_step.specs.declared.stop.Stop.TheVariants.{Next}
 use Rattle.rv32im_step.specs.Meaning.{Meaning, next, call, trap, refused, meaning, Means}
 use Rattle.mmap_rules.specs.declared.owners.PageOwner.{PageOwner}
-use Rattle.mmap_rules.specs.Owners.{owns}
-use Rattle.region_watch.specs.Private.{own_bytes, frozen}
-use Rattle.region_watch.specs.Instructions.{Ran, ran, one_more, goes_on, instructions}
+use Rattle.rv32im_step.specs.declared.access.Access.{Access}
+use Rattle.rv32im_step.specs.Asked.{Asked, asked}
+use Rattle.region_watch.specs.declared.mode.Mode.{Mode}
+use Rattle.region_watch.specs.Private.{passes, passed_bytes, kept_bytes}
+use Rattle.region_watch.specs.Instructions.{Ran, ran, one_more, goes_on, instructions, asked_behind, all_asked}
+use Rattle.region_watch.specs.Strays.{noted_all, noted_on}
 
 -- what is left, after k instructions
 abbrev pub after_first : ℕ → Ran → Ran
@@ -55,18 +58,80 @@ run_ends k n w regs m all =
     let sum : k + 0 ≡ n = omega arith in
     rw (left, sum) refl
 
--- ---- a step over memory, under tables that are one
+-- ---- what was asked and what is left to ask
 
-pub whole_on : (k n : ℕ) (table before now : List PageOwner) (mem after : List ℕ) (regs left : Regs) (stop : Stop) (whole : Ran) → k < n
-    → before ≡ table → now ≡ before
-    → Means (meaning regs (own_bytes before mem) (owns before true)) regs left (own_bytes before mem) (own_bytes now after) stop → stop ≡ Next
-    → after_first k (instructions (n - k) (owns table true) regs (own_bytes table mem)) ≡ whole
-    → after_first (k + 1) (instructions (n - (k + 1)) (owns table true) left (own_bytes table after)) ≡ whole
-whole_on k n table before now mem after regs left stop whole less one two means is same =
-    sym (run_goes k n (owns table true) regs left (own_bytes table mem) (own_bytes table after) stop less (rw (two, one) at means) is) ∙ same
+behind_goes : (more : Regs → Bytes → List Asked) (x : Meaning) (regs after : Regs) (m now : Bytes) → Means x regs after m now Next
+    → asked_behind more x ≡ more after now
+behind_goes more (next regs' m') regs after m now is = rw (is.0, is.1) refl
+behind_goes more call regs after m now is = absurd (let e = is.2 in cc)
+behind_goes more (trap signal) regs after m now is = absurd (let e = is.2 in cc)
+behind_goes more (refused access) regs after m now is = absurd (let e = is.2 in cc)
 
-pub frozen_on : (table before now : List PageOwner) (mem after first : List ℕ) → before ≡ table → now ≡ before
-    → frozen now after ≡ frozen before mem → frozen table mem ≡ frozen table first → frozen table after ≡ frozen table first
-frozen_on table before now mem after first one two here same = (rw (two, one) at here) ∙ same
+behind_stops : (more : Regs → Bytes → List Asked) (x : Meaning) (regs after : Regs) (m now : Bytes) (stop : Stop) → Means x regs after m now stop → stop ≢ Next
+    → asked_behind more x ≡ []
+behind_stops more (next regs' m') regs after m now stop is other = absurd (other is.2)
+behind_stops more call regs after m now stop is other = refl
+behind_stops more (trap signal) regs after m now stop is other = refl
+behind_stops more (refused access) regs after m now stop is other = refl
 
-pub ruleset runs = (none_done, run_stops, run_ends)
+asks_on : (k n : ℕ) (w : ℕ → Bool) (regs after : Regs) (m now : Bytes) (stop : Stop) (table : List PageOwner) (f g : Option Access) → k < n
+    → Means (meaning regs m w) regs after m now stop → stop ≡ Next → g ≡ noted_all table f (asked regs m w)
+    → noted_all table g (all_asked (n - (k + 1)) w after now) ≡ noted_all table f (all_asked (n - k) w regs m)
+unfolding all_asked
+asks_on k n w regs after m now stop table f g less means is here =
+    let left : n - k ≡ suc (n - (k + 1)) = omega arith in
+    let behind = behind_goes (λ r b. all_asked (n - (k + 1)) w r b) (meaning regs m w) regs after m now (rw is at means) in
+    rw (left, behind) (noted_on table table f g _ (asked regs m w) (all_asked (n - (k + 1)) w after now) refl here refl)
+
+asks_no_more : (k n : ℕ) (w : ℕ → Bool) (regs after : Regs) (m now : Bytes) (stop : Stop) (table : List PageOwner) (f g : Option Access) → k < n
+    → Means (meaning regs m w) regs after m now stop → stop ≢ Next → g ≡ noted_all table f (asked regs m w)
+    → g ≡ noted_all table f (all_asked (n - k) w regs m)
+unfolding all_asked
+asks_no_more k n w regs after m now stop table f g less means other here =
+    let left : n - k ≡ suc (n - (k + 1)) = omega arith in
+    let behind = behind_stops (λ r b. all_asked (n - (k + 1)) w r b) (meaning regs m w) regs after m now stop means other in
+    rw (left, behind) (noted_on table table f g _ (asked regs m w) [] refl here refl)
+
+pub asked_ends : (k n : ℕ) (w : ℕ → Bool) (regs : Regs) (m : Bytes) (table : List PageOwner) (f : Option Access) → k ≡ n
+    → noted_all table f (all_asked (n - k) w regs m) ≡ f
+unfolding all_asked
+asked_ends k n w regs m table f all =
+    let left : n - k ≡ 0 = omega arith in
+    rw left refl
+
+-- ---- a step over memory, in modes and under tables that are one
+
+pub whole_on : (k n : ℕ) (mode was is : Mode) (table before now : List PageOwner) (mem after : List ℕ) (regs left : Regs) (stop : Stop) (whole : Ran) → k < n
+    → was ≡ mode → is ≡ was → before ≡ table → now ≡ before
+    → Means (meaning regs (passed_bytes was before mem) (passes was before true)) regs left (passed_bytes was before mem) (passed_bytes is now after) stop → stop ≡ Next
+    → after_first k (instructions (n - k) (passes mode table true) regs (passed_bytes mode table mem)) ≡ whole
+    → after_first (k + 1) (instructions (n - (k + 1)) (passes mode table true) left (passed_bytes mode table after)) ≡ whole
+whole_on k n mode was is table before now mem after regs left stop whole less mode_was mode_is one two means carried same =
+    sym (run_goes k n (passes mode table true) regs left (passed_bytes mode table mem) (passed_bytes mode table after) stop less
+    (rw (mode_is, mode_was, two, one) at means) carried) ∙ same
+
+pub asked_on : (k n : ℕ) (mode was is : Mode) (table before now : List PageOwner) (mem after : List ℕ) (regs left : Regs) (stop : Stop) (f g whole : Option Access) → k < n
+    → was ≡ mode → is ≡ was → before ≡ table → now ≡ before
+    → Means (meaning regs (passed_bytes was before mem) (passes was before true)) regs left (passed_bytes was before mem) (passed_bytes is now after) stop → stop ≡ Next
+    → g ≡ noted_all before f (asked regs (passed_bytes was before mem) (passes was before true))
+    → noted_all table f (all_asked (n - k) (passes mode table true) regs (passed_bytes mode table mem)) ≡ whole
+    → noted_all table g (all_asked (n - (k + 1)) (passes mode table true) left (passed_bytes mode table after)) ≡ whole
+asked_on k n mode was is table before now mem after regs left stop f g whole less mode_was mode_is one two means carried here same =
+    asks_on k n (passes mode table true) regs left (passed_bytes mode table mem) (passed_bytes mode table after) stop table f g less
+    (rw (mode_is, mode_was, two, one) at means) carried (rw (mode_was, one) at here) ∙ same
+
+pub asked_stops : (k n : ℕ) (mode was is : Mode) (table before now : List PageOwner) (mem after : List ℕ) (regs left : Regs) (stop : Stop) (f g whole : Option Access) → k < n
+    → was ≡ mode → is ≡ was → before ≡ table → now ≡ before
+    → Means (meaning regs (passed_bytes was before mem) (passes was before true)) regs left (passed_bytes was before mem) (passed_bytes is now after) stop → stop ≢ Next
+    → g ≡ noted_all before f (asked regs (passed_bytes was before mem) (passes was before true))
+    → noted_all table f (all_asked (n - k) (passes mode table true) regs (passed_bytes mode table mem)) ≡ whole
+    → g ≡ whole
+asked_stops k n mode was is table before now mem after regs left stop f g whole less mode_was mode_is one two means other here same =
+    asks_no_more k n (passes mode table true) regs left (passed_bytes mode table mem) (passed_bytes mode table after) stop table f g less
+    (rw (mode_is, mode_was, two, one) at means) other (rw (mode_was, one) at here) ∙ same
+
+pub kept_on : (mode was is : Mode) (table before now : List PageOwner) (mem after first : List ℕ) → was ≡ mode → is ≡ was → before ≡ table → now ≡ before
+    → kept_bytes is now after ≡ kept_bytes was before mem → kept_bytes mode table mem ≡ kept_bytes mode table first → kept_bytes mode table after ≡ kept_bytes mode table first
+kept_on mode was is table before now mem after first mode_was mode_is one two here same = (rw (mode_is, mode_was, two, one) at here) ∙ same
+
+pub ruleset runs = (none_done, run_stops, run_ends, asked_ends)

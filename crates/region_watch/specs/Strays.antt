@@ -1,12 +1,16 @@
 -- Stray accesses: one of the bytes isn't the program's own, or is written and may not be, or the range passes 2^32. The
 -- word is this project's; RISC-V unprivileged ISA, "Memory", has the execution environment say what a program may access.
-use Rattle.std.specs.Prelude.{◌≡◌, ℕ, Bool, false, if◌then◌else◌, Option, Some, None, List, [], ◌∷◌, ◌++◌}
+use Rattle.std.specs.Prelude.{◌≡◌, ℕ, Bool, true, false, if◌then◌else◌, Option, Some, None, List, [], ◌∷◌, ◌++◌}
 use Rattle.std.proofs.Common.{refl, ap, sym, ◌∙◌}
 use Rattle.rv32im_step.specs.declared.access.Access.{Access}
-use Rattle.rv32im_step.specs.declared.access.AccessKind.TheVariants.{Call}
+use Rattle.rv32im_step.specs.declared.access.AccessKind.{AccessKind}
+use Rattle.rv32im_step.specs.declared.access.AccessKind.TheVariants.{Store, Call}
 use Rattle.rv32im_step.specs.declared.stop.Stop.{Stop}
 use Rattle.rv32im_step.specs.declared.stop.Stop.TheVariants.{Refused}
 use Rattle.rv32im_step.specs.Asked.{Asked}
+use Rattle.mmap_rules.specs.declared.owners.PageOwner.{PageOwner}
+use Rattle.mmap_rules.specs.Space.{may_use}
+use Rattle.mmap_rules.specs.Owners.{owns}
 
 -- a range that a system call reads or writes
 abbrev pub call_of : ℕ → ℕ → ℕ → Access
@@ -17,20 +21,31 @@ abbrev pub noted : Option Access → Access → Bool → Option Access
 noted (Some first) access allowed = Some first
 noted None access allowed = if allowed then None else Some access
 
--- the same after a list of accesses
-abbrev pub noted_all : Option Access → List Asked → Option Access
-noted_all first [] = first
-noted_all first (one ∷ more) = noted_all (noted first one.access one.done) more
+-- an access of an instruction writes if it is a store
+abbrev pub is_write : AccessKind → Bool
+is_write Store = true
+is_write other = false
+
+-- whether a table allows it
+abbrev pub allows : List PageOwner → Access → Bool
+allows table access = may_use (owns table (is_write access.kind)) access.addr access.len
+
+-- the first stray access, by a table, after a list of accesses
+abbrev pub noted_all : List PageOwner → Option Access → List Asked → Option Access
+noted_all table first [] = first
+noted_all table first (one ∷ more) = noted_all table (noted first one.access (allows table one.access)) more
 
 -- two lists, one after the other: a law, for a bus that makes both
-noted_both : (first : Option Access) (xs ys : List Asked) → noted_all first (xs ++ ys) ≡ noted_all (noted_all first xs) ys
-noted_both first [] ys = refl
-noted_both first (x ∷ xs) ys = noted_both (noted first x.access x.done) xs ys
+noted_both : (table : List PageOwner) (first : Option Access) (xs ys : List Asked) → noted_all table first (xs ++ ys) ≡ noted_all table (noted_all table first xs) ys
+noted_both table first [] ys = refl
+noted_both table first (x ∷ xs) ys = noted_both table (noted first x.access (allows table x.access)) xs ys
 
-pub noted_on : (a b c : Option Access) (xs ys : List Asked) → b ≡ noted_all a xs → c ≡ noted_all b ys → c ≡ noted_all a (xs ++ ys)
-noted_on a b c xs ys p q = q ∙ ap (λ (first : Option Access). noted_all first ys) p ∙ sym (noted_both a xs ys)
+pub noted_on : (table next : List PageOwner) (a b c : Option Access) (xs ys : List Asked) → next ≡ table → b ≡ noted_all table a xs → c ≡ noted_all next b ys
+    → c ≡ noted_all table a (xs ++ ys)
+noted_on table next a b c xs ys same p q =
+    q ∙ ap (λ (t : List PageOwner). noted_all t b ys) same ∙ ap (λ (first : Option Access). noted_all table first ys) p ∙ sym (noted_both table a xs ys)
 
--- the first stray access after a run that ended so
+-- the first stray access after a run that ended so, where what strays is refused
 abbrev pub noted_stop : Option Access → Stop → Option Access
 noted_stop first (Refused access) = noted first access false
 noted_stop first other = first

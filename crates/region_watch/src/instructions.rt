@@ -1,10 +1,10 @@
 //! Instructions of one program, one after the other.
 
 ghost use Rattle.std.specs.Prelude.{◌≡◌, true, length};
-ghost use Rattle.mmap_rules.specs.Owners.{owns};
-ghost use Rattle.region_watch.specs.Private.{own_bytes, frozen};
-ghost use Rattle.region_watch.specs.Instructions.{instructions, ran};
-ghost use Rattle.region_watch.specs.Strays.{noted_stop};
+ghost use Rattle.region_watch.specs.declared.mode.Mode.TheVariants.{Halt};
+ghost use Rattle.region_watch.specs.Private.{passes, passed_bytes, kept_bytes};
+ghost use Rattle.region_watch.specs.Instructions.{instructions, ran, all_asked};
+ghost use Rattle.region_watch.specs.Strays.{noted_all, noted_stop};
 ghost use Rattle.region_watch.specs.Watched.{first_stray};
 
 use crate::watch::Watch;
@@ -22,12 +22,15 @@ pub struct Progress {
 /// Carries out up to `count` instructions, and stops at the first that isn't carried out.
 #[tactic(auto, using(crate::proofs::Runs::runs))]
 pub fn run_steps(regs: &mut Regs, watch: &mut Watch<'_>, count: u32) -> Progress
-    ensures leaves { ran regs.new (own_bytes watch.old.owners.now watch.new.mem.now) result.done result.stop
-        ≡ instructions count (owns watch.old.owners.now true) regs.old (own_bytes watch.old.owners.now watch.old.mem.now) }
-    ensures frozen { frozen watch.old.owners.now watch.new.mem.now ≡ frozen watch.old.owners.now watch.old.mem.now }
+    ensures leaves { ran regs.new (passed_bytes watch.old.mode watch.old.owners.now watch.new.mem.now) result.done result.stop
+        ≡ instructions count (passes watch.old.mode watch.old.owners.now true) regs.old (passed_bytes watch.old.mode watch.old.owners.now watch.old.mem.now) }
+    ensures frozen { kept_bytes watch.old.mode watch.old.owners.now watch.new.mem.now ≡ kept_bytes watch.old.mode watch.old.owners.now watch.old.mem.now }
     ensures length { length watch.new.mem.now ≡ length watch.old.mem.now }
     ensures owners { watch.new.owners.now ≡ watch.old.owners.now }
-    ensures first { first_stray watch.new ≡ noted_stop (first_stray watch.old) result.stop }
+    ensures mode { watch.new.mode ≡ watch.old.mode }
+    ensures first { first_stray watch.new ≡ noted_all watch.old.owners.now (first_stray watch.old)
+        (all_asked count (passes watch.old.mode watch.old.owners.now true) regs.old (passed_bytes watch.old.mode watch.old.owners.now watch.old.mem.now)) }
+    ensures halts { watch.old.mode ≡ Halt → first_stray watch.new ≡ noted_stop (first_stray watch.old) result.stop }
     ensures same_reference { watch.new.mem.ghost_name ≡ watch.old.mem.ghost_name }
 {
     for done in 0..count {

@@ -57,32 +57,39 @@ fn window(owners: &Owners, from: u32, size: u32) -> Window
     }
 }
 
-/// Loads and stores, with a window of that size.
-fn expect_accesses(rt: &impl Abort, alloc: Global, size: u32) -> Result<(), Fail> {
+/// Loads and stores, with a window of that size. A run that goes on has all within memory carried out.
+fn expect_accesses(rt: &impl Abort, alloc: Global, mode: Mode, size: u32) -> Result<(), Fail> {
     let mut mem = memory(alloc)?;
     let owners = table(alloc)?;
-    let mut watch = Watch::new(&mut mem, &owners, window(&owners, BASE + 64, size));
-    for (addr, len, load, store) in [
-        (BASE + 63, 1, false, false),
-        (BASE + 62, 4, false, false),
-        (BASE + 64, 4, true, true),
-        (BASE + 0xffd, 2, true, true),
-        (BASE + 0xffe, 4, true, false),
-        (BASE + 0x1000, 1, true, false),
-        (BASE + 0x1ffc, 4, true, false),
-        (BASE + 0x1ffd, 4, false, false),
-        (0x7fff_fffe, 4, false, false),
-        (0xffff_fffe, 4, false, false),
+    let mut watch = Watch::with_window(&mut mem, &owners, mode, window(&owners, BASE + 64, size));
+    for (addr, len, load, store, within) in [
+        (BASE - 1, 1, false, false, false),
+        (BASE, 4, false, false, true),
+        (BASE + 63, 1, false, false, true),
+        (BASE + 62, 4, false, false, true),
+        (BASE + 64, 4, true, true, true),
+        (BASE + 0xffd, 2, true, true, true),
+        (BASE + 0xffe, 4, true, false, true),
+        (BASE + 0x1000, 1, true, false, true),
+        (BASE + 0x1ffc, 4, true, false, true),
+        (BASE + 0x1ffd, 4, false, false, false),
+        (BASE + 0x2000, 1, false, false, false),
+        (0x7fff_fffe, 4, false, false, false),
+        (0xffff_fffe, 4, false, false, false),
     ] {
+        let (loads, stores) = match mode {
+            Mode::Halt => (load, store),
+            Mode::GoOn => (within, within),
+        };
         if len == 1 || len == 2 || len == 4 {
             assert_eq!(rt;
                 watch.load(0, addr, len).is_ok(),
-                load,
+                loads,
                 "load {addr:#x} {len}"
             );
             assert_eq!(rt;
                 watch.store(0, addr, len, 0x5555_5555).is_ok(),
-                store,
+                stores,
                 "store {addr:#x} {len}"
             );
         }
@@ -93,8 +100,11 @@ fn expect_accesses(rt: &impl Abort, alloc: Global, size: u32) -> Result<(), Fail
 /// The window changes no answer.
 #[test]
 fn accesses(rt: HostRuntime) -> Result<(), Fail> {
-    expect_accesses(&rt, rt.alloc(), 0)?;
-    expect_accesses(&rt, rt.alloc(), 4032)
+    for mode in [Mode::Halt, Mode::GoOn] {
+        expect_accesses(&rt, rt.alloc(), mode, 0)?;
+        expect_accesses(&rt, rt.alloc(), mode, 4032)?;
+    }
+    Ok(())
 }
 
 /// Ranges of calls, and the first access that strays.
@@ -102,7 +112,12 @@ fn accesses(rt: HostRuntime) -> Result<(), Fail> {
 fn ranges(rt: HostRuntime) -> Result<(), Fail> {
     let mut mem = memory(rt.alloc())?;
     let owners = table(rt.alloc())?;
-    let mut watch = Watch::new(&mut mem, &owners, window(&owners, BASE + 64, 4032));
+    let mut watch = Watch::with_window(
+        &mut mem,
+        &owners,
+        Mode::Halt,
+        window(&owners, BASE + 64, 4032),
+    );
     for (addr, len, reads, writes) in [(0, 0, true, true), (BASE + 64, 4032, true, true)] {
         assert_eq!(rt; watch.reads(0, addr, len).is_ok(), reads, "{addr:#x} {len}");
         assert_eq!(rt;
@@ -131,13 +146,84 @@ fn ranges(rt: HostRuntime) -> Result<(), Fail> {
     Ok(())
 }
 
-/// Up to so many instructions, with sp as it is given.
+/// The same in a run that goes on: what lies in memory isn't refused, but told all the same.
+#[test]
+fn ranges_on(rt: HostRuntime) -> Result<(), Fail> {
+    let mut mem = memory(rt.alloc())?;
+    let owners = table(rt.alloc())?;
+    let mut watch = Watch::with_window(
+        &mut mem,
+        &owners,
+        Mode::GoOn,
+        window(&owners, BASE + 64, 4032),
+    );
+    for (addr, len) in [(0, 0), (BASE + 64, 4032)] {
+        assert_eq!(rt; watch.reads(0, addr, len), Ok(()));
+        assert_eq!(rt; watch.writes(0, addr, len), Ok(()));
+    }
+    assert_eq!(rt; watch.reads(0, BASE + 64, 8128), Ok(()));
+    assert_eq!(rt; watch.first(), None);
+    let call = |pc: u32, addr: u32, len: u32| Access {
+        pc,
+        addr,
+        len,
+        kind: AccessKind::Call,
+    };
+    assert_eq!(rt; watch.writes(8, BASE + 64, 4033), Ok(()));
+    assert_eq!(rt; watch.first(), Some(call(8, BASE + 64, 4033)));
+    assert_eq!(rt; watch.reads(12, BASE, 8192), Ok(()));
+    assert_eq!(rt; watch.writes(12, BASE, 8192), Ok(()));
+    for (addr, len) in [(BASE, 8193), (BASE - 1, 2), (0, u32::MAX), (u32::MAX, 2)] {
+        assert_eq!(rt; watch.reads(16, addr, len), Err(call(16, addr, len)));
+        assert_eq!(rt; watch.writes(16, addr, len), Err(call(16, addr, len)));
+    }
+    assert_eq!(rt; watch.first(), Some(call(8, BASE + 64, 4033)));
+    Ok(())
+}
+
+/// The first stray access of a run that goes on: an own one isn't told, and a later one doesn't replace it.
+#[test]
+fn first_on(rt: HostRuntime) -> Result<(), Fail> {
+    let mut mem = memory(rt.alloc())?;
+    let owners = table(rt.alloc())?;
+    let stray = Access {
+        pc: 16,
+        addr: BASE + 0xffd,
+        len: 4,
+        kind: AccessKind::Store,
+    };
+    {
+        let mut watch = Watch::with_window(
+            &mut mem,
+            &owners,
+            Mode::GoOn,
+            window(&owners, BASE + 64, 4032),
+        );
+        assert_eq!(rt; watch.store(8, BASE + 0xffc, 4, 0x0102_0304), Ok(()));
+        assert_eq!(rt; watch.load(12, BASE + 0x1000, 4), Ok(0));
+        assert_eq!(rt; watch.first(), None);
+        assert_eq!(rt; watch.store(16, BASE + 0xffd, 4, 0x0506_0708), Ok(()));
+        assert_eq!(rt; watch.first(), Some(stray));
+        assert_eq!(rt; watch.load(20, BASE + 60, 1), Ok(0));
+        assert!(rt; watch.store(24, BASE + 0x2000, 1, 0).is_err());
+        assert_eq!(rt; watch.load(28, BASE + 0xffd, 4), Ok(0x0506_0708));
+        assert_eq!(rt; watch.first(), Some(stray));
+    }
+    if mem.holds(BASE + 0x1000, 1) {
+        assert_eq!(rt; mem.get8(BASE + 0x1000), 5);
+    }
+    Ok(())
+}
+
+/// Up to so many instructions, with sp as it is given, and the first stray access.
 fn expect_run(
     rt: &impl Abort,
     alloc: Global,
+    mode: Mode,
     sp: u32,
     count: u32,
     want: Progress,
+    first: Option<Access>,
     byte: u8,
 ) -> Result<(), Fail> {
     let mut mem = memory(alloc)?;
@@ -146,8 +232,14 @@ fn expect_run(
     x[2] = sp;
     let mut regs = Regs { pc: BASE + 0x80, x };
     {
-        let mut watch = Watch::new(&mut mem, &owners, window(&owners, BASE + 64, 4032));
+        let mut watch = Watch::with_window(
+            &mut mem,
+            &owners,
+            mode,
+            window(&owners, BASE + 64, 4032),
+        );
         assert_eq!(rt; run_steps(&mut regs, &mut watch, count), want);
+        assert_eq!(rt; watch.first(), first);
     }
     assert_eq!(rt; regs.pc, BASE + 0x80 + 4 * want.done.min(3));
     if mem.holds(sp, 97) {
@@ -156,17 +248,23 @@ fn expect_run(
     Ok(())
 }
 
-/// A store into the block, and one behind it.
+/// A store into the block, one behind it, which a run that goes on carries out and tells, and one behind memory.
 #[test]
 fn runs(rt: HostRuntime) -> Result<(), Fail> {
     let all = |done: u32| Progress {
         done,
         stop: Stop::Next,
     };
-    expect_run(&rt, rt.alloc(), BASE + 0xf9f, 0, all(0), 0)?;
-    expect_run(&rt, rt.alloc(), BASE + 0xf9f, 3, all(3), 0x7a)?;
-    expect_run(&rt, rt.alloc(), BASE + 0xf9f, 5, all(5), 0x7a)?;
-    expect_run(&rt, rt.alloc(), BASE + 0xfa0, 2, all(2), 0)?;
+    for mode in [Mode::Halt, Mode::GoOn] {
+        for (sp, count, byte) in [
+            (BASE + 0xf9f, 0, 0),
+            (BASE + 0xf9f, 3, 0x7a),
+            (BASE + 0xf9f, 5, 0x7a),
+            (BASE + 0xfa0, 2, 0),
+        ] {
+            expect_run(&rt, rt.alloc(), mode, sp, count, all(count), None, byte)?;
+        }
+    }
     let stray = Access {
         pc: BASE + 0x88,
         addr: BASE + 0x1000,
@@ -177,7 +275,45 @@ fn runs(rt: HostRuntime) -> Result<(), Fail> {
         done: 2,
         stop: Stop::Refused(stray),
     };
-    expect_run(&rt, rt.alloc(), BASE + 0xfa0, 5, refused, 0)
+    let first = Some(stray);
+    expect_run(
+        &rt,
+        rt.alloc(),
+        Mode::Halt,
+        BASE + 0xfa0,
+        5,
+        refused,
+        first,
+        0,
+    )?;
+    expect_run(
+        &rt,
+        rt.alloc(),
+        Mode::GoOn,
+        BASE + 0xfa0,
+        5,
+        all(5),
+        first,
+        0x7a,
+    )?;
+    let outside = Access {
+        addr: BASE + 0x2000,
+        ..stray
+    };
+    let ended = Progress {
+        done: 2,
+        stop: Stop::Refused(outside),
+    };
+    expect_run(
+        &rt,
+        rt.alloc(),
+        Mode::GoOn,
+        BASE + 0x1fa0,
+        5,
+        ended,
+        Some(outside),
+        0,
+    )
 }
 
 /// The address of the instruction that is changed.
@@ -221,7 +357,12 @@ fn changed_code(rt: HostRuntime) -> Result<(), Fail> {
         regs.x[13] = value;
         regs.x[14] = at;
         regs.x[15] = 2;
-        let mut watch = Watch::new(&mut mem, &owners, window(&owners, BASE + 64, 4032));
+        let mut watch = Watch::with_window(
+            &mut mem,
+            &owners,
+            Mode::Halt,
+            window(&owners, BASE + 64, 4032),
+        );
         let progress = run_steps(&mut regs, &mut watch, 100);
         assert_eq!(rt; progress.done, 8);
         assert_eq!(rt; progress.stop, Stop::Call);
