@@ -4,9 +4,11 @@
 -- Noted     the notes that an event adds
 -- Errnos    each reply that is an errno is a refusal
 -- Enomem    ENOMEM is for want of a run
+-- Samples   a call that lacks a run, computed in a memory of one page
 pub mod Answers
 pub mod Changes
 pub mod Kept
 pub mod Noted
 pub mod Errnos
 pub mod Enomem
+mod Samples

@@ -19,4 +19,4 @@ pub mod StepsIn
 pub mod Shows
 pub mod ByEventsIn
 pub mod Growth
-mod Samples
+pub mod Samples

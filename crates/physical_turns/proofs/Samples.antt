@@ -47,7 +47,7 @@ use Rattle.machine_world.specs.Boot.{StartLine, BootFault, started, all_started,
 use Rattle.physical_turns.specs.Physical.{Walk, bytes_in, laid_behind, waitid_in, answer_in, at_process, carried_out, physical_event, physical_turn, physical_turns, first_memory, opening}
 
 -- a program of these words at number 64
-abbrev of_words : List ℕ → List ℕ → Program
+abbrev pub of_words : List ℕ → List ℕ → Program
 of_words path words = record {
   path = path;
   original = record {
@@ -72,12 +72,12 @@ mapper = of_words (codes "/a")
     (0x15b7 ∷ 0x00300613 ∷ 0x02200693 ∷ 0xfff00713 ∷ 0x0de00893 ∷ 0x73 ∷ 0x00050413 ∷ 0x00c40023 ∷ 0x0d700893 ∷ 0x73 ∷ 0x011400a3 ∷ 0x513 ∷ 0x0de00893 ∷ 0x73 ∷ [])
 
 -- pipe2(sp + 96, 0), write(1, sp + 96, 4), and it goes in a circle
-abbrev caller : Program
+abbrev pub caller : Program
 caller = of_words (codes "/st")
     (0x06010513 ∷ 0x593 ∷ 0x03b00893 ∷ 0x73 ∷ 0x00100513 ∷ 0x06010593 ∷ 0x00400613 ∷ 0x04000893 ∷ 0x73 ∷ 0x6f ∷ [])
 
 -- it does nothing
-abbrev still : Program
+abbrev pub still : Program
 still = of_words (codes "/a") (0x6f ∷ 0 ∷ 0 ∷ 0 ∷ [])
 
 -- it stores a word at 0
@@ -93,7 +93,7 @@ abbrev files_from : ℕ → List Program → Inodes
 files_from i [] = []
 files_from i (p ∷ ps) = Some (new_inode (file []) (Some i)) ∷ files_from (i + 1) ps
 
-abbrev rest_of : ℕ → List Program → Rest
+abbrev pub rest_of : ℕ → List Program → Rest
 rest_of pages programs = record {
   pages = pages;
   kind = First;
@@ -103,13 +103,13 @@ rest_of pages programs = record {
   console = [];
 }
 
-abbrev start : ℕ → List ℕ → StartLine
+abbrev pub start : ℕ → List ℕ → StartLine
 start line path = record { line = line; args = path ∷ [] }
 
-abbrev q : ℕ → ℕ → Quantum
+abbrev pub q : ℕ → ℕ → Quantum
 q pick count = record { pick = pick; count = count }
 
-abbrev loaded_at : ℕ → ℕ → ℕ → Note
+abbrev pub loaded_at : ℕ → ℕ → ℕ → Note
 loaded_at pid program base = load_note (record { pid = pid; program = program; base = base; pages = 2 })
 
 -- what a run writes, counts, and leaves at some addresses in memory and in its spaces, and why it stops
@@ -132,7 +132,7 @@ saw at w = record {
 }
 
 -- each program's header is 64 bytes of its number and 80
-abbrev headers : List (List ℕ)
+abbrev pub headers : List (List ℕ)
 headers = replicate 64 80 ∷ replicate 64 81 ∷ []
 
 abbrev run : List ℕ → List Quantum → Result World BootFault → Option Saw

@@ -19,4 +19,4 @@ pub mod Refusals
 pub mod Starts
 pub mod Bounds
 pub mod Runs
-mod Samples
+pub mod Samples

@@ -38,25 +38,25 @@ abbrev rest : (pages : ℕ) → Rest
 rest pages = record { pages = pages; kind = First; programs = []; tree = []; files = with_table (nothing_open []); console = [] }
 
 -- ecall stands behind the header
-abbrev byte_at : ℕ → Option ℕ
+abbrev pub byte_at : ℕ → Option ℕ
 byte_at a = slice_get (replicate 64 0 ++ 0x73 ∷ 0 ∷ 0 ∷ 0 ∷ []) (a - 2 ^ 31)
 
-abbrev space : LiveSpace
+abbrev pub space : LiveSpace
 space = record {
   id = 0;
   space = record { maps = block_mapping 0 1 ∷ []; brk = 2 ^ 31 + 68; brk_low = 2 ^ 31 + 68; brk_high = 2 ^ 31 + 4096; bytes = byte_at };
 }
 
 -- a process at a call with this number and these arguments
-abbrev process : ℕ → List ℕ → Process
+abbrev pub process : ℕ → List ℕ → Process
 process number args = record { pid = 1; parent = 0; regs = record { pc = 2 ^ 31 + 64; x = replicate 10 0 ++ args ++ 0 ∷ number ∷ replicate 14 0 }; space = 0; table = 0; state = Ready }
 
-abbrev world : (pages : ℕ) → ℕ → List ℕ → World
+abbrev pub world : (pages : ℕ) → ℕ → List ℕ → World
 world pages number args =
     record { procs = process number args ∷ []; ended = []; spaces = space ∷ []; loads = 1; next_pid = 2; rest = rest pages; notes = []; events = 0 }
 
 -- mmap2 of a page, private and anonymous
-abbrev asks_page : List ℕ
+abbrev pub asks_page : List ℕ
 asks_page = 0 ∷ 4096 ∷ 3 ∷ 0x22 ∷ 0xffffffff ∷ 0 ∷ []
 
 abbrev maps_page : Call (world 1 222 asks_page) 1
