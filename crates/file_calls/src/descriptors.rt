@@ -9,13 +9,10 @@ ghost use Rattle.file_calls.specs.Answers.{Answers};
 ghost use Rattle.file_calls.specs.Calls.{MadeBy};
 
 use crate::call::Call;
-use crate::flags::is_none_or;
+use crate::flags::{CLOSE_ON_EXEC, is_none_or};
 use call_log::Errno;
 use fd_tables::Files;
 use mem_files::{FileFault, Tree};
-
-/// The one flag of dup3, O_CLOEXEC.
-const CLOSE_ON_EXEC: u32 = 0x80000;
 
 /// dup(fd)
 pub(crate) fn dup(files: &mut Files, call: &Call) -> Result<u32, FileFault>

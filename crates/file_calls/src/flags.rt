@@ -6,6 +6,9 @@ ghost use Rattle.machine_world.specs.PathCalls.{creates, exclusive, truncates, a
 use call_log::has_flag;
 use fd_tables::Way;
 
+/// O_CLOEXEC, the one flag that dup3 and pipe2 take.
+pub(crate) const CLOSE_ON_EXEC: u32 = 0x80000;
+
 /// The flags of openat.
 #[derive(Clone, Copy, Debug, PartialEq, Eq)]
 pub(crate) struct OpenFlags {

@@ -6,14 +6,11 @@ ghost use Rattle.machine_world.specs.Descriptors.{pipe2_row, ends_bytes};
 ghost use Rattle.file_calls.specs.Outcomes.{GivesRow, CanTake, HasEnds};
 
 use crate::call::Call;
-use crate::flags::is_none_or;
+use crate::flags::{CLOSE_ON_EXEC, is_none_or};
 use crate::outcome::{Outcome, Then};
 use call_log::{Errno, Got};
 use fd_tables::{Ends, Files};
 use std::alloc::{AllocError, Global};
-
-/// The one flag of pipe2, O_CLOEXEC.
-const CLOSE_ON_EXEC: u32 = 0x80000;
 
 /// pipe2(p, flags): both descriptors go to p, the reading end's first.
 pub(crate) fn pipe2(alloc: Global, files: &Files, call: &Call) -> Result<Outcome, AllocError>

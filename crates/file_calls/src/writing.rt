@@ -12,6 +12,7 @@ ghost use Rattle.file_calls.specs.Answers.{Answers};
 ghost use Rattle.file_calls.specs.Calls.{MadeBy, IsRest, WaitsOn, with_all};
 
 use crate::call::Call;
+use crate::reading::MOST_PIECES;
 use call_log::Errno;
 use fd_tables::{Files, PipeView, Target, View};
 use mem_files::{FileFault, Tree};
@@ -21,9 +22,6 @@ const MOST_HELD: u32 = 65_536;
 
 /// A write of so many bytes to a pipe is whole, or waits.
 const MOST_WHOLE: usize = 4096;
-
-/// The most pieces of a writev.
-const MOST_PIECES: u32 = 1024;
 
 /// writev(fd, v, c): the data stands behind the pieces, of eight bytes each.
 pub(crate) fn writev(
