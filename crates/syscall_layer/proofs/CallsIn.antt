@@ -3,6 +3,7 @@ use Rattle.std.proofs.Common.{◌≡◌, ℕ, Bool, true, false, List, length, O
 use Rattle.std.specs.declared.alloc.AllocError.{AllocError}
 use Rattle.byte_words.specs.ByteMap.{Bytes}
 use Rattle.region_watch.specs.Private.{only, physical}
+use Rattle.region_watch.proofs.Accesses.{all_pages}
 use Rattle.call_log.specs.Sent.{Span, sent}
 use Rattle.mmap_rules.specs.Held.{Held}
 use Rattle.mmap_rules.specs.Space.{Space}
@@ -38,7 +39,6 @@ use Rattle.syscall_layer.specs.Reach.{readable}
 use Rattle.syscall_layer.specs.InMemory.{physical_of, Over, GoesIn, ServesIn, UnlessStray, InReach, DiedIn}
 use Rattle.syscall_layer.proofs.QuietRows.{IsMute}
 use Rattle.syscall_layer.proofs.Runs.{runs_in}
-use Rattle.syscall_layer.proofs.Reached.{whole_bytes}
 use Rattle.syscall_layer.proofs.Outcomes.{IsRow, wait_row, waits_is, process_there, space_there}
 use Rattle.syscall_layer.proofs.Wakes.{world_now, lives_now, gone_now}
 use Rattle.syscall_layer.proofs.PlainMemory.{answered_never, exited_never, cloned_never, waited_never, mute_carried, plain_goes, plain_in, plain_died, died_carried, ending_begins}
@@ -303,7 +303,7 @@ module _ (headers : List (List ℕ)) (a : About) (k : Kept) (pid : ℕ) (regular
       let h : Held = there.1.0 in
       let span : Span = record { addr = addr; len = len } in
       called_dies headers a k pid e h there.1.1 span
-      (subst (λ (m : Bytes). sent (number_of e.value.regs) (args_of e.value.regs) m ≡ Err span) (whole_bytes (length k.regions) k.mem regular.memory)
+      (subst (λ (m : Bytes). sent (number_of e.value.regs) (args_of e.value.regs) m ≡ Err span) (all_pages (length k.regions) k.mem regular.memory)
       (subst (λ (x : Reach). sent (number_of e.value.regs) (args_of e.value.regs) (only (readable x (length k.regions) h) (physical k.mem)) ≡ Err span) whole (made e h there.1.1)))
 
   pub outside_ends : reach ≡ Whole → (addr len : ℕ) → MadeAs k pid reach (Err (Stray addr len)) → (new : Kept) → DiedIn headers a (died_in (physical_of headers a k) pid outside) new pid →

@@ -3,6 +3,8 @@ use Rattle.std.proofs.Common.{◌≡◌, ◌≢◌, ℕ, Bool, true, false, List
 use Rattle.std.specs.Prelude.{if◌then◌else◌, Result, Err, IsOk, OnErr}
 use Rattle.std.specs.declared.alloc.AllocError.{AllocError}
 use Rattle.rv32im_step.specs.declared.access.Access.{Access}
+use Rattle.region_watch.specs.declared.mode.Mode.{Mode}
+use Rattle.region_watch.specs.declared.mode.Mode.TheVariants.{Halt, GoOn}
 use Rattle.machine_world.specs.Event.{Outcome, went, strays, full, idle, called, stray_in}
 use Rattle.physical_turns.specs.Physical.{Physical, After, after, no_room, nobody, has_stray, with_stray, called_in}
 use Rattle.syscall_layer.specs.declared.answer.Served.{Served}
@@ -30,6 +32,11 @@ not_stray served.TurnEnds other is = is
 not_stray served.Waits other is = is
 not_stray served.Ended other is = is
 not_stray served.LogFull other is = is
+
+-- what a call may read and write is all of memory only in a run that goes on, behind a noted stray access
+pub strayed_within : (mode : Mode) (reach within : Reach) (strayed : Bool) → (mode ≡ Halt → within ≡ Own) → (mode ≡ GoOn → within ≡ reach) → strayed ≡ is_whole reach → within ≡ Whole → strayed ≡ true
+strayed_within Halt reach within strayed own on is whole = absurd (let e : Own ≡ Whole = sym (own refl) ∙ whole in cc)
+strayed_within GoOn reach within strayed own on is whole = is ∙ ap is_whole (sym (on refl) ∙ whole)
 
 -- ---- the note of its range
 

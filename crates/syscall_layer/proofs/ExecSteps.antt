@@ -7,13 +7,15 @@ use Rattle.mmap_rules.specs.Held.{Held, page_address}
 use Rattle.bflt_format.specs.Values.{Values}
 use Rattle.call_log.specs.declared.errno.Errno.{Errno}
 use Rattle.call_log.specs.declared.errno.Errno.TheVariants.{E2big, Enomem}
-use Rattle.call_log.specs.Notes.{load_note, has_room}
+use Rattle.call_log.specs.Notes.{Note, load_note, has_room}
 use Rattle.fd_tables.specs.Changes.{Storage, storage, exec_closed}
+use Rattle.nommu_regions.specs.declared.region.Region.{Region}
 use Rattle.flat_loader.specs.Original.{flat_original, block_pages}
 use Rattle.flat_loader.specs.Frame.{frame_fits}
 use Rattle.flat_loader.specs.Begin.{block_end}
 use Rattle.flat_loader.specs.Loads.{block_region, held_begin, page_loading, IsLoaded, Loads}
 use Rattle.flat_loader.specs.declared.loading.Loaded.{Loaded}
+use Rattle.flat_loader.specs.declared.loading.LoadRefusal.{LoadRefusal}
 use Rattle.flat_loader.specs.declared.loading.LoadRefusal.TheVariants as load_refusal
 use Rattle.vfork_exec.specs.declared.entry.Entry.{Entry}
 use Rattle.vfork_exec.specs.Procs.{process, CanRun, Lives, value_at, with_value_at, with_exec}
@@ -27,7 +29,7 @@ use Rattle.syscall_layer.specs.declared.answer.Served.{Served}
 use Rattle.syscall_layer.specs.declared.answer.Served.TheVariants.{Replied}
 use Rattle.syscall_layer.specs.Kept.{Kept}
 use Rattle.syscall_layer.specs.Regular.{HasSpace, Regular, IsRegular}
-use Rattle.syscall_layer.specs.Copies.{CopiesHold}
+use Rattle.syscall_layer.specs.Copies.{AllHoldFiles, CopiesHold, HoldsFiles}
 use Rattle.syscall_layer.specs.Stands.{About, world_of}
 use Rattle.syscall_layer.specs.Serves.{Answered, Serves}
 use Rattle.syscall_layer.specs.Gone.{without_space, space_left}
@@ -37,6 +39,7 @@ use Rattle.syscall_layer.proofs.Runs.{runs_in, value_found, has_space}
 use Rattle.syscall_layer.proofs.Families.{can_run_lives, own_pid, state_ready}
 use Rattle.syscall_layer.proofs.CopiesStay.{call_counts, load_counts, room_counts}
 use Rattle.syscall_layer.proofs.Boots.{same_parts}
+use Rattle.syscall_layer.proofs.Holding.{none_clean, cleaned, regular_clean, copies_clean}
 use Rattle.syscall_layer.proofs.Loaded.{fits, placed_by}
 use Rattle.syscall_layer.proofs.ExecRegular.{regular_switched, copies_switched, nobody_stays}
 use Rattle.syscall_layer.proofs.Execs.{too_big, no_run, notes_behind, running, old_home, exec_serves}
@@ -146,6 +149,28 @@ module _ (k n : Kept) (regular : Regular k) (call : Call) (task : Task) (kind : 
         let left : new ≡ without_space (running k call e.value f args env b.is.page index n.mem) e.value.space h = goes h home ∙ (λ i. without_space (now i) (number i) h) in
         subst (λ (x : Kept). Answered a (exec_fitting (world_of a k) (ask_in a k e h call) (record { index = index; original = flat_original f }) (record { args = args; env = env }) (frame_fits (flat_original f) args env)) k x call.pid Replied)
         (sym left) (serves_by false none)
+
+-- copies hold their file, whatever was noted
+pub holds_begun : (k n : Kept) → Regular k → CopiesHold k.regions k.mem k.tree k.notes → (call : Call) (task : Task) (kind : Kind) (index : ℕ) (f : Values) (args env : List (List ℕ))
+    → Begun k n call task kind index f args env → CanRun k.procs call.pid → HoldsFiles k → HoldsFiles n
+holds_begun k n regular copies call task kind index f args env b ready holds =
+    let notes : List Note = notes_behind (cleaned k) call f b.is.page index in
+    let now : Begun (cleaned k) (record n { notes = notes }) call task kind index f args env =
+    record { loaded = b.loaded; is = b.is; kept = b.kept; new = ap (λ (x : Kept). record x { notes = notes }) b.new } in
+    (sound_by (cleaned k) (record n { notes = notes }) (regular_clean k regular) call task kind index f args env now (copies_clean k copies holds) ready).1.hold (none_clean k.notes)
+
+-- and where none began
+pub holds_refused : (k : Kept) (kind : Kind) (f : Values) (args env : List (List ℕ)) (rs : List Region) (mem : List ℕ) (loaded : Result Loaded LoadRefusal)
+    → Loads kind f args env k.regions k.mem rs mem loaded → (why : LoadRefusal) → loaded ≡ Err why → HoldsFiles k → AllHoldFiles rs mem k.tree
+holds_refused k kind f args env rs mem loaded is why same holds = by_why why (subst (Loads kind f args env k.regions k.mem rs mem) same is)
+  where
+    stays : rs ≡ k.regions → mem ≡ k.mem → AllHoldFiles rs mem k.tree
+    stays regions memory = subst HoldsFiles (λ i. record k { regions = sym regions i; mem = sym memory i }) holds
+
+    by_why : (why : LoadRefusal) → Loads kind f args env k.regions k.mem rs mem (Err why) → AllHoldFiles rs mem k.tree
+    by_why load_refusal.E2big left = stays left.1.0 left.1.1
+    by_why load_refusal.NoRun left = stays left.1.1.0 left.1.1.1
+    by_why load_refusal.Memory left = stays left.0 left.1
 
 -- ---- what comes of it, for every world that the old parts stand for
 

@@ -26,7 +26,7 @@ use Rattle.syscall_layer.specs.Kept.{Kept}
 use Rattle.syscall_layer.specs.Regular.{Regular}
 use Rattle.syscall_layer.specs.Stands.{About, private_bytes, private_of, world_of, OthersSame}
 use Rattle.syscall_layer.specs.Puts.{first_stray}
-use Rattle.syscall_layer.specs.Reach.{in_pages}
+use Rattle.region_watch.specs.Private.{in_pages}
 use Rattle.syscall_layer.specs.Calls.{RunsIn, IsCall, ask_in, reply_of, value_of, brk_of, noted_call, held_as, after_reply, Changed, given, Gave, GaveIn}
 use Rattle.syscall_layer.proofs.Apart.{others_keep}
 use Rattle.syscall_layer.proofs.Puts.{part_put, part_frozen, writable_own}

@@ -34,7 +34,8 @@ use Rattle.syscall_layer.specs.Regular.{Regular}
 use Rattle.syscall_layer.specs.Copies.{CopiesHold}
 use Rattle.syscall_layer.specs.Stands.{About, later, private_bytes, private_of, live_spaces, process_of, world_of}
 use Rattle.syscall_layer.specs.Puts.{first_stray, access_at}
-use Rattle.syscall_layer.specs.Reach.{in_pages, writable}
+use Rattle.syscall_layer.specs.Reach.{writable}
+use Rattle.region_watch.specs.Private.{in_pages}
 use Rattle.syscall_layer.specs.InMemory.{physical_of, GoesIn, ServesIn, DiedIn, InReach}
 use Rattle.syscall_layer.specs.Serves.{Answered, Serves, Died}
 use Rattle.syscall_layer.specs.Calls.{RunsIn, IsCall, ask_in, given, noted_call, after_reply, GaveIn}

@@ -59,6 +59,7 @@
 -- CallsIn    a call by its class, and what goes on behind it, in the one memory
 -- CallsOn    a call of a run that goes on
 -- CallEvents  it is an event of the run
+-- Samples    calls of such a run, computed from the definitions
 -- NotedStrays  whether the note of a stray access is among notes
 -- Abouts     runs of which little is known
 mod Begins
@@ -103,6 +104,7 @@ mod UsesCut
 mod UnmapsRegular
 mod Mapped
 pub mod Stays
+pub mod Holding
 pub mod Settled
 pub mod Moves
 pub mod Outcomes
@@ -122,5 +124,6 @@ pub mod PlainMemory
 pub mod CallsIn
 pub mod CallsOn
 mod CallEvents
+mod Samples
 mod NotedStrays
 pub mod Abouts

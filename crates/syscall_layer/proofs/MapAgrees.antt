@@ -24,11 +24,10 @@ use Rattle.mmap_rules.proofs.CopiesHold.{copy_byte}
 use Rattle.mmap_rules.proofs.FilePages.{length-file_pages}
 use Rattle.mmap_rules.proofs.Fresh.{fresh_free}
 use Rattle.mem_files.specs.Inodes.{Inodes, bytes_of}
-use Rattle.physical_turns.specs.Physical.{has_stray}
 use Rattle.machine_world.specs.MapCalls.{all_maps, lowest, has_pages, shared, or_own, in_copy as in_copy_of, with_mapping, first_bytes}
 use Rattle.syscall_layer.specs.Kept.{Kept}
 use Rattle.syscall_layer.specs.Regular.{Regular}
-use Rattle.syscall_layer.specs.Copies.{CopiesHold, HoldsSource}
+use Rattle.syscall_layer.specs.Copies.{HoldsFiles, HoldsSource}
 use Rattle.mmap_rules.specs.Copies.{HasSource, IsKnown}
 use Rattle.syscall_layer.specs.Stands.{About, OthersSame, private_bytes, private_of, live_from, live_spaces, world_of}
 use Rattle.syscall_layer.proofs.MapChoice.{OfRegion, no_copy, lowest_copy, own_choice, chosen, free_page, own_is}
@@ -76,7 +75,7 @@ has_source mem nodes r (Copy file change first) holds = holds.same
 
 -- ---- the code's run and the world's
 
-module _ (a : About) (k : Kept) (regular : Regular k) (copies : CopiesHold k.regions k.mem k.tree k.notes) (number : ℕ) (h : Held) where
+module _ (a : About) (k : Kept) (regular : Regular k) (number : ℕ) (h : Held) where
   -- a run of its own
   module _ (want : Want) (count : ℕ) (writes anonymous : Bool) (source : Source) (some : 0 < count) (len : length (first_bytes k.tree want) ≡ 4096 * count)
       (o : Option Mapping) (own : o ≡ option_map (λ page. run_mapping page count writes anonymous source) (free_page a k count)) where
@@ -131,7 +130,7 @@ module _ (a : About) (k : Kept) (regular : Regular k) (copies : CopiesHold k.reg
         ap (λ (o : Option Mapping). or_own o (own_choice a k (File pages first false id change))) (world_copy None (no_copy k regular id change first pages none))
         ∙ own_is a k regular (File pages first false id change)
 
-    old_agrees : has_stray k.notes ≡ false → (copy : ℕ) (r : Region) → copy_of k.regions id change first pages ≡ Some copy → slice_get k.regions copy ≡ Some r →
+    old_agrees : HoldsFiles k → (copy : ℕ) (r : Region) → copy_of k.regions id change first pages ≡ Some copy → slice_get k.regions copy ≡ Some r →
         covers id change first pages r ≡ true →
         Agrees k number h (File pages first false id change) (chosen a k (File pages first false id change)) (record {
           addr = page_address (r.first + (first - copied_from r.source));
@@ -141,7 +140,7 @@ module _ (a : About) (k : Kept) (regular : Regular k) (copies : CopiesHold k.reg
             memory = k.mem;
           };
         })
-    old_agrees unstrayed copy r is there has =
+    old_agrees holds copy r is there has =
         let low = lowest_copy k regular id change first pages copy r is there has in
         let live : 0 < r.uses = grind (arith, nat_tests, has) in
         let c = covered r.source id change first pages r.pages (grind (arith, nat_tests, has)) in
@@ -155,7 +154,7 @@ module _ (a : About) (k : Kept) (regular : Regular k) (copies : CopiesHold k.reg
         omega (arith, len, start, c.from, c.to, inside, regular.memory) in
         let same : laid k.mem (4096 * (r.first + (first - copied_from r.source))) (first_bytes k.tree (File pages first false id change)) ≡ k.mem =
         laid_same k.mem (4096 * page) bytes fits (λ i less.
-        copy_byte k.mem k.tree r id change first pages c (has_source k.mem k.tree r r.source (copies.hold unstrayed copy r there live)) known.0 known.1 known.2 i (omega (arith, less, len))
+        copy_byte k.mem k.tree r id change first pages c (has_source k.mem k.tree r r.source (holds copy r there live)) known.0 known.1 known.2 i (omega (arith, less, len))
         ∙ ap (λ (s : ℕ). get_or k.mem (4096 * (r.first + (first - s)) + i) 0) (sym start)) in
         record {
           mapping = part_mapping r.first r.pages r.source (first - copied_from r.source) pages;
@@ -172,17 +171,17 @@ module _ (a : About) (k : Kept) (regular : Regular k) (copies : CopiesHold k.reg
           len = refl;
         }
 
-    copy_agrees : has_stray k.notes ≡ false → (o : Option ℕ) → copy_of k.regions id change first pages ≡ o → (m : Mapped) →
+    copy_agrees : HoldsFiles k → (o : Option ℕ) → copy_of k.regions id change first pages ≡ o → (m : Mapped) →
         in_copy_or_new (sides h k.regions k.mem) a.kind (bytes_of k.tree id) pages first id change o ≡ Some m →
         Agrees k number h (File pages first false id change) (chosen a k (File pages first false id change)) m
-    copy_agrees unstrayed None none m is =
+    copy_agrees holds None none m is =
         fresh_agrees (File pages first false id change) pages false false (Copy id change first) asks (length-file_pages (bytes_of k.tree id) first pages)
         (chosen a k (File pages first false id change)) (none_there none) m is
-    copy_agrees unstrayed (Some copy) found m is =
+    copy_agrees holds (Some copy) found m is =
         let live = copy_lives k.regions k.regions id change first pages copy refl (sym found) in
         let has = copy_covers_them k.regions k.regions id change first pages copy refl (sym found) copy live.region refl live.there in
         subst (Agrees k number h (File pages first false id change) (chosen a k (File pages first false id change)))
-        (same_Some _ _ (rw live.there at is)) (old_agrees unstrayed copy live.region found live.there has)
+        (same_Some _ _ (rw live.there at is)) (old_agrees holds copy live.region found live.there has)
 
     copy_refused : (o : Option ℕ) → copy_of k.regions id change first pages ≡ o →
         in_copy_or_new (sides h k.regions k.mem) a.kind (bytes_of k.tree id) pages first id change o ≡ None →
@@ -196,16 +195,16 @@ module _ (a : About) (k : Kept) (regular : Regular k) (copies : CopiesHold k.reg
 
   -- ---- all that can be wanted
 
-  pub map_agrees : slice_get k.spaces number ≡ Some (Some h) → has_stray k.notes ≡ false → (want : Want) → AsksPages want → IsKnown k.tree want → (m : Mapped) →
+  pub map_agrees : slice_get k.spaces number ≡ Some (Some h) → HoldsFiles k → (want : Want) → AsksPages want → IsKnown k.tree want → (m : Mapped) →
       mapped (sides h k.regions k.mem) a.kind (bytes_of k.tree (file_in want)) want ≡ Some m → Agrees k number h want (chosen a k want) m
   unfolding mapped
-  map_agrees home unstrayed (Anon pages) asks known m is =
+  map_agrees home holds (Anon pages) asks known m is =
       fresh_agrees (Anon pages) pages true true Own asks (length-replicate (4096 * pages) zero) (chosen a k (Anon pages)) (own_is a k regular (Anon pages)) m is
-  map_agrees home unstrayed (File pages first true id change) asks known m is =
+  map_agrees home holds (File pages first true id change) asks known m is =
       fresh_agrees (File pages first true id change) pages true false Own asks (length-file_pages (bytes_of k.tree id) first pages)
       (chosen a k (File pages first true id change)) (own_is a k regular (File pages first true id change)) m is
-  map_agrees home unstrayed (File pages first false id change) asks known m is =
-      copy_agrees pages first id change asks known unstrayed (copy_of k.regions id change first pages) refl m is
+  map_agrees home holds (File pages first false id change) asks known m is =
+      copy_agrees pages first id change asks known holds (copy_of k.regions id change first pages) refl m is
 
   pub map_refused : slice_get k.spaces number ≡ Some (Some h) → (want : Want) → AsksPages want → IsKnown k.tree want →
       mapped (sides h k.regions k.mem) a.kind (bytes_of k.tree (file_in want)) want ≡ None → chosen a k want ≡ None

@@ -47,7 +47,6 @@ use Rattle.physical_turns.specs.Physical.{Physical, After, after, or_below, show
 use Rattle.syscall_layer.specs.declared.task.Task.{Task}
 use Rattle.syscall_layer.specs.Kept.{Kept}
 use Rattle.syscall_layer.specs.Regular.{Regular}
-use Rattle.syscall_layer.specs.Copies.{CopiesHold}
 use Rattle.syscall_layer.specs.Stands.{About, later, private_bytes, private_of, process_of, world_of, OthersSame}
 use Rattle.syscall_layer.specs.Calls.{RunsIn, IsCall, ask_in, noted_call, with_task}
 use Rattle.syscall_layer.specs.MapsIn.{MapsIn, IsAddress}
@@ -197,7 +196,7 @@ record Chosen (a : About) (k : Kept) (number : ℕ) (h : Held) (want : Want) (o 
   pages : length m.sides.regions ≡ length k.regions
   brings : Brings a k (with_mapping (private_of k.mem h) mapping (first_bytes k.tree want)) m.sides.memory
 
-module _ (a : About) (k : Kept) (regular : Regular k) (copies : CopiesHold k.regions k.mem k.tree k.notes) (number : ℕ) (h : Held) (home : slice_get k.spaces number ≡ Some (Some h)) where
+module _ (a : About) (k : Kept) (regular : Regular k) (number : ℕ) (h : Held) (home : slice_get k.spaces number ≡ Some (Some h)) where
   -- bytes laid over memory at free addresses
   brings_laid : (mapping : Mapping) (bytes : List ℕ) (mem : List ℕ) →
       ((at : ℕ) → is_free_at (world_of a k) at ≡ true → with_bytes (physical k.mem) mapping.range.from bytes at ≡ physical mem at) →
@@ -295,7 +294,7 @@ module _ (a : About) (k : Kept) (regular : Regular k) (copies : CopiesHold k.reg
         record {
           mapping = mapping;
           chosen =
-              ap (λ (o : Option Mapping). or_own o (own_choice a k wanted)) (world_copy a k regular copies number h pages first id change asks known (Some low.mapping) low.is)
+              ap (λ (o : Option Mapping). or_own o (own_choice a k wanted)) (world_copy a k regular number h pages first id change asks known (Some low.mapping) low.is)
               ∙ ap (λ (m : Mapping). Some m) (shared_is first pages low.mapping r low.same);
           addr = refl;
           held = refl;
@@ -311,7 +310,7 @@ module _ (a : About) (k : Kept) (regular : Regular k) (copies : CopiesHold k.reg
         in_copy_or_new (sides h k.regions k.mem) a.kind (bytes_of k.tree id) pages first id change o ≡ Some m → Chosen a k number h (File pages first false id change) (chosen a k (File pages first false id change)) m
     copy_chosen None none m is =
         fresh_chosen (File pages first false id change) pages false false (Copy id change first) asks (length-file_pages (bytes_of k.tree id) first pages)
-        (chosen a k (File pages first false id change)) (none_there a k regular copies number h pages first id change asks known none) m is
+        (chosen a k (File pages first false id change)) (none_there a k regular number h pages first id change asks known none) m is
     copy_chosen (Some copy) found m is =
         let live = copy_lives k.regions k.regions id change first pages copy refl (sym found) in
         let has = copy_covers_them k.regions k.regions id change first pages copy refl (sym found) copy live.region refl live.there in
@@ -337,19 +336,19 @@ module _ (headers : List (List ℕ)) (a : About) (k : Kept) (e : Entry Task) (h 
   abbrev the_ask : Ask
   the_ask = ask_in a k e h call
 
-  pub memory_mapped : Regular k → CopiesHold k.regions k.mem k.tree k.notes → (want : Want) → AsksPages want → IsKnown k.tree want → (mem : List ℕ) (result : Result ℕ MapFault) →
+  pub memory_mapped : Regular k → (want : Want) → AsksPages want → IsKnown k.tree want → (mem : List ℕ) (result : Result ℕ MapFault) →
       MapsIn a.kind (bytes_of k.tree (file_in want)) want e.value.space h k.spaces spaces k.regions rs k.mem mem result → IsAddress result (Ok value) →
       carried (physical_of headers a k) (physical k.mem) (answered (world_of a k) (ask_in a k e h call) (mapped_row (ask_in a k e h call) want))
       ≡ after (physical_of headers (later 1 a) (record k { mem = mem; regions = rs; spaces = spaces; procs = procs; notes = notes })) false
   unfolding world_of private_bytes
-  memory_mapped regular copies want asks known mem result left says = by_mapped (mapped (sides h k.regions k.mem) a.kind (bytes_of k.tree (file_in want)) want) refl result left.maps says
+  memory_mapped regular want asks known mem result left says = by_mapped (mapped (sides h k.regions k.mem) a.kind (bytes_of k.tree (file_in want)) want) refl result left.maps says
     where
       by_mapped : (o : Option Mapped) → mapped (sides h k.regions k.mem) a.kind (bytes_of k.tree (file_in want)) want ≡ o → (r : Result ℕ MapFault) →
           Maps o (sides h k.regions k.mem) (sides left.held rs mem) r → IsAddress r (Ok value) →
           carried (physical_of headers a k) (physical k.mem) (answered (world_of a k) the_ask (mapped_row the_ask want))
           ≡ after (physical_of headers (later 1 a) (record k { mem = mem; regions = rs; spaces = spaces; procs = procs; notes = notes })) false
       by_mapped (Some m) is (Ok addr) all says =
-          let g : Chosen a k e.value.space h want (chosen a k want) m = map_chosen a k regular copies e.value.space h runs.home want asks known m is in
+          let g : Chosen a k e.value.space h want (chosen a k want) m = map_chosen a k regular e.value.space h runs.home want asks known m is in
           let space = with_mapping (private_of k.mem h) g.mapping (first_bytes k.tree want) in
           let at : value ≡ g.mapping.range.from = says ∙ all.0 ∙ g.addr in
           let held_is : left.held ≡ m.sides.held = ap (λ (s : Sides). s.held) all.1 in
@@ -367,14 +366,14 @@ module _ (headers : List (List ℕ)) (a : About) (k : Kept) (e : Entry Task) (h 
       by_mapped None is (Ok addr) all says = absurd all
       by_mapped None is (Err fault.Memory) all says = absurd says
       by_mapped None is (Err fault.Enomem) all says =
-          let none = map_refused a k regular copies e.value.space h runs.home want asks known is in
+          let none = map_refused a k regular e.value.space h runs.home want asks known is in
           let held_is : left.held ≡ h = ap (λ (s : Sides). s.held) all in
           let mem_is : mem ≡ k.mem = ap (λ (s : Sides). s.memory) all in
           moved_in headers a k regular e h call runs is_call value spaces rs procs notes finishes noted_is room (private_of k.mem h) mem left.held
           (ap (private_of mem) (sym held_is))
           (subst (OthersSame k e.value.space) (sym mem_is) (λ j o other there. refl))
           (ap (λ (s : Sides). length s.regions) all)
-          (subst (Brings a k (private_of k.mem h)) (sym mem_is) (brings_none a k regular copies e.value.space h runs.home))
+          (subst (Brings a k (private_of k.mem h)) (sym mem_is) (brings_none a k regular e.value.space h runs.home))
           (mapped_row the_ask want)
           (ap (maps the_ask want) none ∙ ap (λ (v : ℕ). leaves the_ask v (private_of k.mem h)) (sym says))
           left.spaces

@@ -24,7 +24,7 @@ use Rattle.file_calls.specs.declared.call.Call.{Call}
 use Rattle.syscall_layer.specs.declared.task.Task.{Task}
 use Rattle.syscall_layer.specs.Kept.{Kept}
 use Rattle.syscall_layer.specs.Regular.{Regular}
-use Rattle.syscall_layer.specs.Copies.{CopiesHold}
+use Rattle.syscall_layer.specs.Copies.{CopiesHold, HoldsFiles}
 use Rattle.machine_world.specs.Ages.{kept_calls}
 use Rattle.physical_turns.specs.Physical.{has_stray}
 use Rattle.mmap_rules.specs.Copies.{IsKnown}
@@ -127,17 +127,17 @@ module _ (a : About) (k : Kept) (e : Entry Task) (h : Held) (call : Call) (runs 
   abbrev ask : Ask
   ask = ask_in a k e h call
 
-  pub changed_mapped : Regular k → CopiesHold k.regions k.mem k.tree k.notes → has_stray k.notes ≡ false → (want : Want) → AsksPages want → IsKnown k.tree want → (mem : List ℕ) (result : Result ℕ MapFault) →
+  pub changed_mapped : Regular k → HoldsFiles k → (want : Want) → AsksPages want → IsKnown k.tree want → (mem : List ℕ) (result : Result ℕ MapFault) →
       MapsIn a.kind (bytes_of k.tree (file_in want)) want e.value.space h k.spaces spaces k.regions rs k.mem mem result → IsAddress result (Ok value) →
       Changed a k e h call (mapped_row (ask_in a k e h call) want) (record k { mem = mem; regions = rs; spaces = spaces; procs = procs; notes = notes })
   unfolding world_of
-  changed_mapped regular copies unstrayed want asks known mem result left says = by_mapped (mapped (sides h k.regions k.mem) a.kind (bytes_of k.tree (file_in want)) want) refl result left.maps says
+  changed_mapped regular holds want asks known mem result left says = by_mapped (mapped (sides h k.regions k.mem) a.kind (bytes_of k.tree (file_in want)) want) refl result left.maps says
     where
       by_mapped : (o : Option Mapped) → mapped (sides h k.regions k.mem) a.kind (bytes_of k.tree (file_in want)) want ≡ o → (r : Result ℕ MapFault) →
           Maps o (sides h k.regions k.mem) (sides left.held rs mem) r → IsAddress r (Ok value) →
           Changed a k e h call (mapped_row ask want) (record k { mem = mem; regions = rs; spaces = spaces; procs = procs; notes = notes })
       by_mapped (Some m) is (Ok addr) all says =
-          let g : Agrees k e.value.space h want (chosen a k want) m = map_agrees a k regular copies e.value.space h runs.home unstrayed want asks known m is in
+          let g : Agrees k e.value.space h want (chosen a k want) m = map_agrees a k regular e.value.space h runs.home holds want asks known m is in
           let space = with_mapping (private_of k.mem h) g.mapping (first_bytes k.tree want) in
           let at : value ≡ g.mapping.range.from = says ∙ all.0 ∙ g.addr in
           let held_is : left.held ≡ m.sides.held = ap (λ (s : Sides). s.held) all.1 in
@@ -154,7 +154,7 @@ module _ (a : About) (k : Kept) (e : Entry Task) (h : Held) (call : Call) (runs 
       by_mapped None is (Ok addr) all says = absurd all
       by_mapped None is (Err fault.Memory) all says = absurd says
       by_mapped None is (Err fault.Enomem) all says =
-          let none = map_refused a k regular copies e.value.space h runs.home want asks known is in
+          let none = map_refused a k regular e.value.space h runs.home want asks known is in
           let held_is : left.held ≡ h = ap (λ (s : Sides). s.held) all in
           let mem_is : mem ≡ k.mem = ap (λ (s : Sides). s.memory) all in
           moved_by a k e h call runs is_call (mapped_row ask want) (private_of k.mem h) value mem rs left.held spaces procs notes

@@ -24,7 +24,7 @@ use Rattle.region_watch.proofs.Accesses.{own_writable, range_parts, range_of}
 use Rattle.rv32im_step.specs.declared.access.Access.{Access}
 use Rattle.machine_world.specs.Event.{put_got}
 use Rattle.syscall_layer.specs.Puts.{first_stray, access_at, IsRange, Put}
-use Rattle.syscall_layer.specs.Reach.{in_pages}
+use Rattle.region_watch.specs.Private.{in_pages}
 use Rattle.syscall_layer.proofs.Counts.{any_at, at_any}
 
 -- where no range strays all are written

@@ -9,10 +9,12 @@ use Rattle.byte_words.proofs.ByteArrays.{byte_past, byte_before}
 use Rattle.mmap_rules.specs.declared.owners.PageOwner.{PageOwner}
 use Rattle.mmap_rules.specs.Owners.{owns_in, owns_at, owns}
 use Rattle.region_watch.specs.Private.{only, physical, own_bytes}
+use Rattle.region_watch.proofs.Accesses.{all_pages}
 use Rattle.mmap_rules.specs.Held.{Held}
 use Rattle.syscall_layer.specs.declared.reach.Reach.{Reach}
 use Rattle.syscall_layer.specs.declared.reach.Reach.TheVariants.{Whole}
-use Rattle.syscall_layer.specs.Reach.{in_pages, readable, whole_page, whole_table, Reaches}
+use Rattle.syscall_layer.specs.Reach.{readable, whole_page, whole_table, Reaches}
+use Rattle.region_watch.specs.Private.{in_pages}
 
 -- each of its bytes is own, and may be written
 page_owned : (w : Bool) (at : ℕ) → owns_in (Some whole_page) w at ≡ true
@@ -53,31 +55,8 @@ owns_whole pages w = λ i a. at a i
 
 -- ---- all of memory is read
 
-pub whole_bytes : (pages : ℕ) (mem : List ℕ) → length mem ≡ 4096 * pages → only (in_pages pages) (physical mem) ≡ physical mem
-unfolding only
-whole_bytes pages mem paged = λ i a. at a i
-  where
-    at : (a : ℕ) → (if in_pages pages a then physical mem a else None) ≡ physical mem a
-    at a = elim (cases_lt a (2 ^ 31)) [
-      | inl below ↦
-          let none : physical mem a ≡ None = byte_before (2 ^ 31) mem a below in
-          rw none (same_both (in_pages pages a) None)
-      | inr low ↦ elim (cases_lt a (2 ^ 31 + 4096 * pages)) [
-        | inl within ↦
-            let is : in_pages pages a ≡ true = grind (arith, nat_tests) in
-            rw is refl
-        | inr past ↦
-            let none : physical mem a ≡ None = byte_past (2 ^ 31) mem a (omega arith) in
-            rw none (same_both (in_pages pages a) None)
-      ]
-    ]
-      where
-        same_both : (test : Bool) (o : Option ℕ) → (if test then o else o) ≡ o
-        same_both true o = refl
-        same_both false o = refl
-
 pub whole_own : (pages : ℕ) (mem : List ℕ) → length mem ≡ 4096 * pages → own_bytes (whole_table pages) mem ≡ physical mem
-whole_own pages mem paged = ap (λ (test : ℕ → Bool). only test (physical mem)) (owns_whole pages false) ∙ whole_bytes pages mem paged
+whole_own pages mem paged = ap (λ (test : ℕ → Bool). only test (physical mem)) (owns_whole pages false) ∙ all_pages pages mem paged
 
 -- ---- within reach
 

@@ -1,10 +1,10 @@
 -- Copies hold their file after a call that is noted, and after an end.
-use Rattle.std.proofs.Common.{◌≡◌, ℕ, ◌+◌, true, false, List, [], ◌∷◌, length, None, arith, sym, ap, subst, ◌∙◌}
+use Rattle.std.proofs.Common.{◌≡◌, ℕ, ◌+◌, ◌≤◌, false, List, [], ◌∷◌, None, arith, sym, ap, subst, ◌∙◌}
 use Rattle.page_runs.specs.declared.place.Kind.TheVariants.{First}
 use Rattle.nommu_regions.specs.declared.region.Region.{Region}
 use Rattle.mmap_rules.specs.declared.mapping.Mapping.{Mapping}
 use Rattle.mmap_rules.specs.Held.{released}
-use Rattle.call_log.specs.Notes.{Written, Note, has_room}
+use Rattle.call_log.specs.Notes.{Written, Note}
 use Rattle.mem_files.specs.Inodes.{Inodes}
 use Rattle.fd_tables.specs.Files.{OpenFiles}
 use Rattle.fd_tables.specs.Changes.{Storage, storage, without_table}
@@ -19,7 +19,7 @@ use Rattle.syscall_layer.specs.Copies.{CopiesHold}
 use Rattle.machine_world.specs.Ages.{kept_calls, most_at_boot}
 use Rattle.physical_turns.specs.Physical.{has_stray}
 use Rattle.syscall_layer.specs.Calls.{noted_call}
-use Rattle.syscall_layer.proofs.CopiesStay.{copies_noted, copies_aged, copies_released, room_counts, call_counts}
+use Rattle.syscall_layer.proofs.CopiesStay.{copies_noted, copies_aged, copies_released, call_counts}
 
 -- a call more is counted
 pub counts : (call : Call) (value : ℕ) (got : List Written) (old notes : List Note) → notes ≡ noted_call call value got ∷ old → kept_calls notes ≡ kept_calls old + 1
@@ -50,11 +50,10 @@ plain_ask k call = record {
 
 -- it changes files
 pub copies_changed : (k : Kept) → CopiesHold k.regions k.mem k.tree k.notes → (call : Call) (value : ℕ) (tree : Inodes) (files : OpenFiles) (console : List ℕ) (notes : List Note) →
-    has_room k.notes (length call.sent.items) ≡ true →
+    kept_calls k.notes + 1 ≤ 1048576 →
     row (plain_ask k call) ≡ gives (plain_ask k call) value [] (with_all (plain_ask k call).rest tree files console) →
     kept_calls notes ≡ kept_calls k.notes + 1 → (has_stray notes ≡ false → has_stray k.notes ≡ false) → CopiesHold k.regions k.mem tree notes
-copies_changed k copies call value tree files console notes room is counted strays =
-    let few = room_counts k.notes (length call.sent.items) room in
+copies_changed k copies call value tree files console notes few is counted strays =
     let ages = rows_age (plain_ask k call) _ (most_at_boot + kept_calls k.notes) is copies.changes (omega (arith, few)) in
     copies_aged k.regions k.mem k.tree tree k.notes notes copies ages.0 (λ id n there. omega (arith, ages.1 id n there, counted)) (omega (arith, counted)) strays
 

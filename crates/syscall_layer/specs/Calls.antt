@@ -32,7 +32,7 @@ use Rattle.syscall_layer.specs.declared.answer.Served.TheVariants.{Replied, Turn
 use Rattle.syscall_layer.specs.Kept.{Kept}
 use Rattle.syscall_layer.specs.Stands.{About, private_bytes, private_of, process_of, world_of, OthersSame}
 use Rattle.syscall_layer.specs.Gone.{gone}
-use Rattle.syscall_layer.specs.Reach.{in_pages}
+use Rattle.region_watch.specs.Private.{in_pages}
 
 -- a process lives, in a live space
 pub record RunsIn (k : Kept) (pid : ℕ) (e : Entry Task) (h : Held) : Type 0 where

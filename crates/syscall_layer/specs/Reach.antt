@@ -1,15 +1,12 @@
 -- What a system call may read and write: its process's own bytes, or all of memory.
-use Rattle.std.specs.Prelude.{◌≡◌, ℕ, ◌+◌, ◌*◌, Bool, true, false, ◌&&◌, nat_le, nat_lt, List, length, replicate}
+use Rattle.std.specs.Prelude.{◌≡◌, ℕ, Bool, true, false, List, length, replicate}
 use Rattle.mmap_rules.specs.declared.owners.PageOwner.{PageOwner}
-use Rattle.mmap_rules.specs.Space.{memory_base, page_size, own_in, writable_in}
+use Rattle.mmap_rules.specs.Space.{own_in, writable_in}
 use Rattle.mmap_rules.specs.Owners.{owns}
 use Rattle.mmap_rules.specs.Held.{Held}
+use Rattle.region_watch.specs.Private.{in_pages}
 use Rattle.syscall_layer.specs.declared.reach.Reach.{Reach}
 use Rattle.syscall_layer.specs.declared.reach.Reach.TheVariants.{Own, Whole}
-
--- the addresses of a memory of so many pages
-abbrev pub in_pages : ℕ → ℕ → Bool
-in_pages pages a = nat_le memory_base a && nat_lt a (memory_base + page_size * pages)
 
 abbrev pub readable : Reach → ℕ → Held → ℕ → Bool
 readable Own pages h = own_in h.maps

@@ -20,9 +20,10 @@ ghost use Rattle.syscall_layer.specs.declared.task.Task.{Task};
 ghost use Rattle.syscall_layer.specs.Stands.{About, process_of, world_of};
 ghost use Rattle.region_watch.specs.Private.{physical};
 ghost use Rattle.physical_turns.specs.Physical.{outside, has_stray, carried, killed, settled_in, answered_in, classed_in, called_in};
-ghost use Rattle.syscall_layer.specs.declared.mode.Mode.TheVariants.{Halt, GoOn};
+ghost use Rattle.region_watch.specs.declared.mode.Mode.TheVariants.{Halt, GoOn};
 ghost use Rattle.syscall_layer.specs.declared.reach.Reach.TheVariants.{Own, Whole};
 ghost use Rattle.syscall_layer.specs.declared.answer.Served.TheVariants.{Replied, TurnEnds, Waits, Stray};
+ghost use Rattle.syscall_layer.specs.Copies.{HoldsFiles, StillHolds};
 ghost use Rattle.syscall_layer.specs.InMemory.{headers_of, physical_of, ServesIn, InReach, ServesOn, first_range, with_range, reach_on};
 ghost use Rattle.syscall_layer.specs.Reach.{writable, whole_table, is_whole};
 ghost use Rattle.syscall_layer.specs.Serves.{Answered, Serves, Tells, WaitsAt, went_by};
@@ -36,7 +37,6 @@ use crate::classes::{is_change, is_exit, is_output};
 use crate::effect::{Effect, effect_of};
 use crate::family::{answer_clone, answer_exec, answer_waitid};
 use crate::maps::want_of;
-use crate::mode::Mode;
 use crate::output::{got_len, stray_put};
 use crate::parts::Parts;
 use crate::reach::{Reach, table_of};
@@ -46,6 +46,7 @@ use call_log::{Got, Log};
 use file_calls::{Call, Outcome, output, wait_of};
 use mmap_rules::{Owners, Want};
 use page_runs::{Chooser, Run};
+use region_watch::Mode;
 use rv32im_step::{Access, AccessKind};
 use std::alloc::AllocError;
 
@@ -99,6 +100,7 @@ fn answer_exit(parts: &mut Parts, call: Call) -> Result<Served, AllocError>
     ensures serves { (a : About) → (e : Entry Task) → (h : Held) → RunsIn parts.old call.pid e h → IsCall e call →
         Serves a (exited (world_of a parts.old) (ask_in a parts.old e h call)) parts.old parts.new call.pid result }
     ensures memory { parts.new.mem ≡ parts.old.mem }
+    ensures holds { HoldsFiles parts.old → HoldsFiles parts.new }
     ensures leaves { IfOk result (Tells parts.old parts.new call.pid) }
 {
     if !has_room(&parts.log, &call) {
@@ -118,6 +120,7 @@ pub(crate) fn answer_effect(
     ensures serves { (a : About) → (e : Entry Task) → (h : Held) → RunsIn parts.old call.pid e h → IsCall e call →
         Serves a (answered (world_of a parts.old) (ask_in a parts.old e h call) (replies (reply_of (ask_in a parts.old e h call) effect))) parts.old parts.new call.pid result }
     ensures memory { parts.new.mem ≡ parts.old.mem }
+    ensures holds { HoldsFiles parts.old → HoldsFiles parts.new }
     ensures leaves { CanRun parts.old.procs call.pid → IfOk result (Tells parts.old parts.new call.pid) }
 {
     if !has_room(&parts.log, &call) {
@@ -135,6 +138,7 @@ fn answer_change(parts: &mut Parts, call: Call) -> Result<Served, AllocError>
     ensures serves { (a : About) → (e : Entry Task) → (h : Held) → RunsIn parts.old call.pid e h → IsCall e call →
         Serves a (answered (world_of a parts.old) (ask_in a parts.old e h call) (row (ask_in a parts.old e h call))) parts.old parts.new call.pid result }
     ensures memory { parts.new.mem ≡ parts.old.mem }
+    ensures holds { HoldsFiles parts.old → HoldsFiles parts.new }
     ensures leaves { IfOk result (Tells parts.old parts.new call.pid) }
 {
     if !has_room(&parts.log, &call) {
@@ -212,6 +216,7 @@ pub(crate) fn answer_given(
         Serves a (answered (world_of a parts.old) (ask_in a parts.old e h call) (replies (given (ask_in a parts.old e h call) outcome))) parts.old parts.new call.pid result }
     ensures memory { (headers : List (List ℕ)) → (a : About) → (e : Entry Task) → (h : Held) → RunsIn parts.old call.pid e h → IsCall e call →
         InReach reach headers a (answered_in (physical_of headers a parts.old) (ask_in a parts.old e h call) (replies (given (ask_in a parts.old e h call) outcome))) parts.old parts.new call.pid result }
+    ensures holds { reach ≡ Own → HoldsFiles parts.old → HoldsFiles parts.new }
     ensures lives { result ≡ Ok Replied → Lives parts.new.procs call.pid }
     ensures leaves { IfOk result (Tells parts.old parts.new call.pid) }
 {
@@ -242,6 +247,7 @@ fn answer_output(
         Serves a (answered (world_of a parts.old) (ask_in a parts.old e h call) (row (ask_in a parts.old e h call))) parts.old parts.new call.pid result }
     ensures memory { (headers : List (List ℕ)) → (a : About) → (e : Entry Task) → (h : Held) → RunsIn parts.old call.pid e h → IsCall e call →
         InReach reach headers a (answered_in (physical_of headers a parts.old) (ask_in a parts.old e h call) (row (ask_in a parts.old e h call))) parts.old parts.new call.pid result }
+    ensures holds { reach ≡ Own → HoldsFiles parts.old → HoldsFiles parts.new }
     ensures leaves { IfOk result (Tells parts.old parts.new call.pid) }
 {
     let outcome = outcome_of(parts, &call)?;
@@ -259,10 +265,11 @@ fn answer_want<F: Fn(&[Run], u32) -> Option<usize>>(
     requires lives { Lives parts.old.procs call.pid }
     requires known { IsKnown parts.old.tree want }
     requires pages { AsksPages want }
-    ensures serves { (a : About) → a.kind ≡ kind_of chooser.now → has_stray parts.old.notes ≡ false → (e : Entry Task) → (h : Held) → RunsIn parts.old call.pid e h → IsCall e call →
+    ensures serves { (a : About) → a.kind ≡ kind_of chooser.now → StillHolds parts.old → (e : Entry Task) → (h : Held) → RunsIn parts.old call.pid e h → IsCall e call →
         Serves a (answered (world_of a parts.old) (ask_in a parts.old e h call) (mapped (ask_in a parts.old e h call) want)) parts.old parts.new call.pid result }
     ensures memory { (headers : List (List ℕ)) → (a : About) → a.kind ≡ kind_of chooser.now → (e : Entry Task) → (h : Held) → RunsIn parts.old call.pid e h → IsCall e call →
         ServesIn headers a (carried (physical_of headers a parts.old) (physical parts.old.mem) (answered (world_of a parts.old) (ask_in a parts.old e h call) (mapped (ask_in a parts.old e h call) want))) parts.old parts.new call.pid result }
+    ensures holds { HoldsFiles parts.old → HoldsFiles parts.new }
     ensures leaves { IfOk result (Tells parts.old parts.new call.pid) }
 {
     if !has_room(&parts.log, &call) {
@@ -281,10 +288,11 @@ fn answer_map<F: Fn(&[Run], u32) -> Option<usize>>(
     requires chooser { IsChooser F.pre F.post chooser.now }
     requires lives { Lives parts.old.procs call.pid }
     requires mmap2 { call.number ≡ 222 }
-    ensures serves { (a : About) → a.kind ≡ kind_of chooser.now → has_stray parts.old.notes ≡ false → (e : Entry Task) → (h : Held) → RunsIn parts.old call.pid e h → IsCall e call →
+    ensures serves { (a : About) → a.kind ≡ kind_of chooser.now → StillHolds parts.old → (e : Entry Task) → (h : Held) → RunsIn parts.old call.pid e h → IsCall e call →
         Serves a (answered (world_of a parts.old) (ask_in a parts.old e h call) (row (ask_in a parts.old e h call))) parts.old parts.new call.pid result }
     ensures memory { (headers : List (List ℕ)) → (a : About) → a.kind ≡ kind_of chooser.now → (e : Entry Task) → (h : Held) → RunsIn parts.old call.pid e h → IsCall e call →
         ServesIn headers a (carried (physical_of headers a parts.old) (physical parts.old.mem) (answered (world_of a parts.old) (ask_in a parts.old e h call) (row (ask_in a parts.old e h call)))) parts.old parts.new call.pid result }
+    ensures holds { HoldsFiles parts.old → HoldsFiles parts.new }
     ensures leaves { CanRun parts.old.procs call.pid → IfOk result (Tells parts.old parts.new call.pid) }
 {
     match want_of(&parts.tree, &parts.files, call.table, &call.args) {
@@ -300,6 +308,7 @@ fn answer_unmap(parts: &mut Parts, call: Call) -> Result<Served, AllocError>
     ensures serves { (a : About) → (e : Entry Task) → (h : Held) → RunsIn parts.old call.pid e h → IsCall e call →
         Serves a (answered (world_of a parts.old) (ask_in a parts.old e h call) (row (ask_in a parts.old e h call))) parts.old parts.new call.pid result }
     ensures memory { parts.new.mem ≡ parts.old.mem }
+    ensures holds { HoldsFiles parts.old → HoldsFiles parts.new }
     ensures leaves { IfOk result (Tells parts.old parts.new call.pid) }
 {
     if !has_room(&parts.log, &call) {
@@ -315,6 +324,7 @@ fn answer_wait(parts: &mut Parts, call: &Call, pipe: u32) -> Served
     ensures waits { (a : About) → (e : Entry Task) → (h : Held) → RunsIn parts.old call.now.pid e h → IsCall e call.now →
         Answered a (waited (world_of a parts.old) (process_of e) (OnPipe pipe)) parts.old parts.new call.now.pid result }
     ensures memory { parts.new.mem ≡ parts.old.mem }
+    ensures holds { HoldsFiles parts.old → HoldsFiles parts.new }
     ensures leaves { Tells parts.old parts.new call.now.pid result }
 {
     parts.procs.wait_on(call.pid, pipe);
@@ -335,11 +345,12 @@ fn answer<F: Fn(&[Run], u32) -> Option<usize>>(
     requires whole { whole.now ≡ whole_table (length parts.old.regions) }
     requires strayed { reach ≡ Whole → has_stray parts.old.notes ≡ true }
     requires room { slice_index call.args 2 < 2 ^ 32 }
-    ensures serves { reach ≡ Own → (a : About) → a.kind ≡ kind_of chooser.now → AreFlats a.programs programs.now → has_stray parts.old.notes ≡ false →
+    ensures serves { reach ≡ Own → (a : About) → a.kind ≡ kind_of chooser.now → AreFlats a.programs programs.now → StillHolds parts.old →
         (e : Entry Task) → (h : Held) → RunsIn parts.old call.pid e h → IsCall e call →
         Serves a (classed (world_of a parts.old) (ask_in a parts.old e h call)) parts.old parts.new call.pid result }
     ensures memory { (a : About) → a.kind ≡ kind_of chooser.now → AreFlats a.programs programs.now → (e : Entry Task) → (h : Held) → RunsIn parts.old call.pid e h → IsCall e call →
         InReach reach (headers_of programs.now) a (classed_in (physical_of (headers_of programs.now) a parts.old) (ask_in a parts.old e h call)) parts.old parts.new call.pid result }
+    ensures holds { reach ≡ Own → HoldsFiles parts.old → HoldsFiles parts.new }
     ensures leaves { IfOk result (Tells parts.old parts.new call.pid) }
 {
     if is_exit(call.number) {
@@ -391,11 +402,12 @@ fn answer_and_wake<F: Fn(&[Run], u32) -> Option<usize>>(
     requires whole { whole.now ≡ whole_table (length parts.old.regions) }
     requires strayed { reach ≡ Whole → has_stray parts.old.notes ≡ true }
     requires room { slice_index call.args 2 < 2 ^ 32 }
-    ensures serves { reach ≡ Own → (a : About) → a.kind ≡ kind_of chooser.now → AreFlats a.programs programs.now → has_stray parts.old.notes ≡ false →
+    ensures serves { reach ≡ Own → (a : About) → a.kind ≡ kind_of chooser.now → AreFlats a.programs programs.now → StillHolds parts.old →
         (e : Entry Task) → (h : Held) → RunsIn parts.old call.pid e h → IsCall e call →
         Serves a (settled (classed (world_of a parts.old) (ask_in a parts.old e h call))) parts.old parts.new call.pid result }
     ensures memory { (a : About) → a.kind ≡ kind_of chooser.now → AreFlats a.programs programs.now → (e : Entry Task) → (h : Held) → RunsIn parts.old call.pid e h → IsCall e call →
         InReach reach (headers_of programs.now) a (settled_in (classed_in (physical_of (headers_of programs.now) a parts.old) (ask_in a parts.old e h call))) parts.old parts.new call.pid result }
+    ensures holds { reach ≡ Own → HoldsFiles parts.old → HoldsFiles parts.new }
     ensures stray { (access : Access) → result ≡ Ok (Stray access) → parts.new ≡ parts.old }
     ensures yields { result ≡ Ok TurnEnds → WaitsAt parts.new.procs call.pid false }
     ensures waits { result ≡ Ok Waits → parts.old.files.changed ≡ [] → WaitsAt parts.new.procs call.pid true }
@@ -423,10 +435,11 @@ pub fn serve_within<F: Fn(&[Run], u32) -> Option<usize>>(
     requires ready { CanRun parts.old.procs pid }
     requires whole { whole.now ≡ whole_table (length parts.old.regions) }
     requires strayed { reach ≡ Whole → has_stray parts.old.notes ≡ true }
-    ensures serves { reach ≡ Own → (a : About) → a.kind ≡ kind_of chooser.now → AreFlats a.programs programs.now → has_stray parts.old.notes ≡ false →
+    ensures serves { reach ≡ Own → (a : About) → a.kind ≡ kind_of chooser.now → AreFlats a.programs programs.now → StillHolds parts.old →
         Serves a (called (world_of a parts.old) pid) parts.old parts.new pid result }
     ensures memory { (a : About) → a.kind ≡ kind_of chooser.now → AreFlats a.programs programs.now →
         InReach reach (headers_of programs.now) a (called_in (physical_of (headers_of programs.now) a parts.old) pid) parts.old parts.new pid result }
+    ensures holds { reach ≡ Own → HoldsFiles parts.old → HoldsFiles parts.new }
     ensures stray { (access : Access) → result ≡ Ok (Stray access) → parts.new ≡ parts.old }
     ensures unchanged { OnErr result (parts.new ≡ parts.old) }
     ensures yields { result ≡ Ok TurnEnds → WaitsAt parts.new.procs pid false }
@@ -482,10 +495,22 @@ fn serve_noted<F: Fn(&[Run], u32) -> Option<usize>>(
     served
 }
 
-/// Carries out the system call that a process stands at, which may run. A run that ends at its first stray access answers a range that
-/// strays, and nothing is done. In a run that goes on the first such range is noted, before the call's own note, and from there on calls
-/// reach all of memory; a range outside memory ends the process by SIGSEGV. That note stands also where the log has no room for the
-/// call. Out of memory nothing changed.
+/// What a call may read and write. In a run that ends at its first stray access that is its process's own bytes, whatever was noted;
+/// in one that goes on it is what is reached.
+fn reach_in(mode: Mode, reach: Reach) -> Reach
+    ensures halts { mode ≡ Halt → result ≡ Own }
+    ensures goes_on { mode ≡ GoOn → result ≡ reach }
+{
+    match mode {
+        Mode::Halt => Reach::Own,
+        Mode::GoOn => reach,
+    }
+}
+
+/// Carries out the system call that a process stands at, which may run. In a run that ends at its first stray access it reads and writes
+/// its process's own bytes alone, whatever was noted; a range that strays is answered, and nothing is done. In a run that goes on the
+/// first such range is noted, before the call's own note, and from there on calls reach all of memory; a range outside memory ends the
+/// process by SIGSEGV. That note stands also where the log has no room for the call. Out of memory nothing changed.
 pub fn serve<F: Fn(&[Run], u32) -> Option<usize>>(
     parts: &mut Parts,
     pid: u32,
@@ -499,11 +524,14 @@ pub fn serve<F: Fn(&[Run], u32) -> Option<usize>>(
     requires ready { CanRun parts.old.procs pid }
     requires whole { whole.now ≡ whole_table (length parts.old.regions) }
     requires strayed { has_stray parts.old.notes ≡ is_whole reach.old }
-    requires halting { mode ≡ Halt → reach.old ≡ Own }
-    ensures serves { mode ≡ Halt → (a : About) → a.kind ≡ kind_of chooser.now → AreFlats a.programs programs.now →
+    ensures serves { mode ≡ Halt → (a : About) → a.kind ≡ kind_of chooser.now → AreFlats a.programs programs.now → StillHolds parts.old →
         Serves a (called (world_of a parts.old) pid) parts.old parts.new pid result }
     ensures memory { mode ≡ GoOn → (a : About) → a.kind ≡ kind_of chooser.now → AreFlats a.programs programs.now →
         ServesOn (headers_of programs.now) a parts.old parts.new pid result }
+    ensures holds { mode ≡ Halt → HoldsFiles parts.old → HoldsFiles parts.new }
+    ensures within { mode ≡ Halt → (a : About) → a.kind ≡ kind_of chooser.now → AreFlats a.programs programs.now →
+        InReach Own (headers_of programs.now) a (called_in (physical_of (headers_of programs.now) a parts.old) pid) parts.old parts.new pid result }
+    ensures stray { mode ≡ Halt → (access : Access) → result ≡ Ok (Stray access) → parts.new ≡ parts.old }
     ensures halts { mode ≡ Halt → reach.new ≡ reach.old }
     ensures goes_on { mode ≡ GoOn → (a : About) → a.kind ≡ kind_of chooser.now → AreFlats a.programs programs.now →
         reach.new ≡ reach_on reach.old (first_range (physical_of (headers_of programs.now) a parts.old) pid) result }
@@ -513,7 +541,8 @@ pub fn serve<F: Fn(&[Run], u32) -> Option<usize>>(
     ensures unnoted { result ≡ Ok Waits → mode ≡ GoOn → (a : About) → a.kind ≡ kind_of chooser.now → AreFlats a.programs programs.now →
         parts.new.notes ≡ (with_range pid (first_range (physical_of (headers_of programs.now) a parts.old) pid) parts.old).notes }
 {
-    let served = serve_within(parts, pid, programs, chooser, *reach, whole)?;
+    let within = reach_in(mode, *reach);
+    let served = serve_within(parts, pid, programs, chooser, within, whole)?;
     let Served::Stray(access) = served else {
         return Ok(served);
     };

@@ -11,6 +11,7 @@ ghost use Rattle.syscall_layer.specs.Regular.{HasSpace};
 ghost use Rattle.syscall_layer.specs.Stands.{About, world_of};
 ghost use Rattle.physical_turns.specs.Physical.{died_in};
 ghost use Rattle.syscall_layer.specs.InMemory.{physical_of, DiesIn};
+ghost use Rattle.syscall_layer.specs.Copies.{HoldsFiles};
 ghost use Rattle.syscall_layer.specs.Serves.{Dies};
 ghost use Rattle.syscall_layer.specs.Gone.{gone, without_space};
 ghost use Rattle.syscall_layer.specs.Calls.{RunsIn, Exits};
@@ -40,7 +41,8 @@ impl Parts {
     pub(crate) fn give_up(&mut self, number: u32)
         requires there { HasSpace self.old.spaces number }
         requires nobody { (pid : ℕ) → (e : Listed Task) → process self.old.procs pid ≡ Some e → e.value.space ≢ number }
-        ensures { (h : Held) → slice_get self.old.spaces number ≡ Some (Some h) → self.new ≡ without_space self.old number h }
+        ensures goes { (h : Held) → slice_get self.old.spaces number ≡ Some (Some h) → self.new ≡ without_space self.old number h }
+        ensures holds { HoldsFiles self.old → HoldsFiles self.new }
     {
         let space = take_space(&mut self.spaces, number);
         space.release(&mut self.regions);
@@ -49,7 +51,8 @@ impl Parts {
     /// A process goes, with its table and all that it has open. Its space goes with it, unless another process lent it.
     fn depart(&mut self, pid: u32, how: How)
         requires { CanRun self.old.procs pid }
-        ensures { (e : Listed Task) → (h : Held) → RunsIn self.old pid e h → self.new ≡ gone self.old e h how }
+        ensures goes { (e : Listed Task) → (h : Held) → RunsIn self.old pid e h → self.new ≡ gone self.old e h how }
+        ensures holds { HoldsFiles self.old → HoldsFiles self.new }
     {
         let Task { space, table, .. } = *self.procs.get(pid);
         let lent = self.procs.borrows(pid);
@@ -67,6 +70,7 @@ impl Parts {
         requires room { has_room self.old.notes (length call.sent.items) ≡ true }
         ensures exits { (e : Listed Task) → (h : Held) → RunsIn self.old call.pid e h → Exits self.old e h call self.new result }
         ensures memory { self.new.mem ≡ self.old.mem }
+        ensures holds { HoldsFiles self.old → HoldsFiles self.new }
     {
         self.log.reserve(2)?;
         let got = Vec::new(*self.console.allocator());
@@ -98,6 +102,7 @@ impl Parts {
     pub(crate) fn die(&mut self, pid: u32, signal: u8) -> Result<(), AllocError>
         requires { CanRun self.old.procs pid }
         ensures memory { self.new.mem ≡ self.old.mem }
+        ensures holds { HoldsFiles self.old → HoldsFiles self.new }
         ensures dies { (a : About) → Dies a (at_process (world_of a self.old) pid (λ p s. trapped (world_of a self.old) p signal)) self.old self.new pid result }
     {
         self.log.reserve(1)?;
@@ -111,6 +116,7 @@ impl Parts {
     pub fn end_by_signal(&mut self, pid: u32, signal: u8) -> Result<(), AllocError>
         requires { CanRun self.old.procs pid }
         ensures dies { (a : About) → Dies a (died (world_of a self.old) pid signal) self.old self.new pid result }
+        ensures holds { HoldsFiles self.old → HoldsFiles self.new }
         ensures memory { (headers : List (List ℕ)) → (a : About) → DiesIn headers a (died_in (physical_of headers a self.old) pid signal) self.old self.new pid result }
     {
         self.die(pid, signal)?;

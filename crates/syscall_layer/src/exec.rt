@@ -16,6 +16,7 @@ ghost use Rattle.region_watch.specs.Private.{physical};
 ghost use Rattle.physical_turns.specs.Physical.{carried};
 ghost use Rattle.syscall_layer.specs.InMemory.{header_of, physical_of, ServesIn};
 ghost use Rattle.syscall_layer.specs.declared.answer.Served.TheVariants.{Replied};
+ghost use Rattle.syscall_layer.specs.Copies.{HoldsFiles};
 ghost use Rattle.syscall_layer.specs.Serves.{Serves};
 ghost use Rattle.syscall_layer.specs.Calls.{RunsIn, IsCall, ask_in, noted_call};
 
@@ -107,6 +108,7 @@ impl Parts {
             (exec_fitting (world_of a self.old) (ask_in a self.old e h call) (record { index = index; original = flat_original flat.now }) (record { args = texts strings.now.args.items; env = texts strings.now.env.items })
             (frame_fits (flat_original flat.now) (texts strings.now.args.items) (texts strings.now.env.items))))
             self.old self.new call.pid result }
+        ensures holds { HoldsFiles self.old → HoldsFiles self.new }
         ensures replied { IfOk result (λ served. served ≡ Replied) }
     {
         self.spaces.reserve(1)?;
@@ -130,19 +132,15 @@ impl Parts {
                     pages,
                 },
             ) => {
-                let Task {
-                    space: old,
-                    table,
-                    ..
-                } = *self.procs.get(call.pid);
+                let task = *self.procs.get(call.pid);
                 let lent = self.procs.borrows(call.pid);
                 let number = self.spaces.len() as u32;
                 self.spaces.push_reserved(Some(space));
-                self.files.exec_close(&mut self.tree, table);
+                self.files.exec_close(&mut self.tree, task.table);
                 switch(&mut self.procs, call.pid, regs, number);
                 note_exec(&mut self.log, call, Vec::new(alloc), index, base, pages);
                 if !lent {
-                    self.give_up(old);
+                    self.give_up(task.space);
                 }
                 Ok(Served::Replied)
             }
@@ -159,6 +157,7 @@ impl Parts {
         ensures memory { self.new.mem ≡ self.old.mem }
         ensures serves { (a : About) → (e : Listed Task) → (h : Held) → RunsIn self.old call.pid e h → IsCall e call →
             Serves a (answered (world_of a self.old) (ask_in a self.old e h call) (refuses (ask_in a self.old e h call) errno)) self.old self.new call.pid result }
+        ensures holds { HoldsFiles self.old → HoldsFiles self.new }
         ensures replied { IfOk result (λ served. served ≡ Replied) }
     {
         self.reply(call, Effect::Answer(errno.refusal()))?;

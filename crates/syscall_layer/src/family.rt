@@ -21,6 +21,7 @@ ghost use Rattle.physical_turns.specs.Physical.{has_stray, carried, reaped_in, w
 ghost use Rattle.syscall_layer.specs.declared.reach.Reach.TheVariants.{Own, Whole};
 ghost use Rattle.syscall_layer.specs.InMemory.{headers_of, physical_of, ServesIn, InReach};
 ghost use Rattle.syscall_layer.specs.Reach.{whole_table};
+ghost use Rattle.syscall_layer.specs.Copies.{HoldsFiles};
 ghost use Rattle.syscall_layer.specs.Serves.{Serves, Tells};
 ghost use Rattle.syscall_layer.specs.Flats.{AreFlats};
 ghost use Rattle.syscall_layer.specs.Calls.{RunsIn, IsCall, ask_in};
@@ -141,6 +142,7 @@ fn answer_told(
         Serves a (reaped (world_of a parts.old) (ask_in a parts.old e h call) who (Ok told)) parts.old parts.new call.pid result }
     ensures memory { (headers : List (List ℕ)) → (a : About) → (e : Entry Task) → (h : Held) → RunsIn parts.old call.pid e h → IsCall e call →
         InReach reach headers a (reaped_in (physical_of headers a parts.old) (ask_in a parts.old e h call) who (Ok told)) parts.old parts.new call.pid result }
+    ensures holds { reach ≡ Own → HoldsFiles parts.old → HoldsFiles parts.new }
     ensures leaves { IfOk result (Tells parts.old parts.new call.pid) }
 {
     let alloc = *parts.console.allocator();
@@ -167,6 +169,7 @@ pub(crate) fn answer_waitid(
         Serves a (waitid (world_of a parts.old) (ask_in a parts.old e h call)) parts.old parts.new call.pid result }
     ensures memory { (headers : List (List ℕ)) → (a : About) → (e : Entry Task) → (h : Held) → RunsIn parts.old call.pid e h → IsCall e call →
         InReach reach headers a (waitid_in (physical_of headers a parts.old) (ask_in a parts.old e h call)) parts.old parts.new call.pid result }
+    ensures holds { reach ≡ Own → HoldsFiles parts.old → HoldsFiles parts.new }
     ensures leaves { IfOk result (Tells parts.old parts.new call.pid) }
 {
     if let Some(errno) = fault_of(&call.args) {
@@ -191,6 +194,7 @@ pub(crate) fn answer_clone(parts: &mut Parts, call: Call) -> Result<Served, Allo
     ensures memory { parts.new.mem ≡ parts.old.mem }
     ensures serves { (a : About) → (e : Entry Task) → (h : Held) → RunsIn parts.old call.pid e h → IsCall e call →
         Serves a (cloned (world_of a parts.old) (ask_in a parts.old e h call)) parts.old parts.new call.pid result }
+    ensures holds { HoldsFiles parts.old → HoldsFiles parts.new }
     ensures leaves { IfOk result (Tells parts.old parts.new call.pid) }
 {
     if call.args[0] != VFORK_FLAGS {
@@ -233,6 +237,7 @@ pub(crate) fn answer_exec<F: Fn(&[Run], u32) -> Option<usize>>(
         Serves a (exec (world_of a parts.old) (ask_in a parts.old e h call)) parts.old parts.new call.pid result }
     ensures memory { (a : About) → a.kind ≡ kind_of chooser.now → AreFlats a.programs programs.now → (e : Entry Task) → (h : Held) → RunsIn parts.old call.pid e h → IsCall e call →
         ServesIn (headers_of programs.now) a (carried (physical_of (headers_of programs.now) a parts.old) (physical parts.old.mem) (exec (world_of a parts.old) (ask_in a parts.old e h call))) parts.old parts.new call.pid result }
+    ensures holds { HoldsFiles parts.old → HoldsFiles parts.new }
     ensures leaves { IfOk result (Tells parts.old parts.new call.pid) }
 {
     let Some((path, _)) = at_zero(&call.sent) else {

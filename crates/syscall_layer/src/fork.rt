@@ -7,6 +7,7 @@ ghost use Rattle.vfork_exec.specs.declared.entry.Entry.{Entry as Listed};
 ghost use Rattle.vfork_exec.specs.Procs.{CanRun, count, most_entries};
 ghost use Rattle.flat_loader.specs.Alone.{child_regs};
 ghost use Rattle.syscall_layer.specs.declared.task.Task.{Task};
+ghost use Rattle.syscall_layer.specs.Copies.{HoldsFiles};
 ghost use Rattle.syscall_layer.specs.Calls.{RunsIn, Forks};
 
 use crate::keep::or_unreserve;
@@ -38,6 +39,7 @@ impl Parts {
         requires room { has_room self.old.notes (length call.sent.items) ≡ true }
         ensures forks { (e : Listed Task) → (h : Held) → RunsIn self.old call.pid e h → Forks self.old e call self.new result }
         ensures memory { self.new.mem ≡ self.old.mem }
+        ensures holds { HoldsFiles self.old → HoldsFiles self.new }
     {
         self.log.reserve(1)?;
         let got = Vec::new(*self.console.allocator());

@@ -16,7 +16,6 @@ mod fork;
 mod keep;
 mod laws;
 mod maps;
-mod mode;
 mod output;
 mod parts;
 mod reach;
@@ -30,17 +29,9 @@ mod wake;
 
 pub use answer::{Served, serve, serve_within};
 pub use laws::{call_event_law, free_runs_law};
-pub use mode::Mode;
 pub use parts::Parts;
 pub use reach::{Reach, table_of, whole_table};
 pub use reading::{Unread, read_range};
 pub use start::StartRefusal;
 pub use strings::{ProgramStrings, program_strings};
 pub use task::Task;
-
-#[cfg(test)]
-mod call_tests;
-#[cfg(test)]
-mod string_tests;
-#[cfg(test)]
-mod tests;

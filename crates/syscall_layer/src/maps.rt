@@ -1,6 +1,6 @@
 //! Pages that are mapped and unmapped (Linux, mmap(2), munmap(2), in this project's profile).
 
-ghost use Rattle.std.specs.Prelude.{◌≡◌, ℕ, ◌*◌, IfOk, true, false, List, length, slice_get, slice_index, Some};
+ghost use Rattle.std.specs.Prelude.{◌≡◌, ℕ, ◌*◌, IfOk, true, List, length, slice_get, slice_index, Some};
 ghost use Rattle.page_runs.specs.Choosers.{IsChooser, kind_of};
 ghost use Rattle.call_log.specs.Notes.{has_room};
 ghost use Rattle.mem_files.specs.Inodes.{bytes_of};
@@ -16,7 +16,7 @@ ghost use Rattle.machine_world.specs.MapCalls.{side_of, mapped, unmaps};
 ghost use Rattle.syscall_layer.specs.declared.task.Task.{Task};
 ghost use Rattle.syscall_layer.specs.Regular.{HasSpace};
 ghost use Rattle.machine_world.specs.Event.{answered};
-ghost use Rattle.physical_turns.specs.Physical.{has_stray};
+ghost use Rattle.syscall_layer.specs.Copies.{HoldsFiles, StillHolds};
 ghost use Rattle.syscall_layer.specs.InMemory.{ChangesIn};
 ghost use Rattle.syscall_layer.specs.Stands.{About, world_of};
 ghost use Rattle.syscall_layer.specs.Calls.{RunsIn, IsCall, ask_in, Changes};
@@ -111,6 +111,7 @@ fn unmap_in(
 {
     match &mut spaces[number as usize] {
         Some(space) => {
+            // For its clause: the mappings lie in pages of memory.
             let _mappings = space.maps();
             space.unmap(regions, addr, len)
         }
@@ -152,10 +153,11 @@ impl Parts {
         requires room { has_room self.old.notes (length call.sent.items) ≡ true }
         requires known { IsKnown self.old.tree want }
         requires pages { AsksPages want }
-        ensures changes { (a : About) → a.kind ≡ kind_of chooser.now → has_stray self.old.notes ≡ false → (e : Entry Task) → (h : Held) → RunsIn self.old call.pid e h → IsCall e call →
+        ensures changes { (a : About) → a.kind ≡ kind_of chooser.now → StillHolds self.old → (e : Entry Task) → (h : Held) → RunsIn self.old call.pid e h → IsCall e call →
             Changes a self.old e h call (mapped (ask_in a self.old e h call) want) self.new result }
         ensures memory { (headers : List (List ℕ)) → (a : About) → a.kind ≡ kind_of chooser.now → (e : Entry Task) → (h : Held) → RunsIn self.old call.pid e h → IsCall e call →
             ChangesIn headers a (answered (world_of a self.old) (ask_in a self.old e h call) (mapped (ask_in a self.old e h call) want)) self.old self.new result }
+        ensures holds { HoldsFiles self.old → HoldsFiles self.new }
         ensures lives { Lives self.new.procs call.pid }
     {
         self.log.reserve(1)?;
@@ -180,6 +182,7 @@ impl Parts {
         requires lives { Lives self.old.procs call.pid }
         requires room { has_room self.old.notes (length call.sent.items) ≡ true }
         ensures memory { self.new.mem ≡ self.old.mem }
+        ensures holds { HoldsFiles self.old → HoldsFiles self.new }
         ensures changes { (a : About) → (e : Entry Task) → (h : Held) → RunsIn self.old call.pid e h → IsCall e call →
             Changes a self.old e h call (unmaps (ask_in a self.old e h call) (hit h.maps (slice_index call.args 0) (slice_index call.args 1))) self.new result }
     {

@@ -4,9 +4,8 @@ ghost use Rattle.std.specs.Prelude.{◌≡◌, ℕ, ◌*◌, ◌^◌, ◌-◌, A
 ghost use Rattle.call_log.specs.Values.{written_value};
 ghost use Rattle.mmap_rules.specs.declared.owners.PageOwner.{PageOwner};
 ghost use Rattle.mmap_rules.specs.Owners.{owns};
-ghost use Rattle.region_watch.specs.Private.{physical};
+ghost use Rattle.region_watch.specs.Private.{in_pages, physical};
 ghost use Rattle.machine_world.specs.Event.{put_got};
-ghost use Rattle.syscall_layer.specs.Reach.{in_pages};
 ghost use Rattle.file_calls.specs.Calls.{after};
 ghost use Rattle.file_calls.specs.Outcomes.{CanTake, HasEnds};
 ghost use Rattle.fd_tables.specs.declared.pipe_view.Ends.{Ends};

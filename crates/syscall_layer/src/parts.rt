@@ -28,7 +28,7 @@ pub struct Parts {
     pub tree: Tree,
     /// What is open.
     pub files: Files,
-    /// The processes that live.
+    /// The processes, with those that have ended and weren't waited for.
     pub procs: Procs<Task>,
     /// The notes. No memory is kept ready for more.
     pub log: Log,

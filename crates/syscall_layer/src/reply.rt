@@ -13,10 +13,11 @@ ghost use Rattle.machine_world.specs.Event.{replied};
 ghost use Rattle.file_calls.specs.Calls.{IsChange, Replies as RepliesOnly, written_of};
 ghost use Rattle.file_calls.specs.Outcomes.{CanTake, HasEnds};
 ghost use Rattle.syscall_layer.specs.declared.task.Task.{Task};
+ghost use Rattle.syscall_layer.specs.Copies.{HoldsFiles};
 ghost use Rattle.syscall_layer.specs.Regular.{HasSpace};
 ghost use Rattle.syscall_layer.specs.Stands.{About};
 ghost use Rattle.syscall_layer.specs.Puts.{first_stray, IsRange};
-ghost use Rattle.syscall_layer.specs.Reach.{in_pages};
+ghost use Rattle.region_watch.specs.Private.{in_pages};
 ghost use Rattle.syscall_layer.specs.Calls.{RunsIn, IsCall, ask_in, value_of, brk_of, noted_call, Replies, Changes, Gives, GivesIn};
 
 use crate::call::home;
@@ -104,6 +105,7 @@ impl Parts {
         requires room { has_room self.old.notes (length call.sent.items) ≡ true }
         ensures replies { (a : About) → (e : Listed Task) → (h : Held) → RunsIn self.old call.pid e h → Replies a self.old e h call effect self.new result }
         ensures memory { self.new.mem ≡ self.old.mem }
+        ensures holds { HoldsFiles self.old → HoldsFiles self.new }
     {
         self.log.reserve(1)?;
         let got = Vec::new(*self.console.allocator());
@@ -121,6 +123,7 @@ impl Parts {
         requires replies { RepliesOnly call self.old.files }
         ensures changes { (a : About) → (e : Listed Task) → (h : Held) → RunsIn self.old call.pid e h → IsCall e call → Changes a self.old e h call (row (ask_in a self.old e h call)) self.new result }
         ensures memory { self.new.mem ≡ self.old.mem }
+        ensures holds { HoldsFiles self.old → HoldsFiles self.new }
     {
         self.log.reserve(1)?;
         let changed = file_calls::change(&mut self.tree, &mut self.files, &mut self.console, &call);
@@ -142,6 +145,7 @@ impl Parts {
         ensures gives { (a : About) → (e : Listed Task) → (h : Held) → RunsIn self.old call.pid e h → IsCall e call →
             first_stray (writable_in h.maps) (written_of outcome) ≡ None → Gives a self.old e h call outcome self.new result }
         ensures memory { (a : About) → (e : Listed Task) → (h : Held) → RunsIn self.old call.pid e h → IsCall e call → GivesIn a self.old e h call outcome self.new result }
+        ensures holds { (e : Listed Task) → (h : Held) → RunsIn self.old call.pid e h → first_stray (writable_in h.maps) (written_of outcome) ≡ None → HoldsFiles self.old → HoldsFiles self.new }
         ensures lives { Lives self.new.procs call.pid }
     {
         self.log.reserve(1)?;

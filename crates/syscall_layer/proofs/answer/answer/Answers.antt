@@ -21,11 +21,11 @@ use Rattle.syscall_layer.proofs.answer.answer.Goals as goal
 -- ---- in the world of private spaces
 
 pub returns-then-is_exit-clause-serves : goal.returns-then-is_exit-clause-serves
-returns-then-is_exit-clause-serves g c = λ own a kind flats fresh e h runs is.
+returns-then-is_exit-clause-serves g c = λ own a kind flats holding e h runs is.
     exit_classed a c.args.parts.now e h c.args.call runs is c.answer_exit.new.parts c.answer_exit.result (sym c.is_exit.ensures ∙ c.if-is_exit.true) (c.answer_exit.ensures.serves a e h runs is)
 
 pub returns-in-Some-clause-serves : goal.returns-in-Some-clause-serves
-returns-in-Some-clause-serves g c = λ own a kind flats fresh e h runs is.
+returns-in-Some-clause-serves g c = λ own a kind flats holding e h runs is.
     let k = c.args.parts.now in
     let call = c.args.call in
     let files = files_in a k e h call (ap (λ (x : Kept). x.files) (sym c.parts.view_is)) in
@@ -33,36 +33,36 @@ returns-in-Some-clause-serves g c = λ own a kind flats fresh e h runs is.
     wait_classed a k e h call runs is c.answer_wait.new.parts (Ok c.answer_wait.result) c.in-Some.pipe (sym c.is_exit.ensures ∙ c.if-is_exit.false) waits (c.answer_wait.ensures.waits a e h runs is)
 
 pub returns-then-is_change-clause-serves : goal.returns-then-is_change-clause-serves
-returns-then-is_change-clause-serves g c = λ own a kind flats fresh e h runs is.
+returns-then-is_change-clause-serves g c = λ own a kind flats holding e h runs is.
     row_classed a c.args.parts.now e h c.args.call runs is c.answer_change.new.parts c.answer_change.result
     (change_row c.args.call.number (sym c.is_exit.ensures ∙ c.if-is_exit.false) (sym c.is_change.ensures ∙ c.if-is_change.true)) (c.answer_change.ensures.serves a e h runs is)
 
 pub returns-then-is_output-clause-serves : goal.returns-then-is_output-clause-serves
-returns-then-is_output-clause-serves g c = λ own a kind flats fresh e h runs is.
+returns-then-is_output-clause-serves g c = λ own a kind flats holding e h runs is.
     row_classed a c.args.parts.now e h c.args.call runs is c.answer_output.new.parts c.answer_output.result
     (output_row c.args.call.number (sym c.is_exit.ensures ∙ c.if-is_exit.false) (sym c.is_output.ensures ∙ c.if-is_output.true)) (c.answer_output.ensures.serves own a e h runs is)
 
 pub returns-in-95-clause-serves : goal.returns-in-95-clause-serves
-returns-in-95-clause-serves g c = λ own a kind flats fresh e h runs is.
+returns-in-95-clause-serves g c = λ own a kind flats holding e h runs is.
     waitid_classed a c.args.parts.now e h c.args.call runs is c.answer_waitid.new.parts c.answer_waitid.result c.in-95.is (c.answer_waitid.ensures.serves own a e h runs is)
 
 pub returns-in-215-clause-serves : goal.returns-in-215-clause-serves
-returns-in-215-clause-serves g c = λ own a kind flats fresh e h runs is.
+returns-in-215-clause-serves g c = λ own a kind flats holding e h runs is.
     row_classed a c.args.parts.now e h c.args.call runs is c.answer_unmap.new.parts c.answer_unmap.result
     (number_row c.args.call.number (sym c.is_exit.ensures ∙ c.if-is_exit.false) 215 c.in-215.is refl refl refl) (c.answer_unmap.ensures.serves a e h runs is)
 
 pub returns-in-220-clause-serves : goal.returns-in-220-clause-serves
-returns-in-220-clause-serves g c = λ own a kind flats fresh e h runs is.
+returns-in-220-clause-serves g c = λ own a kind flats holding e h runs is.
     clone_classed a c.args.parts.now e h c.args.call runs is c.answer_clone.new.parts c.answer_clone.result c.in-220.is (c.answer_clone.ensures.serves a e h runs is)
 
 pub returns-in-221-clause-serves : goal.returns-in-221-clause-serves
-returns-in-221-clause-serves g c = λ own a kind flats fresh e h runs is.
+returns-in-221-clause-serves g c = λ own a kind flats holding e h runs is.
     exec_classed a c.args.parts.now e h c.args.call runs is c.answer_exec.new.parts c.answer_exec.result c.in-221.is (c.answer_exec.ensures.serves a kind flats e h runs is)
 
 pub returns-in-222-clause-serves : goal.returns-in-222-clause-serves
-returns-in-222-clause-serves g c = λ own a kind flats fresh e h runs is.
+returns-in-222-clause-serves g c = λ own a kind flats holding e h runs is.
     row_classed a c.args.parts.now e h c.args.call runs is c.answer_map.new.parts c.answer_map.result
-    (number_row c.args.call.number (sym c.is_exit.ensures ∙ c.if-is_exit.false) 222 c.in-222.is refl refl refl) (c.answer_map.ensures.serves a kind fresh e h runs is)
+    (number_row c.args.call.number (sym c.is_exit.ensures ∙ c.if-is_exit.false) 222 c.in-222.is refl refl refl) (c.answer_map.ensures.serves a kind holding e h runs is)
 
 -- ---- a call that touches neither files nor memory
 
@@ -82,7 +82,7 @@ module _ (g : Over) (c : goal.After-answer_effect g) where
       c.effect_of-effect.ensures (ask_in a k e h call) (made_by a k e h call runs is) (files_in a k e h call (ap (λ (x : Kept). x.files) (sym c.parts.view_is)))
 
 pub returns-in_default-number-clause-serves : goal.returns-in_default-number-clause-serves
-returns-in_default-number-clause-serves g c = λ own a kind flats fresh e h runs is.
+returns-in_default-number-clause-serves g c = λ own a kind flats holding e h runs is.
     effect_classed a c.args.parts.now e h c.args.call runs is c.answer_effect.new.parts c.answer_effect.result c.effect_of-effect.result (plain g c) (rows g c a e h runs is) (c.answer_effect.ensures.serves a e h runs is)
 
 -- ---- in the one memory

@@ -12,16 +12,16 @@ use Rattle.syscall_layer.proofs.Leaves.{stray_keeps, stray_never, yield_goes, yi
 use Rattle.syscall_layer.proofs.answer.answer_and_wake.Goals as goal
 
 pub returns-then-went-clause-serves : goal.returns-then-went-clause-serves
-returns-then-went-clause-serves g c = λ own a kind flats fresh e h runs is.
+returns-then-went-clause-serves g c = λ own a kind flats holding e h runs is.
     let k = c.args.parts.now in
     settled_answers a c.args.call.pid c.answer.new.parts c.wake_changed.new.self c.wake_changed.ensures.kept (classed (world_of a k) (ask_in a k e h c.args.call)) k c.in_ok-served.served
-    (sym c.went.ensures ∙ c.if-went.true) (c.in_ok-served.ensures.serves own a kind flats fresh e h runs is)
+    (sym c.went.ensures ∙ c.if-went.true) (c.in_ok-served.ensures.serves own a kind flats holding e h runs is)
 
 pub returns-else-went-clause-serves : goal.returns-else-went-clause-serves
-returns-else-went-clause-serves g c = λ own a kind flats fresh e h runs is.
+returns-else-went-clause-serves g c = λ own a kind flats holding e h runs is.
     let k = c.args.parts.now in
     unsettled_answers a (classed (world_of a k) (ask_in a k e h c.args.call)) k c.answer.new.parts c.args.call.pid c.in_ok-served.served
-    (sym c.went.ensures ∙ c.if-went.false) (c.in_ok-served.ensures.serves own a kind flats fresh e h runs is)
+    (sym c.went.ensures ∙ c.if-went.false) (c.in_ok-served.ensures.serves own a kind flats holding e h runs is)
 
 pub returns-then-went-clause-memory : goal.returns-then-went-clause-memory
 returns-then-went-clause-memory g c = λ a kind flats e h runs is.

@@ -6,8 +6,10 @@ use Rattle.file_calls.specs.Calls.{written_of}
 use Rattle.machine_world.specs.Asks.{replies}
 use Rattle.physical_turns.specs.Physical.{After, answered_in}
 use Rattle.syscall_layer.specs.declared.reach.Reach.{Reach}
+use Rattle.syscall_layer.specs.declared.reach.Reach.TheVariants.{Own}
 use Rattle.syscall_layer.specs.declared.answer.Served.TheVariants.{Replied, LogFull}
 use Rattle.syscall_layer.specs.Regular.{Regular}
+use Rattle.syscall_layer.specs.Copies.{HoldsFiles}
 use Rattle.syscall_layer.specs.Inside.{kept_of}
 use Rattle.syscall_layer.specs.Reach.{writable}
 use Rattle.syscall_layer.specs.Puts.{first_stray, access_at}
@@ -18,6 +20,7 @@ use Rattle.syscall_layer.proofs.Families.{can_run_lives}
 use Rattle.syscall_layer.proofs.Outcomes.{output_serves, output_full}
 use Rattle.syscall_layer.proofs.CallsIn.{in_reach}
 use Rattle.syscall_layer.proofs.GivenMemory.{given_serves_in, given_full_in, given_strays_in, beyond, reach_inside, fits_unstrayed, strays_serve, found_by, none_beyond, room_by}
+use Rattle.syscall_layer.proofs.answer.answer_given.Goals.{After-give}
 use Rattle.syscall_layer.proofs.answer.answer_given.Goals as goal
 
 pub returns-in-Some-clause-serves : goal.returns-in-Some-clause-serves
@@ -98,3 +101,19 @@ returns-clause-memory c = λ headers a e h runs is.
     let o = c.args.outcome in
     in_reach headers a (answered_in (physical_of headers a k) (ask_in a k e h c.args.call) (replies (given (ask_in a k e h c.args.call) o))) k c.give.new.self c.args.call.pid c.args.reach (Ok Replied)
     (given_serves_in headers a k e h c.args.call runs is o regular c.give.new.self (c.in_ok-give.ensures.memory a e h runs is) (room_by o _ c.deref-2.ensures.value (kept_of c.parts.inside) k c.parts.view_is c.args.call.sent.items c.has_room_with.result true c.has_room_with.ensures c.if-not-has_room_with.false) c.in_ok-give.ensures.lives)
+
+-- ---- copies hold their file
+
+holds_given : (c : After-give) → c.args.reach ≡ Own → HoldsFiles c.args.parts.now → HoldsFiles c.give.new.self
+holds_given c own =
+    let k = c.args.parts.now in
+    let o = c.args.outcome in
+    let r = runs_in k c.args.call.pid (subst Regular c.parts.view_is c.parts.invariant.0.0) (can_run_lives k.procs c.args.call.pid c.requires.ready) in
+    c.give.ensures.holds r.0 r.1.0 r.1.1
+    (subst (λ (reach : Reach). first_stray (writable reach (length k.regions) r.1.0) (written_of o) ≡ None) own (none_beyond o _ c.deref.ensures.value c.args.reach k c.args.call.pid c.stray_of.result c.stray_of.ensures r.0 r.1.0 r.1.1 c.in_default.is))
+
+pub returns-in_err-give-clause-holds : goal.returns-in_err-give-clause-holds
+returns-in_err-give-clause-holds c = holds_given (goal.at.returns-in_err-give-clause-holds c).After-give
+
+pub returns-clause-holds : goal.returns-clause-holds
+returns-clause-holds c = holds_given (goal.at.returns-clause-holds c).After-give

@@ -36,12 +36,12 @@ rows_are g c a e h runs is =
     row_mmap2 call (ask_in a k e h call) (made_by a k e h call runs is) _ _ c.want_of.result tree files c.want_of.ensures.wanted c.requires.mmap2
 
 pub returns-in-Ok-clause-serves : goal.returns-in-Ok-clause-serves
-returns-in-Ok-clause-serves g c = λ a kind unstrayed e h runs is.
+returns-in-Ok-clause-serves g c = λ a kind holding e h runs is.
     let k = c.args.parts.now in
     let call = c.args.call in
     let ask = ask_in a k e h call in
     let rows = rows_are g (goal.at.returns-in-Ok-clause-serves g c).After-want_of a e h runs is ∙ ap (λ (found : Result Want Errno). with_ok ask found (mapped ask)) c.in-Ok.is in
-    subst (λ (r : Row). Serves a (answered (world_of a k) ask r) k c.answer_want.new.parts call.pid c.answer_want.result) (sym rows) (c.answer_want.ensures.serves a kind unstrayed e h runs is)
+    subst (λ (r : Row). Serves a (answered (world_of a k) ask r) k c.answer_want.new.parts call.pid c.answer_want.result) (sym rows) (c.answer_want.ensures.serves a kind holding e h runs is)
 
 pub returns-in-Ok-clause-memory : goal.returns-in-Ok-clause-memory
 returns-in-Ok-clause-memory g c = λ headers a kind e h runs is.
@@ -53,7 +53,7 @@ returns-in-Ok-clause-memory g c = λ headers a kind e h runs is.
     (sym rows) (c.answer_want.ensures.memory headers a kind e h runs is)
 
 pub returns-in-Err-clause-serves : goal.returns-in-Err-clause-serves
-returns-in-Err-clause-serves g c = λ a kind unstrayed e h runs is.
+returns-in-Err-clause-serves g c = λ a kind holding e h runs is.
     let k = c.args.parts.now in
     let call = c.args.call in
     let ask = ask_in a k e h call in

@@ -17,7 +17,7 @@ use Rattle.syscall_layer.proofs.PlainMemory.{answered_never, plain_goes}
 use Rattle.syscall_layer.proofs.answer.answer_want.Goals as goal
 
 pub returns-then-not-has_room-clause-serves : goal.returns-then-not-has_room-clause-serves
-returns-then-not-has_room-clause-serves g c = λ a kind unstrayed e h runs is.
+returns-then-not-has_room-clause-serves g c = λ a kind holding e h runs is.
     let k = c.args.parts.now in
     let call = c.args.call in
     quiet_full a k e h call runs is _ (quiet_mapped (ask_in a k e h call) c.args.want)
@@ -36,9 +36,9 @@ returns-then-not-has_room-clause-memory g c = λ headers a kind e h runs is.
     (answered_begins (world_of a k) ask rows) (answered_never (world_of a k) ask rows (quiet_mute rows quiet))
 
 pub returns-in_err-map-clause-serves : goal.returns-in_err-map-clause-serves
-returns-in_err-map-clause-serves g c = λ a kind unstrayed e h runs is.
+returns-in_err-map-clause-serves g c = λ a kind holding e h runs is.
     let p = err_from_is_err_and c.from_residual.result c.from_residual.ensures.1 in
-    rw p.1 (c.in_err-map.ensures.changes a kind unstrayed e h runs is)
+    rw p.1 (c.in_err-map.ensures.changes a kind holding e h runs is)
 
 pub returns-in_err-map-clause-memory : goal.returns-in_err-map-clause-memory
 returns-in_err-map-clause-memory g c = λ headers a kind e h runs is.
@@ -46,11 +46,11 @@ returns-in_err-map-clause-memory g c = λ headers a kind e h runs is.
     rw p.1 (c.in_err-map.ensures.memory headers a kind e h runs is)
 
 pub returns-clause-serves : goal.returns-clause-serves
-returns-clause-serves g c = λ a kind unstrayed e h runs is.
+returns-clause-serves g c = λ a kind holding e h runs is.
     let k = c.args.parts.now in
     let call = c.args.call in
     let room = room_is (kept_of c.parts.inside) k c.parts.view_is (length call.sent.items) c.has_room.result true c.has_room.ensures c.if-not-has_room.false in
-    change_serves a k e h call runs is _ c.map.new.self (c.in_ok-map.ensures.changes a kind unstrayed e h runs is) room
+    change_serves a k e h call runs is _ c.map.new.self (c.in_ok-map.ensures.changes a kind holding e h runs is) room
 
 pub returns-clause-memory : goal.returns-clause-memory
 returns-clause-memory g c = λ headers a kind e h runs is.

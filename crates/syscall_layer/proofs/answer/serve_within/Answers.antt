@@ -19,10 +19,10 @@ use Rattle.syscall_layer.proofs.CallsIn.{MadeAs, own_made, call_goes, outside_en
 use Rattle.syscall_layer.proofs.answer.serve_within.Goals as goal
 
 pub returns-in-Ok-clause-serves : goal.returns-in-Ok-clause-serves
-returns-in-Ok-clause-serves g c = λ own a kind flats fresh.
+returns-in-Ok-clause-serves g c = λ own a kind flats holding.
     serve_call a c.args.parts.now c.args.pid (subst IsRegular c.parts.view_is c.parts.invariant.0).0 (can_run_lives c.args.parts.now.procs c.args.pid c.requires.ready) c.in-Ok.call c.in-Ok.ensures.pid
     (own_made c.args.parts.now c.args.pid c.args.reach own (Ok c.in-Ok.call) c.in-Ok.ensures.made)
-    c.answer_and_wake.new.parts c.answer_and_wake.result (c.answer_and_wake.ensures.serves own a kind flats fresh)
+    c.answer_and_wake.new.parts c.answer_and_wake.result (c.answer_and_wake.ensures.serves own a kind flats holding)
 
 pub returns-in-Ok-clause-memory : goal.returns-in-Ok-clause-memory
 returns-in-Ok-clause-memory g c = λ a kind flats.
@@ -30,7 +30,7 @@ returns-in-Ok-clause-memory g c = λ a kind flats.
     c.in-Ok.call c.in-Ok.ensures.pid c.in-Ok.ensures.made c.answer_and_wake.new.parts c.answer_and_wake.result (c.answer_and_wake.ensures.memory a kind flats)
 
 pub returns-in-Own-clause-serves : goal.returns-in-Own-clause-serves
-returns-in-Own-clause-serves g c = λ own a kind flats fresh.
+returns-in-Own-clause-serves g c = λ own a kind flats holding.
     let k = c.args.parts.now in
     let kept = subst (λ (now : Kept). value_at now.procs c.args.pid ≡ Some c.get.result.now) c.parts.view_is c.get.ensures in
     serve_stray a k c.args.pid (subst IsRegular c.parts.view_is c.parts.invariant.0).0 (can_run_lives k.procs c.args.pid c.requires.ready) c.get.result.now kept (record { addr = c.in-Err-Stray.addr; len = c.in-Err-Stray.len })

@@ -18,6 +18,7 @@ use Rattle.syscall_layer.specs.InMemory.{physical_of, InReach}
 use Rattle.syscall_layer.specs.Serves.{Answered, Tells}
 use Rattle.syscall_layer.specs.Calls.{ask_in, given}
 use Rattle.syscall_layer.proofs.CallsIn.{in_reach}
+use Rattle.syscall_layer.proofs.Holding.{holds_inside}
 use Rattle.syscall_layer.proofs.GivenMemory.{is_unchanged}
 use Rattle.syscall_layer.proofs.ToldMemory.{reach_goes, told_goes, untold_goes}
 use Rattle.syscall_layer.proofs.Waits.{info_ranges, regular_told, told_serves, untold_serves}
@@ -106,3 +107,6 @@ returns-in_default-clause-memory c = λ headers a e h runs is.
 pub returns-in-Replied-clause-leaves : goal.returns-in-Replied-clause-leaves
 returns-in-Replied-clause-leaves c =
     subst (λ (s : Served). Tells c.args.parts.now (record (kept_of c.parts-2.inside) { procs = c.wait.new.self }) c.args.call.pid s) (sym c.in-Replied.is) tt
+
+pub returns-in-Replied-clause-holds : goal.returns-in-Replied-clause-holds
+returns-in-Replied-clause-holds c = λ own holds. holds_inside (kept_of c.parts-2.inside) c.answer_given.new.parts c.parts-2.view_is (c.in_ok-served.ensures.holds own holds)

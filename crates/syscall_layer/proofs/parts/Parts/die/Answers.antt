@@ -21,11 +21,11 @@ returns-clause-dies c = λ a.
     let lives = can_run_lives k.procs pid (subst (λ (s : Kept). CanRun s.procs pid) (sym c.self.view_is) c.requires) in
     let noted = c.keep.ensures.notes ∙ ap (λ (ns : List Note). end_note pid (Signal signal) ∷ ns) c.reserve.ensures.same in
     subst (λ (old : Kept). Died a (at_process (world_of a old) pid (λ p s. trapped (world_of a old) p signal)) c.depart.new.self pid) c.self.view_is
-    (end_done a k pid signal c.self.invariant.0.0 lives c.depart.new.self c.keep.new.log.notes noted c.depart.ensures)
+    (end_done a k pid signal c.self.invariant.0.0 lives c.depart.new.self c.keep.new.log.notes noted c.depart.ensures.goes)
 
 pub returns-clause-memory : goal.returns-clause-memory
 returns-clause-memory c =
     let pid = c.args.pid in
     let k = kept_of c.self.inside in
     let lives = can_run_lives k.procs pid (subst (λ (s : Kept). CanRun s.procs pid) (sym c.self.view_is) c.requires) in
-    end_mem k pid c.self.invariant.0.0 lives c.keep.new.log.notes (Signal c.args.signal) c.depart.new.self c.depart.ensures ∙ ap (λ (s : Kept). s.mem) c.self.view_is
+    end_mem k pid c.self.invariant.0.0 lives c.keep.new.log.notes (Signal c.args.signal) c.depart.new.self c.depart.ensures.goes ∙ ap (λ (s : Kept). s.mem) c.self.view_is

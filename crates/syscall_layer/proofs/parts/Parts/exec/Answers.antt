@@ -4,6 +4,7 @@ use Rattle.page_runs.specs.Choosers.{kind_of}
 use Rattle.call_log.specs.Notes.{load_note, has_room}
 use Rattle.flat_loader.specs.Frame.{texts}
 use Rattle.flat_loader.specs.Loads.{IsLoaded}
+use Rattle.flat_loader.specs.declared.loading.LoadRefusal.TheVariants as refusal
 use Rattle.vfork_exec.specs.Procs.{CanRun}
 use Rattle.syscall_layer.specs.declared.answer.Served.TheVariants.{Replied}
 use Rattle.syscall_layer.specs.Kept.{Kept}
@@ -11,8 +12,9 @@ use Rattle.syscall_layer.specs.Inside.{kept_of}
 use Rattle.syscall_layer.specs.Calls.{noted_call}
 use Rattle.syscall_layer.proofs.Families.{can_run_lives}
 use Rattle.syscall_layer.proofs.Boots.{same_parts}
-use Rattle.syscall_layer.proofs.ExecSteps.{Begun, begun_by, number_fits, sound_by, there_by, nobody_by, serves_lent, serves_own, ExecServes, refused_big, refused_run}
+use Rattle.syscall_layer.proofs.ExecSteps.{Begun, begun_by, number_fits, sound_by, there_by, nobody_by, serves_lent, serves_own, holds_begun, holds_refused, ExecServes, refused_big, refused_run}
 use Rattle.syscall_layer.proofs.ExecMemory.{ExecServesIn, memory_lent, memory_own, refused_big_in, refused_run_in}
+use Rattle.syscall_layer.proofs.Holding.{holds_inside}
 use Rattle.syscall_layer.proofs.parts.Parts.exec.Given.{Over}
 use Rattle.syscall_layer.proofs.parts.Parts.exec.Goals.{After-load-loaded, After-note_exec}
 use Rattle.syscall_layer.proofs.parts.Parts.exec.Goals as goal
@@ -38,7 +40,7 @@ new_parts g c = record {
   console = c.self.inside.console.items;
 }
 
-begun : (g : Over) (c : After-note_exec g) → Begun (kept_of c.self.inside) (new_parts g c) c.args.call c.get.result.now (kind_of c.args.chooser.now) c.args.index c.args.flat.now
+begun : (g : Over) (c : After-note_exec g) → Begun (kept_of c.self.inside) (new_parts g c) c.args.call c.get-task.result.now (kind_of c.args.chooser.now) c.args.index c.args.flat.now
     (texts c.args.strings.now.args.items) (texts c.args.strings.now.env.items)
 begun g c =
     let k : Kept = kept_of c.self.inside in
@@ -48,7 +50,7 @@ begun g c =
     let spaces : n.spaces ≡ k.spaces ++ Some loaded.space ∷ [] = search rules in
     let number : c.len-number.result ≡ length k.spaces = search rules in
     let notes : n.notes ≡ load_note (record { pid = c.args.call.pid; program = c.args.index; base = loaded.base; pages = loaded.pages }) ∷ noted_call c.args.call 0 [] ∷ k.notes = search rules in
-    begun_by k n c.args.call _ c.args.index c.args.flat.now _ _ loaded c.get.result.now c.len-number.result is c.load-loaded.ensures.ids c.get.ensures spaces number
+    begun_by k n c.args.call _ c.args.index c.args.flat.now _ _ loaded c.get-task.result.now c.len-number.result is c.load-loaded.ensures.ids c.get-task.ensures spaces number
     c.switch.ensures c.exec_close.ensures.storage notes refl
 
 pub overflow_cast-number : goal.overflow_cast-number
@@ -61,25 +63,25 @@ overflow_cast-number g c =
 pub invariant_of-self-then-not-lent : goal.invariant_of-self-then-not-lent
 invariant_of-self-then-not-lent g c =
     let at = goal.at.invariant_of-self-then-not-lent g c in
-    (sound_by (kept_of c.self.inside) (new_parts g at.After-note_exec) c.self.invariant.0.0 c.args.call c.get.result.now _ c.args.index c.args.flat.now _ _ (begun g at.After-note_exec) c.self.invariant.0.1 (ready_in g at.After-load-loaded), search rules)
+    (sound_by (kept_of c.self.inside) (new_parts g at.After-note_exec) c.self.invariant.0.0 c.args.call c.get-task.result.now _ c.args.index c.args.flat.now _ _ (begun g at.After-note_exec) c.self.invariant.0.1 (ready_in g at.After-load-loaded), search rules)
 
 pub give_up-requires-clause-there : goal.give_up-requires-clause-there
 give_up-requires-clause-there g c =
     let at = goal.at.give_up-requires-clause-there g c in
     let k = kept_of c.self.inside in
-    there_by k (new_parts g at.After-note_exec) c.self.invariant.0.0 c.args.call c.get.result.now _ c.args.index c.args.flat.now _ _ (begun g at.After-note_exec)
+    there_by k (new_parts g at.After-note_exec) c.self.invariant.0.0 c.args.call c.get-task.result.now _ c.args.index c.args.flat.now _ _ (begun g at.After-note_exec)
     (can_run_lives k.procs c.args.call.pid (ready_in g at.After-load-loaded))
 
 pub give_up-requires-clause-nobody : goal.give_up-requires-clause-nobody
 give_up-requires-clause-nobody g c =
     let at = goal.at.give_up-requires-clause-nobody g c in
-    nobody_by (kept_of c.self.inside) (new_parts g at.After-note_exec) c.self.invariant.0.0 c.args.call c.get.result.now _ c.args.index c.args.flat.now _ _ (begun g at.After-note_exec)
+    nobody_by (kept_of c.self.inside) (new_parts g at.After-note_exec) c.self.invariant.0.0 c.args.call c.get-task.result.now _ c.args.index c.args.flat.now _ _ (begun g at.After-note_exec)
     (ready_in g at.After-load-loaded) (sym c.borrows-lent.ensures ∙ c.if-not-lent.true)
 
 pub invariant_of-self-else-not-lent : goal.invariant_of-self-else-not-lent
 invariant_of-self-else-not-lent g c =
     let at = goal.at.invariant_of-self-else-not-lent g c in
-    (sound_by (kept_of c.self.inside) (new_parts g at.After-note_exec) c.self.invariant.0.0 c.args.call c.get.result.now _ c.args.index c.args.flat.now _ _ (begun g at.After-note_exec) c.self.invariant.0.1 (ready_in g at.After-load-loaded), search rules)
+    (sound_by (kept_of c.self.inside) (new_parts g at.After-note_exec) c.self.invariant.0.0 c.args.call c.get-task.result.now _ c.args.index c.args.flat.now _ _ (begun g at.After-note_exec) c.self.invariant.0.1 (ready_in g at.After-load-loaded), search rules)
 
 pub returns-then-not-lent-clause-serves : goal.returns-then-not-lent-clause-serves
 returns-then-not-lent-clause-serves g c =
@@ -88,8 +90,8 @@ returns-then-not-lent-clause-serves g c =
     let kind = kind_of c.args.chooser.now in
     subst (λ (old : Kept). ExecServes kind c.args.index c.args.flat.now (texts c.args.strings.now.args.items) (texts c.args.strings.now.env.items) c.args.call old c.give_up.new.self (Ok Replied))
     c.self.view_is
-    (λ a same e h runs is. serves_own k (new_parts g at.After-note_exec) c.self.invariant.0.0 c.args.call c.get.result.now kind c.args.index c.args.flat.now _ _ (begun g at.After-note_exec) a same e h runs is
-    (room_in g at.After-load-loaded) c.give_up.new.self c.give_up.ensures (sym c.borrows-lent.ensures ∙ c.if-not-lent.true))
+    (λ a same e h runs is. serves_own k (new_parts g at.After-note_exec) c.self.invariant.0.0 c.args.call c.get-task.result.now kind c.args.index c.args.flat.now _ _ (begun g at.After-note_exec) a same e h runs is
+    (room_in g at.After-load-loaded) c.give_up.new.self c.give_up.ensures.goes (sym c.borrows-lent.ensures ∙ c.if-not-lent.true))
 
 pub returns-else-not-lent-clause-serves : goal.returns-else-not-lent-clause-serves
 returns-else-not-lent-clause-serves g c =
@@ -98,7 +100,7 @@ returns-else-not-lent-clause-serves g c =
     let kind = kind_of c.args.chooser.now in
     subst (λ (old : Kept). ExecServes kind c.args.index c.args.flat.now (texts c.args.strings.now.args.items) (texts c.args.strings.now.env.items) c.args.call old (new_parts g at.After-note_exec) (Ok Replied))
     c.self.view_is
-    (λ a same e h runs is. serves_lent k (new_parts g at.After-note_exec) c.self.invariant.0.0 c.args.call c.get.result.now kind c.args.index c.args.flat.now _ _ (begun g at.After-note_exec) a same e h runs is
+    (λ a same e h runs is. serves_lent k (new_parts g at.After-note_exec) c.self.invariant.0.0 c.args.call c.get-task.result.now kind c.args.index c.args.flat.now _ _ (begun g at.After-note_exec) a same e h runs is
     (room_in g at.After-load-loaded) (sym c.borrows-lent.ensures ∙ c.if-not-lent.false))
 
 pub returns-then-not-lent-clause-memory : goal.returns-then-not-lent-clause-memory
@@ -108,8 +110,8 @@ returns-then-not-lent-clause-memory g c =
     let kind = kind_of c.args.chooser.now in
     subst (λ (old : Kept). ExecServesIn kind c.args.index c.args.flat.now (texts c.args.strings.now.args.items) (texts c.args.strings.now.env.items) c.args.call old c.give_up.new.self (Ok Replied))
     c.self.view_is
-    (memory_own k (new_parts g at.After-note_exec) c.self.invariant.0.0 c.args.call c.get.result.now kind c.args.index c.args.flat.now _ _ (begun g at.After-note_exec) (room_in g at.After-load-loaded)
-    c.give_up.new.self c.give_up.ensures (sym c.borrows-lent.ensures ∙ c.if-not-lent.true))
+    (memory_own k (new_parts g at.After-note_exec) c.self.invariant.0.0 c.args.call c.get-task.result.now kind c.args.index c.args.flat.now _ _ (begun g at.After-note_exec) (room_in g at.After-load-loaded)
+    c.give_up.new.self c.give_up.ensures.goes (sym c.borrows-lent.ensures ∙ c.if-not-lent.true))
 
 pub returns-else-not-lent-clause-memory : goal.returns-else-not-lent-clause-memory
 returns-else-not-lent-clause-memory g c =
@@ -118,7 +120,7 @@ returns-else-not-lent-clause-memory g c =
     let kind = kind_of c.args.chooser.now in
     subst (λ (old : Kept). ExecServesIn kind c.args.index c.args.flat.now (texts c.args.strings.now.args.items) (texts c.args.strings.now.env.items) c.args.call old (new_parts g at.After-note_exec) (Ok Replied))
     c.self.view_is
-    (memory_lent k (new_parts g at.After-note_exec) c.self.invariant.0.0 c.args.call c.get.result.now kind c.args.index c.args.flat.now _ _ (begun g at.After-note_exec) (room_in g at.After-load-loaded)
+    (memory_lent k (new_parts g at.After-note_exec) c.self.invariant.0.0 c.args.call c.get-task.result.now kind c.args.index c.args.flat.now _ _ (begun g at.After-note_exec) (room_in g at.After-load-loaded)
     (sym c.borrows-lent.ensures ∙ c.if-not-lent.false))
 
 -- ---- it is refused
@@ -162,3 +164,34 @@ returns-in-Err-NoRun-clause-memory g c =
     c.self.view_is
     (refused_run_in k n new c.self.invariant.0.0 c.args.call (kind_of c.args.chooser.now) c.args.index c.args.flat.now _ _ result
     (λ regions mem. same_parts k n mem regions c.load-loaded.ensures.ids c.reserve.ensures.items refl refl refl (c.or_unreserve.ensures.notes ∙ c.reserve-2.ensures.same) refl) c.refuse-in-Err-NoRun.ensures.memory (search rules) c.refuse-in-Err-NoRun.ensures.serves)
+
+-- ---- copies hold their file
+
+pub returns-then-not-lent-clause-holds : goal.returns-then-not-lent-clause-holds
+returns-then-not-lent-clause-holds g c = λ holds.
+    let at = goal.at.returns-then-not-lent-clause-holds g c in
+    let k = kept_of c.self.inside in
+    c.give_up.ensures.holds (holds_begun k (new_parts g at.After-note_exec) c.self.invariant.0.0 c.self.invariant.0.1 c.args.call c.get-task.result.now _ c.args.index c.args.flat.now _ _ (begun g at.After-note_exec)
+    (ready_in g at.After-load-loaded) (holds_inside k c.args.self.now c.self.view_is holds))
+
+pub returns-else-not-lent-clause-holds : goal.returns-else-not-lent-clause-holds
+returns-else-not-lent-clause-holds g c = λ holds.
+    let at = goal.at.returns-else-not-lent-clause-holds g c in
+    let k = kept_of c.self.inside in
+    holds_begun k (new_parts g at.After-note_exec) c.self.invariant.0.0 c.self.invariant.0.1 c.args.call c.get-task.result.now _ c.args.index c.args.flat.now _ _ (begun g at.After-note_exec)
+    (ready_in g at.After-load-loaded) (holds_inside k c.args.self.now c.self.view_is holds)
+
+pub returns-in-Err-E2big-clause-holds : goal.returns-in-Err-E2big-clause-holds
+returns-in-Err-E2big-clause-holds g c = λ holds.
+    let k = kept_of c.self.inside in
+    c.refuse.ensures.holds (holds_refused k _ _ _ _ _ _ c.load-loaded.result c.load-loaded.ensures.loads refusal.E2big (search rules) (holds_inside k c.args.self.now c.self.view_is holds))
+
+pub returns-in-Err-NoRun-clause-holds : goal.returns-in-Err-NoRun-clause-holds
+returns-in-Err-NoRun-clause-holds g c = λ holds.
+    let k = kept_of c.self.inside in
+    c.refuse-in-Err-NoRun.ensures.holds (holds_refused k _ _ _ _ _ _ c.load-loaded.result c.load-loaded.ensures.loads refusal.NoRun (search rules) (holds_inside k c.args.self.now c.self.view_is holds))
+
+pub returns-in-Err-Memory-clause-holds : goal.returns-in-Err-Memory-clause-holds
+returns-in-Err-Memory-clause-holds g c = λ holds.
+    let k = kept_of c.self.inside in
+    holds_refused k _ _ _ _ _ _ c.load-loaded.result c.load-loaded.ensures.loads refusal.Memory (search rules) (holds_inside k c.args.self.now c.self.view_is holds)

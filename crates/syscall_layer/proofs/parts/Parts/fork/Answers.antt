@@ -15,6 +15,7 @@ use Rattle.syscall_layer.proofs.Runs.{runs_in, value_found}
 use Rattle.syscall_layer.proofs.Families.{can_run_lives}
 use Rattle.syscall_layer.proofs.Sound.{counts, call_strays, copies_called}
 use Rattle.syscall_layer.proofs.Forks.{pids_fit, lives_still, procs_by, regular_forked}
+use Rattle.syscall_layer.proofs.Holding.{holds_inside}
 use Rattle.syscall_layer.proofs.parts.Parts.fork.Goals as goal
 
 pub vfork-requires-clause-pids : goal.vfork-requires-clause-pids
@@ -66,3 +67,9 @@ returns-clause-forks c = λ e h.
       files = ((rw (← c.in_ok-or_unreserve.ensures.same) at c.copy_table-copied.ensures.added) ∙ ap (λ (x : Task). with_copy k.files x.table) (value_found k.procs call.pid e runs.lives c.get.result.now c.get.ensures)) i;
       notes = noted i;
     })
+
+pub returns-clause-holds : goal.returns-clause-holds
+returns-clause-holds c = holds_inside (kept_of c.self.inside) c.args.self.now c.self.view_is
+
+pub returns-in_err-or_unreserve-clause-holds : goal.returns-in_err-or_unreserve-clause-holds
+returns-in_err-or_unreserve-clause-holds c = holds_inside (kept_of c.self.inside) c.args.self.now c.self.view_is

@@ -13,12 +13,13 @@ use Rattle.physical_turns.specs.Physical.{has_stray}
 use Rattle.syscall_layer.specs.Kept.{Kept}
 use Rattle.syscall_layer.specs.Inside.{kept_of}
 use Rattle.syscall_layer.specs.Puts.{first_stray}
-use Rattle.syscall_layer.specs.Reach.{in_pages}
+use Rattle.region_watch.specs.Private.{in_pages}
 use Rattle.syscall_layer.specs.Calls.{RunsIn, IsCall, noted_call, Gave, GaveIn}
 use Rattle.syscall_layer.proofs.Runs.{runs_in}
 use Rattle.syscall_layer.proofs.Sound.{counts, call_strays, copies_called}
 use Rattle.syscall_layer.proofs.Waits.{replied_lives}
 use Rattle.syscall_layer.proofs.Finishes.{regular_finished, gave_by, gave_in_by}
+use Rattle.syscall_layer.proofs.Holding.{holds_inside, none_clean, cleaned, regular_clean, copies_clean}
 use Rattle.syscall_layer.proofs.GivenMemory.{copies_given}
 use Rattle.syscall_layer.proofs.parts.Parts.give.Goals as goal
 
@@ -89,3 +90,11 @@ pub returns-clause-lives : goal.returns-clause-lives
 returns-clause-lives c =
     let lives = subst (λ (s : Kept). Lives s.procs c.args.call.pid) (sym c.self.view_is) c.requires.lives in
     replied_lives (kept_of c.self.inside).procs c.args.call.pid lives c.args.outcome.value c.finish.new.procs c.finish.ensures.procs
+
+pub returns-clause-holds : goal.returns-clause-holds
+returns-clause-holds c = λ e h runs fits holds.
+    let k = kept_of c.self.inside in
+    let regular = c.self.invariant.0.0 in
+    let home = (subst (λ (s : Kept). RunsIn s c.args.call.pid e h) (sym c.self.view_is) runs).home in
+    let copies = copies_clean k c.self.invariant.0.1 (holds_inside k c.args.self.now c.self.view_is holds) in
+    (copies_given (cleaned k) (regular_clean k regular) e.value.space h home copies c.put.new.mem c.put.ensures.len (written_of c.args.outcome) (puts_all c) (λ unstrayed. fits)).hold (none_clean k.notes)

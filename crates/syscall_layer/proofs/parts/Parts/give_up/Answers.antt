@@ -8,6 +8,7 @@ use Rattle.syscall_layer.proofs.Gone.{can_give_up}
 use Rattle.syscall_layer.proofs.Stays.{regular_ids}
 use Rattle.syscall_layer.proofs.Sound.{copies_without}
 use Rattle.syscall_layer.proofs.Settled.{items_set, regular_given_up}
+use Rattle.syscall_layer.proofs.Holding.{holds_inside, none_clean, cleaned, copies_clean}
 use Rattle.syscall_layer.proofs.parts.Parts.give_up.Goals as goal
 
 pub release-requires : goal.release-requires
@@ -27,3 +28,9 @@ invariant_of-self c =
       ),
       c.self.invariant.1,
     )
+
+pub returns-clause-holds : goal.returns-clause-holds
+returns-clause-holds c = λ holds.
+    let k = kept_of c.self.inside in
+    let copies = copies_clean k c.self.invariant.0.1 (holds_inside k c.args.self.now c.self.view_is holds) in
+    (copies_without (cleaned k) copies c.take_space-space.result.maps c.release.new.regions.regions c.release.ensures.released).hold (none_clean k.notes)

@@ -15,11 +15,12 @@ use Rattle.vfork_exec.specs.declared.entry.Entry.{Entry}
 use Rattle.vfork_exec.specs.Procs.{Lives}
 use Rattle.machine_world.specs.MapCalls.{mapped}
 use Rattle.machine_world.specs.Event.{answered}
-use Rattle.physical_turns.specs.Physical.{Physical, after, has_stray, carried}
+use Rattle.physical_turns.specs.Physical.{Physical, after, carried}
 use Rattle.syscall_layer.specs.declared.task.Task.{Task}
 use Rattle.syscall_layer.specs.Kept.{Kept}
 use Rattle.syscall_layer.specs.Inside.{kept_of}
 use Rattle.syscall_layer.specs.Regular.{IsRegular}
+use Rattle.syscall_layer.specs.Copies.{StillHolds}
 use Rattle.syscall_layer.specs.Stands.{later, world_of}
 use Rattle.syscall_layer.specs.InMemory.{physical_of}
 use Rattle.mmap_rules.specs.Copies.{IsKnown}
@@ -34,6 +35,7 @@ use Rattle.syscall_layer.proofs.Sound.{counts, call_strays}
 use Rattle.syscall_layer.proofs.NamesOf.{name_regions, few_uses}
 use Rattle.syscall_layer.proofs.Mapped.{with_maps, keeps_mapped, same_mapped, changed_mapped}
 use Rattle.syscall_layer.proofs.MapMemory.{lives_finished, memory_mapped, physical_ids}
+use Rattle.syscall_layer.proofs.Holding.{still, holds_inside, clean, none_clean, cleaned, regular_clean, copies_clean}
 use Rattle.syscall_layer.proofs.parts.Parts.map.Given.{Over}
 use Rattle.syscall_layer.proofs.parts.Parts.map.Goals as goal
 
@@ -150,16 +152,16 @@ left_at g c kind same e h runs =
     (left g c kind same h (ap (λ (t : Task). slice_get k.spaces t.space) task ∙ runs.home))
 
 pub returns-clause-changes : goal.returns-clause-changes
-returns-clause-changes g c = λ a kind unstrayed e h.
+returns-clause-changes g c = λ a kind holding e h.
     let k = kept_of c.self.inside in
     let call = c.args.call in
     let want = c.args.want in
     let known = subst (λ (s : Kept). IsKnown s.tree want) (sym c.self.view_is) c.requires.known in
-    let clean : has_stray k.notes ≡ false = ap (λ (s : Kept). has_stray s.notes) c.self.view_is ∙ unstrayed in
+    let holds = still k c.self.invariant.0.1 (subst StillHolds (sym c.self.view_is) holding) in
     subst (λ (old : Kept). RunsIn old call.pid e h → IsCall e call → Changed a old e h call (mapped (ask_in a old e h call) want) (new_parts g c)) c.self.view_is
     (λ runs is_call. changed_ids a k e h call _ _ (
     changed_mapped a k e h call runs is_call c.in_ok-value.value (new_parts g c).spaces c.map_in-mapped.new.regions.regions c.finish.new.procs c.finish.new.log.notes
-    c.finish.ensures.procs (noted g c) c.self.invariant.0.0 c.self.invariant.0.1 clean want c.requires.pages known c.map_in-mapped.new.mem c.map_in-mapped.result
+    c.finish.ensures.procs (noted g c) c.self.invariant.0.0 holds want c.requires.pages known c.map_in-mapped.new.mem c.map_in-mapped.result
     (left_at g c a.kind kind e h runs) (rw (← c.in_ok-value.ensures.same) at c.address.ensures)) (new_parts g c).starts)
 
 pub returns-clause-memory : goal.returns-clause-memory
@@ -174,7 +176,7 @@ returns-clause-memory g c = λ headers a kind e h.
     c.self.view_is
     (λ runs is_call.
     memory_mapped headers a k e h call runs is_call c.in_ok-value.value (new_parts g c).spaces c.map_in-mapped.new.regions.regions c.finish.new.procs c.finish.new.log.notes
-    c.finish.ensures.procs (noted g c) room c.self.invariant.0.0 c.self.invariant.0.1 want c.requires.pages known c.map_in-mapped.new.mem c.map_in-mapped.result
+    c.finish.ensures.procs (noted g c) room c.self.invariant.0.0 want c.requires.pages known c.map_in-mapped.new.mem c.map_in-mapped.result
     (left_at g c a.kind kind e h runs) (rw (← c.in_ok-value.ensures.same) at c.address.ensures)
     ∙ ap (λ (x : Physical). after x false) (sym (physical_ids headers (later 1 a) _ (new_parts g c).starts)))
 
@@ -182,3 +184,20 @@ pub returns-clause-lives : goal.returns-clause-lives
 returns-clause-lives g c =
     let lives = subst (λ (s : Kept). Lives s.procs c.args.call.pid) (sym c.self.view_is) c.requires.lives in
     lives_finished (kept_of c.self.inside) c.args.call.pid c.self.invariant.0.0 lives c.in_ok-value.value c.finish.new.procs c.finish.ensures.procs
+
+pub returns-clause-holds : goal.returns-clause-holds
+returns-clause-holds g c = λ holds.
+    let k = kept_of c.self.inside in
+    let call = c.args.call in
+    let value = c.in_ok-value.value in
+    let lives = subst (λ (s : Kept). Lives s.procs call.pid) (sym c.self.view_is) c.requires.lives in
+    let known = subst (λ (s : Kept). IsKnown s.tree c.args.want) (sym c.self.view_is) c.requires.known in
+    let live = has_space k call.pid c.get.result.now c.self.invariant.0.0 lives c.get.ensures in
+    let copies = copies_clean k c.self.invariant.0.1 (holds_inside k c.args.self.now c.self.view_is holds) in
+    let keeps = keeps_mapped (cleaned k) (regular_clean k c.self.invariant.0.0) copies c.get.result.now.space live.held live.there (kind_of c.args.chooser.now) c.args.want c.requires.pages known
+    (new_parts g c).spaces c.map_in-mapped.new.regions.regions c.map_in-mapped.new.mem c.map_in-mapped.result (left g c (kind_of c.args.chooser.now) refl live.held live.there) in
+    let counted = counts call value [] (clean k.notes) _ refl in
+    (keeps.1 (noted_call call value [] ∷ clean k.notes) (omega (arith, counted)) (call_strays call value [] (clean k.notes) _ refl)).hold (none_clean k.notes)
+
+pub returns-in_err-value-clause-holds : goal.returns-in_err-value-clause-holds
+returns-in_err-value-clause-holds g c = holds_inside _ c.args.self.now (sym (stays g c) ∙ c.self.view_is)

@@ -14,6 +14,7 @@ use Rattle.syscall_layer.proofs.Runs.{value_found}
 use Rattle.syscall_layer.proofs.Settled.{items_set}
 use Rattle.syscall_layer.proofs.Sound.{counts, call_strays, copies_called}
 use Rattle.syscall_layer.proofs.Finishes.{regular_settled, replied_by}
+use Rattle.syscall_layer.proofs.Holding.{holds_inside}
 use Rattle.syscall_layer.proofs.parts.Parts.reply.Goals as goal
 
 abbrev new_parts : goal.After-finish → Kept
@@ -61,3 +62,6 @@ returns-clause-replies c = λ a e h.
     let done = settled c h (ap (λ (t : Task). slice_get k.spaces t.space) same ∙ runs.home) in
     let spaces = done.1 ∙ ap (λ (t : Task). slice_set k.spaces t.space (Some (record h { brk = brk_of (next_brk h) h.brk c.args.effect }))) same in
     replied_by a k e h call runs c.args.effect c.settle-value.result (new_parts c).spaces c.finish.new.procs c.finish.new.log.notes done.0 spaces c.finish.ensures.procs noted)
+
+pub returns-clause-holds : goal.returns-clause-holds
+returns-clause-holds c = holds_inside (kept_of c.self.inside) c.args.self.now c.self.view_is

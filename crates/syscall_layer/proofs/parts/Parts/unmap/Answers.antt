@@ -19,6 +19,7 @@ use Rattle.syscall_layer.proofs.Finishes.{regular_finished, changed_ids}
 use Rattle.syscall_layer.proofs.Sound.{counts, call_strays}
 use Rattle.syscall_layer.proofs.NamesOf.{name_regions}
 use Rattle.syscall_layer.proofs.Mapped.{with_maps, keeps_unmapped, changed_unmapped}
+use Rattle.syscall_layer.proofs.Holding.{holds_inside, clean, none_clean, cleaned, regular_clean, copies_clean}
 use Rattle.syscall_layer.proofs.parts.Parts.unmap.Goals as goal
 
 pub unmap_in-unmapped-requires-clause-names : goal.unmap_in-unmapped-requires-clause-names
@@ -85,3 +86,13 @@ returns-clause-changes c = λ a e h.
     subst (λ (t : Task). UnmapsIn addr len t.space h k.spaces (new_parts c).spaces k.regions c.unmap_in-unmapped.new.regions.regions c.unmap_in-unmapped.result) same is in
     changed_ids a k e h call _ _ (changed_unmapped a k e h call runs is_call c.status-value.result (new_parts c).spaces c.unmap_in-unmapped.new.regions.regions c.finish.new.procs c.finish.new.log.notes
     c.finish.ensures.procs (noted c) addr len c.unmap_in-unmapped.result at c.status-value.ensures) (new_parts c).starts)
+
+pub returns-clause-holds : goal.returns-clause-holds
+returns-clause-holds c = λ holds.
+    let k = kept_of c.self.inside in
+    let lives = subst (λ (s : Kept). Lives s.procs c.args.call.pid) (sym c.self.view_is) c.requires.lives in
+    let live = has_space k c.args.call.pid c.get.result.now c.self.invariant.0.0 lives c.get.ensures in
+    let copies = copies_clean k c.self.invariant.0.1 (holds_inside k c.args.self.now c.self.view_is holds) in
+    let keeps = keeps_unmapped (cleaned k) (regular_clean k c.self.invariant.0.0) copies c.get.result.now.space live.held live.there (slice_index c.args.call.args 0) (slice_index c.args.call.args 1)
+    (new_parts c).spaces c.unmap_in-unmapped.new.regions.regions c.unmap_in-unmapped.result (left c live.held live.there) in
+    (keeps.1 (clean k.notes) (omega arith) (λ unstrayed. unstrayed)).hold (none_clean k.notes)
