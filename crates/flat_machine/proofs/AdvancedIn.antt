@@ -12,7 +12,9 @@ use Rattle.mmap_rules.specs.declared.owners.PageOwner.{PageOwner}
 use Rattle.mmap_rules.specs.Owners.{owns}
 use Rattle.mmap_rules.specs.Space.{own_in, writable_in}
 use Rattle.mmap_rules.specs.Held.{Held}
-use Rattle.region_watch.specs.Private.{only, physical, own_bytes, frozen}
+use Rattle.region_watch.specs.declared.mode.Mode.{Mode}
+use Rattle.region_watch.specs.Private.{only, physical, own_bytes, in_pages, passes, passed_bytes, kept_bytes}
+use Rattle.region_watch.proofs.Accesses.{all_pages}
 use Rattle.region_watch.specs.Instructions.{ran, instructions}
 use Rattle.vfork_exec.specs.declared.entry.Entry.{Entry}
 use Rattle.vfork_exec.specs.Keyed.{find, change}
@@ -31,18 +33,19 @@ use Rattle.syscall_layer.specs.declared.task.Task.{Task}
 use Rattle.syscall_layer.specs.declared.reach.Reach.{Reach}
 use Rattle.syscall_layer.specs.declared.reach.Reach.TheVariants.{Own, Whole}
 use Rattle.syscall_layer.specs.Kept.{Kept}
-use Rattle.syscall_layer.specs.Reach.{Reaches, in_pages, whole_table}
+use Rattle.syscall_layer.specs.Reach.{Reaches, whole_table}
 use Rattle.syscall_layer.specs.Regular.{Regular, HasSpace, IsRegular}
 use Rattle.syscall_layer.specs.Copies.{CopiesHold}
 use Rattle.syscall_layer.specs.Stands.{About, later, private_bytes, private_of, live_spaces, process_of, world_of}
 use Rattle.syscall_layer.specs.InMemory.{physical_of}
-use Rattle.syscall_layer.proofs.Reached.{whole_bytes, whole_pages}
+use Rattle.syscall_layer.proofs.Reached.{whole_pages}
 use Rattle.syscall_layer.proofs.Shows.{shown_as, shows}
 use Rattle.syscall_layer.proofs.Worlds.{find_space, find_process}
-use Rattle.flat_machine.specs.State.{is_whole}
+use Rattle.flat_machine.specs.State.{is_whole, mode_within}
 use Rattle.flat_machine.specs.LeavesIn.{HaltsWithin}
 use Rattle.syscall_layer.proofs.Abouts.{some_about}
 use Rattle.flat_machine.proofs.Within.{writable_own, table_inside}
+use Rattle.flat_machine.proofs.Passed.{as_table, owned_ran, owned_frozen}
 use Rattle.flat_machine.proofs.Advanced.{Ranged, after, entered, home_of, has_space, halts_within, after_regular, after_ready, lives_in, has_in, procs_in, frozen_in, after_copies, left, after_leads, after_halts}
 
 -- the addresses of memory are those of its pages
@@ -119,7 +122,7 @@ module _ (headers : List (List ℕ)) (a : About) (k : Kept) (pid count : ℕ) (e
 
   module _ (reaches : Reaches Whole (length k.regions) h table) (strayed : has_stray k.notes ≡ true) where
     whole_read : (mem : List ℕ) → length mem ≡ 4096 * length k.regions → own_bytes table mem ≡ physical mem
-    whole_read mem paged = ap (λ (test : ℕ → Bool). only test (physical mem)) reaches.reads ∙ whole_bytes (length k.regions) mem paged
+    whole_read mem paged = ap (λ (test : ℕ → Bool). only test (physical mem)) reaches.reads ∙ all_pages (length k.regions) mem paged
 
     whole_ran : ran regs (physical now) done stop ≡ instructions count (in_memory old.world) e.value.regs old.memory
     unfolding physical_of
@@ -268,40 +271,41 @@ advances_in Whole k pid count e h table now regs done stop r reaches strayed rea
 
 -- ---- as the code has it
 
--- the table of all of memory has an entry for each page
-pub whole_paged : (k : Kept) (whole : List PageOwner) → Regular k → whole ≡ whole_table (length k.regions)
-    → (4096 * length whole ≡ length k.mem) × (length whole ≤ 16384) × (whole ≡ whole_table (length whole))
-whole_paged k whole regular is =
-    let parts = whole_pages (length k.regions) whole is in
-    (omega (arith, parts.0, regular.memory), omega (arith, parts.0, regular.most), parts.1)
+-- the table of a space has an entry for each page
+space_long : (k : Kept) (n : ℕ) (x : Option Held) (h : Held) (table : List PageOwner) → Regular k → HasSpace k.spaces n → x ≡ get_or k.spaces n x → x ≡ Some h → length table ≡ h.pages
+    → length table ≡ length k.regions
+space_long k n x h table regular live at space long = long ∙ regular.pages n h (home_of k.spaces n x h live at space)
 
-pub home_paged : (k : Kept) (whole : List PageOwner) (n : ℕ) (x : Option Held) (h : Held) → Regular k → HasSpace k.spaces n → x ≡ get_or k.spaces n x → x ≡ Some h
-    → whole ≡ whole_table (length k.regions) → h.pages ≡ length whole
-home_paged k whole n x h regular live at space is =
-    regular.pages n h (home_of k.spaces n x h live at space) ∙ sym (whole_pages (length k.regions) whole is).0
+pub space_paged : (k : Kept) (pid : ℕ) (task : Task) (x : Option Held) (h : Held) (table : List PageOwner) → Regular k → value_at k.procs pid ≡ Some task → x ≡ get_or k.spaces task.space x → x ≡ Some h
+    → length table ≡ h.pages → length k.mem ≡ 4096 * length table
+space_paged k pid task x h table regular is at space long =
+    omega (arith, space_long k task.space x h table regular (has_space k pid task regular is) at space long, regular.memory)
 
--- and so has the table of what is within reach
+-- and so has a table of what is within reach
 pub reach_paged : (reach : Reach) (k : Kept) (whole table : List PageOwner) (h : Held) → Regular k → whole ≡ whole_table (length k.regions) → Reaches reach (length whole) h table
     → length k.mem ≡ 4096 * length table
 reach_paged reach k whole table h regular is reaches =
     let long = reaches.long in omega (arith, (whole_pages (length k.regions) whole is).0, long, regular.memory)
 
-pub advances : (reach : Reach) (k : Kept) (whole : List PageOwner) (pid count : ℕ) (task : Task) (x : Option Held) (h : Held) (table seen : List PageOwner) (was now : List ℕ) (regs : Regs) (done : ℕ) (stop : Stop)
-    → IsRegular k → CanRun k.procs pid → whole ≡ whole_table (length k.regions) → has_stray k.notes ≡ is_whole reach → value_at k.procs pid ≡ Some task → x ≡ get_or k.spaces task.space x → x ≡ Some h
-    → Reaches reach (length whole) h table → seen ≡ table → was ≡ k.mem
-    → ran regs (own_bytes seen now) done stop ≡ instructions count (owns seen true) task.regs (own_bytes seen was)
-    → frozen seen now ≡ frozen seen was → length now ≡ length was → Advances reach k (after k pid task regs now) pid count done stop
-advances reach k whole pid count task x h table seen was now regs done stop regular ready pages strayed is at space reaches sees before leaves same long =
+pub advances : (reach : Reach) (k : Kept) (pid count : ℕ) (task : Task) (x : Option Held) (h : Held) (mode : Mode) (table seen : List PageOwner) (was now : List ℕ) (regs : Regs) (done : ℕ) (stop : Stop)
+    → IsRegular k → CanRun k.procs pid → has_stray k.notes ≡ is_whole reach → value_at k.procs pid ≡ Some task → x ≡ get_or k.spaces task.space x → x ≡ Some h
+    → owns table false ≡ own_in h.maps → owns table true ≡ writable_in h.maps → length table ≡ h.pages → mode ≡ mode_within reach → seen ≡ table → was ≡ k.mem
+    → ran regs (passed_bytes mode seen now) done stop ≡ instructions count (passes mode seen true) task.regs (passed_bytes mode seen was)
+    → kept_bytes mode seen now ≡ kept_bytes mode seen was → length now ≡ length was → Advances reach k (after k pid task regs now) pid count done stop
+advances reach k pid count task x h mode table seen was now regs done stop regular ready strayed is at space own writes long within sees before leaves same stays =
     let e = entered k.procs pid task is in
-    let home = home_of k.spaces task.space x h (has_space k pid task regular.0 is) at space in
-    let reached = subst (λ (n : ℕ). Reaches reach n h table) (whole_pages (length k.regions) whole pages).0 reaches in
-    subst (λ (t : Task). Advances reach k (after k pid t regs now) pid count done stop) e.value (advances_in reach k pid count e.entry h table now regs done stop (record {
+    let live = has_space k pid task regular.0 is in
+    let home = home_of k.spaces task.space x h live at space in
+    let paged = space_long k task.space x h table regular.0 live at space long in
+    let passed = as_table reach (length k.regions) h mode table within (record { reads = own; writes = writes; long = paged }) in
+    subst (λ (t : Task). Advances reach k (after k pid t regs now) pid count done stop) e.value (advances_in reach k pid count e.entry h passed.table now regs done stop (record {
       regular = regular.0;
       copies = regular.1;
       lives = e.there;
       home = subst (λ (t : Task). slice_get k.spaces t.space ≡ Some (Some h)) (sym e.value) home;
-      leaves = subst (λ (t : Task). ran regs (own_bytes table now) done stop ≡ instructions count (owns table true) t.regs (own_bytes table k.mem)) (sym e.value)
-          (rw (sees, before) at leaves);
-      frozen = rw (sees, before) at same;
-      length = rw before at long;
-    }) reached strayed ready)
+      leaves = owned_ran reach (length k.regions) h mode table passed k.mem now count e.entry.value.regs regs done stop
+          (subst (λ (t : Task). ran regs (passed_bytes mode table now) done stop ≡ instructions count (passes mode table true) t.regs (passed_bytes mode table k.mem)) (sym e.value)
+          (rw (sees, before) at leaves));
+      frozen = owned_frozen reach (length k.regions) h mode table passed k.mem now (rw (sees, before) at same);
+      length = rw before at stays;
+    }) passed.reaches strayed ready)

@@ -13,7 +13,7 @@ use Rattle.mem_files.specs.Inodes.{Inodes}
 use Rattle.fd_tables.specs.Files.{OpenFiles}
 use Rattle.physical_turns.specs.Physical.{Physical, showing, first_memory, opening}
 use Rattle.syscall_layer.specs.Kept.{Kept, nothing_yet}
-use Rattle.syscall_layer.specs.Reach.{in_pages}
+use Rattle.region_watch.specs.Private.{in_pages}
 use Rattle.syscall_layer.specs.Stands.{About, live_spaces, world_of}
 use Rattle.syscall_layer.specs.InMemory.{header_of, headers_of, physical_of}
 use Rattle.syscall_layer.proofs.Shows.{showing_of}

@@ -5,6 +5,7 @@ use Rattle.byte_words.specs.ByteMap.{Bytes}
 use Rattle.mmap_rules.specs.declared.owners.PageOwner.{PageOwner}
 use Rattle.mmap_rules.specs.Held.{Held}
 use Rattle.region_watch.specs.Private.{only, physical}
+use Rattle.region_watch.proofs.Accesses.{all_pages}
 use Rattle.region_watch.specs.Private.{own_bytes as own_bytes_in}
 use Rattle.call_log.specs.Sent.{Span, read_span}
 use Rattle.vfork_exec.specs.declared.entry.Entry.{Entry}
@@ -19,7 +20,7 @@ use Rattle.syscall_layer.specs.Reading.{appended}
 use Rattle.syscall_layer.specs.InMemory.{physical_of}
 use Rattle.syscall_layer.specs.Stands.{About, private_bytes, process_of, world_of}
 use Rattle.syscall_layer.proofs.Worlds.{find_space, find_process}
-use Rattle.syscall_layer.proofs.Reached.{reached_bytes, whole_bytes, whole_pages}
+use Rattle.syscall_layer.proofs.Reached.{reached_bytes, whole_pages}
 use Rattle.flat_machine.specs.OwnBytes.{read_or_none, bytes_in, bytes_of, own_bytes, bytes_for, memory_bytes}
 use Rattle.flat_machine.proofs.Advanced.{entered, has_space}
 use Rattle.flat_machine.proofs.AdvancedIn.{reach_paged}
@@ -97,7 +98,7 @@ module _ (reach : Reach) (k : Kept) (pid addr len : ℕ) (whole table : List Pag
   whole_seen : reach ≡ Whole → own_bytes_in table k.mem ≡ physical k.mem
   whole_seen all =
       reached_bytes reach (length whole) live.held table k.mem reaches ∙ ap (λ (r : Reach). only (readable r (length whole) live.held) (physical k.mem)) all
-      ∙ whole_bytes (length whole) k.mem (regular.memory ∙ ap (λ (n : ℕ). 4096 * n) (sym (whole_pages (length k.regions) whole pages).0))
+      ∙ all_pages (length whole) k.mem (regular.memory ∙ ap (λ (n : ℕ). 4096 * n) (sym (whole_pages (length k.regions) whole pages).0))
 
   abbrev span : Span
   span = record { addr = addr; len = len }

@@ -6,7 +6,7 @@ use Rattle.std.specs.declared.alloc.AllocError.{AllocError}
 use Rattle.rv32im_step.specs.declared.access.Access.{Access}
 use Rattle.rv32im_step.specs.declared.stop.Stop.{Stop}
 use Rattle.rv32im_step.specs.declared.stop.Stop.TheVariants.{Call, Trap, Refused}
-use Rattle.call_log.specs.Notes.{Note, stray_note}
+use Rattle.call_log.specs.Notes.{stray_note}
 use Rattle.vfork_exec.specs.Procs.{CanRun}
 use Rattle.machine_world.specs.Families.{MayRun}
 use Rattle.machine_world.specs.Event.{Outcome, went, strays, full, idle, noted, stray_in, stray, event, called, died}
@@ -21,6 +21,8 @@ use Rattle.syscall_layer.specs.declared.reach.Reach.TheVariants.{Own, Whole}
 use Rattle.syscall_layer.specs.declared.answer.Served.{Served}
 use Rattle.syscall_layer.specs.declared.answer.Served.TheVariants as served
 use Rattle.syscall_layer.specs.Kept.{Kept}
+use Rattle.syscall_layer.specs.Copies.{StillHolds}
+use Rattle.syscall_layer.proofs.Holding.{unstrayed_holds}
 use Rattle.syscall_layer.specs.Stands.{About, later, world_of}
 use Rattle.syscall_layer.specs.Serves.{Answered, Died}
 use Rattle.syscall_layer.specs.InMemory.{physical_of, GoesIn, InReach, DiedIn}
@@ -309,9 +311,9 @@ pub unchanged_in : (reach : Reach) (headers : List (List ℕ)) (a : About) (o : 
 unchanged_in Own headers a o old new pid error x = x
 unchanged_in Whole headers a o old new pid error x = x
 
--- within its own bytes none was noted
-pub quiet_own : (reach : Reach) (notes : List Note) → reach ≡ Own → has_stray notes ≡ is_whole reach → has_stray notes ≡ false
-quiet_own reach notes own strayed = strayed ∙ ap is_whole own
+-- within its own bytes none was noted, so live copies hold their files
+pub holds_own : (reach : Reach) (k : Kept) → reach ≡ Own → has_stray k.notes ≡ is_whole reach → StillHolds k
+holds_own reach k own strayed = unstrayed_holds k (strayed ∙ ap is_whole own)
 
 -- of an end by a signal
 pub dies_not : (headers : List (List ℕ)) (a : About) (old new : Kept) (pid : ℕ) (o : Outcome_in) (r : Result After AllocError) → IsErr r → new ≡ old → CarriedIn headers a o old new pid r

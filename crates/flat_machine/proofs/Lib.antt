@@ -1,5 +1,6 @@
 -- What is proved of a machine.
 -- Within    what may be written is own, and lies in memory
+-- Passed    what a watch lets pass within reach, as what a table owns
 -- Advanced  the parts after instructions of one process
 -- AdvancedIn  and the one memory
 -- NoneDone  and the parts where none was carried out
@@ -14,6 +15,7 @@
 -- Rounds    runs by quanta
 -- StraysOn  a turn goes on behind the note of its first stray access
 -- TakenBack  that note is taken back where its event finds no memory
+-- HoldFiles  live copies hold their file behind it
 -- TurnsOf   what holds of a machine behind a turn
 -- RoundsIn  runs by quanta in the one memory, and up to their first stray access
 -- Waiting   who waits in a machine's world, and why where a run is stuck
@@ -24,6 +26,7 @@
 -- BootedIn  and the one memory behind them
 pub mod Readers
 pub mod Within
+pub mod Passed
 pub mod Advanced
 pub mod AdvancedIn
 pub mod NoneDone
@@ -38,6 +41,7 @@ pub mod Picks
 pub mod Rounds
 pub mod StraysOn
 pub mod TakenBack
+pub mod HoldFiles
 pub mod TurnsOf
 pub mod RoundsIn
 pub mod Waiting

@@ -1,5 +1,5 @@
 -- Where no instruction was carried out the parts are as they were.
-use Rattle.std.proofs.Common.{◌≡◌, ℕ, zero, suc, ◌+◌, ◌-◌, ◌^◌, Bool, true, false, not, List, [], ◌∷◌, Some, None, refl, sym, ap, subst, ◌∙◌, arith}
+use Rattle.std.proofs.Common.{◌≡◌, ℕ, zero, suc, ◌+◌, ◌-◌, ◌^◌, Bool, true, false, not, List, [], ◌∷◌, length, Some, None, refl, sym, ap, subst, ◌∙◌, arith}
 use Rattle.std.specs.Prelude.{nat_le, slice_get, if◌then◌else◌}
 use Rattle.std.proofs.lemmas.Bool.{false≢true}
 use Rattle.std.proofs.lemmas.Bool.Decides.{nat_tests}
@@ -10,7 +10,10 @@ use Rattle.rv32im_step.specs.declared.stop.Stop.{Stop}
 use Rattle.rv32im_step.specs.Meaning.{Meaning, next, call, trap, refused, meaning}
 use Rattle.mmap_rules.specs.declared.owners.PageOwner.{PageOwner}
 use Rattle.mmap_rules.specs.Owners.{owns}
-use Rattle.region_watch.specs.Private.{only, physical, own_bytes, frozen}
+use Rattle.mmap_rules.specs.Space.{own_in, writable_in}
+use Rattle.mmap_rules.specs.Held.{Held}
+use Rattle.region_watch.specs.declared.mode.Mode.{Mode}
+use Rattle.region_watch.specs.Private.{only, physical, own_bytes, frozen, passes, passed_bytes, kept_bytes}
 use Rattle.region_watch.specs.Instructions.{Ran, ran, goes_on, instructions}
 use Rattle.region_watch.proofs.Accesses.{own_writable}
 use Rattle.vfork_exec.specs.declared.entry.Entry.{Entry}
@@ -18,7 +21,10 @@ use Rattle.vfork_exec.specs.Procs.{Listed, value_at, with_value, with_value_at}
 use Rattle.vfork_exec.specs.Procs.{pid_of as entry_pid}
 use Rattle.machine_world.proofs.States.{change_same}
 use Rattle.syscall_layer.specs.declared.task.Task.{Task}
+use Rattle.syscall_layer.specs.declared.reach.Reach.{Reach}
 use Rattle.syscall_layer.specs.Kept.{Kept}
+use Rattle.flat_machine.specs.State.{mode_within}
+use Rattle.flat_machine.proofs.Passed.{as_table, owned_ran, owned_frozen}
 use Rattle.flat_machine.proofs.Advanced.{after, entered}
 
 -- ---- the registers and the bytes
@@ -78,13 +84,23 @@ value_kept s pid task is =
     ap (λ (entries : List (Entry Task)). record s { entries = entries })
     (change_same entry_pid pid (λ (x : Entry Task). with_value x task) s.entries e.entry e.there (ap (λ (t : Task). with_value e.entry t) (sym e.value)))
 
-pub none_done : (k : Kept) (pid count : ℕ) (task : Task) (table : List PageOwner) (was now : List ℕ) (regs : Regs) (done : ℕ) (stop : Stop) → value_at k.procs pid ≡ Some task → was ≡ k.mem
+none_done_owned : (k : Kept) (pid count : ℕ) (task : Task) (table : List PageOwner) (was now : List ℕ) (regs : Regs) (done : ℕ) (stop : Stop) → value_at k.procs pid ≡ Some task → was ≡ k.mem
     → ran regs (own_bytes table now) done stop ≡ instructions count (owns table true) task.regs (own_bytes table was) → frozen table now ≡ frozen table was → done ≡ 0
     → after k pid task regs now ≡ k
-none_done k pid count task table was now regs done stop is before leaves rest none =
+none_done_owned k pid count task table was now regs done stop is before leaves rest none =
     let same = none_ran count (owns table true) task.regs regs (own_bytes table was) (own_bytes table now) stop
     (subst (λ (n : ℕ). ran regs (own_bytes table now) n stop ≡ instructions count (owns table true) task.regs (own_bytes table was)) none leaves) in
     let mem : now ≡ k.mem = same_memory table now was same.1 rest ∙ before in
     let procs : with_value_at k.procs pid (record task { regs = regs }) ≡ k.procs =
     ap (λ (r : Regs). with_value_at k.procs pid (record task { regs = r })) same.0 ∙ value_kept k.procs pid task is in
     λ i. record k { mem = mem i; procs = procs i }
+
+pub none_done : (reach : Reach) (k : Kept) (pid count : ℕ) (task : Task) (h : Held) (mode : Mode) (table seen : List PageOwner) (was now : List ℕ) (regs : Regs) (done : ℕ) (stop : Stop)
+    → value_at k.procs pid ≡ Some task → owns table false ≡ own_in h.maps → owns table true ≡ writable_in h.maps → mode ≡ mode_within reach → seen ≡ table → was ≡ k.mem
+    → ran regs (passed_bytes mode seen now) done stop ≡ instructions count (passes mode seen true) task.regs (passed_bytes mode seen was)
+    → kept_bytes mode seen now ≡ kept_bytes mode seen was → done ≡ 0 → after k pid task regs now ≡ k
+none_done reach k pid count task h mode table seen was now regs done stop is own writes within sees before leaves rest none =
+    let passed = as_table reach (length table) h mode table within (record { reads = own; writes = writes; long = refl }) in
+    none_done_owned k pid count task passed.table was now regs done stop is before
+    (owned_ran reach (length table) h mode table passed was now count task.regs regs done stop (rw sees at leaves))
+    (owned_frozen reach (length table) h mode table passed was now (rw sees at rest)) none

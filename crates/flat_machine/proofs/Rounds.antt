@@ -165,6 +165,9 @@ module _ (qs : List Quantum) (i : ℕ) (d : Quantum) (less : i < length qs) wher
 
 -- ---- the quanta so many times
 
+pub once : (qs : List Quantum) → repeated 1 qs ≡ qs
+once qs = append-nil qs
+
 pub repeated_more : (n : ℕ) (qs : List Quantum) → repeated (n + 1) qs ≡ repeated n qs ++ qs
 repeated_more zero qs = let one : 0 + 1 ≡ 1 = omega arith in ap (λ m. repeated m qs) one ∙ append-nil qs
 repeated_more (suc n) qs =

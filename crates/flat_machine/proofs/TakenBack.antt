@@ -15,8 +15,8 @@ use Rattle.syscall_layer.specs.declared.reach.Reach.{Reach}
 use Rattle.syscall_layer.specs.declared.reach.Reach.TheVariants.{Own, Whole}
 use Rattle.syscall_layer.specs.InMemory.{physical_of, without_newest}
 use Rattle.syscall_layer.specs.Stands.{world_of}
-use Rattle.syscall_layer.specs.declared.mode.Mode.{Mode}
-use Rattle.syscall_layer.specs.declared.mode.Mode.TheVariants.{Halt, GoOn}
+use Rattle.region_watch.specs.declared.mode.Mode.{Mode}
+use Rattle.region_watch.specs.declared.mode.Mode.TheVariants.{Halt, GoOn}
 use Rattle.flat_machine.specs.declared.run.End.{End as Told}
 use Rattle.flat_machine.specs.declared.run.End.TheVariants as told
 use Rattle.flat_machine.specs.State.{State, about_of, world, one_memory, is_whole}
@@ -52,7 +52,7 @@ module _ (pid : ℕ) (at mid : Physical) (x : StraysIn pid at mid) where
   before_is : taken_in true mid ≡ at
   before_is = ap (taken_in true) x.noted
 
-  quiet_before : has_stray (drop 1 mid.world.notes) ≡ false
+  pub quiet_before : has_stray (drop 1 mid.world.notes) ≡ false
   quiet_before = ap (λ (p : Physical). has_stray p.world.notes) before_is ∙ first_is_quiet at pid x.access x.first
 
   -- it isn't that of a call

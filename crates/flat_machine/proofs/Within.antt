@@ -1,5 +1,5 @@
--- What may be written is own, and lies in memory; and a window of all of memory.
-use Rattle.std.proofs.Common.{◌≡◌, ℕ, ◌+◌, ◌-◌, ◌*◌, ◌/◌, ◌^◌, ◌≤◌, inl, inr, Bool, true, false, ◌&&◌, ◌||◌, List, [], ◌∷◌, length, refl, sym, ap, ◌∙◌, arith}
+-- What may be written is own, and lies in memory.
+use Rattle.std.proofs.Common.{◌≡◌, ◌+◌, ◌-◌, ◌*◌, ◌/◌, ◌^◌, inl, inr, Bool, true, false, ◌&&◌, ◌||◌, List, [], ◌∷◌, length, refl, sym, ◌∙◌, arith}
 use Rattle.std.specs.Prelude.{None, nat_le, slice_get}
 use Rattle.std.specs.List.{list_any}
 use Rattle.std.proofs.lemmas.Bool.{cases_lt, false≢true}
@@ -7,13 +7,10 @@ use Rattle.std.proofs.lemmas.Bool.Decides.{nat_tests}
 use Rattle.std.proofs.lemmas.Option.{slice_get_past}
 use Rattle.mmap_rules.specs.declared.mapping.Mapping.{Mapping}
 use Rattle.mmap_rules.specs.declared.owners.PageOwner.{PageOwner}
-use Rattle.mmap_rules.specs.Space.{in_range, own_in, writable_in, may_use}
+use Rattle.mmap_rules.specs.Space.{in_range, own_in, writable_in}
 use Rattle.mmap_rules.specs.Owners.{owns_at, owns}
 use Rattle.physical_turns.specs.Wider.{IsWithin}
-use Rattle.region_watch.proofs.Accesses.{range_of}
-use Rattle.region_watch.proofs.Maps.{all_pass-each}
-use Rattle.syscall_layer.specs.Reach.{in_pages, whole_table}
-use Rattle.syscall_layer.proofs.Reached.{owns_whole}
+use Rattle.region_watch.specs.Private.{in_pages}
 
 -- what may be written is own
 pub writable_own : (maps : List Mapping) → IsWithin (own_in maps) (writable_in maps)
@@ -45,10 +42,3 @@ table_inside table write a is = elim (cases_lt a (2 ^ 31 + 4096 * length table))
     first : (x y : Bool) → (x && y) ≡ true → x ≡ true
     first true y h = refl
     first false y h = absurd (false≢true h)
-
--- all of memory may be used
-pub whole_used : (table : List PageOwner) → table ≡ whole_table (length table) → length table ≤ 16384 → may_use (owns table true) (2 ^ 31) (4096 * length table) ≡ true
-whole_used table is most =
-    range_of (owns table true) (2 ^ 31) (4096 * length table) (omega (arith, most))
-    (all_pass-each (owns table true) (2 ^ 31) (4096 * length table) (λ i low high. ap (λ (t : List PageOwner). owns t true i) is ∙ ap (λ (f : ℕ → Bool). f i) (owns_whole (length table) true)
-    ∙ (grind (arith, nat_tests, low, high))))

@@ -6,7 +6,7 @@ use Rattle.machine_world.specs.Turns.{turns}
 use Rattle.physical_turns.specs.Physical.{has_stray, physical_turns}
 use Rattle.flat_machine.specs.declared.run.End.{End as Told}
 use Rattle.flat_machine.specs.declared.run.End.TheVariants as told
-use Rattle.syscall_layer.specs.declared.mode.Mode.TheVariants.{Halt}
+use Rattle.region_watch.specs.declared.mode.Mode.TheVariants.{Halt}
 use Rattle.flat_machine.specs.State.{State, world, one_memory}
 use Rattle.flat_machine.specs.Runs.{Ends, Runs}
 use Rattle.flat_machine.specs.LeavesIn.{StopsIn, GoesPast}

@@ -15,8 +15,10 @@ use Rattle.syscall_layer.specs.Kept.{Kept}
 use Rattle.syscall_layer.specs.Stands.{About, world_of}
 use Rattle.syscall_layer.specs.InMemory.{headers_of, physical_of}
 use Rattle.syscall_layer.specs.declared.reach.Reach.{Reach}
+use Rattle.syscall_layer.specs.declared.reach.Reach.TheVariants.{Own, Whole}
 use Rattle.physical_turns.specs.Physical.{Physical}
-use Rattle.syscall_layer.specs.declared.mode.Mode.{Mode}
+use Rattle.region_watch.specs.declared.mode.Mode.{Mode}
+use Rattle.region_watch.specs.declared.mode.Mode.TheVariants.{Halt, GoOn}
 
 -- the parts; how free runs are chosen; the paths of the programs, and their flat files; the number of events; what becomes of the run
 -- at its first stray access; and what it reaches, all of memory behind that
@@ -59,3 +61,8 @@ lines_of starts = map line_of starts
 -- what is known of a run that begins
 abbrev pub about_boot : {Y : Type 0} → Kind → List (Vec ℕ Y) → List Values → About
 about_boot kind paths programs = record { kind = kind; programs = programs_of (paths_of paths) programs; events = 0 }
+
+-- a process's own bytes are watched as those of a run that halts, all of memory as those of one that goes on
+abbrev pub mode_within : Reach → Mode
+mode_within Own = Halt
+mode_within Whole = GoOn

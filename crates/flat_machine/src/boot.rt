@@ -1,6 +1,6 @@
 //! The start of a machine.
 
-ghost use Rattle.std.specs.Prelude.{◌≡◌, ◌^◌, ◌<◌, ◌≤◌, ℕ, IfOk, false, Some, slice_get, length};
+ghost use Rattle.std.specs.Prelude.{◌≡◌, ◌<◌, ◌≤◌, ℕ, IfOk, false, Some, slice_get, length};
 ghost use Rattle.mem_files.specs.Paths.{lookup};
 ghost use Rattle.vfork_exec.specs.Procs.{count, most_entries};
 ghost use Rattle.syscall_layer.specs.Regular.{most_first};
@@ -20,8 +20,9 @@ use fd_tables::Files;
 use manifest_text::Start;
 use mem_files::Tree;
 use page_runs::{Chooser, Run};
+use region_watch::Mode;
 use std::alloc::{AllocError, Global};
-use syscall_layer::{Mode, Parts, Reach, StartRefusal, whole_table};
+use syscall_layer::{Parts, Reach, StartRefusal, whole_table};
 
 /// What a machine starts with.
 #[derive(Drop)]
@@ -85,7 +86,6 @@ fn begin<F: Fn(&[Run], u32) -> Option<usize>>(
 ) -> Result<(), BootRefusal>
     requires chooser { IsChooser F.pre F.post chooser.now }
     requires paths { length paths.now ≡ length programs.now }
-    requires programs { length programs.now < 2 ^ 32 }
     requires args { 0 < length start.now.args.items }
     requires few { count parts.old.procs < most_entries }
     requires pids { parts.old.procs.next_pid < most_first }
@@ -109,7 +109,7 @@ fn begin<F: Fn(&[Run], u32) -> Option<usize>>(
 }
 
 impl Machine {
-    /// Loads the start lines' programs in order. There are 1 to 64 of them, with an argument each; no file was
+    /// Loads the start lines' programs in order. There are at most 64 of them, with an argument each; no file was
     /// changed more than 2^63 times.
     pub fn boot<F: Fn(&[Run], u32) -> Option<usize>>(
         alloc: Global,
@@ -121,7 +121,6 @@ impl Machine {
         requires most { setup.pages ≤ 16384 }
         requires changes { AreChanged most_at_boot setup.tree }
         requires paths { length setup.paths.items ≡ length setup.programs.items }
-        requires programs { length setup.programs.items < 2 ^ 32 }
         requires starts { length setup.starts.items ≤ 64 }
         requires args { (i : ℕ) → (s : StartItem) → slice_get setup.starts.items i ≡ Some s → 0 < length s.args.items }
         ensures world { Boots (boot (rest_of setup.pages (kind_of chooser.now) setup.paths.items setup.programs.items setup.tree setup.stdin.items) (lines_of setup.starts.items)) result }

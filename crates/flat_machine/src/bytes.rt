@@ -5,19 +5,19 @@ ghost use Rattle.syscall_layer.specs.declared.reach.Reach.TheVariants.{Own, Whol
 ghost use Rattle.syscall_layer.specs.InMemory.{physical_of};
 ghost use Rattle.syscall_layer.specs.Reach.{whole_table};
 ghost use Rattle.syscall_layer.specs.Stands.{About, world_of};
-ghost use Rattle.syscall_layer.specs.declared.mode.Mode.TheVariants.{Halt, GoOn};
+ghost use Rattle.region_watch.specs.declared.mode.Mode.TheVariants.{Halt, GoOn};
 ghost use Rattle.flat_machine.specs.State.{world, one_memory};
 ghost use Rattle.flat_machine.specs.OwnBytes.{own_bytes, memory_bytes};
 
 use crate::machine::Machine;
 use mmap_rules::Owners;
-use std::alloc::{AllocError, Global};
-use syscall_layer::{Mode, Parts, Reach, Unread, read_range, table_of};
+use region_watch::Mode;
+use std::alloc::AllocError;
+use syscall_layer::{Parts, Reach, Unread, read_range, table_of};
 
 /// A copy of the bytes of a process that lives, within this reach.
 fn copied(
     parts: &Parts,
-    alloc: Global,
     pid: u32,
     addr: u32,
     len: u32,
@@ -33,7 +33,7 @@ fn copied(
     }
     let task = parts.procs.get(pid);
     let owners = table_of(&parts.spaces, task.space, reach, whole);
-    let mut bytes = Vec::new(alloc);
+    let mut bytes = Vec::new(*parts.console.allocator());
     match read_range(&parts.mem, owners, addr, len, &mut bytes) {
         Ok(()) => Ok(Some(bytes)),
         Err(Unread::Stray { .. }) => Ok(None),
@@ -55,24 +55,10 @@ fn shown(mode: Mode) -> Reach
 impl Machine {
     /// A copy of `len` bytes of a process from `addr` on; None where it doesn't live, or one of them isn't its own. Of a run that goes
     /// on, those of memory; None where it doesn't live, or one of them lies outside memory.
-    pub fn bytes(
-        &self,
-        alloc: Global,
-        pid: u32,
-        addr: u32,
-        len: u32,
-    ) -> Result<Option<Vec<u8>>, AllocError>
+    pub fn bytes(&self, pid: u32, addr: u32, len: u32) -> Result<Option<Vec<u8>>, AllocError>
         ensures own { self.now.mode ≡ Halt → IfOk result (λ found. option_map (λ bytes. bytes.items) found ≡ own_bytes (world self.now) pid addr len) }
         ensures memory { self.now.mode ≡ GoOn → IfOk result (λ found. option_map (λ bytes. bytes.items) found ≡ memory_bytes (one_memory self.now) pid addr len) }
     {
-        copied(
-            &self.parts,
-            alloc,
-            pid,
-            addr,
-            len,
-            shown(self.mode),
-            &self.whole,
-        )
+        copied(&self.parts, pid, addr, len, shown(self.mode), &self.whole)
     }
 }

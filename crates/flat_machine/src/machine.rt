@@ -13,8 +13,9 @@ use bflt_format::Flat;
 use call_log::Note;
 use mmap_rules::Owners;
 use page_runs::Kind;
+use region_watch::Mode;
 use std::marker::Model;
-use syscall_layer::{Mode, Parts, Reach};
+use syscall_layer::{Parts, Reach};
 
 /// The programs of a run in one memory, and how far they came.
 #[derive(Drop)]

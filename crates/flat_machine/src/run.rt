@@ -12,9 +12,10 @@ ghost use Rattle.syscall_layer.specs.Stands.{About, world_of};
 ghost use Rattle.rv32im_step.specs.declared.access.Access.{Access};
 ghost use Rattle.physical_turns.specs.Physical.{has_stray};
 ghost use Rattle.syscall_layer.specs.declared.reach.Reach.TheVariants.{Own};
-ghost use Rattle.syscall_layer.specs.declared.mode.Mode.TheVariants.{GoOn};
+ghost use Rattle.region_watch.specs.declared.mode.Mode.TheVariants.{GoOn};
 ghost use Rattle.flat_machine.specs.declared.run.End.TheVariants.{Stray};
 ghost use Rattle.flat_machine.specs.State.{is_whole, world, one_memory};
+ghost use Rattle.syscall_layer.specs.Copies.{HoldsFiles};
 ghost use Rattle.flat_machine.specs.Runs.{Ends, Runs, KeepsStays, KeepsWaits, WaitsWhereStuck, repeated};
 ghost use Rattle.flat_machine.specs.RunsIn.{ends_astray, IsHalting, RunsIn, GoesOn};
 ghost use Rattle.flat_machine.specs.Leaves.{Leaves, TurnLeaves};
@@ -24,9 +25,10 @@ use crate::machine::Machine;
 use crate::turn::{TurnEnd, turn};
 use page_runs::{Chooser, Run};
 use quantum_sched::{Quantum, pick};
+use region_watch::Mode;
 use rv32im_step::Access;
 use std::alloc::AllocError;
-use syscall_layer::{Mode, Parts, Reach};
+use syscall_layer::{Parts, Reach};
 
 /// Why a run stops.
 #[derive(Clone, Copy, Debug, PartialEq, Eq)]
@@ -103,6 +105,14 @@ fn is_undone(events: u32, end: &Result<Option<End>, AllocError>) -> bool
     }
 }
 
+/// As long as no stray access was noted each live copy of a file that wasn't changed since holds it. Nothing is done.
+fn tell_copies(parts: &Parts)
+    ensures { has_stray parts.now.notes ≡ false → HoldsFiles parts.now }
+{
+    // Whatever is read opens the parts, whose invariant says so.
+    let _live = parts.procs.live();
+}
+
 impl Machine {
     /// Gives a process its turn within reach of the machine.
     fn turn_of<F: Fn(&[Run], u32) -> Option<usize>>(
@@ -125,6 +135,7 @@ impl Machine {
         ensures strays { (access : Access) → result.end ≡ Ok (Some (Stray access)) → result.events < count × CanRun self.new.kept.procs pid }
         ensures sound { (access : Access) → result.end ≡ Ok (Some (Stray access)) → IsRegular (without_newest self.new.kept) }
         ensures still { OnErr result.end (result.events ≡ 0 → self.new.kept ≡ self.old.kept) }
+        ensures copies { self.old.reach ≡ Own → HoldsFiles self.new.kept }
         ensures leaves { self.old.reach ≡ Own → TurnLeaves pid count (world self.old) result.events (world self.new) result.end }
         ensures memory { TurnLeavesIn self.old.reach pid count (one_memory self.old) result.events (one_memory self.new) result.end }
     {
@@ -137,6 +148,7 @@ impl Machine {
             self.reach,
             &self.whole,
         );
+        tell_copies(&self.parts);
         self.events += u64::from(events);
         self.reach = reach_behind(self.reach, &end);
         TurnEnd { events, end }
@@ -156,6 +168,7 @@ impl Machine {
         ensures mode { self.new.mode ≡ self.old.mode }
         ensures events { self.new.events ≤ self.old.events + quantum.count }
         ensures quiet { IsHalting self.old → is_stray result ≡ false → IsHalting self.new }
+        ensures copies { IsHalting self.old → HoldsFiles self.old.kept → HoldsFiles self.new.kept }
         ensures leaves { IsHalting self.old → Leaves (quantum ∷ []) (world self.old) (world self.new) result }
         ensures memory { self.old.mode ≡ GoOn → LeavesIn (quantum ∷ []) (one_memory self.old) (one_memory self.new) result }
         ensures first { self.old.mode ≡ GoOn → has_stray (world self.old).notes ≡ false → LeavesFirst (quantum ∷ []) (world self.old) (world self.new) result }
@@ -188,6 +201,7 @@ impl Machine {
         ensures mode { self.new.mode ≡ self.old.mode }
         ensures events { self.new.events ≤ self.old.events + sum_by (λ q. q.count) quanta.now }
         ensures quiet { IsHalting self.old → is_stray result ≡ false → IsHalting self.new }
+        ensures copies { IsHalting self.old → HoldsFiles self.old.kept → HoldsFiles self.new.kept }
         ensures leaves { IsHalting self.old → Leaves quanta.now (world self.old) (world self.new) result }
         ensures memory { self.old.mode ≡ GoOn → LeavesIn quanta.now (one_memory self.old) (one_memory self.new) result }
         ensures first { self.old.mode ≡ GoOn → has_stray (world self.old).notes ≡ false → LeavesFirst quanta.now (world self.old) (world self.new) result }
@@ -198,6 +212,30 @@ impl Machine {
             }
         }
         Ok(None)
+    }
+
+    /// Gives each quantum its turn, until the run stops. The chooser is of the kind that booted.
+    pub fn run<F: Fn(&[Run], u32) -> Option<usize>>(
+        &mut self,
+        quanta: &[Quantum],
+        chooser: &Chooser<F>,
+    ) -> Result<End, AllocError>
+        requires chooser { IsChooser F.pre F.post chooser.now }
+        requires kind { kind_of chooser.now ≡ self.old.kind }
+        requires events { self.old.events + sum_by (λ q. q.count) quanta.now < 2 ^ 64 }
+        ensures kind { self.new.kind ≡ self.old.kind }
+        ensures mode { self.new.mode ≡ self.old.mode }
+        ensures events { self.new.events ≤ self.old.events + sum_by (λ q. q.count) quanta.now }
+        ensures turns { IsHalting self.old → Runs quanta.now self.old self.new result }
+        ensures memory { self.old.mode ≡ GoOn → RunsIn quanta.now self.old self.new result }
+        ensures first { self.old.mode ≡ GoOn → has_stray (world self.old).notes ≡ false → GoesOn quanta.now self.old self.new result }
+        ensures quiet { IsHalting self.old → ends_astray result ≡ false → IsHalting self.new }
+        ensures copies { IsHalting self.old → HoldsFiles self.new.kept }
+        ensures waits { IsHalting self.old → KeepsWaits self.old self.new }
+        ensures stuck { IsHalting self.old → WaitsWhereStuck self.old self.new result }
+        ensures alone { IsHalting self.old → KeepsStays quanta.now self.old self.new result }
+    {
+        self.run_repeated(quanta, 1, chooser)
     }
 
     /// Gives each quantum its turn, and all of them so many times, until the run stops. The chooser is of
@@ -218,11 +256,14 @@ impl Machine {
         ensures memory { self.old.mode ≡ GoOn → RunsIn (repeated count quanta.now) self.old self.new result }
         ensures first { self.old.mode ≡ GoOn → has_stray (world self.old).notes ≡ false → GoesOn (repeated count quanta.now) self.old self.new result }
         ensures quiet { IsHalting self.old → ends_astray result ≡ false → IsHalting self.new }
+        ensures copies { IsHalting self.old → HoldsFiles self.new.kept }
         ensures waits { IsHalting self.old → KeepsWaits self.old self.new }
         ensures stuck { IsHalting self.old → WaitsWhereStuck self.old self.new result }
         ensures alone { IsHalting self.old → KeepsStays (repeated count quanta.now) self.old self.new result }
     {
+        // Both for their clauses: as long as nothing strayed the world is sound, and copies hold their files.
         let _kind = self.kind();
+        tell_copies(&self.parts);
         for _time in 0..count {
             if let Some(end) = self.round(quanta, chooser)? {
                 return Ok(end);

@@ -142,7 +142,7 @@ pub(crate) fn turn<F: Fn(&[Run], u32) -> Option<usize>>(
 {
     let mut events = 0;
     while events < count {
-        let progress = advance(parts, pid, count - events, reach, whole);
+        let progress = advance(parts, pid, count - events, reach);
         events += progress.done;
         if progress.stop == Stop::Next {
             return TurnEnd {

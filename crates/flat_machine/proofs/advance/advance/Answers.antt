@@ -1,10 +1,10 @@
 -- What instructions of the process leave, at the parts.
-use Rattle.std.proofs.Common.{sym, subst, arith}
+use Rattle.std.proofs.Common.{sym, subst, ◌∙◌, arith}
 use Rattle.vfork_exec.specs.Procs.{CanRun}
 use Rattle.syscall_layer.specs.Kept.{Kept}
 use Rattle.syscall_layer.specs.Inside.{kept_of}
 use Rattle.flat_machine.proofs.Advanced.{has_space, never_none, below}
-use Rattle.flat_machine.proofs.AdvancedIn.{whole_paged, home_paged, reach_paged, advances}
+use Rattle.flat_machine.proofs.AdvancedIn.{space_paged, advances}
 use Rattle.flat_machine.proofs.NoneDone.{none_done}
 use Rattle.flat_machine.proofs.advance.advance.Goals as goal
 
@@ -13,39 +13,19 @@ index-requires c =
     let h = has_space (kept_of c.parts.inside) c.args.pid c.get_mut-task.result.now c.parts.invariant.0.0 c.get_mut-task.ensures.value in
     omega (arith, below c.parts.inside.spaces.items c.get_mut-task.result.now.space h)
 
-pub window_within-window-requires : goal.window_within-window-requires
-window_within-window-requires c =
-    let pages = rw (← c.parts.view_is) at c.requires.whole in
-    let fits = whole_paged (kept_of c.parts.inside) c.args.whole.now c.parts.invariant.0.0 pages in
-    record { pages = fits.0; most = fits.1; whole = fits.2 }
-
-pub table_within-owners-requires : goal.table_within-owners-requires
-table_within-owners-requires c =
-    let pages = rw (← c.parts.view_is) at c.requires.whole in
-    let h = has_space (kept_of c.parts.inside) c.args.pid c.get_mut-task.result.now c.parts.invariant.0.0 c.get_mut-task.ensures.value in
-    record {
-      pages = home_paged (kept_of c.parts.inside) c.args.whole.now c.get_mut-task.result.now.space c.index.result.now c.in-Some.space c.parts.invariant.0.0 h c.index.ensures c.in-Some.is pages;
-      whole = (whole_paged (kept_of c.parts.inside) c.args.whole.now c.parts.invariant.0.0 pages).2;
-    }
-
-pub new-watch-requires-clause-paged : goal.new-watch-requires-clause-paged
-new-watch-requires-clause-paged c =
-    let pages = rw (← c.parts.view_is) at c.requires.whole in
-    reach_paged c.args.reach (kept_of c.parts.inside) c.args.whole.now c.table_within-owners.result.now c.in-Some.space c.parts.invariant.0.0 pages c.table_within-owners.ensures
-
-pub new-watch-requires-clause-window : goal.new-watch-requires-clause-window
-new-watch-requires-clause-window c =
-    let writes = c.table_within-owners.ensures.writes in
-    rw writes c.window_within-window.ensures
+pub with_window-watch-requires-clause-paged : goal.with_window-watch-requires-clause-paged
+with_window-watch-requires-clause-paged c =
+    space_paged (kept_of c.parts.inside) c.args.pid c.get_mut-task.result.now c.index.result.now c.in-Some.space c.owners.result.now c.parts.invariant.0.0
+    c.get_mut-task.ensures.value c.index.ensures c.in-Some.is c.owners.ensures.pages
 
 pub invariant_of-parts : goal.invariant_of-parts
 invariant_of-parts c =
     let ready = subst (λ (k : Kept). CanRun k.procs c.args.pid) (sym c.parts.view_is) c.requires.ready in
-    let pages = rw (← c.parts.view_is) at c.requires.whole in
     let strayed = rw (← c.parts.view_is) at c.requires.strayed in (
-      (advances c.args.reach (kept_of c.parts.inside) c.args.whole.now c.args.pid c.args.count c.get_mut-task.result.now c.index.result.now c.in-Some.space c.table_within-owners.result.now
-          c.new-watch.result.owners.now c.new-watch.result.mem.now c.run_steps.new.watch.mem.now c.run_steps.new.regs c.run_steps.result.done c.run_steps.result.stop
-          c.parts.invariant.0 ready pages strayed c.get_mut-task.ensures.value c.index.ensures c.in-Some.is c.table_within-owners.ensures c.new-watch.ensures.owners c.new-watch.ensures.mem
+      (advances c.args.reach (kept_of c.parts.inside) c.args.pid c.args.count c.get_mut-task.result.now c.index.result.now c.in-Some.space c.with_window-watch.result.mode c.owners.result.now
+          c.with_window-watch.result.owners.now c.with_window-watch.result.mem.now c.run_steps.new.watch.mem.now c.run_steps.new.regs c.run_steps.result.done c.run_steps.result.stop
+          c.parts.invariant.0 ready strayed c.get_mut-task.ensures.value c.index.ensures c.in-Some.is
+          c.owners.ensures.own c.owners.ensures.writable c.owners.ensures.pages (c.with_window-watch.ensures.mode ∙ c.mode_within.ensures) c.with_window-watch.ensures.owners c.with_window-watch.ensures.mem
           c.run_steps.ensures.leaves c.run_steps.ensures.frozen c.run_steps.ensures.length).regular,
       c.parts.invariant.1,
     )
@@ -53,69 +33,71 @@ invariant_of-parts c =
 pub returns-in-Some-clause-ready : goal.returns-in-Some-clause-ready
 returns-in-Some-clause-ready c =
     let ready = subst (λ (k : Kept). CanRun k.procs c.args.pid) (sym c.parts.view_is) c.requires.ready in
-    let pages = rw (← c.parts.view_is) at c.requires.whole in
     let strayed = rw (← c.parts.view_is) at c.requires.strayed in
-    (advances c.args.reach (kept_of c.parts.inside) c.args.whole.now c.args.pid c.args.count c.get_mut-task.result.now c.index.result.now c.in-Some.space c.table_within-owners.result.now
-    c.new-watch.result.owners.now c.new-watch.result.mem.now c.run_steps.new.watch.mem.now c.run_steps.new.regs c.run_steps.result.done c.run_steps.result.stop
-    c.parts.invariant.0 ready pages strayed c.get_mut-task.ensures.value c.index.ensures c.in-Some.is c.table_within-owners.ensures c.new-watch.ensures.owners c.new-watch.ensures.mem
+    (advances c.args.reach (kept_of c.parts.inside) c.args.pid c.args.count c.get_mut-task.result.now c.index.result.now c.in-Some.space c.with_window-watch.result.mode c.owners.result.now
+    c.with_window-watch.result.owners.now c.with_window-watch.result.mem.now c.run_steps.new.watch.mem.now c.run_steps.new.regs c.run_steps.result.done c.run_steps.result.stop
+    c.parts.invariant.0 ready strayed c.get_mut-task.ensures.value c.index.ensures c.in-Some.is
+    c.owners.ensures.own c.owners.ensures.writable c.owners.ensures.pages (c.with_window-watch.ensures.mode ∙ c.mode_within.ensures) c.with_window-watch.ensures.owners c.with_window-watch.ensures.mem
     c.run_steps.ensures.leaves c.run_steps.ensures.frozen c.run_steps.ensures.length).ready
 
 pub returns-in-Some-clause-within : goal.returns-in-Some-clause-within
 returns-in-Some-clause-within c =
     let ready = subst (λ (k : Kept). CanRun k.procs c.args.pid) (sym c.parts.view_is) c.requires.ready in
-    let pages = rw (← c.parts.view_is) at c.requires.whole in
     let strayed = rw (← c.parts.view_is) at c.requires.strayed in
-    (advances c.args.reach (kept_of c.parts.inside) c.args.whole.now c.args.pid c.args.count c.get_mut-task.result.now c.index.result.now c.in-Some.space c.table_within-owners.result.now
-    c.new-watch.result.owners.now c.new-watch.result.mem.now c.run_steps.new.watch.mem.now c.run_steps.new.regs c.run_steps.result.done c.run_steps.result.stop
-    c.parts.invariant.0 ready pages strayed c.get_mut-task.ensures.value c.index.ensures c.in-Some.is c.table_within-owners.ensures c.new-watch.ensures.owners c.new-watch.ensures.mem
+    (advances c.args.reach (kept_of c.parts.inside) c.args.pid c.args.count c.get_mut-task.result.now c.index.result.now c.in-Some.space c.with_window-watch.result.mode c.owners.result.now
+    c.with_window-watch.result.owners.now c.with_window-watch.result.mem.now c.run_steps.new.watch.mem.now c.run_steps.new.regs c.run_steps.result.done c.run_steps.result.stop
+    c.parts.invariant.0 ready strayed c.get_mut-task.ensures.value c.index.ensures c.in-Some.is
+    c.owners.ensures.own c.owners.ensures.writable c.owners.ensures.pages (c.with_window-watch.ensures.mode ∙ c.mode_within.ensures) c.with_window-watch.ensures.owners c.with_window-watch.ensures.mem
     c.run_steps.ensures.leaves c.run_steps.ensures.frozen c.run_steps.ensures.length).within
 
 pub returns-in-Some-clause-still : goal.returns-in-Some-clause-still
 returns-in-Some-clause-still c none =
     let v = c.parts.view_is in
-    rw (← v) (none_done (kept_of c.parts.inside) c.args.pid c.args.count c.get_mut-task.result.now c.new-watch.result.owners.now c.new-watch.result.mem.now c.run_steps.new.watch.mem.now c.run_steps.new.regs
-    c.run_steps.result.done c.run_steps.result.stop c.get_mut-task.ensures.value c.new-watch.ensures.mem c.run_steps.ensures.leaves c.run_steps.ensures.frozen none)
+    rw (← v) (none_done c.args.reach (kept_of c.parts.inside) c.args.pid c.args.count c.get_mut-task.result.now c.in-Some.space c.with_window-watch.result.mode c.owners.result.now
+    c.with_window-watch.result.owners.now c.with_window-watch.result.mem.now c.run_steps.new.watch.mem.now c.run_steps.new.regs c.run_steps.result.done c.run_steps.result.stop
+    c.get_mut-task.ensures.value c.owners.ensures.own c.owners.ensures.writable (c.with_window-watch.ensures.mode ∙ c.mode_within.ensures) c.with_window-watch.ensures.owners c.with_window-watch.ensures.mem
+    c.run_steps.ensures.leaves c.run_steps.ensures.frozen none)
 
 pub returns-in-Some-clause-leads : goal.returns-in-Some-clause-leads
 returns-in-Some-clause-leads c =
     let v = c.parts.view_is in
     let ready = subst (λ (k : Kept). CanRun k.procs c.args.pid) (sym c.parts.view_is) c.requires.ready in
-    let pages = rw (← c.parts.view_is) at c.requires.whole in
     let strayed = rw (← c.parts.view_is) at c.requires.strayed in
-    rw (← v) (advances c.args.reach (kept_of c.parts.inside) c.args.whole.now c.args.pid c.args.count c.get_mut-task.result.now c.index.result.now c.in-Some.space c.table_within-owners.result.now
-    c.new-watch.result.owners.now c.new-watch.result.mem.now c.run_steps.new.watch.mem.now c.run_steps.new.regs c.run_steps.result.done c.run_steps.result.stop
-    c.parts.invariant.0 ready pages strayed c.get_mut-task.ensures.value c.index.ensures c.in-Some.is c.table_within-owners.ensures c.new-watch.ensures.owners c.new-watch.ensures.mem
+    rw (← v) (advances c.args.reach (kept_of c.parts.inside) c.args.pid c.args.count c.get_mut-task.result.now c.index.result.now c.in-Some.space c.with_window-watch.result.mode c.owners.result.now
+    c.with_window-watch.result.owners.now c.with_window-watch.result.mem.now c.run_steps.new.watch.mem.now c.run_steps.new.regs c.run_steps.result.done c.run_steps.result.stop
+    c.parts.invariant.0 ready strayed c.get_mut-task.ensures.value c.index.ensures c.in-Some.is
+    c.owners.ensures.own c.owners.ensures.writable c.owners.ensures.pages (c.with_window-watch.ensures.mode ∙ c.mode_within.ensures) c.with_window-watch.ensures.owners c.with_window-watch.ensures.mem
     c.run_steps.ensures.leaves c.run_steps.ensures.frozen c.run_steps.ensures.length).leads
 
 pub returns-in-Some-clause-halts : goal.returns-in-Some-clause-halts
 returns-in-Some-clause-halts c =
     let ready = subst (λ (k : Kept). CanRun k.procs c.args.pid) (sym c.parts.view_is) c.requires.ready in
-    let pages = rw (← c.parts.view_is) at c.requires.whole in
     let strayed = rw (← c.parts.view_is) at c.requires.strayed in
-    (advances c.args.reach (kept_of c.parts.inside) c.args.whole.now c.args.pid c.args.count c.get_mut-task.result.now c.index.result.now c.in-Some.space c.table_within-owners.result.now
-    c.new-watch.result.owners.now c.new-watch.result.mem.now c.run_steps.new.watch.mem.now c.run_steps.new.regs c.run_steps.result.done c.run_steps.result.stop
-    c.parts.invariant.0 ready pages strayed c.get_mut-task.ensures.value c.index.ensures c.in-Some.is c.table_within-owners.ensures c.new-watch.ensures.owners c.new-watch.ensures.mem
+    (advances c.args.reach (kept_of c.parts.inside) c.args.pid c.args.count c.get_mut-task.result.now c.index.result.now c.in-Some.space c.with_window-watch.result.mode c.owners.result.now
+    c.with_window-watch.result.owners.now c.with_window-watch.result.mem.now c.run_steps.new.watch.mem.now c.run_steps.new.regs c.run_steps.result.done c.run_steps.result.stop
+    c.parts.invariant.0 ready strayed c.get_mut-task.ensures.value c.index.ensures c.in-Some.is
+    c.owners.ensures.own c.owners.ensures.writable c.owners.ensures.pages (c.with_window-watch.ensures.mode ∙ c.mode_within.ensures) c.with_window-watch.ensures.owners c.with_window-watch.ensures.mem
     c.run_steps.ensures.leaves c.run_steps.ensures.frozen c.run_steps.ensures.length).halts
 
 pub returns-in-Some-clause-leads_in : goal.returns-in-Some-clause-leads_in
 returns-in-Some-clause-leads_in c =
     let v = c.parts.view_is in
     let ready = subst (λ (k : Kept). CanRun k.procs c.args.pid) (sym c.parts.view_is) c.requires.ready in
-    let pages = rw (← c.parts.view_is) at c.requires.whole in
     let strayed = rw (← c.parts.view_is) at c.requires.strayed in
-    rw (← v) (advances c.args.reach (kept_of c.parts.inside) c.args.whole.now c.args.pid c.args.count c.get_mut-task.result.now c.index.result.now c.in-Some.space c.table_within-owners.result.now
-    c.new-watch.result.owners.now c.new-watch.result.mem.now c.run_steps.new.watch.mem.now c.run_steps.new.regs c.run_steps.result.done c.run_steps.result.stop
-    c.parts.invariant.0 ready pages strayed c.get_mut-task.ensures.value c.index.ensures c.in-Some.is c.table_within-owners.ensures c.new-watch.ensures.owners c.new-watch.ensures.mem
+    rw (← v) (advances c.args.reach (kept_of c.parts.inside) c.args.pid c.args.count c.get_mut-task.result.now c.index.result.now c.in-Some.space c.with_window-watch.result.mode c.owners.result.now
+    c.with_window-watch.result.owners.now c.with_window-watch.result.mem.now c.run_steps.new.watch.mem.now c.run_steps.new.regs c.run_steps.result.done c.run_steps.result.stop
+    c.parts.invariant.0 ready strayed c.get_mut-task.ensures.value c.index.ensures c.in-Some.is
+    c.owners.ensures.own c.owners.ensures.writable c.owners.ensures.pages (c.with_window-watch.ensures.mode ∙ c.mode_within.ensures) c.with_window-watch.ensures.owners c.with_window-watch.ensures.mem
     c.run_steps.ensures.leaves c.run_steps.ensures.frozen c.run_steps.ensures.length).leads_in
 
 pub returns-in-Some-clause-halts_in : goal.returns-in-Some-clause-halts_in
 returns-in-Some-clause-halts_in c =
     let ready = subst (λ (k : Kept). CanRun k.procs c.args.pid) (sym c.parts.view_is) c.requires.ready in
-    let pages = rw (← c.parts.view_is) at c.requires.whole in
     let strayed = rw (← c.parts.view_is) at c.requires.strayed in
-    (advances c.args.reach (kept_of c.parts.inside) c.args.whole.now c.args.pid c.args.count c.get_mut-task.result.now c.index.result.now c.in-Some.space c.table_within-owners.result.now
-    c.new-watch.result.owners.now c.new-watch.result.mem.now c.run_steps.new.watch.mem.now c.run_steps.new.regs c.run_steps.result.done c.run_steps.result.stop
-    c.parts.invariant.0 ready pages strayed c.get_mut-task.ensures.value c.index.ensures c.in-Some.is c.table_within-owners.ensures c.new-watch.ensures.owners c.new-watch.ensures.mem
+    (advances c.args.reach (kept_of c.parts.inside) c.args.pid c.args.count c.get_mut-task.result.now c.index.result.now c.in-Some.space c.with_window-watch.result.mode c.owners.result.now
+    c.with_window-watch.result.owners.now c.with_window-watch.result.mem.now c.run_steps.new.watch.mem.now c.run_steps.new.regs c.run_steps.result.done c.run_steps.result.stop
+    c.parts.invariant.0 ready strayed c.get_mut-task.ensures.value c.index.ensures c.in-Some.is
+    c.owners.ensures.own c.owners.ensures.writable c.owners.ensures.pages (c.with_window-watch.ensures.mode ∙ c.mode_within.ensures) c.with_window-watch.ensures.owners c.with_window-watch.ensures.mem
     c.run_steps.ensures.leaves c.run_steps.ensures.frozen c.run_steps.ensures.length).halts_in
 
 pub invariant_of-parts-in-None : goal.invariant_of-parts-in-None

@@ -4,49 +4,49 @@ use Rattle.physical_turns.specs.Physical.{called_in}
 use Rattle.syscall_layer.specs.InMemory.{headers_of, physical_of}
 use Rattle.syscall_layer.proofs.Abouts.{some_about}
 use Rattle.flat_machine.proofs.Events.{call_replied, call_turn_ends, call_full, call_strays, trap_ends, refused_strays, nothing_done}
-use Rattle.flat_machine.proofs.EventsIn.{call_replied_in, call_turn_ends_in, call_full_in, call_strays_in, trap_ends_in, trap_fits_in, refused_in, err_within, unchanged_in, quiet_own}
+use Rattle.flat_machine.proofs.EventsIn.{call_replied_in, call_turn_ends_in, call_full_in, call_strays_in, trap_ends_in, trap_fits_in, refused_in, err_within, unchanged_in, holds_own}
 use Rattle.flat_machine.proofs.turn.next_event.Goals as goal
 
 pub returns-in-Replied-clause-carried : goal.returns-in-Replied-clause-carried
 returns-in-Replied-clause-carried g c own a so are =
-    call_replied a c.args.parts.now c.serve_within.new.parts c.args.pid c.args.stop c.in-Call.is (c.requires.stands own a) c.requires.ready c.in_ok-serve_within-in-Call.field-0 c.in-Replied.is (c.in_ok-serve_within-in-Call.ensures.serves own a so are (quiet_own c.args.reach c.args.parts.now.notes own c.requires.strayed))
+    call_replied a c.args.parts.now c.serve_within.new.parts c.args.pid c.args.stop c.in-Call.is (c.requires.stands own a) c.requires.ready c.in_ok-serve_within-in-Call.field-0 c.in-Replied.is (c.in_ok-serve_within-in-Call.ensures.serves own a so are (holds_own c.args.reach c.args.parts.now own c.requires.strayed))
 
 pub returns-in-Replied-clause-memory : goal.returns-in-Replied-clause-memory
 returns-in-Replied-clause-memory g c a so are =
     call_replied_in (headers_of c.args.programs.now) a c.args.reach c.args.parts.now c.args.pid c.args.stop c.requires.strayed (λ own. c.requires.stands own a) (c.requires.stands_in (headers_of c.args.programs.now) a)
-    c.in-Call.is c.requires.ready c.serve_within.new.parts c.in_ok-serve_within-in-Call.field-0 (λ own. c.in_ok-serve_within-in-Call.ensures.serves own a so are (quiet_own c.args.reach c.args.parts.now.notes own c.requires.strayed)) (c.in_ok-serve_within-in-Call.ensures.memory a so are) c.in-Replied.is
+    c.in-Call.is c.requires.ready c.serve_within.new.parts c.in_ok-serve_within-in-Call.field-0 (λ own. c.in_ok-serve_within-in-Call.ensures.serves own a so are (holds_own c.args.reach c.args.parts.now own c.requires.strayed)) (c.in_ok-serve_within-in-Call.ensures.memory a so are) c.in-Replied.is
 
 pub returns-in-TurnEnds-clause-carried : goal.returns-in-TurnEnds-clause-carried
 returns-in-TurnEnds-clause-carried g c own a so are =
-    call_turn_ends a c.args.parts.now c.serve_within.new.parts c.args.pid c.args.stop c.in-Call.is (c.requires.stands own a) c.in_ok-serve_within-in-Call.field-0 c.in-TurnEnds.is (c.in_ok-serve_within-in-Call.ensures.serves own a so are (quiet_own c.args.reach c.args.parts.now.notes own c.requires.strayed))
+    call_turn_ends a c.args.parts.now c.serve_within.new.parts c.args.pid c.args.stop c.in-Call.is (c.requires.stands own a) c.in_ok-serve_within-in-Call.field-0 c.in-TurnEnds.is (c.in_ok-serve_within-in-Call.ensures.serves own a so are (holds_own c.args.reach c.args.parts.now own c.requires.strayed))
 
 pub returns-in-TurnEnds-clause-memory : goal.returns-in-TurnEnds-clause-memory
 returns-in-TurnEnds-clause-memory g c a so are =
     call_turn_ends_in (headers_of c.args.programs.now) a c.args.reach c.args.parts.now c.args.pid c.args.stop c.requires.strayed (λ own. c.requires.stands own a) (c.requires.stands_in (headers_of c.args.programs.now) a)
-    c.in-Call.is c.requires.ready c.serve_within.new.parts c.in_ok-serve_within-in-Call.field-0 (λ own. c.in_ok-serve_within-in-Call.ensures.serves own a so are (quiet_own c.args.reach c.args.parts.now.notes own c.requires.strayed)) (c.in_ok-serve_within-in-Call.ensures.memory a so are) c.in-TurnEnds.is
+    c.in-Call.is c.requires.ready c.serve_within.new.parts c.in_ok-serve_within-in-Call.field-0 (λ own. c.in_ok-serve_within-in-Call.ensures.serves own a so are (holds_own c.args.reach c.args.parts.now own c.requires.strayed)) (c.in_ok-serve_within-in-Call.ensures.memory a so are) c.in-TurnEnds.is
 
 pub returns-in-LogFull-clause-carried : goal.returns-in-LogFull-clause-carried
 returns-in-LogFull-clause-carried g c own a so are =
-    call_full a c.args.parts.now c.serve_within.new.parts c.args.pid c.args.stop c.in-Call.is (c.requires.stands own a) c.in_ok-serve_within-in-Call.field-0 c.in-LogFull.is (c.in_ok-serve_within-in-Call.ensures.serves own a so are (quiet_own c.args.reach c.args.parts.now.notes own c.requires.strayed))
+    call_full a c.args.parts.now c.serve_within.new.parts c.args.pid c.args.stop c.in-Call.is (c.requires.stands own a) c.in_ok-serve_within-in-Call.field-0 c.in-LogFull.is (c.in_ok-serve_within-in-Call.ensures.serves own a so are (holds_own c.args.reach c.args.parts.now own c.requires.strayed))
 
 pub returns-in-LogFull-clause-memory : goal.returns-in-LogFull-clause-memory
 returns-in-LogFull-clause-memory g c a so are =
     call_full_in (headers_of c.args.programs.now) a c.args.reach c.args.parts.now c.args.pid c.args.stop c.requires.strayed (λ own. c.requires.stands own a) (c.requires.stands_in (headers_of c.args.programs.now) a)
-    c.in-Call.is c.requires.ready c.serve_within.new.parts c.in_ok-serve_within-in-Call.field-0 (λ own. c.in_ok-serve_within-in-Call.ensures.serves own a so are (quiet_own c.args.reach c.args.parts.now.notes own c.requires.strayed)) (c.in_ok-serve_within-in-Call.ensures.memory a so are) c.in-LogFull.is
+    c.in-Call.is c.requires.ready c.serve_within.new.parts c.in_ok-serve_within-in-Call.field-0 (λ own. c.in_ok-serve_within-in-Call.ensures.serves own a so are (holds_own c.args.reach c.args.parts.now own c.requires.strayed)) (c.in_ok-serve_within-in-Call.ensures.memory a so are) c.in-LogFull.is
 
 pub returns-in-Stray-clause-carried : goal.returns-in-Stray-clause-carried
 returns-in-Stray-clause-carried g c own a so are =
     call_strays a c.args.parts.now c.stray.new.parts c.args.pid c.args.stop c.in-Call.is (c.requires.stands own a) c.in_ok-serve_within-in-Call.field-0 c.in-Stray.access c.serve_within.new.parts c.in-Stray.is
-    (c.in_ok-serve_within-in-Call.ensures.serves own a so are (quiet_own c.args.reach c.args.parts.now.notes own c.requires.strayed)) c.stray.result c.stray.ensures.tells
+    (c.in_ok-serve_within-in-Call.ensures.serves own a so are (holds_own c.args.reach c.args.parts.now own c.requires.strayed)) c.stray.result c.stray.ensures.tells
 
 pub returns-in-Stray-clause-memory : goal.returns-in-Stray-clause-memory
 returns-in-Stray-clause-memory g c a so are =
     call_strays_in (headers_of c.args.programs.now) a c.args.reach c.args.parts.now c.args.pid c.args.stop c.requires.strayed (λ own. c.requires.stands own a) (c.requires.stands_in (headers_of c.args.programs.now) a)
-    c.in-Call.is c.serve_within.new.parts c.stray.new.parts c.in-Stray.access c.in_ok-serve_within-in-Call.field-0 c.in-Stray.is (λ own. c.in_ok-serve_within-in-Call.ensures.serves own a so are (quiet_own c.args.reach c.args.parts.now.notes own c.requires.strayed)) (c.in_ok-serve_within-in-Call.ensures.memory a so are) c.stray.result c.stray.ensures.tells
+    c.in-Call.is c.serve_within.new.parts c.stray.new.parts c.in-Stray.access c.in_ok-serve_within-in-Call.field-0 c.in-Stray.is (λ own. c.in_ok-serve_within-in-Call.ensures.serves own a so are (holds_own c.args.reach c.args.parts.now own c.requires.strayed)) (c.in_ok-serve_within-in-Call.ensures.memory a so are) c.stray.result c.stray.ensures.tells
 
 pub returns-in_err-serve_within-in-Call-clause-carried : goal.returns-in_err-serve_within-in-Call-clause-carried
 returns-in_err-serve_within-in-Call-clause-carried g c own a so are =
-    nothing_done a c.args.parts.now c.serve_within.new.parts c.args.pid c.from_residual.result c.from_residual.ensures.0 (c.in_err-serve_within-in-Call.ensures.serves own a so are (quiet_own c.args.reach c.args.parts.now.notes own c.requires.strayed))
+    nothing_done a c.args.parts.now c.serve_within.new.parts c.args.pid c.from_residual.result c.from_residual.ensures.0 (c.in_err-serve_within-in-Call.ensures.serves own a so are (holds_own c.args.reach c.args.parts.now own c.requires.strayed))
 
 pub returns-in_err-serve_within-in-Call-clause-memory : goal.returns-in_err-serve_within-in-Call-clause-memory
 returns-in_err-serve_within-in-Call-clause-memory g c a so are =

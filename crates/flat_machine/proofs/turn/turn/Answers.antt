@@ -26,10 +26,6 @@ loop-events-init g c = record {
   still = λ none. refl;
 }
 
-pub advance-progress-requires-clause-whole : goal.advance-progress-requires-clause-whole
-advance-progress-requires-clause-whole g c =
-    c.requires.whole ∙ ap whole_table (sym c.loop-events.invariant.regions)
-
 pub returns-then-eq-clause-notes : goal.returns-then-eq-clause-notes
 returns-then-eq-clause-notes g c =
     ap has_stray c.advance-progress.ensures.notes ∙ c.loop-events.invariant.notes

@@ -16,6 +16,7 @@ loop-quantum-init g c = record {
   kind = refl;
   mode = refl;
   halts = λ halting. halting;
+  copies = λ halting held. held;
   comes = λ halting. comes_none (world c.args.self.now);
   memory = λ go. comes_in_none (one_memory c.args.self.now);
   first = λ go quiet. first_quiet [] (world c.args.self.now) (world c.args.self.now) (Ok None) quiet (comes_none (world c.args.self.now));
@@ -67,6 +68,7 @@ loop-quantum-preserved g c =
       kind = c.in_ok-end.ensures.kind ∙ c.loop-quantum.invariant.kind;
       mode = c.in_ok-end.ensures.mode ∙ c.loop-quantum.invariant.mode;
       halts = λ halting. c.in_ok-end.ensures.quiet (c.loop-quantum.invariant.halts halting) (ap (λ (end : Option Told). is_stray (Ok end)) c.in_default.is);
+      copies = λ halting held. c.in_ok-end.ensures.copies (c.loop-quantum.invariant.halts halting) (c.loop-quantum.invariant.copies halting held);
       comes = λ halting. round_on c.args.quanta.now c.loop-quantum.quantum-index (record { pick = 0; count = 0 }) c.loop-quantum-test.true (world c.args.self.now) (world c.loop-quantum.self) (world c.take_turn.new.self)
           (c.loop-quantum.invariant.comes halting) (leaves (c.loop-quantum.invariant.halts halting));
       memory = λ go. round_on_in c.args.quanta.now c.loop-quantum.quantum-index (record { pick = 0; count = 0 }) c.loop-quantum-test.true (one_memory c.args.self.now) (one_memory c.loop-quantum.self) (one_memory c.take_turn.new.self)
@@ -81,3 +83,12 @@ returns-in_err-end-clause-quiet g c halting is = c.in_err-end.ensures.quiet (c.l
 
 pub returns-in-Some-clause-quiet : goal.returns-in-Some-clause-quiet
 returns-in-Some-clause-quiet g c halting is = (rw c.in-Some.is at c.in_ok-end.ensures.quiet) (c.loop-quantum.invariant.halts halting) is
+
+pub returns-in_err-end-clause-copies : goal.returns-in_err-end-clause-copies
+returns-in_err-end-clause-copies g c halting held = c.in_err-end.ensures.copies (c.loop-quantum.invariant.halts halting) (c.loop-quantum.invariant.copies halting held)
+
+pub returns-in-Some-clause-copies : goal.returns-in-Some-clause-copies
+returns-in-Some-clause-copies g c halting held = c.in_ok-end.ensures.copies (c.loop-quantum.invariant.halts halting) (c.loop-quantum.invariant.copies halting held)
+
+pub returns-clause-copies : goal.returns-clause-copies
+returns-clause-copies g c halting held = c.loop-quantum.invariant.copies halting held

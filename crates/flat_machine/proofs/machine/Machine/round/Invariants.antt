@@ -4,8 +4,9 @@ use Rattle.std.specs.Prelude.{sum_by}
 use Rattle.machine_world.specs.Courses.{Comes}
 use Rattle.physical_turns.specs.Physical.{has_stray}
 use Rattle.physical_turns.specs.Courses.{ComesIn}
-use Rattle.syscall_layer.specs.declared.mode.Mode.TheVariants.{GoOn}
+use Rattle.region_watch.specs.declared.mode.Mode.TheVariants.{GoOn}
 use Rattle.flat_machine.specs.State.{world, one_memory}
+use Rattle.syscall_layer.specs.Copies.{HoldsFiles}
 use Rattle.flat_machine.specs.RunsIn.{IsHalting}
 use Rattle.flat_machine.specs.LeavesIn.{LeavesFirst}
 use Rattle.flat_machine.proofs.machine.Machine.round.Given as goal
@@ -15,6 +16,7 @@ invariant-loop-quantum g l = record {
   kind : l.self.kind ≡ l.fn.self.kind;
   mode : l.self.mode ≡ l.fn.self.mode;
   halts : IsHalting l.fn.self → IsHalting l.self;
+  copies : IsHalting l.fn.self → HoldsFiles l.fn.self.kept → HoldsFiles l.self.kept;
   comes : IsHalting l.fn.self → Comes (take l.quantum-index l.quanta) (world l.fn.self) (world l.self);
   memory : l.fn.self.mode ≡ GoOn → ComesIn (take l.quantum-index l.quanta) (one_memory l.fn.self) (one_memory l.self);
   first : l.fn.self.mode ≡ GoOn → has_stray (world l.fn.self).notes ≡ false → LeavesFirst (take l.quantum-index l.quanta) (world l.fn.self) (world l.self) (Ok None);

@@ -1,12 +1,15 @@
 -- The times so far, and the next.
-use Rattle.std.proofs.Common.{ℕ, ◌≡◌, [], refl, ap, subst, ◌∙◌, arith, Option, None, Some, Ok}
+use Rattle.std.proofs.Common.{ℕ, ◌≡◌, false, [], refl, sym, ap, subst, ◌∙◌, arith, Option, None, Some, Ok}
 use Rattle.std.specs.Prelude.{sum_by}
 use Rattle.quantum_sched.specs.declared.Quantum.{Quantum}
 use Rattle.machine_world.specs.Turns.{turns}
 use Rattle.machine_world.proofs.RunLaws.{comes_none}
 use Rattle.physical_turns.proofs.TurnsIn.{comes_in_none}
+use Rattle.physical_turns.specs.Physical.{has_stray}
+use Rattle.syscall_layer.specs.Stands.{world_of}
 use Rattle.flat_machine.specs.declared.run.End.{End as Told}
 use Rattle.flat_machine.specs.declared.run.End.TheVariants as told
+use Rattle.syscall_layer.specs.Copies.{HoldsFiles}
 use Rattle.flat_machine.specs.LeavesIn.{is_stray}
 use Rattle.flat_machine.specs.RunsIn.{ends_astray}
 use Rattle.flat_machine.specs.State.{State, about_of, world, one_memory}
@@ -18,10 +21,12 @@ use Rattle.flat_machine.proofs.Waiting.{run_keeps_waits, run_waits_where_stuck}
 use Rattle.flat_machine.proofs.machine.Machine.run_repeated.Goals as goal
 
 pub loop-time-init : goal.loop-time-init
+unfolding world_of
 loop-time-init g c = record {
   kind = refl;
   mode = refl;
   halts = λ halting. halting;
+  copies = λ halting. subst (λ (s : State). HoldsFiles s.kept) c.self.view_is (c.tell_copies.ensures (subst (λ (s : State). has_stray s.kept.notes ≡ false) (sym c.self.view_is) halting.quiet));
   comes = λ halting. comes_none (world c.args.self.now);
   memory = λ go. comes_in_none (one_memory c.args.self.now);
   first = λ go quiet. first_quiet [] (world c.args.self.now) (world c.args.self.now) (Ok None) quiet (comes_none (world c.args.self.now));
@@ -78,6 +83,7 @@ loop-time-preserved g c =
       kind = c.in_ok-end.ensures.kind ∙ c.loop-time.invariant.kind;
       mode = c.in_ok-end.ensures.mode ∙ c.loop-time.invariant.mode;
       halts = λ halting. c.in_ok-end.ensures.quiet (c.loop-time.invariant.halts halting) (ap (λ (end : Option Told). is_stray (Ok end)) c.in_default.is);
+      copies = λ halting. c.in_ok-end.ensures.copies (c.loop-time.invariant.halts halting) (c.loop-time.invariant.copies halting);
       comes = λ halting. time_on c.args.quanta.now c.loop-time._time c.args.count c.loop-time-test.true (world c.args.self.now) (world c.loop-time.self) (world c.round.new.self) (c.loop-time.invariant.comes halting) (leaves (c.loop-time.invariant.halts halting));
       memory = λ go. time_on_in c.args.quanta.now c.loop-time._time c.args.count c.loop-time-test.true (one_memory c.args.self.now) (one_memory c.loop-time.self) (one_memory c.round.new.self) (c.loop-time.invariant.memory go) (memory (c.loop-time.invariant.mode ∙ go));
       first = λ go quiet. time_first c.args.quanta.now c.loop-time._time c.args.count c.loop-time-test.true c.args.self.now c.loop-time.self c.round.new.self (c.loop-time.invariant.first go quiet) (memory (c.loop-time.invariant.mode ∙ go)) (first (c.loop-time.invariant.mode ∙ go));
@@ -146,3 +152,14 @@ returns-in_err-end-clause-quiet g c halting is = c.in_err-end.ensures.quiet (c.l
 
 pub returns-in-Some-clause-quiet : goal.returns-in-Some-clause-quiet
 returns-in-Some-clause-quiet g c halting is = (rw c.in-Some.is at c.in_ok-end.ensures.quiet) (c.loop-time.invariant.halts halting) (stray_same c.in-Some.end ∙ is)
+
+-- ---- live copies
+
+pub returns-in_err-end-clause-copies : goal.returns-in_err-end-clause-copies
+returns-in_err-end-clause-copies g c halting = c.in_err-end.ensures.copies (c.loop-time.invariant.halts halting) (c.loop-time.invariant.copies halting)
+
+pub returns-in-Some-clause-copies : goal.returns-in-Some-clause-copies
+returns-in-Some-clause-copies g c halting = c.in_ok-end.ensures.copies (c.loop-time.invariant.halts halting) (c.loop-time.invariant.copies halting)
+
+pub returns-clause-copies : goal.returns-clause-copies
+returns-clause-copies g c halting = c.loop-time.invariant.copies halting

@@ -4,9 +4,10 @@ use Rattle.std.specs.Prelude.{sum_by}
 use Rattle.machine_world.specs.Courses.{Comes}
 use Rattle.physical_turns.specs.Physical.{has_stray}
 use Rattle.physical_turns.specs.Courses.{ComesIn}
-use Rattle.syscall_layer.specs.declared.mode.Mode.TheVariants.{GoOn}
+use Rattle.region_watch.specs.declared.mode.Mode.TheVariants.{GoOn}
 use Rattle.flat_machine.specs.State.{world, one_memory}
 use Rattle.flat_machine.specs.Runs.{repeated}
+use Rattle.syscall_layer.specs.Copies.{HoldsFiles}
 use Rattle.flat_machine.specs.RunsIn.{IsHalting}
 use Rattle.flat_machine.specs.LeavesIn.{LeavesFirst}
 use Rattle.flat_machine.proofs.machine.Machine.run_repeated.Given as goal
@@ -16,6 +17,7 @@ invariant-loop-time g l = record {
   kind : l.self.kind ≡ l.fn.self.kind;
   mode : l.self.mode ≡ l.fn.self.mode;
   halts : IsHalting l.fn.self → IsHalting l.self;
+  copies : IsHalting l.fn.self → HoldsFiles l.self.kept;
   comes : IsHalting l.fn.self → Comes (repeated l._time l.quanta) (world l.fn.self) (world l.self);
   memory : l.fn.self.mode ≡ GoOn → ComesIn (repeated l._time l.quanta) (one_memory l.fn.self) (one_memory l.self);
   first : l.fn.self.mode ≡ GoOn → has_stray (world l.fn.self).notes ≡ false → LeavesFirst (repeated l._time l.quanta) (world l.fn.self) (world l.self) (Ok None);

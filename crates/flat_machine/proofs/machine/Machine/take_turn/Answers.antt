@@ -10,8 +10,8 @@ use Rattle.syscall_layer.specs.declared.reach.Reach.TheVariants.{Own, Whole}
 use Rattle.syscall_layer.specs.InMemory.{without_newest}
 use Rattle.syscall_layer.specs.Kept.{Kept}
 use Rattle.syscall_layer.specs.Regular.{IsRegular}
-use Rattle.syscall_layer.specs.declared.mode.Mode.{Mode}
-use Rattle.syscall_layer.specs.declared.mode.Mode.TheVariants.{GoOn}
+use Rattle.region_watch.specs.declared.mode.Mode.{Mode}
+use Rattle.region_watch.specs.declared.mode.Mode.TheVariants.{GoOn}
 use Rattle.flat_machine.specs.declared.run.End.TheVariants as told
 use Rattle.flat_machine.specs.State.{State, about_of, world, one_memory, is_whole}
 use Rattle.flat_machine.specs.Inside.{state_of}
@@ -180,3 +180,8 @@ returns-clause-first g c go quiet =
     c.turn_of-events.ensures.notes ∙ ap is_whole (c.turn_of-events.ensures.reach ∙ calm_reach c.args.self.now.reach c.turn_of-events.result.end calm ∙ own) in
     first_quiet (c.args.quantum ∷ []) (world c.args.self.now) (world c.turn_of-events.new.self) c.turn_of-events.result.end still
     (quantum_leaves c.args.quantum (world c.args.self.now) c.in-Some.pid picks c.turn_of-events.result.events (world c.turn_of-events.new.self) c.turn_of-events.result.end (c.turn_of-events.ensures.leaves own))
+
+pub returns-clause-copies : goal.returns-clause-copies
+returns-clause-copies g c halting held =
+    let v = c.self.view_is in
+    c.turn_of-events.ensures.copies (own_here c.args.self.now halting.quiet (rw (← v) c.self.invariant.strayed))

@@ -3,12 +3,16 @@ use Rattle.std.proofs.Common.{◌≡◌, length, sym, ap, subst, ◌∙◌}
 use Rattle.std.specs.Prelude.{OnErr}
 use Rattle.std.proofs.lemmas.List.{length-map}
 use Rattle.syscall_layer.specs.Flats.{AreFlats}
-use Rattle.syscall_layer.specs.InMemory.{headers_of}
+use Rattle.syscall_layer.specs.declared.reach.Reach.{Reach}
+use Rattle.syscall_layer.specs.declared.reach.Reach.TheVariants.{Own}
+use Rattle.syscall_layer.specs.InMemory.{headers_of, physical_of}
 use Rattle.syscall_layer.specs.Reach.{whole_table}
-use Rattle.syscall_layer.specs.Stands.{world_of}
+use Rattle.syscall_layer.specs.Stands.{later, world_of}
 use Rattle.flat_machine.specs.State.{State, about_of, is_whole}
 use Rattle.flat_machine.specs.Inside.{state_of}
+use Rattle.flat_machine.specs.LeavesIn.{TurnLeavesIn, reach_behind}
 use Rattle.flat_machine.proofs.Readers.{are_flats, programs_count}
+use Rattle.flat_machine.proofs.HoldFiles.{turn_holds}
 use Rattle.flat_machine.proofs.TurnsOf.{loads_behind, sound_behind}
 use Rattle.flat_machine.proofs.machine.Machine.turn_of.Goals as goal
 
@@ -63,3 +67,17 @@ returns-clause-memory g c =
     let v = c.self.view_is in
     let memory = rw c.deref.ensures.value at (c.turn-events.ensures.memory a so are) in
     rw (← v, c.from.ensures) memory
+
+pub returns-clause-copies : goal.returns-clause-copies
+returns-clause-copies g c own =
+    let m = c.self.inside in
+    let s = state_of m in
+    let a = about_of s in
+    let same : length s.paths ≡ length s.programs = length-map m.paths.items (λ path. path.items) ∙ c.self.invariant.paths in
+    let so = ap (λ (x : State). x.kind) c.self.view_is ∙ sym c.requires.kind in
+    let are = subst (AreFlats a.programs) (sym c.deref.ensures.value) (are_flats s.paths s.programs same) in
+    let here : m.reach ≡ Own = ap (λ (x : State). x.reach) c.self.view_is ∙ own in
+    let memory = subst (λ (reach : Reach). TurnLeavesIn reach c.args.pid c.args.count (physical_of (headers_of c.deref.result.now) a m.parts) c.turn-events.result.events
+    (physical_of (headers_of c.deref.result.now) (later c.turn-events.result.events a) c.turn-events.new.parts) c.turn-events.result.end) here (c.turn-events.ensures.memory a so are) in
+    turn_holds (headers_of c.deref.result.now) a (later c.turn-events.result.events a) c.args.pid c.args.count c.turn-events.result.events m.parts c.turn-events.new.parts c.turn-events.result.end memory
+    c.turn-events.ensures.sound (c.turn-events.ensures.notes ∙ ap (λ (reach : Reach). is_whole (reach_behind reach c.turn-events.result.end)) here) c.tell_copies.ensures
