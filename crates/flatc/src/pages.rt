@@ -31,7 +31,7 @@ exit status:
   1   wrong arguments
   2   a file can't be read
   3   a file is refused
-  4   a program's next access isn't to its own memory
+  4   a program's next access isn't to memory that it may use so
   5   the quanta of a run are used up
   6   the log of a run is full
   7   standard output or error can't be written

@@ -5,12 +5,12 @@ ghost use Rattle.std.specs.Result.{result_ok};
 ghost use Rattle.std.specs.Vec.Iter.{into_iter_items};
 ghost use Rattle.flatc.specs.Pages.{page_of};
 ghost use Rattle.flatc.specs.Program.{Ends, Exits};
-ghost use Rattle.page_runs.specs.Choosers.{IsChooser, kind_of};
 ghost use Rattle.suite_top.specs.Observed.{observed, observed_sink};
+ghost use Rattle.suite_top.specs.Placements.{ArePlacements};
 
 use crate::pages::{HELP, VERSION, page_of};
 use host_io::{Host, Sink};
-use page_runs::{Kind, Run};
+use page_runs::Run;
 use std::alloc::{AllocError, Global};
 use std::process::ExitCode;
 use std::rt::Env;
@@ -43,12 +43,7 @@ where
     A: Fn(&[Run], u32) -> Option<usize>,
     B: Fn(&[Run], u32) -> Option<usize>,
     C: Fn(&[Run], u32) -> Option<usize>,
-    requires first { IsChooser A.pre A.post place.now.first }
-    requires first_kind { kind_of place.now.first ≡ Kind.First }
-    requires best { IsChooser B.pre B.post place.now.best }
-    requires best_kind { kind_of place.now.best ≡ Kind.Best }
-    requires last { IsChooser C.pre C.post place.now.last }
-    requires last_kind { kind_of place.now.last ≡ Kind.Last }
+    requires { ArePlacements A.pre A.post B.pre B.post C.pre C.post place.now }
     ensures { Ends (page_of HELP.now VERSION.now) (Some (map string_bytes arguments.now))
         (observed H.told H.faults host.old) (observed H.told H.faults host.new)
         (observed_sink O.told O.faults O.shortages out.old) (observed_sink O.told O.faults O.shortages out.new)
@@ -73,12 +68,7 @@ where
     A: Fn(&[Run], u32) -> Option<usize>,
     B: Fn(&[Run], u32) -> Option<usize>,
     C: Fn(&[Run], u32) -> Option<usize>,
-    requires first { IsChooser A.pre A.post place.now.first }
-    requires first_kind { kind_of place.now.first ≡ Kind.First }
-    requires best { IsChooser B.pre B.post place.now.best }
-    requires best_kind { kind_of place.now.best ≡ Kind.Best }
-    requires last { IsChooser C.pre C.post place.now.last }
-    requires last_kind { kind_of place.now.last ≡ Kind.Last }
+    requires { ArePlacements A.pre A.post B.pre B.post C.pre C.post place.now }
     ensures { Ends (page_of HELP.now VERSION.now) (option_map (λ read. map string_bytes read.items) (result_ok arguments))
         (observed H.told H.faults host.old) (observed H.told H.faults host.new)
         (observed_sink O.told O.faults O.shortages out.old) (observed_sink O.told O.faults O.shortages out.new)
@@ -113,12 +103,7 @@ where
     A: Fn(&[Run], u32) -> Option<usize>,
     B: Fn(&[Run], u32) -> Option<usize>,
     C: Fn(&[Run], u32) -> Option<usize>,
-    requires first { IsChooser A.pre A.post place.now.first }
-    requires first_kind { kind_of place.now.first ≡ Kind.First }
-    requires best { IsChooser B.pre B.post place.now.best }
-    requires best_kind { kind_of place.now.best ≡ Kind.Best }
-    requires last { IsChooser C.pre C.post place.now.last }
-    requires last_kind { kind_of place.now.last ≡ Kind.Last }
+    requires { ArePlacements A.pre A.post B.pre B.post C.pre C.post place.now }
     ensures { Exits (page_of HELP.now VERSION.now) (option_map (λ read. map string_bytes read.items) (result_ok arguments))
         (observed H.told H.faults host.old) (observed H.told H.faults host.new)
         (observed_sink O.told O.faults O.shortages out.old) (observed_sink O.told O.faults O.shortages out.new)

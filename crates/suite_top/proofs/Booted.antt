@@ -17,8 +17,8 @@ use Rattle.syscall_layer.specs.Stands.{world_of}
 use Rattle.physical_turns.specs.Physical.{Physical, opening as memory_opening}
 use Rattle.flat_machine.specs.declared.boot.BootRefusal.{BootRefusal}
 use Rattle.flat_machine.specs.declared.boot.BootRefusal.TheVariants as refusal
-use Rattle.syscall_layer.specs.declared.mode.Mode.{Mode}
-use Rattle.syscall_layer.specs.declared.mode.Mode.TheVariants.{Halt, GoOn}
+use Rattle.region_watch.specs.declared.mode.Mode.{Mode}
+use Rattle.region_watch.specs.declared.mode.Mode.TheVariants.{Halt, GoOn}
 use Rattle.flat_machine.specs.State.{State, world, one_memory, lines_of}
 use Rattle.flat_machine.specs.Boots.{Boots}
 use Rattle.suite_top.specs.declared.telling.Telling.{Telling}

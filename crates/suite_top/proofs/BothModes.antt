@@ -12,7 +12,7 @@ use Rattle.machine_world.specs.Boot.{BootFault, boot}
 use Rattle.physical_turns.specs.Physical.{physical_turns, opening as memory_opening}
 use Rattle.go_on_laws.proofs.NeverStrays.{runs_never_stray}
 use Rattle.flat_machine.specs.Runs.{repeated}
-use Rattle.syscall_layer.specs.declared.mode.Mode.TheVariants.{Halt, GoOn}
+use Rattle.region_watch.specs.declared.mode.Mode.TheVariants.{Halt, GoOn}
 use Rattle.run_setup.specs.Brought.{Brought, FaultAt, nothing_brought, all_brought}
 use Rattle.suite_top.specs.Texts.Refusals.{too_long_at, manifest_tail, line_tail}
 use Rattle.suite_top.specs.declared.status.Status.TheVariants.{Stray}

@@ -1,13 +1,9 @@
 -- What a call of `demo` does.
-use Rattle.std.proofs.Common.{◌≡◌, ℕ, List, [], map, Option, Some, None, Result, Ok, Err, refl, sym, ap, subst, ◌∙◌}
+use Rattle.std.proofs.Common.{◌≡◌, ℕ, List, [], Option, Some, None, ◌⊎◌, inl, inr, refl, sym, ap, subst, ◌∙◌}
 use Rattle.page_runs.specs.declared.place.Kind.TheVariants.{First}
-use Rattle.manifest_text.specs.Values.{Manifest}
 use Rattle.machine_world.specs.World.{World}
-use Rattle.machine_world.specs.Turns.{End, all_ended, stuck, out_of_quanta, stray_at, log_full, Walk, turns}
-use Rattle.machine_world.specs.Boot.{BootFault, boot}
-use Rattle.syscall_layer.specs.declared.mode.Mode.TheVariants.{Halt}
-use Rattle.flat_machine.specs.Runs.{repeated}
-use Rattle.run_setup.specs.Brought.{Brought, FaultAt, nothing_brought, all_brought}
+use Rattle.machine_world.specs.Turns.{End, all_ended, stuck, out_of_quanta, stray_at, log_full}
+use Rattle.region_watch.specs.declared.mode.Mode.TheVariants.{Halt}
 use Rattle.elf_maker.specs.Demo.{demo_file}
 use Rattle.suite_top.specs.declared.status.Status.TheVariants.{Done}
 use Rattle.suite_top.specs.declared.telling.Telling.TheVariants.{Demo}
@@ -16,16 +12,20 @@ use Rattle.suite_top.specs.Report.{own_dumps}
 use Rattle.suite_top.specs.Telling.{demonstrated_ending}
 use Rattle.host_io.specs.Host.{Told}
 use Rattle.suite_top.specs.Arguments.{Invocation, demo, command_of}
+use Rattle.suite_top.specs.Outcome.{Outcome}
 use Rattle.suite_top.specs.Result.{command_outcome, result_of}
 use Rattle.suite_top.specs.Observed.{Observed}
 use Rattle.suite_top.specs.HostCourse.{PerformsCommand}
 use Rattle.suite_top.specs.Call.{outcome_of}
-use Rattle.suite_top.specs.Run.{start_line, opening, booted_ending, brought_ending, files_ending}
+use Rattle.suite_top.specs.Run.Booted.{booted_turns}
+use Rattle.suite_top.specs.Run.Laws.{IsStop, IsEarly}
 use Rattle.suite_top.specs.Demo.{each_of, demo_manifest, demo_ending}
-use Rattle.suite_top.specs.Demo.Laws.{DemosConvert, DemosAskNothing, TellsALine, DemosTellALine}
+use Rattle.suite_top.specs.Demo.Laws.{DemosConvert, DemosAskNothing, DemosRunWhereTheyOpen, DemosOpenWhereTheyStop, DemosStopOrAreRefused, DemosTellALine}
 use Rattle.suite_top.proofs.HostLaws.{untouched_at}
 use Rattle.suite_top.proofs.HostSteps.{asks_nothing}
+use Rattle.suite_top.proofs.RunOutcomes.{demo_by, told_status}
 use Rattle.suite_top.proofs.RunEndings.{files_are_told}
+use Rattle.suite_top.proofs.RunLaws.{runs_where_booted, booted_where_it_stops}
 use Rattle.suite_top.proofs.DemoFaults.{program_has_no_fault}
 
 -- nothing is asked
@@ -43,36 +43,44 @@ demos_ask_nothing c n (ending, performs, delivers) is =
     let none : (outcome_of c).requests ≡ [] = ap (λ (o : Option Invocation). (command_outcome o c.inputs).requests) is in
     untouched_at (outcome_of c).requests none performs.course performs.is_course c.host.told c.host_after.told performs.told c.host.faults c.host_after.faults performs.faults
 
--- an ending with another status isn't Done
-other_end : (n : ℕ) (other : Ending) → (other.status ≡ Done → ⊥) → demo_ending n ≡ other → (demo_ending n).status ≡ Done → TellsALine n
-other_end n other never is done = absurd (never (sym (ap (λ (s : Ending). s.status) is) ∙ done))
+-- ---- when a demo reaches its machine
 
-module _ (n : ℕ) where
-  abbrev m : Manifest
-  m = demo_manifest n
+pub demos_run_where_they_open : DemosRunWhereTheyOpen
+unfolding demo_ending
+demos_run_where_they_open n o = runs_where_booted (Demo n) Halt First (demo_manifest n) (each_of demo_file n) o
 
-  module _ (b : Brought) (brings : all_brought m.items (each_of demo_file n) nothing_brought ≡ Ok b) where
-    stopped : (w : World) → boot (opening First m b) (map start_line m.starts) ≡ Ok w → (walk : Walk) → turns (repeated m.repeat m.quanta) w ≡ walk
-        → (end : Option End) → walk.end ≡ end → demo_ending n ≡ demonstrated_ending n (own_dumps walk.world m.dumps) walk.world end → (demo_ending n).status ≡ Done → TellsALine n
-    stopped w boots walk walks None ends is done = other_end n _ (λ h. cc) is done
-    stopped w boots walk walks (Some all_ended) ends is done =
-        record { brought = b; brings = brings; world = w; boots = boots; walk = walk; walks = walks; ended = ends; ending = is }
-    stopped w boots walk walks (Some stuck) ends is done = other_end n _ (λ h. cc) is done
-    stopped w boots walk walks (Some (stray_at pid access)) ends is done = other_end n _ (λ h. cc) is done
-    stopped w boots walk walks (Some out_of_quanta) ends is done = other_end n _ (λ h. cc) is done
-    stopped w boots walk walks (Some log_full) ends is done = other_end n _ (λ h. cc) is done
+pub demos_open_where_they_stop : DemosOpenWhereTheyStop
+unfolding demo_ending
+demos_open_where_they_stop n stop = booted_where_it_stops (Demo n) Halt First (demo_manifest n) (each_of demo_file n) stop
 
-    booted : (r : Result World BootFault) → boot (opening First m b) (map start_line m.starts) ≡ r → demo_ending n ≡ booted_ending (Demo n) Halt m b.headers r → (demo_ending n).status ≡ Done → TellsALine n
-    booted (Err first) boots is done = other_end n _ (λ h. cc) is done
-    booted (Ok w) boots is done = let walk = turns (repeated m.repeat m.quanta) w in stopped w boots walk refl walk.end refl is done
+-- it has no load that could fail
+pub demos_stop_or_are_refused : DemosStopOrAreRefused
+unfolding demo_ending
+demos_stop_or_are_refused n =
+    let either = demo_by (λ (o : Outcome). IsStop o.ending.status ⊎ IsEarly o.ending) (λ name o p. p) (λ name. inr (refl, inl refl)) (λ tail. inr (refl, inr refl))
+    (λ telling dumped w end. inl (told_status IsStop tt tt tt tt tt telling dumped w end)) n in
+    elim either [
+      | inl stop ↦ inl stop
+      | inr early ↦ elim early.1 [
+        | inl read ↦ absurd (files_are_told (Demo n) Halt First (demo_manifest n) (each_of demo_file n) read)
+        | inr refused ↦ inr (early.0, refused)
+      ]
+    ]
 
-  brought : (r : Result Brought FaultAt) → all_brought m.items (each_of demo_file n) nothing_brought ≡ r → demo_ending n ≡ brought_ending (Demo n) Halt First m r → (demo_ending n).status ≡ Done → TellsALine n
-  brought (Err at) brings is done = other_end n _ (λ h. cc) is done
-  brought (Ok b) brings is done = booted b brings (boot (opening First m b) (map start_line m.starts)) refl is done
-
-demo_is : (n : ℕ) → demo_ending n ≡ brought_ending (Demo n) Halt First (demo_manifest n) (all_brought (demo_manifest n).items (each_of demo_file n) nothing_brought)
-unfolding demo_ending files_ending
-demo_is n = refl
+-- only where no process is left the status is Done
+all_have_ended : (n : ℕ) (dumped : List ℕ) (w : World) (end : Option End) → (demonstrated_ending n dumped w end).status ≡ Done → end ≡ Some all_ended
+all_have_ended n dumped w None done = absurd cc
+all_have_ended n dumped w (Some all_ended) done = refl
+all_have_ended n dumped w (Some stuck) done = absurd cc
+all_have_ended n dumped w (Some (stray_at pid access)) done = absurd cc
+all_have_ended n dumped w (Some out_of_quanta) done = absurd cc
+all_have_ended n dumped w (Some log_full) done = absurd cc
 
 pub demos_tell_a_line : DemosTellALine
-demos_tell_a_line n done = brought n (all_brought (demo_manifest n).items (each_of demo_file n) nothing_brought) refl (demo_is n) done
+demos_tell_a_line n done =
+    let opens = demos_open_where_they_stop n (subst IsStop (sym done) tt) in
+    let is = demos_run_where_they_open n opens in
+    let walk = booted_turns opens in
+    let dumped = own_dumps walk.world (demo_manifest n).dumps in
+    let ended = all_have_ended n dumped walk.world walk.end (sym (ap (λ (e : Ending). e.status) is) ∙ done) in
+    record { opens = opens; ended = ended; ending = is ∙ ap (demonstrated_ending n dumped walk.world) ended }

@@ -7,7 +7,7 @@ use Rattle.page_runs.specs.declared.place.Kind.TheVariants.{First}
 use Rattle.manifest_text.specs.Values.{Manifest}
 use Rattle.manifest_text.specs.Laws.{IsItem, HasArgument, Reasonable}
 use Rattle.elf_maker.specs.Demo.{demo_file}
-use Rattle.syscall_layer.specs.declared.mode.Mode.TheVariants.{Halt}
+use Rattle.region_watch.specs.declared.mode.Mode.TheVariants.{Halt}
 use Rattle.suite_top.specs.declared.telling.Telling.TheVariants.{Demo}
 use Rattle.suite_top.specs.Ending.{Ending, OrMemory}
 use Rattle.suite_top.specs.Run.{files_ending}

@@ -11,7 +11,7 @@
 -- Opened: a list opened at one place.
 -- LoadedItems: the loads of a manifest's lines.
 -- Booted, RunEndings, RunLaws: what a boot of the machine gives, how a run ends, and when it reaches its machine.
--- OpenedRuns: what the laws of boots ask for, of a run that reaches its machine.
+-- BootedRuns: what is said of a run from its opening world on, by the laws of boots, turns and runs.
 -- GoOn, GoOnTexts, SamePrograms, BothModes: a run that goes on, beside the same run without it.
 -- Demos, DemoFaults, DemoLaws: the manifest of a demo and its programs, and the laws of the command.
 -- Samples, ListSamples, RunSamples: the definitions on the worked example and on small manifests.
@@ -42,7 +42,7 @@ pub mod LoadedItems
 pub mod Booted
 pub mod RunEndings
 pub mod RunLaws
-pub mod OpenedRuns
+pub mod BootedRuns
 pub mod Headers
 pub mod GoOn
 pub mod GoOnTexts

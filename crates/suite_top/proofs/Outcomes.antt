@@ -22,7 +22,7 @@ use Rattle.suite_top.specs.List.{judged_ending, listed_outcome, list_outcome}
 use Rattle.page_runs.specs.declared.place.Kind.{Kind}
 use Rattle.machine_world.specs.World.{World}
 use Rattle.machine_world.specs.Turns.{End}
-use Rattle.syscall_layer.specs.declared.mode.Mode.{Mode}
+use Rattle.region_watch.specs.declared.mode.Mode.{Mode}
 use Rattle.suite_top.specs.declared.telling.Telling.{Telling}
 use Rattle.suite_top.specs.Telling.{told_ending}
 use Rattle.suite_top.specs.Run.{run_outcome}

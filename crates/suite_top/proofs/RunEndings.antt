@@ -9,8 +9,8 @@ use Rattle.manifest_text.specs.Values.{Manifest}
 use Rattle.manifest_text.specs.Manifest.{Fault}
 use Rattle.machine_world.specs.World.{World}
 use Rattle.machine_world.specs.Boot.{BootFault, boot}
-use Rattle.syscall_layer.specs.declared.mode.Mode.{Mode}
-use Rattle.syscall_layer.specs.declared.mode.Mode.TheVariants.{Halt, GoOn}
+use Rattle.region_watch.specs.declared.mode.Mode.{Mode}
+use Rattle.region_watch.specs.declared.mode.Mode.TheVariants.{Halt, GoOn}
 use Rattle.flat_machine.specs.Runs.{repeated}
 use Rattle.suite_top.specs.declared.status.Status.TheVariants as status
 use Rattle.suite_top.specs.Ending.{Ending, refused_ending, memory_ending, OrMemory}

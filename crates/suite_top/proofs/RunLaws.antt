@@ -7,20 +7,28 @@ use Rattle.host_io.specs.Host.{Files}
 use Rattle.page_runs.specs.declared.place.Kind.{Kind}
 use Rattle.manifest_text.specs.Values.{Item, Manifest}
 use Rattle.manifest_text.specs.Manifest.{Fault, manifest_of}
+use Rattle.manifest_text.specs.Laws.{Reasonable}
+use Rattle.manifest_text.proofs.Bounds.{manifests_are_reasonable}
 use Rattle.machine_world.specs.World.{World}
 use Rattle.machine_world.specs.Boot.{BootFault, boot}
-use Rattle.syscall_layer.specs.declared.mode.Mode.{Mode}
+use Rattle.region_watch.specs.declared.mode.Mode.{Mode}
+use Rattle.flat_machine.specs.Runs.{repeated}
 use Rattle.suite_top.specs.Texts.Refusals.{too_long_at}
 use Rattle.suite_top.specs.declared.telling.Telling.{Telling}
 use Rattle.suite_top.specs.declared.telling.Telling.TheVariants.{Report}
-use Rattle.suite_top.specs.Ending.{refused_ending}
+use Rattle.suite_top.specs.Ending.{Ending, refused_ending}
 use Rattle.suite_top.specs.Outcome.{Request, load, Outcome, Inputs, after}
 use Rattle.suite_top.specs.HostCourse.{inputs_in}
 use Rattle.suite_top.specs.Load.{at_once, with_limited, with_load}
 use Rattle.run_setup.specs.Brought.{Brought, FaultAt, nothing_brought, all_brought}
-use Rattle.suite_top.specs.Run.{manifest_limit, load_limit, files_limit, has_file, with_item, with_items, start_line, opening, booted_ending, brought_ending, files_ending, items_outcome, manifest_outcome, run_outcome}
-use Rattle.suite_top.specs.Run.Laws.{IsThere, AreThere, opened_outcome, IsStop, IsEarly, RunsWhereItOpens, OpensWhereItStops, RunsStopOrEndEarly}
+use Rattle.suite_top.specs.Run.{manifest_limit, load_limit, files_limit, has_file, with_item, with_items, start_line, opening, mode_ending, booted_ending, brought_ending, files_ending, items_outcome, manifest_outcome, run_outcome}
+use Rattle.suite_top.specs.Run.Booted.{Booted}
+use Rattle.suite_top.specs.Run.Laws.{Opens, IsThere, AreThere, opened_outcome, IsStop, IsEarly, RunsWhereItOpens, OpensWhereItStops, RunsStopOrEndEarly}
 use Rattle.suite_top.proofs.RunOutcomes.{run_by, told_status}
+
+-- a manifest that is read has no number past its bound
+pub reasonable : {t : Files} {name : List ℕ} {kind : Kind} (o : Opens t name kind) → Reasonable o.manifest
+reasonable o = manifests_are_reasonable o.text o.manifest o.reads
 
 -- ---- from what is there to the outcome
 
@@ -56,15 +64,21 @@ items_there t left (item ∷ items) (file ∷ files) rest there =
         (is_within (load_limit item.kind left) (Some item.line) item.name (get t item.name) file (λ bytes. next bytes (inputs_in t)) is.0 is.1 ∙ more)
     by_kind false is more = ap (λ bytes. next bytes (inputs_in t)) (sym is) ∙ more
 
+-- of a run and of a demo
+pub runs_where_booted : (telling : Telling) (mode : Mode) (kind : Kind) (m : Manifest) (files : List (List ℕ)) (b : Booted kind m files)
+    → files_ending telling mode kind m files ≡ mode_ending telling mode (repeated m.repeat m.quanta) m.dumps b.brought.headers b.world
+unfolding files_ending
+runs_where_booted telling mode kind m files b =
+    ap (brought_ending telling mode kind m) b.brings ∙ ap (booted_ending telling mode m b.brought.headers) b.boots
+
 pub runs_where_it_opens : RunsWhereItOpens
-unfolding run_outcome files_ending
+unfolding run_outcome
 runs_where_it_opens t name log mode kind o =
     ap (after (load name))
     (is_within manifest_limit None name (get t name) o.text (λ bytes. manifest_outcome log mode kind (manifest_of bytes) (inputs_in t)) o.found o.fits
     ∙ ap (λ (r : Result Manifest Fault). manifest_outcome log mode kind r (inputs_in t)) o.reads
     ∙ items_there t files_limit o.manifest.items o.files (λ files. at_once (files_ending (Report log) mode kind o.manifest files)) o.there
-    ∙ ap (λ (r : Result Brought FaultAt). behind_all o.manifest.items (at_once (brought_ending (Report log) mode kind o.manifest r))) o.brings
-    ∙ ap (λ (r : Result World BootFault). behind_all o.manifest.items (at_once (booted_ending (Report log) mode o.manifest o.brought.headers r))) o.boots
+    ∙ ap (λ (e : Ending). behind_all o.manifest.items (at_once e)) (runs_where_booted (Report log) mode kind o.manifest o.files o.booted)
     ∙ ap (λ (rs : List Request). record { requests = rs; ending = (opened_outcome log mode o).ending }) (append-nil (loads_of o.manifest.items)))
 
 -- ---- from the status to what is there
@@ -112,15 +126,21 @@ ok_world : (telling : Telling) (mode : Mode) (m : Manifest) (headers : List (Lis
 ok_world telling mode m headers (Err fault) stop = absurd stop
 ok_world telling mode m headers (Ok w) stop = (w, refl)
 
+pub booted_where_it_stops : (telling : Telling) (mode : Mode) (kind : Kind) (m : Manifest) (files : List (List ℕ)) → IsStop (files_ending telling mode kind m files).status → Booted kind m files
+unfolding files_ending
+booted_where_it_stops telling mode kind m files stop =
+    let (brought, brings, boots_on) = ok_brought telling mode kind m (all_brought m.items files nothing_brought) stop in
+    let (world, boots) = ok_world telling mode m brought.headers (boot (opening kind m brought) (map start_line m.starts)) boots_on in
+    record { brought = brought; brings = brings; world = world; boots = boots }
+
 pub opens_where_it_stops : OpensWhereItStops
-unfolding run_outcome files_ending
+unfolding run_outcome
 opens_where_it_stops t name log mode kind stop =
     let (text, found, fits, reads_on) = within manifest_limit None name (get t name) (λ bytes. manifest_outcome log mode kind (manifest_of bytes) (inputs_in t)) stop in
     let (m, reads, loads_on) = ok_manifest t log mode kind (manifest_of text) reads_on in
     let (files, there, makes_on) = items_within t files_limit m.items (λ fs. at_once (files_ending (Report log) mode kind m fs)) loads_on in
-    let (brought, brings, boots_on) = ok_brought (Report log) mode kind m (all_brought m.items files nothing_brought) makes_on in
-    let (world, boots) = ok_world (Report log) mode m brought.headers (boot (opening kind m brought) (map start_line m.starts)) boots_on in
-    record { text = text; found = found; fits = fits; manifest = m; reads = reads; files = files; there = there; brought = brought; brings = brings; world = world; boots = boots }
+    let booted = booted_where_it_stops (Report log) mode kind m files makes_on in
+    record { text = text; found = found; fits = fits; manifest = m; reads = reads; files = files; there = there; booted = booted }
 
 pub runs_stop_or_end_early : RunsStopOrEndEarly
 runs_stop_or_end_early =

@@ -9,8 +9,8 @@ use Rattle.machine_world.specs.World.{World}
 use Rattle.machine_world.specs.Turns.{End, all_ended, stuck, out_of_quanta, stray_at, log_full, turns}
 use Rattle.machine_world.specs.Boot.{BootFault, boot}
 use Rattle.physical_turns.specs.Physical.{physical_turns, opening as memory_opening}
-use Rattle.syscall_layer.specs.declared.mode.Mode.{Mode}
-use Rattle.syscall_layer.specs.declared.mode.Mode.TheVariants.{Halt, GoOn}
+use Rattle.region_watch.specs.declared.mode.Mode.{Mode}
+use Rattle.region_watch.specs.declared.mode.Mode.TheVariants.{Halt, GoOn}
 use Rattle.flat_machine.specs.Runs.{repeated}
 use Rattle.suite_top.specs.declared.status.Status.{Status}
 use Rattle.suite_top.specs.declared.status.Status.TheVariants.{Done, Stray, OutOfQuanta, LogFull, Stuck}

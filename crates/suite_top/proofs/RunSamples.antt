@@ -3,7 +3,7 @@ use Rattle.std.proofs.Common.{◌≡◌, ℕ, zero, suc, false, List, [], ◌∷
 use Rattle.std.specs.Prelude.{codes}
 use Rattle.std.specs.Fmt.{digits}
 use Rattle.page_runs.specs.declared.place.Kind.TheVariants.{First}
-use Rattle.syscall_layer.specs.declared.mode.Mode.TheVariants.{Halt, GoOn}
+use Rattle.region_watch.specs.declared.mode.Mode.TheVariants.{Halt, GoOn}
 use Rattle.manifest_text.specs.declared.fault.ManifestFault.TheVariants.{WordCount}
 use Rattle.manifest_text.specs.Pieces.{pieces, words}
 use Rattle.manifest_text.specs.Numbers.{decimal_value, is_number_in, is_quantum, quantum_value}

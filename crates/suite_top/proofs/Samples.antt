@@ -9,7 +9,7 @@ use Rattle.manifest_text.specs.declared.manifest.ItemKind.TheVariants.{Elf}
 use Rattle.suite_top.specs.Arguments.{convert, check, run, demo, command_of}
 use Rattle.elf2flt_tool.specs.declared.refusal.Refusal.TheVariants as refusal
 use Rattle.page_runs.specs.declared.place.Kind.TheVariants.{First, Best, Last}
-use Rattle.syscall_layer.specs.declared.mode.Mode.TheVariants.{Halt, GoOn}
+use Rattle.region_watch.specs.declared.mode.Mode.TheVariants.{Halt, GoOn}
 use Rattle.psabi_relocs.specs.declared.fault.RelocFault.TheVariants.{AbsoluteCode}
 use Rattle.byte_words.specs.Numbers.{number_at}
 

@@ -6,8 +6,8 @@ use Rattle.machine_world.specs.World.{World}
 use Rattle.machine_world.specs.Turns.{turns}
 use Rattle.physical_turns.specs.Physical.{Physical, physical_turns, has_stray}
 use Rattle.syscall_layer.specs.InMemory.{physical_of}
-use Rattle.syscall_layer.specs.declared.mode.Mode.{Mode}
-use Rattle.syscall_layer.specs.declared.mode.Mode.TheVariants.{Halt, GoOn}
+use Rattle.region_watch.specs.declared.mode.Mode.{Mode}
+use Rattle.region_watch.specs.declared.mode.Mode.TheVariants.{Halt, GoOn}
 use Rattle.flat_machine.specs.declared.run.End.{End as Told}
 use Rattle.flat_machine.specs.State.{State, world, one_memory}
 use Rattle.flat_machine.specs.Runs.{Runs}

@@ -4,8 +4,8 @@ use Rattle.std.specs.Int.{IsInRange}
 use Rattle.std.specs.Str.Parse.{digits_value}
 use Rattle.page_runs.specs.declared.place.Kind.{Kind}
 use Rattle.page_runs.specs.declared.place.Kind.TheVariants.{First, Best, Last}
-use Rattle.syscall_layer.specs.declared.mode.Mode.{Mode}
-use Rattle.syscall_layer.specs.declared.mode.Mode.TheVariants.{Halt, GoOn}
+use Rattle.region_watch.specs.declared.mode.Mode.{Mode}
+use Rattle.region_watch.specs.declared.mode.Mode.TheVariants.{Halt, GoOn}
 use Rattle.suite_top.specs.declared.arguments.Command.{Command}
 use Rattle.suite_top.specs.declared.arguments.Command.TheVariants as command
 

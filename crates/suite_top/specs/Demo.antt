@@ -12,7 +12,7 @@ use Rattle.suite_top.specs.Arguments.{default_stack}
 use Rattle.suite_top.specs.Ending.{Ending}
 use Rattle.suite_top.specs.Outcome.{Outcome, Inputs}
 use Rattle.suite_top.specs.Load.{at_once}
-use Rattle.syscall_layer.specs.declared.mode.Mode.TheVariants.{Halt}
+use Rattle.region_watch.specs.declared.mode.Mode.TheVariants.{Halt}
 use Rattle.suite_top.specs.Run.{files_ending}
 
 -- what is made of each of the numbers 1 to n, in their order

@@ -19,6 +19,7 @@
 -- Observed    what a host or a sink tells at one moment, and its counts: of faults, and a sink's of shortages of memory
 -- HostCourse  how far a host came with the requests; Performs: what it then tells, and the ending that this gives
 -- Delivery    how far the two sinks took the texts of an ending, and the status that this gives
+-- Placements  ArePlacements, which `suite` asks for: a chooser for each placement
 -- Call        MeetsResult, the clause of `suite`: a course of the outcome, and a delivery of its ending
 -- StatusLaws, HostLaws   what holds of every call
 --
@@ -42,6 +43,7 @@ pub mod Result
 pub mod Observed
 pub mod HostCourse
 pub mod Delivery
+pub mod Placements
 pub mod Call
 pub mod StatusLaws
 pub mod HostLaws

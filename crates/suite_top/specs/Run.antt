@@ -1,6 +1,8 @@
 -- The command `run MANIFEST`: the programs of a manifest run by turns in one memory.
+-- Booted: its machine before the first turn, and what is said of a run from there on.
 -- Laws: when a run reaches its machine.
 -- Beside: a run with `--go-on` beside the same run without it.
+pub mod Booted
 pub mod Laws
 pub mod Beside
 use Rattle.std.specs.Prelude.{ℕ, ◌-◌, min, Bool, true, false, if◌then◌else◌, List, [], ◌∷◌, map, length, Option, Some, None, Result, Ok, Err}
@@ -15,8 +17,8 @@ use Rattle.machine_world.specs.World.{Rest, World}
 use Rattle.machine_world.specs.Boot.{StartLine, BootFault, bad_start, args_too_big, no_run, boot}
 use Rattle.machine_world.specs.Turns.{Walk, turns}
 use Rattle.physical_turns.specs.Physical.{Physical, Walk as PhysicalWalk, physical_turns, opening as memory_opening}
-use Rattle.syscall_layer.specs.declared.mode.Mode.{Mode}
-use Rattle.syscall_layer.specs.declared.mode.Mode.TheVariants.{Halt, GoOn}
+use Rattle.region_watch.specs.declared.mode.Mode.{Mode}
+use Rattle.region_watch.specs.declared.mode.Mode.TheVariants.{Halt, GoOn}
 use Rattle.flat_machine.specs.Runs.{repeated}
 use Rattle.fd_tables.specs.Files.{nothing_open}
 use Rattle.run_setup.specs.declared.fault.LineFault.TheVariants as line

@@ -3,7 +3,7 @@ ghost use Rattle.std.specs.Prelude.{◌≡◌, ◌≤◌, ◌↔◌, IsTrue, map
 ghost use Rattle.suite_top.specs.Arguments.{is_between, StartsWell, number_of, kind_of_word, only, convert_of, placement_of, mode_of, run_of, demo_of, command_of, invocation};
 
 use page_runs::Kind;
-use syscall_layer::Mode;
+use region_watch::Mode;
 
 /// The bytes of stack that a program gets where no argument says it.
 pub const DEFAULT_STACK: u32 = 4096;

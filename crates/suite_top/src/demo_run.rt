@@ -18,8 +18,8 @@ use elf_maker::demo;
 use manifest_text::{Item, ItemKind, Manifest, Start};
 use page_runs::{Chooser, Run};
 use quantum_sched::Quantum;
+use region_watch::Mode;
 use std::alloc::{AllocError, Global};
-use syscall_layer::Mode;
 
 pub mod laws;
 

@@ -88,17 +88,17 @@ fn notes_text(
 }
 
 /// The bytes that are shown: the process's own, or, of a run that goes on, those of memory.
-fn shown(alloc: Global, machine: &Machine, dump: Dump) -> Result<Option<Vec<u8>>, AllocError>
+fn shown(machine: &Machine, dump: Dump) -> Result<Option<Vec<u8>>, AllocError>
     ensures { IfOk result (λ found. option_map (λ bytes. bytes.items) found ≡ shown_of machine.now dump.pid dump.addr dump.len) }
 {
-    machine.bytes(alloc, dump.pid, dump.addr, dump.len)
+    machine.bytes(dump.pid, dump.addr, dump.len)
 }
 
 /// Two digits a byte, or `none`.
 fn bytes_text(alloc: Global, machine: &Machine, dump: Dump) -> Result<String, AllocError>
     ensures { IfOk result (λ text. string_bytes text ≡ bytes_text (shown_of machine.now dump.pid dump.addr dump.len)) }
 {
-    match shown(alloc, machine, dump)? {
+    match shown(machine, dump)? {
         Some(bytes) => hex::encode(alloc, &bytes),
         None => String::from_str(alloc, "none"),
     }

@@ -1,12 +1,12 @@
 //! The command `run MANIFEST`.
-ghost use Rattle.std.specs.Prelude.{◌≡◌, ◌+◌, ◌*◌, ◌^◌, ◌<◌, ◌≤◌, false, length, Ok, sum_by};
+ghost use Rattle.std.specs.Prelude.{◌≡◌, ◌+◌, ◌*◌, ◌^◌, ◌<◌, false, length, Ok, sum_by};
 ghost use Rattle.page_runs.specs.Choosers.{IsChooser, kind_of};
 ghost use Rattle.manifest_text.specs.Manifest.{manifest_of};
 ghost use Rattle.manifest_text.specs.Values.{manifest_value, vec_texts};
 ghost use Rattle.manifest_text.specs.Laws.{Reasonable};
 ghost use Rattle.machine_world.specs.Ages.{AreChanged};
 ghost use Rattle.physical_turns.specs.Physical.{has_stray};
-ghost use Rattle.syscall_layer.specs.declared.mode.Mode.TheVariants.{Halt, GoOn};
+ghost use Rattle.region_watch.specs.declared.mode.Mode.TheVariants.{Halt, GoOn};
 ghost use Rattle.flat_machine.specs.State.{world, one_memory};
 ghost use Rattle.flat_machine.specs.Runs.{repeated};
 ghost use Rattle.suite_top.specs.Ending.{memory_ending, OrMemory};
@@ -29,9 +29,9 @@ use host_io::Host;
 use manifest_text::{Dump, Manifest, ManifestRefusal};
 use page_runs::{Chooser, Run};
 use quantum_sched::Quantum;
+use region_watch::Mode;
 use run_setup::{FaultAt, LineFault, RunFiles, bring};
 use std::alloc::{AllocError, Global};
-use syscall_layer::Mode;
 
 pub mod laws;
 
@@ -138,7 +138,6 @@ fn run_brought<F: Fn(&[Run], u32) -> Option<usize>>(
     requires chooser { IsChooser F.pre F.post chooser.now }
     requires manifest { Reasonable (manifest_value manifest) }
     requires paths { HasPaths files }
-    requires few { length files.flats.items ≤ length manifest.items.items }
     requires unchanged { AreChanged 0 files.tree }
     ensures { OrMemory (brought_ending telling mode (kind_of chooser.now) (manifest_value manifest) (Ok (brought_value files))) (ending_of result) }
 {

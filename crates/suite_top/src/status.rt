@@ -13,7 +13,7 @@ pub enum Status {
     HostRead,
     /// The input has a fault.
     Refused,
-    /// A program made an access outside of its own bytes.
+    /// The next access of a program isn't to bytes of its own, or writes what it may not write.
     Stray,
     /// The quanta of a run are used up, and a process may run.
     OutOfQuanta,

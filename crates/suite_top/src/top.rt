@@ -1,7 +1,7 @@
 //! The top call.
 ghost use Rattle.std.specs.Prelude.{◌≡◌, ◌⊎◌, map, string_bytes};
 ghost use Rattle.host_io.specs.Faults.{Rose};
-ghost use Rattle.page_runs.specs.Choosers.{IsChooser, kind_of};
+ghost use Rattle.suite_top.specs.Placements.{ArePlacements};
 ghost use Rattle.suite_top.specs.Observed.{observed, observed_sink};
 ghost use Rattle.suite_top.specs.Answer.{ending_of};
 ghost use Rattle.suite_top.specs.Result.{result_of};
@@ -22,8 +22,8 @@ use crate::status::Status;
 use crate::texts;
 use host_io::{Host, Sink};
 use page_runs::{Kind, Run};
+use region_watch::Mode;
 use std::alloc::{AllocError, Global};
-use syscall_layer::Mode;
 
 /// Runs a manifest with the chooser of a placement.
 fn run_placed<H: Host, A, B, C>(
@@ -39,12 +39,7 @@ where
     A: Fn(&[Run], u32) -> Option<usize>,
     B: Fn(&[Run], u32) -> Option<usize>,
     C: Fn(&[Run], u32) -> Option<usize>,
-    requires first { IsChooser A.pre A.post place.now.first }
-    requires first_kind { kind_of place.now.first ≡ Kind.First }
-    requires best { IsChooser B.pre B.post place.now.best }
-    requires best_kind { kind_of place.now.best ≡ Kind.Best }
-    requires last { IsChooser C.pre C.post place.now.last }
-    requires last_kind { kind_of place.now.last ≡ Kind.Last }
+    requires { ArePlacements A.pre A.post B.pre B.post C.pre C.post place.now }
     ensures { PerformsCommand (observed H.told H.faults host.old) (observed H.told H.faults host.new) (run_outcome manifest.now log mode kind) (ending_of result) }
 {
     match kind {
@@ -64,12 +59,7 @@ where
     A: Fn(&[Run], u32) -> Option<usize>,
     B: Fn(&[Run], u32) -> Option<usize>,
     C: Fn(&[Run], u32) -> Option<usize>,
-    requires first { IsChooser A.pre A.post place.now.first }
-    requires first_kind { kind_of place.now.first ≡ Kind.First }
-    requires best { IsChooser B.pre B.post place.now.best }
-    requires best_kind { kind_of place.now.best ≡ Kind.Best }
-    requires last { IsChooser C.pre C.post place.now.last }
-    requires last_kind { kind_of place.now.last ≡ Kind.Last }
+    requires { ArePlacements A.pre A.post B.pre B.post C.pre C.post place.now }
     ensures { PerformsCommand (observed H.told H.faults host.old) (observed H.told H.faults host.new) (result_of (map string_bytes arguments.now)) (ending_of result) }
 {
     match read_arguments(arguments) {
@@ -103,12 +93,7 @@ where
     A: Fn(&[Run], u32) -> Option<usize>,
     B: Fn(&[Run], u32) -> Option<usize>,
     C: Fn(&[Run], u32) -> Option<usize>,
-    requires first { IsChooser A.pre A.post place.now.first }
-    requires first_kind { kind_of place.now.first ≡ Kind.First }
-    requires best { IsChooser B.pre B.post place.now.best }
-    requires best_kind { kind_of place.now.best ≡ Kind.Best }
-    requires last { IsChooser C.pre C.post place.now.last }
-    requires last_kind { kind_of place.now.last ≡ Kind.Last }
+    requires { ArePlacements A.pre A.post B.pre B.post C.pre C.post place.now }
     ensures all { MeetsResult (map string_bytes arguments.now)
         (observed H.told H.faults host.old) (observed H.told H.faults host.new)
         (observed_sink O.told O.faults O.shortages out.old) (observed_sink O.told O.faults O.shortages out.new)

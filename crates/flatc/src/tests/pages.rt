@@ -56,7 +56,7 @@ fn meaning(status: Status) -> &'static str {
         Status::Usage => "wrong arguments",
         Status::HostRead => "a file can't be read",
         Status::Refused => "a file is refused",
-        Status::Stray => "a program's next access isn't to its own memory",
+        Status::Stray => "a program's next access isn't to memory that it may use so",
         Status::OutOfQuanta => "the quanta of a run are used up",
         Status::LogFull => "the log of a run is full",
         Status::SinkWrite => "standard output or error can't be written",

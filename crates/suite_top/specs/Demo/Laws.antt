@@ -1,18 +1,17 @@
 -- What a call of `demo` does, and that its programs have no fault.
-use Rattle.std.specs.Prelude.{◌≡◌, ◌↔◌, ℕ, ◌≤◌, List, map, decimal, Some, None, Ok}
+use Rattle.std.specs.Prelude.{◌≡◌, ◌↔◌, ◌⊎◌, ℕ, ◌≤◌, List, [], decimal, Some, None}
 use Rattle.page_runs.specs.declared.place.Kind.TheVariants.{First}
-use Rattle.machine_world.specs.World.{World}
-use Rattle.machine_world.specs.Boot.{boot}
-use Rattle.machine_world.specs.Turns.{all_ended, Walk, turns}
-use Rattle.flat_machine.specs.Runs.{repeated}
-use Rattle.run_setup.specs.Brought.{Brought, nothing_brought, all_brought}
+use Rattle.machine_world.specs.Turns.{all_ended}
 use Rattle.elf2flt_tool.specs.Fault.{fault}
 use Rattle.elf_maker.specs.Demo.{demo_file}
-use Rattle.suite_top.specs.declared.status.Status.TheVariants.{Done}
-use Rattle.suite_top.specs.Ending.{done_ending}
+use Rattle.suite_top.specs.declared.status.Status.TheVariants.{Done, Refused}
+use Rattle.suite_top.specs.declared.telling.Telling.TheVariants.{Demo}
+use Rattle.suite_top.specs.Ending.{Ending, done_ending}
 use Rattle.suite_top.specs.Arguments.{demo, least_programs, most_programs, programs_of, command_of}
 use Rattle.suite_top.specs.Telling.{demo_text}
-use Rattle.suite_top.specs.Run.{start_line, opening}
+use Rattle.suite_top.specs.Run.{walked_ending}
+use Rattle.suite_top.specs.Run.Booted.{Booted, booted_turns, last_world, DoesAsAlone, EndsAsAlone, WaitsToTheEnd, HasRegularWorlds}
+use Rattle.suite_top.specs.Run.Laws.{IsStop}
 use Rattle.suite_top.specs.Demo.{each_of, demo_manifest, demo_ending}
 use Rattle.suite_top.specs.Call.{Call, MeetsOutcome}
 
@@ -29,18 +28,48 @@ abbrev pub DemosAskNothing : Type 0
 DemosAskNothing = (c : Call) (n : ℕ) → MeetsOutcome c → command_of c.arguments ≡ Some (demo n)
     → (c.host_after.told ≡ c.host.told) × (c.host_after.faults ≡ c.host.faults)
 
--- the programs all stand in the memory, no process is left behind their turns, and the console and the line, of the world
--- there, go to `out`, and nothing to `report`
+-- ---- when a demo reaches its machine
+
+-- the programs all stand in the memory, and this is the opening world
+abbrev pub DemoOpens : (n : ℕ) → Type 0
+DemoOpens n = Booted First (demo_manifest n) (each_of demo_file n)
+
+-- the turns from that world give the texts
+abbrev pub DemosRunWhereTheyOpen : Type 0
+DemosRunWhereTheyOpen = (n : ℕ) (o : DemoOpens n) → demo_ending n ≡ walked_ending (Demo n) (demo_manifest n).dumps (booted_turns o)
+
+-- in no other case a demo ends with the status of a machine that stopped
+abbrev pub DemosOpenWhereTheyStop : Type 0
+DemosOpenWhereTheyStop = (n : ℕ) → IsStop (demo_ending n).status → DemoOpens n
+
+-- something was refused, and nothing goes to `out`
+abbrev pub IsRefused : Ending → Type 0
+IsRefused ending = (ending.out ≡ []) × (ending.status ≡ Refused)
+
+-- a demo reaches its machine or is refused
+abbrev pub DemosStopOrAreRefused : Type 0
+DemosStopOrAreRefused = (n : ℕ) → IsStop (demo_ending n).status ⊎ IsRefused (demo_ending n)
+
+-- no process is left behind its turns, and the console and the line, of the world there, go to `out`, and nothing to `report`
 pub record TellsALine (n : ℕ) : Type 0 where
-  pub brought : Brought
-  pub brings : all_brought (demo_manifest n).items (each_of demo_file n) nothing_brought ≡ Ok brought
-  pub world : World
-  pub boots : boot (opening First (demo_manifest n) brought) (map start_line (demo_manifest n).starts) ≡ Ok world
-  pub walk : Walk
-  pub walks : turns (repeated (demo_manifest n).repeat (demo_manifest n).quanta) world ≡ walk
-  pub ended : walk.end ≡ Some all_ended
-  pub ending : demo_ending n ≡ done_ending (demo_text n walk.world)
+  pub opens : DemoOpens n
+  pub ended : (booted_turns opens).end ≡ Some all_ended
+  pub ending : demo_ending n ≡ done_ending (demo_text n (last_world opens))
 
 -- Done comes only so
 abbrev pub DemosTellALine : Type 0
 DemosTellALine = (n : ℕ) → (demo_ending n).status ≡ Done → TellsALine n
+
+-- ---- what is said of each demo from its opening world on, as of each run
+
+abbrev pub DemosAreAsAlone : Type 0
+DemosAreAsAlone = (n : ℕ) → n ≤ most_programs → (o : DemoOpens n) → DoesAsAlone o
+
+abbrev pub DemoEndsAreAsAlone : Type 0
+DemoEndsAreAsAlone = (n : ℕ) → n ≤ most_programs → (o : DemoOpens n) → EndsAsAlone o
+
+abbrev pub DemosWaitWell : Type 0
+DemosWaitWell = (n : ℕ) → n ≤ most_programs → (o : DemoOpens n) → WaitsToTheEnd o
+
+abbrev pub DemoWorldsAreRegular : Type 0
+DemoWorldsAreRegular = (n : ℕ) → n ≤ most_programs → (o : DemoOpens n) → HasRegularWorlds o

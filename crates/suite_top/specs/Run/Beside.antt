@@ -7,11 +7,11 @@ use Rattle.quantum_sched.specs.declared.Quantum.{Quantum}
 use Rattle.manifest_text.specs.declared.manifest.Dump.{Dump}
 use Rattle.vfork_exec.specs.Keyed.{find}
 use Rattle.machine_world.specs.World.{Process, World, pid_of}
-use Rattle.machine_world.specs.Turns.{Walk, stray_at, turns}
+use Rattle.machine_world.specs.Turns.{Walk, stray_at}
 use Rattle.physical_turns.specs.Physical.{Physical, Walk as PhysicalWalk, physical_turns, opening as memory_opening}
 use Rattle.go_on_laws.specs.Laws.{GoesPast}
 use Rattle.memory_refusals.specs.Regular.{IsRegularIn}
-use Rattle.syscall_layer.specs.declared.mode.Mode.TheVariants.{Halt, GoOn}
+use Rattle.region_watch.specs.declared.mode.Mode.TheVariants.{Halt, GoOn}
 use Rattle.flat_machine.specs.Runs.{repeated}
 use Rattle.flat_machine.specs.OwnBytes.{own_bytes, memory_bytes}
 use Rattle.suite_top.specs.declared.status.Status.TheVariants.{Stray}
@@ -19,14 +19,15 @@ use Rattle.suite_top.specs.Ending.{Ending}
 use Rattle.suite_top.specs.Report.{own_dumps, memory_dumps, notes_text}
 use Rattle.suite_top.specs.Outcome.{Inputs}
 use Rattle.suite_top.specs.Run.{run_outcome}
+use Rattle.suite_top.specs.Run.Booted.{booted_turns}
 use Rattle.suite_top.specs.Run.Laws.{Opens, opened_outcome, IsStop}
 
 -- the turns without it, and those with it
 abbrev pub halting : {t : Files} {name : List ℕ} {kind : Kind} → Opens t name kind → Walk
-halting o = turns (repeated o.manifest.repeat o.manifest.quanta) o.world
+halting o = booted_turns o.booted
 
 abbrev pub going_on : {t : Files} {name : List ℕ} {kind : Kind} → Opens t name kind → PhysicalWalk
-going_on o = physical_turns (repeated o.manifest.repeat o.manifest.quanta) (memory_opening o.brought.headers o.world)
+going_on o = physical_turns (repeated o.manifest.repeat o.manifest.quanta) (memory_opening o.booted.brought.headers o.booted.world)
 
 -- ---- the worlds
 
@@ -47,7 +48,7 @@ RunsGoOnWell = (t : Files) (name : List ℕ) (kind : Kind) (o : Opens t name kin
 
 -- the one memory is regular all along, behind the first stray access too: the laws of refused calls speak of it
 abbrev pub MemoryIsRegular : Type 0
-MemoryIsRegular = (t : Files) (name : List ℕ) (kind : Kind) (o : Opens t name kind) (quanta : List Quantum) → IsRegularIn (physical_turns quanta (memory_opening o.brought.headers o.world)).now
+MemoryIsRegular = (t : Files) (name : List ℕ) (kind : Kind) (o : Opens t name kind) (quanta : List Quantum) → IsRegularIn (physical_turns quanta (memory_opening o.booted.brought.headers o.booted.world)).now
 
 -- ---- the status and the texts
 

@@ -3,19 +3,9 @@ use Rattle.std.specs.Prelude.{◌≡◌, ◌⊎◌, ℕ, ◌-◌, ◌≤◌, Boo
 use Rattle.std.specs.FinMap.{get}
 use Rattle.host_io.specs.Host.{Files}
 use Rattle.page_runs.specs.declared.place.Kind.{Kind}
-use Rattle.quantum_sched.specs.declared.Quantum.{Quantum}
 use Rattle.manifest_text.specs.Values.{Item, Manifest}
 use Rattle.manifest_text.specs.Manifest.{manifest_of}
-use Rattle.machine_world.specs.World.{Process, World, pid_of}
-use Rattle.machine_world.specs.Boot.{boot, empty_world}
-use Rattle.machine_world.specs.Turns.{stuck, turns}
-use Rattle.vfork_exec.specs.Keyed.{find}
-use Rattle.waits_laws.specs.Waits.{WaitsWell}
-use Rattle.waits_laws.specs.Laws.{WaitsOrLent}
-use Rattle.stays_laws.specs.Stays.{Stay, AreRight, stays, first_stays}
-use Rattle.end_laws.specs.Laws.{EndsAreTold}
-use Rattle.refusal_laws.specs.Regular.{IsRegular}
-use Rattle.syscall_layer.specs.declared.mode.Mode.{Mode}
+use Rattle.region_watch.specs.declared.mode.Mode.{Mode}
 use Rattle.flat_machine.specs.Runs.{repeated}
 use Rattle.suite_top.specs.declared.status.Status.{Status}
 use Rattle.suite_top.specs.declared.status.Status.TheVariants.{Done, HostRead, Refused, Stray, OutOfQuanta, LogFull, Stuck}
@@ -23,8 +13,8 @@ use Rattle.suite_top.specs.declared.telling.Telling.TheVariants.{Report}
 use Rattle.suite_top.specs.Ending.{Ending}
 use Rattle.suite_top.specs.Outcome.{load, Outcome, Inputs}
 use Rattle.suite_top.specs.HostCourse.{inputs_in}
-use Rattle.run_setup.specs.Brought.{Brought, nothing_brought, all_brought}
-use Rattle.suite_top.specs.Run.{manifest_limit, load_limit, files_limit, has_file, start_line, opening, mode_ending, run_outcome}
+use Rattle.suite_top.specs.Run.{manifest_limit, load_limit, files_limit, has_file, mode_ending, run_outcome}
+use Rattle.suite_top.specs.Run.Booted.{Booted, DoesAsAlone, EndsAsAlone, WaitsToTheEnd, HasRegularWorlds}
 
 -- the file of a line that has one is there, and isn't longer than the limit of its load
 abbrev pub IsThere : Files → (left : ℕ) → Item → List ℕ → Bool → Type 0
@@ -47,17 +37,14 @@ pub record Opens (t : Files) (name : List ℕ) (kind : Kind) : Type 0 where
   pub reads : manifest_of text ≡ Ok manifest
   pub files : List (List ℕ)
   pub there : AreThere t files_limit manifest.items files
-  pub brought : Brought
-  pub brings : all_brought manifest.items files nothing_brought ≡ Ok brought
-  pub world : World
-  pub boots : boot (opening kind manifest brought) (map start_line manifest.starts) ≡ Ok world
+  pub booted : Booted kind manifest files
 
 -- the manifest is asked for, then the file of each line that has one, in order; and the turns from that world, or, of a run that goes on,
 -- those over one memory, give the texts
 abbrev pub opened_outcome : {t : Files} {name : List ℕ} {kind : Kind} → (log : Bool) → Mode → Opens t name kind → Outcome
 opened_outcome {name = name} log mode o = record {
   requests = load name ∷ map (λ i. load i.name) (filter (λ i. has_file i.kind) o.manifest.items);
-  ending = mode_ending (Report log) mode (repeated o.manifest.repeat o.manifest.quanta) o.manifest.dumps o.brought.headers o.world;
+  ending = mode_ending (Report log) mode (repeated o.manifest.repeat o.manifest.quanta) o.manifest.dumps o.booted.brought.headers o.booted.world;
 }
 
 -- the statuses of a machine that stopped
@@ -85,39 +72,16 @@ abbrev pub RunsStopOrEndEarly : Type 0
 RunsStopOrEndEarly = (name : List ℕ) (log : Bool) (mode : Mode) (kind : Kind) (inputs : Inputs)
     → IsStop (run_outcome name log mode kind inputs).ending.status ⊎ IsEarly (run_outcome name log mode kind inputs).ending
 
--- ---- each process by itself
+-- ---- what is said of each run from its opening world on
 
--- the stays of the start lines, along the turns: of an elf line's program the image is that of its ELF file
-abbrev pub opened_stays : {t : Files} {name : List ℕ} {kind : Kind} → Opens t name kind → List Stay
-opened_stays {kind = kind} o =
-    stays (first_stays (empty_world (opening kind o.manifest o.brought)) (map start_line o.manifest.starts)) o.world (repeated o.manifest.repeat o.manifest.quanta)
-
--- the world behind the turns, from which without `--go-on` all texts are told
-abbrev pub opened_end : {t : Files} {name : List ℕ} {kind : Kind} → Opens t name kind → World
-opened_end o = (turns (repeated o.manifest.repeat o.manifest.quanta) o.world).world
-
--- what each process does is what its program does alone, under the replies that it had
 abbrev pub RunsAreAsAlone : Type 0
-RunsAreAsAlone = (t : Files) (name : List ℕ) (kind : Kind) (o : Opens t name kind) → AreRight (opened_stays o) (opened_end o)
+RunsAreAsAlone = (t : Files) (name : List ℕ) (kind : Kind) (o : Opens t name kind) → DoesAsAlone o.booted
 
--- and how each process ends is how its program ends alone: each end that is noted is that of the run of one of the stays, as it was then
 abbrev pub EndsAreAsAlone : Type 0
-EndsAreAsAlone = (t : Files) (name : List ℕ) (kind : Kind) (o : Opens t name kind) → EndsAreTold (opened_stays o) (opened_end o).notes
-
--- ---- those that wait
-
--- who waits in the world behind the turns would wait again, for just what it waits for; and where the run is stuck, each process that
--- lives waits so, or stands still for its vfork child
-pub record WaitsToTheEnd {t : Files} {name : List ℕ} {kind : Kind} (o : Opens t name kind) : Type 0 where
-  pub waits : WaitsWell (opened_end o)
-  pub when_stuck : (turns (repeated o.manifest.repeat o.manifest.quanta) o.world).end ≡ Some stuck →
-      (pid : ℕ) (p : Process) → find pid_of pid (opened_end o).procs ≡ Some p → WaitsOrLent (opened_end o) p p.state
+EndsAreAsAlone = (t : Files) (name : List ℕ) (kind : Kind) (o : Opens t name kind) → EndsAsAlone o.booted
 
 abbrev pub RunsWaitWell : Type 0
-RunsWaitWell = (t : Files) (name : List ℕ) (kind : Kind) (o : Opens t name kind) → WaitsToTheEnd o
+RunsWaitWell = (t : Files) (name : List ℕ) (kind : Kind) (o : Opens t name kind) → WaitsToTheEnd o.booted
 
--- ---- refused calls, and where they begin
-
--- every world of its turns, up to the first stray access, is one of which the laws of refusals, of ENOMEM and of waiting speak
 abbrev pub WorldsAreRegular : Type 0
-WorldsAreRegular = (t : Files) (name : List ℕ) (kind : Kind) (o : Opens t name kind) (quanta : List Quantum) → IsRegular (turns quanta o.world).world
+WorldsAreRegular = (t : Files) (name : List ℕ) (kind : Kind) (o : Opens t name kind) → HasRegularWorlds o.booted

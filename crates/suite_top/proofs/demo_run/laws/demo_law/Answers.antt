@@ -1,7 +1,15 @@
 -- Each law by its proof over plain values.
 use Rattle.suite_top.proofs.SpelledNumbers.{programs_are_spelled}
-use Rattle.suite_top.proofs.DemoLaws.{demos_convert, demos_ask_nothing, demos_tell_a_line}
+use Rattle.suite_top.proofs.DemoLaws.{demos_convert, demos_ask_nothing, demos_run_where_they_open, demos_open_where_they_stop, demos_stop_or_are_refused, demos_tell_a_line}
 use Rattle.suite_top.proofs.demo_run.laws.demo_law.Goals as goal
 
 pub returns : goal.returns
-returns c = record { programs = demos_convert; spelled = programs_are_spelled; untouched = demos_ask_nothing; line = demos_tell_a_line }
+returns c = record {
+  programs = demos_convert;
+  spelled = programs_are_spelled;
+  untouched = demos_ask_nothing;
+  opens = demos_run_where_they_open;
+  stops = demos_open_where_they_stop;
+  early = demos_stop_or_are_refused;
+  line = demos_tell_a_line;
+}

@@ -2,7 +2,6 @@
 use Rattle.std.proofs.Common.{◌≡◌, ℕ, List, map, refl, sym, ap, ◌∙◌}
 use Rattle.host_io.specs.Host.{Files}
 use Rattle.page_runs.specs.declared.place.Kind.{Kind}
-use Rattle.stays_laws.proofs.SoundRuns.{boots_are_sound}
 use Rattle.physical_turns.specs.Physical.{opening as memory_opening}
 use Rattle.physical_turns.proofs.Growth.{runs_leave_programs}
 use Rattle.go_on_laws.specs.Laws.{GoesAlike}
@@ -18,24 +17,27 @@ use Rattle.suite_top.proofs.GoOnTexts.{reports_alike, report_begins, begins_late
 use Rattle.suite_top.proofs.SamePrograms.{programs_stay}
 use Rattle.suite_top.proofs.BothModes.{runs_end_early_alike, runs_on_never_stray}
 use Rattle.suite_top.proofs.Headers.{headers_short}
-use Rattle.suite_top.proofs.OpenedRuns.{can_boot, few_starts}
+use Rattle.suite_top.proofs.BootedRuns.{can_boot, few_starts, sound}
+use Rattle.suite_top.proofs.RunLaws.{reasonable}
 use Rattle.suite_top.proofs.run.laws.go_on_law.Goals as goal
 
 module _ {t : Files} {name : List ℕ} {kind : Kind} (o : Opens t name kind) where
   goes_alike : GoesAlike (halting o).world (going_on o) (halting o).end
   goes_alike =
-      let rest = opening kind o.manifest o.brought in
+      let is = reasonable o in
+      let b = o.booted in
+      let rest = opening kind o.manifest b.brought in
       let starts = map start_line o.manifest.starts in
-      let sound = boots_are_sound rest starts o.world (can_boot o) (few_starts o) o.boots in
-      let short = headers_short o.manifest.items o.files o.brought o.brings in
-      let stands = boots_go_on rest starts o.world o.brought.headers (can_boot o) (few_starts o) short o.boots in
-      runs_go_on (repeated o.manifest.repeat o.manifest.quanta) o.world (memory_opening o.brought.headers o.world) sound stands (boots_note_no_stray rest starts o.world o.boots)
+      let short = headers_short o.manifest.items o.files b.brought b.brings in
+      let stands = boots_go_on rest starts b.world b.brought.headers (can_boot is b) (few_starts is b) short b.boots in
+      runs_go_on (repeated o.manifest.repeat o.manifest.quanta) b.world (memory_opening b.brought.headers b.world) (sound is b) stands (boots_note_no_stray rest starts b.world b.boots)
 
   same_programs : (going_on o).now.world.rest.programs ≡ (halting o).world.rest.programs
   unfolding memory_opening
   same_programs =
       let quanta = repeated o.manifest.repeat o.manifest.quanta in
-      (runs_leave_programs quanta (memory_opening o.brought.headers o.world)).programs ∙ sym (programs_stay o.world.rest.programs quanta o.world refl)
+      let b = o.booted in
+      (runs_leave_programs quanta (memory_opening b.brought.headers b.world)).programs ∙ sym (programs_stay b.world.rest.programs quanta b.world refl)
 
 pub returns-clause-worlds : goal.returns-clause-worlds
 returns-clause-worlds c t name kind o = goes_on_well (halting o) (going_on o) (goes_alike o)

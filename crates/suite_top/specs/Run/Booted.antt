@@ -1,0 +1,61 @@
+-- The machine of a run before its first turn, and what is said of the run from there on: of `run` and of `demo` alike.
+use Rattle.std.specs.Prelude.{◌≡◌, ℕ, List, map, Some, Ok}
+use Rattle.page_runs.specs.declared.place.Kind.{Kind}
+use Rattle.quantum_sched.specs.declared.Quantum.{Quantum}
+use Rattle.manifest_text.specs.Values.{Manifest}
+use Rattle.machine_world.specs.World.{Process, World, pid_of}
+use Rattle.machine_world.specs.Boot.{boot, empty_world}
+use Rattle.machine_world.specs.Turns.{stuck, Walk, turns}
+use Rattle.vfork_exec.specs.Keyed.{find}
+use Rattle.waits_laws.specs.Waits.{WaitsWell}
+use Rattle.waits_laws.specs.Laws.{WaitsOrLent}
+use Rattle.stays_laws.specs.Stays.{Stay, AreRight, stays, first_stays}
+use Rattle.end_laws.specs.Laws.{EndsAreTold}
+use Rattle.refusal_laws.specs.Regular.{IsRegular}
+use Rattle.flat_machine.specs.Runs.{repeated}
+use Rattle.run_setup.specs.Brought.{Brought, nothing_brought, all_brought}
+use Rattle.suite_top.specs.Run.{start_line, opening}
+
+-- what the item lines bring in with these files, and the world in which each start line has its program: the opening world
+pub record Booted (kind : Kind) (m : Manifest) (files : List (List ℕ)) : Type 0 where
+  pub brought : Brought
+  pub brings : all_brought m.items files nothing_brought ≡ Ok brought
+  pub world : World
+  pub boots : boot (opening kind m brought) (map start_line m.starts) ≡ Ok world
+
+module _ {kind : Kind} {m : Manifest} {files : List (List ℕ)} (b : Booted kind m files) where
+  -- the turns from that world
+  abbrev pub booted_turns : Walk
+  booted_turns = turns (repeated m.repeat m.quanta) b.world
+
+  -- the world behind them, from which without `--go-on` all texts are told
+  abbrev pub last_world : World
+  last_world = booted_turns.world
+
+  -- ---- each process by itself
+
+  -- the stays of the start lines, along the turns: of an elf line's program the image is that of its ELF file
+  abbrev pub booted_stays : List Stay
+  booted_stays = stays (first_stays (empty_world (opening kind m b.brought)) (map start_line m.starts)) b.world (repeated m.repeat m.quanta)
+
+  -- what each process does is what its program does alone, under the replies that it had
+  abbrev pub DoesAsAlone : Type 0
+  DoesAsAlone = AreRight booted_stays last_world
+
+  -- and how each process ends is how its program ends alone: each end that is noted is that of the run of one of the stays, as it was then
+  abbrev pub EndsAsAlone : Type 0
+  EndsAsAlone = EndsAreTold booted_stays last_world.notes
+
+-- ---- those that wait
+
+-- who waits in the world behind the turns would wait again, for just what it waits for; and where the run is stuck, each process that
+-- lives waits so, or stands still for its vfork child
+pub record WaitsToTheEnd {kind : Kind} {m : Manifest} {files : List (List ℕ)} (b : Booted kind m files) : Type 0 where
+  pub waits : WaitsWell (last_world b)
+  pub when_stuck : (booted_turns b).end ≡ Some stuck → (pid : ℕ) (p : Process) → find pid_of pid (last_world b).procs ≡ Some p → WaitsOrLent (last_world b) p p.state
+
+-- ---- refused calls, and where they begin
+
+-- every world of its turns, up to the first stray access, is one of which the laws of refusals, of ENOMEM and of waiting speak
+abbrev pub HasRegularWorlds : {kind : Kind} {m : Manifest} {files : List (List ℕ)} → Booted kind m files → Type 0
+HasRegularWorlds b = (quanta : List Quantum) → IsRegular (turns quanta b.world).world
