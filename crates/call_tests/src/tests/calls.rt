@@ -1,0 +1,246 @@
+//! One process makes calls.
+
+ghost use Rattle.vfork_exec.specs.Procs.{Lives};
+
+use bflt_format::Flat;
+use call_log::Note;
+use fd_tables::Files;
+use mem_files::Tree;
+use page_runs::{Chooser, Kind, Run, first_fit};
+use region_watch::Mode;
+use rv32im_step::{Access, AccessKind};
+use std::test::*;
+use syscall_layer::{Parts, Served, program_strings, serve, whole_table};
+
+/// A flat file with a text of 32 bytes that begins with `hi`, a stack of 4096 bytes, and no records.
+const HI: [u8; 96] = [
+    0x62, 0x46, 0x4c, 0x54, 0x00, 0x00, 0x00, 0x04, 0x00, 0x00, 0x00, 0x40, 0x00, 0x00, 0x00, 0x60,
+    0x00, 0x00, 0x00, 0x60, 0x00, 0x00, 0x00, 0x60, 0x00, 0x00, 0x10, 0x00, 0x00, 0x00, 0x00, 0x60,
+    0x00, 0x00, 0x00, 0x00, 0x00, 0x00, 0x00, 0x01, 0x00, 0x00, 0x00, 0x00, 0x00, 0x00, 0x00, 0x00,
+    0x00, 0x00, 0x00, 0x00, 0x00, 0x00, 0x00, 0x00, 0x00, 0x00, 0x00, 0x00, 0x00, 0x00, 0x00, 0x00,
+    0x68, 0x69, 0x00, 0x00, 0x00, 0x00, 0x00, 0x00, 0x00, 0x00, 0x00, 0x00, 0x00, 0x00, 0x00, 0x00,
+    0x00, 0x00, 0x00, 0x00, 0x00, 0x00, 0x00, 0x00, 0x00, 0x00, 0x00, 0x00, 0x00, 0x00, 0x00, 0x00,
+];
+
+/// The address of the text.
+const TEXT: u32 = 0x8000_0040;
+
+/// AT_FDCWD, -100.
+const HERE: u32 = 0xffff_ff9c;
+
+/// A memory of two pages in which process 1 has started.
+fn begun(rt: HostRuntime) -> Result<Parts, Fail> {
+    let flat = Flat::read(rt.alloc(), &HI)?;
+    let args = vec![in rt.alloc(); Vec::from_slice(rt.alloc(), b"/a")?]?;
+    let chooser = Chooser::new(Kind::First, |runs: &[Run], need: u32| {
+        first_fit(runs, need)
+    });
+    let tree = Tree::new(rt.alloc())?;
+    let files = Files::new(rt.alloc(), Vec::from_slice(rt.alloc(), b"in")?)?;
+    let mut parts = Parts::new(rt.alloc(), 2, tree, files)?;
+    if parts.start(0, &flat, &args, &chooser).is_err() {
+        return Err(Fail::from("not started"));
+    }
+    Ok(parts)
+}
+
+/// Lets a process stand at a call.
+fn set_call(parts: &mut Parts, pid: u32, number: u32, args: [u32; 3])
+    requires { Lives parts.old.procs pid }
+{
+    let task = parts.procs.get_mut(pid);
+    task.regs.x[17] = number;
+    task.regs.x[10] = args[0];
+    task.regs.x[11] = args[1];
+    task.regs.x[12] = args[2];
+}
+
+/// What comes of a call of process 1, and what a0 is then; None where it doesn't live.
+fn call(
+    rt: HostRuntime,
+    parts: &mut Parts,
+    mode: Mode,
+    number: u32,
+    args: [u32; 3],
+) -> Result<(Option<Served>, Option<u32>), Fail> {
+    if !parts.procs.lives(1) {
+        return Ok((None, None));
+    }
+    set_call(parts, 1, number, args);
+    if parts.procs.runnable() == 0 {
+        return Ok((None, None));
+    }
+    let pid = parts.procs.runnable_at(0);
+    let chooser = Chooser::new(Kind::First, |runs: &[Run], need: u32| {
+        first_fit(runs, need)
+    });
+    let whole = whole_table(rt.alloc(), parts.regions.pages())?;
+    let mut reach = parts.reach();
+    let served = serve(parts, pid, &[], &chooser, mode, &mut reach, &whole)?;
+    if !parts.procs.lives(1) {
+        return Ok((Some(served), None));
+    }
+    Ok((Some(served), Some(parts.procs.get(1).regs.x[10])))
+}
+
+#[test]
+fn calls_are_answered(rt: HostRuntime) -> Result<(), Fail> {
+    let mut parts = begun(rt)?;
+    let stray = Access {
+        pc: TEXT,
+        addr: 64,
+        len: 2,
+        kind: AccessKind::Call,
+    };
+    for (number, args, served, value) in [
+        (64, [1, 64, 2], Served::Stray(stray), Some(1)),
+        (64, [1, TEXT, 2], Served::Replied, Some(2)),
+        (64, [3, TEXT, 2], Served::Replied, Some(0xffff_fff7)),
+        (66, [1, TEXT, 1025], Served::Replied, Some(0xffff_ffea)),
+        (124, [0, 0, 0], Served::TurnEnds, Some(0)),
+        (172, [0, 0, 0], Served::Replied, Some(1)),
+        (1000, [0, 0, 0], Served::Replied, Some(0xffff_ffda)),
+        (94, [7, 0, 0], Served::Ended, None),
+    ] {
+        assert_eq!(rt;
+            call(rt, &mut parts, Mode::Halt, number, args)?,
+            (Some(served), value),
+            "{number}"
+        );
+    }
+    assert_eq!(rt; parts.console.as_slice(), b"hi".as_slice());
+    assert_eq!(rt; parts.log.notes().len(), 9);
+    Ok(())
+}
+
+/// A file comes, is written and read; the last row strays, and reads nothing.
+#[test]
+fn files_are_written_and_read(rt: HostRuntime) -> Result<(), Fail> {
+    let mut parts = begun(rt)?;
+    let stray = Access {
+        pc: TEXT + 44,
+        addr: 64,
+        len: 1,
+        kind: AccessKind::Call,
+    };
+    for (number, args, served, value) in [
+        (56, [HERE, TEXT, 0], Served::Replied, Some(0xffff_fffe)),
+        (56, [HERE, TEXT, 0x42], Served::Replied, Some(3)),
+        (64, [3, TEXT, 2], Served::Replied, Some(2)),
+        (23, [3, 0, 0], Served::Replied, Some(4)),
+        (63, [4, TEXT + 8, 2], Served::Replied, Some(0)),
+        (56, [HERE, TEXT, 0], Served::Replied, Some(5)),
+        (63, [5, TEXT + 8, 9], Served::Replied, Some(2)),
+        (64, [1, TEXT + 8, 2], Served::Replied, Some(2)),
+        (57, [5, 0, 0], Served::Replied, Some(0)),
+        (29, [5, 0, 0], Served::Replied, Some(0xffff_fff7)),
+        (29, [0, 0, 0], Served::Replied, Some(0xffff_ffe7)),
+        (63, [0, 64, 1], Served::Stray(stray), Some(0)),
+    ] {
+        assert_eq!(rt;
+            call(rt, &mut parts, Mode::Halt, number, args)?,
+            (Some(served), value),
+            "{number}"
+        );
+    }
+    assert_eq!(rt; parts.console.as_slice(), b"hi".as_slice());
+    assert_eq!(rt; parts.files.stdin_left(), b"in".as_slice());
+    assert_eq!(rt; parts.log.notes().len(), 12);
+    Ok(())
+}
+
+/// An execve with the path, the arguments and the environment that the process has on its own stack: they are read, and no file is
+/// at the path.
+#[test]
+fn an_execve_reads_strings(rt: HostRuntime) -> Result<(), Fail> {
+    let mut parts = begun(rt)?;
+    if !parts.procs.lives(1) {
+        return Err(Fail::from("not started"));
+    }
+    let sp = parts.procs.get(1).regs.x[2];
+    let path = sp.wrapping_add(16);
+    let args = sp.wrapping_add(4);
+    let env = sp.wrapping_add(12);
+    let answer = call(rt, &mut parts, Mode::Halt, 221, [path, args, env])?;
+    assert_eq!(rt; answer, (Some(Served::Replied), Some(0xffff_fffe)));
+    let Some(Note::Call(entry)) = parts.log.notes().last() else {
+        return Err(Fail::from("no call is noted"));
+    };
+    assert_eq!(rt; entry.sent.len(), 3 + 4 + 3 + 4 + 4);
+    let Some(strings) = program_strings(rt.alloc(), &entry.sent, args, env)? else {
+        return Err(Fail::from("no strings"));
+    };
+    assert_eq!(rt; strings.args.len(), 1);
+    for arg in &strings.args {
+        assert_eq!(rt; arg.as_slice(), b"/a".as_slice());
+    }
+    assert_eq!(rt; strings.env.len(), 0);
+    Ok(())
+}
+
+/// A run that goes on notes the first range that strays before the call, which reads it, or ends by a signal where it isn't memory.
+#[test]
+fn a_stray_range_is_noted(rt: HostRuntime) -> Result<(), Fail> {
+    let header = 0x8000_0000;
+    for (args, served, value, console) in [
+        ([1, header, 4], Served::Replied, Some(4), b"bFLT".as_slice()),
+        ([1, 64, 2], Served::Ended, None, b"".as_slice()),
+    ] {
+        let mut parts = begun(rt)?;
+        let answer = call(rt, &mut parts, Mode::GoOn, 64, args)?;
+        assert_eq!(rt; answer, (Some(served), value));
+        assert_eq!(rt; parts.console.as_slice(), console);
+        assert_eq!(rt; parts.log.notes().len(), 3);
+        let seen = match parts.log.notes().get(1) {
+            Some(Note::Stray { access, .. }) => access.addr,
+            _ => 0,
+        };
+        assert_eq!(rt; seen, args[1]);
+        assert_eq!(rt; parts.log.spare(), 0);
+    }
+    Ok(())
+}
+
+/// In a run that halts a call reads its process's own bytes alone, whatever was noted: a range that strays is answered and leaves all,
+/// and the next call is carried out.
+#[test]
+fn a_noted_stray_access_opens_nothing(rt: HostRuntime) -> Result<(), Fail> {
+    let mut parts = begun(rt)?;
+    let header = 0x8000_0000;
+    let stray = Access {
+        pc: TEXT,
+        addr: header,
+        len: 4,
+        kind: AccessKind::Call,
+    };
+    parts.note_stray(1, stray)?;
+    for (args, served, value, notes) in [
+        ([1, header, 4], Served::Stray(stray), Some(1), 2),
+        ([1, TEXT, 2], Served::Replied, Some(2), 3),
+    ] {
+        let answer = call(rt, &mut parts, Mode::Halt, 64, args)?;
+        assert_eq!(rt; answer, (Some(served), value));
+        assert_eq!(rt; parts.log.notes().len(), notes);
+    }
+    assert_eq!(rt; parts.console.as_slice(), b"hi".as_slice());
+    Ok(())
+}
+
+#[test]
+fn a_signal_ends_a_process(rt: HostRuntime) -> Result<(), Fail> {
+    let mut parts = begun(rt)?;
+    let stray = Access {
+        pc: TEXT,
+        addr: 0,
+        len: 4,
+        kind: AccessKind::Load,
+    };
+    parts.note_stray(1, stray)?;
+    if parts.procs.runnable() > 0 {
+        let pid = parts.procs.runnable_at(0);
+        parts.end_by_signal(pid, 4)?;
+    }
+    assert_eq!(rt; parts.procs.live(), 0);
+    assert_eq!(rt; parts.log.notes().len(), 3);
+    Ok(())
+}

@@ -1,0 +1,101 @@
+//! A machine runs up to the end of its quanta, and then to that of its program.
+
+ghost use Rattle.manifest_text.specs.Values.{manifest_value};
+ghost use Rattle.manifest_text.specs.Laws.{Reasonable};
+
+use flat_machine::{End, Machine, Setup};
+use manifest_text::{Manifest, read};
+use page_runs::{Chooser, Kind, Run, first_fit};
+use quantum_sched::Quantum;
+use region_watch::Mode;
+use run_setup::bring;
+use std::test::*;
+
+/// A flat file whose program writes `hi` with its first six instructions, and exits with the answer by two more: a text of 64 bytes, of
+/// which the two behind the instructions are written, a stack of 4096 bytes, and no records.
+const GREETING: [u8; 128] = [
+    0x62, 0x46, 0x4c, 0x54, 0x00, 0x00, 0x00, 0x04, 0x00, 0x00, 0x00, 0x40, 0x00, 0x00, 0x00, 0x80,
+    0x00, 0x00, 0x00, 0x80, 0x00, 0x00, 0x00, 0x80, 0x00, 0x00, 0x10, 0x00, 0x00, 0x00, 0x00, 0x80,
+    0x00, 0x00, 0x00, 0x00, 0x00, 0x00, 0x00, 0x01, 0x00, 0x00, 0x00, 0x00, 0x00, 0x00, 0x00, 0x00,
+    0x00, 0x00, 0x00, 0x00, 0x00, 0x00, 0x00, 0x00, 0x00, 0x00, 0x00, 0x00, 0x00, 0x00, 0x00, 0x00,
+    0x13, 0x05, 0x10, 0x00, 0x97, 0x05, 0x00, 0x00, 0x93, 0x85, 0xc5, 0x01, 0x13, 0x06, 0x20, 0x00,
+    0x93, 0x08, 0x00, 0x04, 0x73, 0x00, 0x00, 0x00, 0x93, 0x08, 0xd0, 0x05, 0x73, 0x00, 0x00, 0x00,
+    0x68, 0x69, 0x00, 0x00, 0x00, 0x00, 0x00, 0x00, 0x00, 0x00, 0x00, 0x00, 0x00, 0x00, 0x00, 0x00,
+    0x00, 0x00, 0x00, 0x00, 0x00, 0x00, 0x00, 0x00, 0x00, 0x00, 0x00, 0x00, 0x00, 0x00, 0x00, 0x00,
+];
+
+/// The address of what it writes.
+const WRITTEN: u32 = 0x8000_0060;
+
+/// A machine that has started the one program of a manifest.
+fn booted(rt: HostRuntime, manifest: Manifest) -> Result<Machine, Fail>
+    requires { Reasonable (manifest_value manifest) }
+{
+    let files = vec![in rt.alloc(); Vec::from_slice(rt.alloc(), &GREETING)?]?;
+    if files.len() != manifest.items.len() {
+        return Err(Fail::from("not one file"));
+    }
+    let Ok(brought) = bring(rt.alloc(), &manifest.items, files) else {
+        return Err(Fail::from("not brought in"));
+    };
+    let chooser = Chooser::new(Kind::First, |runs: &[Run], need: u32| {
+        first_fit(runs, need)
+    });
+    let setup = Setup {
+        pages: manifest.pages,
+        tree: brought.tree,
+        paths: brought.paths,
+        programs: brought.flats,
+        starts: manifest.starts,
+        stdin: brought.stdin,
+        mode: Mode::Halt,
+    };
+    match Machine::boot(rt.alloc(), setup, &chooser) {
+        Ok(machine) => Ok(machine),
+        Err(_) => Err(Fail::from("not booted")),
+    }
+}
+
+/// Runs a machine of few events by two quanta of so many: why it stops, its events, and how many notes there are then.
+#[tactic(auto, unfolding(syscall_layer::specs::Stands::world_of))]
+fn run(machine: &mut Machine, counts: [u32; 2]) -> Result<(End, u64, usize), Fail> {
+    let chooser = Chooser::new(Kind::First, |runs: &[Run], need: u32| {
+        first_fit(runs, need)
+    });
+    if machine.kind() != chooser.kind() || machine.events() > 9 {
+        return Err(Fail::from("not this machine"));
+    }
+    let quanta = [
+        Quantum {
+            pick: 0,
+            count: counts[0],
+        },
+        Quantum {
+            pick: 1,
+            count: counts[1],
+        },
+    ];
+    let end = machine.run(&quanta, &chooser)?;
+    Ok((end, machine.events(), machine.notes().len()))
+}
+
+#[test]
+fn a_machine_runs_twice(rt: HostRuntime) -> Result<(), Fail> {
+    let Ok(manifest) = read(
+        rt.alloc(),
+        b"memory 4\nflat /a a.flt\nstart /a\nquanta 0:1\n",
+    ) else {
+        return Err(Fail::from("not read"));
+    };
+    let mut machine = booted(rt, manifest)?;
+    assert_eq!(rt; run(&mut machine, [4, 2])?, (End::OutOfQuanta, 6, 2));
+    assert_eq!(rt; machine.console(), b"hi".as_slice());
+    let Some(bytes) = machine.bytes(1, WRITTEN, 2)? else {
+        return Err(Fail::from("not its own bytes"));
+    };
+    assert_eq!(rt; bytes.as_slice(), b"hi".as_slice());
+    assert_eq!(rt; run(&mut machine, [1, 9])?, (End::AllEnded, 8, 4));
+    assert_eq!(rt; machine.console(), b"hi".as_slice());
+    assert_eq!(rt; machine.bytes(1, WRITTEN, 2)?.is_none(), true);
+    Ok(())
+}
