@@ -112,12 +112,7 @@ fn accesses(rt: HostRuntime) -> Result<(), Fail> {
 fn ranges(rt: HostRuntime) -> Result<(), Fail> {
     let mut mem = memory(rt.alloc())?;
     let owners = table(rt.alloc())?;
-    let mut watch = Watch::with_window(
-        &mut mem,
-        &owners,
-        Mode::Halt,
-        window(&owners, BASE + 64, 4032),
-    );
+    let mut watch = Watch::new(&mut mem, &owners, Mode::Halt);
     for (addr, len, reads, writes) in [(0, 0, true, true), (BASE + 64, 4032, true, true)] {
         assert_eq!(rt; watch.reads(0, addr, len).is_ok(), reads, "{addr:#x} {len}");
         assert_eq!(rt;
@@ -151,12 +146,7 @@ fn ranges(rt: HostRuntime) -> Result<(), Fail> {
 fn ranges_on(rt: HostRuntime) -> Result<(), Fail> {
     let mut mem = memory(rt.alloc())?;
     let owners = table(rt.alloc())?;
-    let mut watch = Watch::with_window(
-        &mut mem,
-        &owners,
-        Mode::GoOn,
-        window(&owners, BASE + 64, 4032),
-    );
+    let mut watch = Watch::new(&mut mem, &owners, Mode::GoOn);
     for (addr, len) in [(0, 0), (BASE + 64, 4032)] {
         assert_eq!(rt; watch.reads(0, addr, len), Ok(()));
         assert_eq!(rt; watch.writes(0, addr, len), Ok(()));
