@@ -1,6 +1,6 @@
 -- A call of a run that goes on, by the call within reach.
 use Rattle.std.proofs.Common.{◌≡◌, ◌≢◌, ℕ, Bool, true, false, List, Option, Some, None, Ok, refl, sym, ap, subst, ◌∙◌}
-use Rattle.std.specs.Prelude.{if◌then◌else◌, Result, Err, IsOk, OnErr}
+use Rattle.std.specs.Prelude.{if◌then◌else◌, Result, Err, IsOk, IfOk, OnErr}
 use Rattle.std.specs.declared.alloc.AllocError.{AllocError}
 use Rattle.rv32im_step.specs.declared.access.Access.{Access}
 use Rattle.region_watch.specs.declared.mode.Mode.{Mode}
@@ -15,7 +15,7 @@ use Rattle.syscall_layer.specs.Kept.{Kept}
 use Rattle.syscall_layer.specs.Reach.{is_whole}
 use Rattle.syscall_layer.specs.Stands.{About, world_of}
 use Rattle.syscall_layer.specs.Serves.{Answered}
-use Rattle.syscall_layer.specs.InMemory.{physical_of, GoesIn, InReach, ServesOn, first_range, called_on, with_range, without_newest, reach_on}
+use Rattle.syscall_layer.specs.InMemory.{physical_of, GoesIn, InReach, ServesOn, first_range, called_on, with_range, without_newest}
 
 abbrev IsStray : Served → Type 0
 IsStray (served.Stray access) = Unit {0}
@@ -102,9 +102,6 @@ module _ (headers : List (List ℕ)) (a : About) (old : Kept) (pid : ℕ) where
     pub notes_unstrayed : new.notes ≡ old.notes → new.notes ≡ (with_range pid (first_range there pid) old).notes
     notes_unstrayed is = is ∙ ap (λ (found : Option Access). (with_range pid found old).notes) (sym unstrayed)
 
-    pub reach_unstrayed : reach ≡ reach_on reach (first_range there pid) (Ok s)
-    reach_unstrayed = ap (λ (found : Option Access). reach_on reach found (Ok s)) (sym unstrayed)
-
   -- ---- one strays
 
   never_strays : (o : After) (new : Kept) (access : Access) → GoesIn headers a o old new pid (served.Stray access) → ⊥
@@ -150,9 +147,6 @@ module _ (headers : List (List ℕ)) (a : About) (old : Kept) (pid : ℕ) where
     notes_noted mid new same is =
         is ∙ ap (λ (k : Kept). (with_range pid (Some access) k).notes) same ∙ ap (λ (found : Option Access). (with_range pid found old).notes) (sym first_is)
 
-    pub reach_noted : (reach : Reach) (s : Served) → Whole ≡ reach_on reach (first_range there pid) (Ok s)
-    reach_noted reach s = ap (λ (found : Option Access). reach_on reach found (Ok s)) (sym first_is)
-
     pub noted_result : (mid new : Kept) → mid ≡ with_range pid (Some access) old → (r : Result Served AllocError) → IsOk r → InReach Whole headers a (called_in (physical_of headers a mid) pid) mid new pid r
         → ServesOn headers a old new pid r
     noted_result mid new same (Ok s) ok x = serves_noted mid new s same x
@@ -168,3 +162,7 @@ unchanged_by headers a o old new pid Whole (Err error) x = x
 pub on_err : {A E : Type 0} (P : Type 0) (r : Result A E) → P → OnErr r P
 on_err P (Ok x) is = tt
 on_err P (Err error) is = is
+
+pub on_ok : {A E : Type 0} (P : Type 0) (r : Result A E) → P → IfOk r (λ x. P)
+on_ok P (Ok x) is = is
+on_ok P (Err error) is = tt

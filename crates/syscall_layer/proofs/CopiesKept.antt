@@ -18,8 +18,8 @@ use Rattle.region_watch.specs.Private.{only, physical}
 use Rattle.call_log.specs.Notes.{Note}
 use Rattle.syscall_layer.specs.Kept.{Kept}
 use Rattle.syscall_layer.specs.Regular.{Regular}
-use Rattle.syscall_layer.specs.Copies.{HoldsSource, CopiesHold}
-use Rattle.mmap_rules.specs.Copies.{bytes_of}
+use Rattle.syscall_layer.specs.Copies.{CopiesHold}
+use Rattle.mmap_rules.specs.Copies.{bytes_of, HasSource}
 use Rattle.syscall_layer.proofs.Counts.{is_false, any_at, same_item}
 use Rattle.syscall_layer.proofs.Apart.{page_of, page_there, has_held}
 
@@ -52,13 +52,10 @@ bytes_same old new r len same =
 
 -- a region with the same pages, and a memory with the same bytes there
 pub holds_as : (old new : List ℕ) (ns : Inodes) (r q : Region) (s : Source) → (is_copy s ≡ true → bytes_of new q ≡ bytes_of old r) → q.pages ≡ r.pages
-    → HoldsSource old ns r s → HoldsSource new ns q s
+    → HasSource old ns r s → HasSource new ns q s
 holds_as old new ns r q Own same pages held = tt
-holds_as old new ns r q (Copy file change first) same pages held = record {
-  given = held.given;
-  up = held.up;
-  same = λ n is unchanged. same refl ∙ held.same n is unchanged ∙ ap (file_pages (bytes_in n.content) first) (sym pages);
-}
+holds_as old new ns r q (Copy file change first) same pages held =
+    λ n is unchanged. same refl ∙ held n is unchanged ∙ ap (file_pages (bytes_in n.content) first) (sym pages)
 
 -- the same regions, where bytes of live copies stay
 pub copies_stay : (rs : List Region) (old new : List ℕ) (ns : Inodes) (notes : List Note) → CopiesHold rs old ns notes → length old ≡ length new
@@ -68,6 +65,7 @@ pub copies_stay : (rs : List Region) (old new : List ℕ) (ns : Inodes) (notes :
 copies_stay rs old new ns notes copies len same = record {
   hold = λ unstrayed id r is live.
       holds_as old new ns r r r.source (λ copy. bytes_same old new r len (same id r is live copy)) refl (copies.hold unstrayed id r is live);
+  known = copies.known;
   changes = copies.changes;
   uses = copies.uses;
 }

@@ -15,6 +15,7 @@ use Rattle.nommu_regions.proofs.Held.{held_by}
 use Rattle.mmap_rules.specs.declared.mapping.Mapping.{Mapping}
 use Rattle.mmap_rules.specs.Space.{memory_base, page_size}
 use Rattle.mmap_rules.specs.Held.{released, page_address}
+use Rattle.mmap_rules.specs.Copies.{HasFile, HasSource}
 use Rattle.mem_files.specs.Inodes.{Inodes}
 use Rattle.call_log.specs.declared.how.How.{How}
 use Rattle.call_log.specs.declared.how.Seen.{Seen}
@@ -25,7 +26,7 @@ use Rattle.machine_world.specs.Ages.{AreChanged, Follows, kept_calls, most_at_bo
 use Rattle.physical_turns.specs.Physical.{has_stray}
 use Rattle.syscall_layer.specs.Kept.{Kept}
 use Rattle.syscall_layer.specs.Regular.{Regular, named_in}
-use Rattle.syscall_layer.specs.Copies.{HoldsFile, HoldsSource, CopiesHold}
+use Rattle.syscall_layer.specs.Copies.{KnowsFile, KnowsSource, CopiesHold}
 use Rattle.syscall_layer.proofs.Counts.{after_set}
 use Rattle.syscall_layer.proofs.Gone.{length_released, released_at}
 use Rattle.syscall_layer.proofs.CopiesKept.{bytes_same, holds_as, physical_at}
@@ -62,6 +63,7 @@ pub copies_noted : (rs : List Region) (mem : List ℕ) (ns : Inodes) (notes now 
     → (has_stray now ≡ false → has_stray notes ≡ false) → CopiesHold rs mem ns now
 copies_noted rs mem ns notes now copies more strays = record {
   hold = λ unstrayed. copies.hold (strays unstrayed);
+  known = copies.known;
   changes = changed_more most_at_boot (kept_calls notes) (kept_calls now) ns more copies.changes;
   uses = λ id r is. omega (arith, more, copies.uses id r is);
 }
@@ -69,30 +71,34 @@ copies_noted rs mem ns notes now copies more strays = record {
 -- ---- files
 
 -- a file that was there and aged
-file_ages : (mem : List ℕ) (ns nodes : Inodes) (r : Region) (file change first : ℕ) → Follows ns nodes → HoldsFile mem ns r file change first
-    → HoldsFile mem nodes r file change first
-file_ages mem ns nodes r file change first follows held = record {
-  given = omega (arith, held.given, follows.grows);
-  up = λ n is.
-      let aged = follows.nodes file n held.given is in
-      omega (arith, held.up aged.was aged.there, aged.ages.up);
-  same = λ n is unchanged.
-      let aged = follows.nodes file n held.given is in
-      let low = held.up aged.was aged.there in
-      let high = aged.ages.up in
-      let then : change ≡ aged.was.change = omega (arith, low, high, unchanged) in
-      let since : aged.was.change ≡ n.change = omega (arith, low, high, unchanged) in
-      rw (← aged.ages.same since) (held.same aged.was aged.there then);
-}
+file_ages : (mem : List ℕ) (ns nodes : Inodes) (r : Region) (file change first : ℕ) → Follows ns nodes → KnowsFile ns file change
+    → HasFile mem ns r file change first → HasFile mem nodes r file change first
+file_ages mem ns nodes r file change first follows known has = λ n is unchanged.
+    let aged = follows.nodes file n known.given is in
+    let low = known.up aged.was aged.there in
+    let high = aged.ages.up in
+    let then : change ≡ aged.was.change = omega (arith, low, high, unchanged) in
+    let since : aged.was.change ≡ n.change = omega (arith, low, high, unchanged) in
+    rw (← aged.ages.same since) (has aged.was aged.there then)
 
-source_ages : (mem : List ℕ) (ns nodes : Inodes) (r : Region) (s : Source) → Follows ns nodes → HoldsSource mem ns r s → HoldsSource mem nodes r s
-source_ages mem ns nodes r Own follows held = tt
-source_ages mem ns nodes r (Copy file change first) follows held = file_ages mem ns nodes r file change first follows held
+source_ages : (mem : List ℕ) (ns nodes : Inodes) (r : Region) (s : Source) → Follows ns nodes → KnowsSource ns s → HasSource mem ns r s → HasSource mem nodes r s
+source_ages mem ns nodes r Own follows known has = tt
+source_ages mem ns nodes r (Copy file change first) follows known has = file_ages mem ns nodes r file change first follows known has
+
+knows_ages : (ns nodes : Inodes) (s : Source) → Follows ns nodes → KnowsSource ns s → KnowsSource nodes s
+knows_ages ns nodes Own follows known = tt
+knows_ages ns nodes (Copy file change first) follows known = record {
+  given = omega (arith, known.given, follows.grows);
+  up = λ n is.
+      let aged = follows.nodes file n known.given is in
+      omega (arith, known.up aged.was aged.there, aged.ages.up);
+}
 
 pub copies_aged : (rs : List Region) (mem : List ℕ) (ns nodes : Inodes) (notes now : List Note) → CopiesHold rs mem ns notes → Follows ns nodes
     → AreChanged (most_at_boot + kept_calls now) nodes → kept_calls notes ≤ kept_calls now → (has_stray now ≡ false → has_stray notes ≡ false) → CopiesHold rs mem nodes now
 copies_aged rs mem ns nodes notes now copies follows changed more strays = record {
-  hold = λ unstrayed id r is live. source_ages mem ns nodes r r.source follows (copies.hold (strays unstrayed) id r is live);
+  hold = λ unstrayed id r is live. source_ages mem ns nodes r r.source follows (copies.known id r is live) (copies.hold (strays unstrayed) id r is live);
+  known = λ id r is live. knows_ages ns nodes r.source follows (copies.known id r is live);
   changes = changed;
   uses = λ id r is. omega (arith, more, copies.uses id r is);
 }
@@ -100,18 +106,17 @@ copies_aged rs mem ns nodes notes now copies follows changed more strays = recor
 -- ---- regions with fewer uses
 
 -- the region with another number of uses
-fewer : (mem : List ℕ) (ns : Inodes) (r s : Region) (uses : ℕ) → s ≡ record r { uses = uses } → HoldsSource mem ns r r.source → HoldsSource mem ns s s.source
-fewer mem ns r s uses is held = rw is (holds_as mem mem ns r (record r { uses = uses }) r.source (λ copy. refl) refl held)
+fewer : (mem : List ℕ) (ns : Inodes) (r s : Region) (uses : ℕ) → s ≡ record r { uses = uses } → HasSource mem ns r r.source → HasSource mem ns s s.source
+fewer mem ns r s uses is has = rw is (holds_as mem mem ns r (record r { uses = uses }) r.source (λ copy. refl) refl has)
 
 pub copies_released : (rs : List Region) (mem : List ℕ) (ns : Inodes) (notes : List Note) (maps : List Mapping) → CopiesHold rs mem ns notes
     → CopiesHold (released rs maps) mem ns notes
 copies_released rs mem ns notes maps copies = record {
   hold = λ unstrayed id s is live.
       let r = get_or rs id s in
-      let there = there_before id s is in
-      let same = fewer_at id s is in
-      let more : 0 < r.uses = omega (arith, live, ap (λ (q : Region). q.uses) same) in
-      fewer mem ns r s (r.uses - named_in id maps) same (copies.hold unstrayed id r there more);
+      fewer mem ns r s (r.uses - named_in id maps) (fewer_at id s is) (copies.hold unstrayed id r (there_before id s is) (used_before id s is live));
+  known = λ id s is live.
+      subst (λ (q : Region). KnowsSource ns q.source) (sym (fewer_at id s is)) (copies.known id (get_or rs id s) (there_before id s is) (used_before id s is live));
   changes = copies.changes;
   uses = λ id s is.
       let r = get_or rs id s in
@@ -124,6 +129,9 @@ copies_released rs mem ns notes maps copies = record {
     fewer_at : (id : ℕ) (s : Region) → slice_get (released rs maps) id ≡ Some s
         → s ≡ record (get_or rs id s) { uses = (get_or rs id s).uses - named_in id maps }
     fewer_at id s is = same_Some _ _ (sym is ∙ released_at rs maps id (get_or rs id s) (there_before id s is))
+
+    used_before : (id : ℕ) (s : Region) → slice_get (released rs maps) id ≡ Some s → 0 < s.uses → 0 < (get_or rs id s).uses
+    used_before id s is live = omega (arith, live, ap (λ (q : Region). q.uses) (fewer_at id s is))
 
 -- ---- a program that begins
 
@@ -152,11 +160,15 @@ pub copies_begun : (k : Kept) → Regular k → CopiesHold k.regions k.mem k.tre
     → CopiesHold (slice_set k.regions page (block_region page pages)) mem k.tree k.notes
 copies_begun k regular copies page pages free mem len others = record {
   hold = λ unstrayed id r is live. elim (after_set k.regions page id (block_region page pages) r is) [
-    | inl here ↦ subst (λ (q : Region). HoldsSource mem k.tree q q.source) (sym here.1) tt
+    | inl here ↦ subst (λ (q : Region). HasSource mem k.tree q q.source) (sym here.1) tt
     | inr other ↦
         let bytes = bytes_same k.mem mem r (sym len)
         (λ at low high. others at (beside_free k.regions page pages free id r other.1 live at low high)) in
         holds_as k.mem mem k.tree r r r.source (λ copy. bytes) refl (copies.hold unstrayed id r other.1 live)
+  ];
+  known = λ id r is live. elim (after_set k.regions page id (block_region page pages) r is) [
+    | inl here ↦ subst (λ (q : Region). KnowsSource k.tree q.source) (sym here.1) tt
+    | inr other ↦ copies.known id r other.1 live
   ];
   changes = copies.changes;
   uses = λ id r is. elim (after_set k.regions page id (block_region page pages) r is) [
@@ -190,6 +202,7 @@ pub copies_begin : (pages : ℕ) (mem : List ℕ) (ns : Inodes) → AreChanged m
     → CopiesHold (replicate pages (record { first = 0; pages = 0; source = Own; uses = 0 })) mem ns []
 copies_begin pages mem ns changed = record {
   hold = λ unstrayed id r is live. absurd (omega (arith, live, unused id r is));
+  known = λ id r is live. absurd (omega (arith, live, unused id r is));
   changes = λ id n is. omega (arith, changed id n is);
   uses = λ id r is. omega (arith, unused id r is);
 }

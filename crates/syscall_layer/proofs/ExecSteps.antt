@@ -4,6 +4,7 @@ use Rattle.std.specs.Prelude.{slice_get, Result, Err}
 use Rattle.std.specs.declared.alloc.AllocError.{AllocError}
 use Rattle.page_runs.specs.declared.place.Kind.{Kind}
 use Rattle.mmap_rules.specs.Held.{Held, page_address}
+use Rattle.mmap_rules.specs.Copies.{AllHold}
 use Rattle.bflt_format.specs.Values.{Values}
 use Rattle.call_log.specs.declared.errno.Errno.{Errno}
 use Rattle.call_log.specs.declared.errno.Errno.TheVariants.{E2big, Enomem}
@@ -29,7 +30,7 @@ use Rattle.syscall_layer.specs.declared.answer.Served.{Served}
 use Rattle.syscall_layer.specs.declared.answer.Served.TheVariants.{Replied}
 use Rattle.syscall_layer.specs.Kept.{Kept}
 use Rattle.syscall_layer.specs.Regular.{HasSpace, Regular, IsRegular}
-use Rattle.syscall_layer.specs.Copies.{AllHoldFiles, CopiesHold, HoldsFiles}
+use Rattle.syscall_layer.specs.Copies.{CopiesHold, HoldsFiles}
 use Rattle.syscall_layer.specs.Stands.{About, world_of}
 use Rattle.syscall_layer.specs.Serves.{Answered, Serves}
 use Rattle.syscall_layer.specs.Gone.{without_space, space_left}
@@ -161,13 +162,13 @@ holds_begun k n regular copies call task kind index f args env b ready holds =
 
 -- and where none began
 pub holds_refused : (k : Kept) (kind : Kind) (f : Values) (args env : List (List ℕ)) (rs : List Region) (mem : List ℕ) (loaded : Result Loaded LoadRefusal)
-    → Loads kind f args env k.regions k.mem rs mem loaded → (why : LoadRefusal) → loaded ≡ Err why → HoldsFiles k → AllHoldFiles rs mem k.tree
+    → Loads kind f args env k.regions k.mem rs mem loaded → (why : LoadRefusal) → loaded ≡ Err why → HoldsFiles k → AllHold rs mem k.tree
 holds_refused k kind f args env rs mem loaded is why same holds = by_why why (subst (Loads kind f args env k.regions k.mem rs mem) same is)
   where
-    stays : rs ≡ k.regions → mem ≡ k.mem → AllHoldFiles rs mem k.tree
+    stays : rs ≡ k.regions → mem ≡ k.mem → AllHold rs mem k.tree
     stays regions memory = subst HoldsFiles (λ i. record k { regions = sym regions i; mem = sym memory i }) holds
 
-    by_why : (why : LoadRefusal) → Loads kind f args env k.regions k.mem rs mem (Err why) → AllHoldFiles rs mem k.tree
+    by_why : (why : LoadRefusal) → Loads kind f args env k.regions k.mem rs mem (Err why) → AllHold rs mem k.tree
     by_why load_refusal.E2big left = stays left.1.0 left.1.1
     by_why load_refusal.NoRun left = stays left.1.1.0 left.1.1.1
     by_why load_refusal.Memory left = stays left.0 left.1

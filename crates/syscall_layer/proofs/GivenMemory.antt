@@ -247,6 +247,7 @@ module _ (k : Kept) (regular : Regular k) (i : ℕ) (h : Held) (there : slice_ge
   copies_if : (mem : List ℕ) → CopiesHold k.regions k.mem k.tree k.notes → (has_stray k.notes ≡ false → CopiesHold k.regions mem k.tree k.notes) → CopiesHold k.regions mem k.tree k.notes
   copies_if mem copies holds = record {
     hold = λ unstrayed. (holds unstrayed).hold unstrayed;
+    known = copies.known;
     changes = copies.changes;
     uses = copies.uses;
   }

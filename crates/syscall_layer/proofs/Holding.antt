@@ -57,6 +57,7 @@ regular_clean k regular = regular_noted k regular (clean k.notes) (omega (arith,
 pub copies_clean : (k : Kept) → CopiesHold k.regions k.mem k.tree k.notes → HoldsFiles k → CopiesHold k.regions k.mem k.tree (clean k.notes)
 copies_clean k copies holds = record {
   hold = λ unstrayed. holds;
+  known = copies.known;
   changes = λ id n there. omega (arith, copies.changes id n there, calls_clean k.notes);
   uses = λ id r there. omega (arith, copies.uses id r there, calls_clean k.notes);
 }

@@ -1,4 +1,5 @@
 -- Begins  the parts before the first program
+-- CallsKeep  a call notes no stray access, and leaves as many pages and no pipe marked
 -- Worlds  the world of the parts, where one space or one process is found, changed or taken out
 -- GivenMemory  what a call that gives bytes leaves of the one memory
 -- ToldMemory  and a waitid
@@ -59,10 +60,11 @@
 -- CallsIn    a call by its class, and what goes on behind it, in the one memory
 -- CallsOn    a call of a run that goes on
 -- CallEvents  it is an event of the run
--- Samples    calls of such a run, computed from the definitions
+-- Samples    calls of such a run, and copies that hold their file or don't, computed from the definitions
 -- NotedStrays  whether the note of a stray access is among notes
 -- Abouts     runs of which little is known
 mod Begins
+pub mod CallsKeep
 pub mod Worlds
 pub mod Shows
 pub mod Families

@@ -23,12 +23,12 @@ use Rattle.mmap_rules.proofs.Change.{covered}
 use Rattle.mmap_rules.proofs.CopiesHold.{copy_byte}
 use Rattle.mmap_rules.proofs.FilePages.{length-file_pages}
 use Rattle.mmap_rules.proofs.Fresh.{fresh_free}
-use Rattle.mem_files.specs.Inodes.{Inodes, bytes_of}
+use Rattle.mem_files.specs.Inodes.{bytes_of}
 use Rattle.machine_world.specs.MapCalls.{all_maps, lowest, has_pages, shared, or_own, in_copy as in_copy_of, with_mapping, first_bytes}
 use Rattle.syscall_layer.specs.Kept.{Kept}
 use Rattle.syscall_layer.specs.Regular.{Regular}
-use Rattle.syscall_layer.specs.Copies.{HoldsFiles, HoldsSource}
-use Rattle.mmap_rules.specs.Copies.{HasSource, IsKnown}
+use Rattle.syscall_layer.specs.Copies.{HoldsFiles}
+use Rattle.mmap_rules.specs.Copies.{IsKnown}
 use Rattle.syscall_layer.specs.Stands.{About, OthersSame, private_bytes, private_of, live_from, live_spaces, world_of}
 use Rattle.syscall_layer.proofs.MapChoice.{OfRegion, no_copy, lowest_copy, own_choice, chosen, free_page, own_is}
 use Rattle.syscall_layer.proofs.MapBytes.{added, others_beside, laid_same}
@@ -67,11 +67,6 @@ same_space mem now h mapping bytes same = λ i. record {
 pub shared_is : (first pages : ℕ) (m : Mapping) (r : Region) → OfRegion m r →
     shared first pages m ≡ part_mapping r.first r.pages r.source (first - copied_from r.source) pages
 shared_is first pages m r of = λ i. part_mapping (of.first i) (of.pages i) (of.source i) (first - copied_from (of.source i)) pages
-
--- a copy that holds its file has its bytes
-has_source : (mem : List ℕ) (nodes : Inodes) (r : Region) (s : Source) → HoldsSource mem nodes r s → HasSource mem nodes r s
-has_source mem nodes r Own holds = tt
-has_source mem nodes r (Copy file change first) holds = holds.same
 
 -- ---- the code's run and the world's
 
@@ -154,7 +149,7 @@ module _ (a : About) (k : Kept) (regular : Regular k) (number : ℕ) (h : Held) 
         omega (arith, len, start, c.from, c.to, inside, regular.memory) in
         let same : laid k.mem (4096 * (r.first + (first - copied_from r.source))) (first_bytes k.tree (File pages first false id change)) ≡ k.mem =
         laid_same k.mem (4096 * page) bytes fits (λ i less.
-        copy_byte k.mem k.tree r id change first pages c (has_source k.mem k.tree r r.source (holds copy r there live)) known.0 known.1 known.2 i (omega (arith, less, len))
+        copy_byte k.mem k.tree r id change first pages c (holds copy r there live) known.0 known.1 known.2 i (omega (arith, less, len))
         ∙ ap (λ (s : ℕ). get_or k.mem (4096 * (r.first + (first - s)) + i) 0) (sym start)) in
         record {
           mapping = part_mapping r.first r.pages r.source (first - copied_from r.source) pages;

@@ -240,7 +240,7 @@ module _ (k : Kept) (regular : Regular k) where
       }
 
   -- the bytes lie in memory
-  pub run_inside : (first count : ℕ) (content : List ℕ) → AreFree k.regions first count → length content ≡ 4096 * count
+  run_inside : (first count : ℕ) (content : List ℕ) → AreFree k.regions first count → length content ≡ 4096 * count
       → 4096 * first + length content ≤ length k.mem
   run_inside first count content free len =
       let inside = free.inside in

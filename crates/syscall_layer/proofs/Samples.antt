@@ -1,6 +1,7 @@
--- Calls of a run that goes on, computed from the definitions.
-use Rattle.std.proofs.Common.{◌≡◌, ℕ, Bool, false, List, [], ◌∷◌, map, Option, Some, None, refl}
-use Rattle.std.specs.Prelude.{Result, Ok, Err, codes, option_map}
+-- Calls of a run that goes on, live copies that hold their file or don't, and what ties the parts of a run, computed from the definitions.
+use Rattle.std.proofs.Common.{◌≡◌, ◌≤◌, ℕ, zero, suc, Bool, true, false, List, [], ◌∷◌, ◌++◌, length, get_or, map, Option, Some, None, refl, ap, subst, arith}
+use Rattle.std.specs.Prelude.{Result, Ok, Err, codes, option_map, replicate}
+use Rattle.std.proofs.lemmas.Option.{same_Some, none-some}
 use Rattle.byte_words.specs.Patches.{from_base}
 use Rattle.byte_words.specs.Numbers.{number_at, byte_at}
 use Rattle.byte_words.specs.Pieces.{pieces}
@@ -17,7 +18,11 @@ use Rattle.call_log.specs.declared.how.SeenKind.TheVariants as seen
 use Rattle.call_log.specs.Errno.{refusal}
 use Rattle.call_log.specs.Notes.{Note, call_note, stray_note, has_room}
 use Rattle.call_log.specs.Sent.{sent, read_span}
+use Rattle.nommu_regions.specs.declared.region.Region.{Region}
+use Rattle.nommu_regions.specs.declared.region.Source.TheVariants.{Own, Copy}
 use Rattle.mmap_rules.specs.Space.{writable_in, own_in, may_use}
+use Rattle.mmap_rules.specs.Mappings.{file_pages}
+use Rattle.mmap_rules.specs.Copies.{bytes_of, HasSource}
 use Rattle.region_watch.specs.Private.{only}
 use Rattle.region_watch.specs.Strays.{call_of}
 use Rattle.flat_loader.specs.Original.{block_pages}
@@ -26,9 +31,10 @@ use Rattle.flat_loader.specs.Begin.{begin_space, begin_regs}
 use Rattle.quantum_sched.specs.Picked.{picked}
 use Rattle.vfork_exec.specs.Keyed.{find, change, without}
 use Rattle.vfork_exec.specs.Families.{ended_behind, resumed, state_behind}
+use Rattle.mem_files.specs.Inodes.{Inode, root, file, folder, new_inode, bytes_in}
 use Rattle.mem_files.specs.Paths.{names, is_too_long, walked, place_of}
-use Rattle.fd_tables.specs.Files.{view, two_free}
-use Rattle.fd_tables.specs.Changes.{closed, piped, with_table, without_table, all_descriptors}
+use Rattle.fd_tables.specs.Files.{view, two_free, nothing_open}
+use Rattle.fd_tables.specs.Changes.{piped, with_table, without_table, all_descriptors}
 use Rattle.machine_world.specs.World.{World}
 use Rattle.machine_world.specs.Families.{borrows, spaces_left, all_left_by, all_roused, ready_pids}
 use Rattle.machine_world.specs.Free.{free_runs_in}
@@ -39,7 +45,12 @@ use Rattle.machine_world.specs.Event.{ended, stepped, trapped, served, exited, a
 use Rattle.machine_world.specs.Boot.{BootFault, started, all_started, boot}
 use Rattle.physical_turns.specs.Physical.{Physical, After, after, no_room, nobody, laid_behind, waitid_in, answer_in, at_process, called_in, carried_out, physical_event, physical_turn, physical_turns, first_memory, opening}
 use Rattle.physical_turns.proofs.Samples.{caller, still, rest_of, start, q, loaded_at, headers}
+use Rattle.syscall_layer.specs.Kept.{Kept, nothing_yet}
+use Rattle.syscall_layer.specs.Copies.{KnowsFile, HoldsFiles, StillHolds}
+use Rattle.syscall_layer.specs.Parts.{AreTied}
+use Rattle.syscall_layer.specs.Reach.{whole_table}
 use Rattle.syscall_layer.specs.InMemory.{first_range, called_on}
+use Rattle.syscall_layer.proofs.Holding.{unstrayed_holds}
 
 -- what a call's first range is, whether its turn is over, what it notes, and what it leaves at some addresses of memory
 pub record Saw : Type 0 where
@@ -95,3 +106,96 @@ called-next_range :
     })
 unfolding number_at byte_at from_base decoded opcode funct3 funct7 rd rs1 rs2 imm_i imm_s imm_b imm_u imm_j loaded stored effect meaning register with_register free_runs place refusal has_room sent read_span writable_in own_in only may_use block_pages frame_len frame frame_start frame_fits begin_space begin_regs find change without ended_behind state_behind resumed spaces_left borrows all_left_by free_runs_in pipe2_row write_row row view two_free piped with_table without_table all_descriptors pieces names is_too_long walked place_of ended stepped trapped served exited answer private_process called event stray settled all_roused laid_behind waitid_in answer_in at_process called_in carried_out physical_event physical_turn ready_pids picked physical_turns first_memory opening started all_started boot first_range called_on
 called-next_range = refl
+
+-- ---- copies
+
+-- a file of two bytes that was changed so often
+abbrev changed : ℕ → Inode
+changed times = record (new_inode (file (1 ∷ 2 ∷ [])) None) { change = times }
+
+-- a copy of its first page, made before any change, in the second page of memory
+abbrev copy : Region
+copy = record { first = 1; pages = 1; source = Copy 2 0 0; uses = 1 }
+
+-- the parts with the copy, which has these three bytes and zeros behind them
+abbrev with_copy : List ℕ → ℕ → List Note → Kept
+with_copy bytes times notes =
+    record (nothing_yet 2 (None ∷ Some (new_inode (folder root (record { name = codes "f"; id = 2 } ∷ [])) None) ∷ Some (changed times) ∷ []) (nothing_open [])) {
+      mem = replicate 4096 7 ++ bytes ++ replicate 4093 0;
+      regions = record { first = 0; pages = 0; source = Own; uses = 0 } ∷ copy ∷ [];
+      notes = notes;
+    }
+
+abbrev copied : List ℕ → List ℕ
+copied bytes = bytes_of (with_copy bytes 0 []).mem copy
+
+-- the parts hold their files where that copy does
+holds_if : (bytes : List ℕ) (times : ℕ) (notes : List Note) → (0 ≡ times → copied bytes ≡ file_pages (1 ∷ 2 ∷ []) 0 1) → HoldsFiles (with_copy bytes times notes)
+holds_if bytes times notes same zero r is live = absurd (omega (arith, live, ap (λ (q : Region). q.uses) (same_Some _ _ is)))
+holds_if bytes times notes same (suc zero) r is live =
+    subst (λ (q : Region). HasSource (with_copy bytes times notes).mem (with_copy bytes times notes).tree q q.source) (same_Some _ _ is) (λ n there.
+    subst (λ (n : Inode). 0 ≡ n.change → copied bytes ≡ file_pages (bytes_in n.content) 0 1) (same_Some _ _ there) same)
+holds_if bytes times notes same (suc (suc id)) r is live = absurd (none-some r is)
+
+-- and only there
+has_bytes : (bytes : List ℕ) (notes : List Note) → HoldsFiles (with_copy bytes 0 notes) → copied bytes ≡ file_pages (1 ∷ 2 ∷ []) 0 1
+has_bytes bytes notes holds = holds 1 copy refl (omega arith) (changed 0) refl refl
+
+-- the file's bytes, and zeros past its end
+its_bytes : (notes : List Note) → HoldsFiles (with_copy (1 ∷ 2 ∷ 0 ∷ []) 0 notes)
+unfolding file_pages
+its_bytes notes = holds_if (1 ∷ 2 ∷ 0 ∷ []) 0 notes (λ unchanged. refl)
+
+-- another byte
+other_byte : (notes : List Note) → HoldsFiles (with_copy (1 ∷ 3 ∷ 0 ∷ []) 0 notes) → ⊥
+unfolding file_pages
+other_byte notes holds =
+    let same : 3 ≡ 2 = ap (λ (bs : List ℕ). get_or bs 1 0) (has_bytes (1 ∷ 3 ∷ 0 ∷ []) notes holds) in
+    absurd (omega (arith, same))
+
+-- another one past the file's end
+past_its_end : (notes : List Note) → HoldsFiles (with_copy (1 ∷ 2 ∷ 9 ∷ []) 0 notes) → ⊥
+unfolding file_pages
+past_its_end notes holds =
+    let same : 9 ≡ 0 = ap (λ (bs : List ℕ). get_or bs 2 0) (has_bytes (1 ∷ 2 ∷ 9 ∷ []) notes holds) in
+    absurd (omega (arith, same))
+
+-- the file was changed since: whatever the bytes
+changed_since : (bytes : List ℕ) (notes : List Note) → HoldsFiles (with_copy bytes 1 notes)
+changed_since bytes notes = holds_if bytes 1 notes (λ unchanged. absurd (omega (arith, unchanged)))
+
+-- of itself where no stray access was noted
+of_itself : (bytes : List ℕ) (times : ℕ) → StillHolds (with_copy bytes times (makes_pipe ∷ []))
+of_itself bytes times = unstrayed_holds (with_copy bytes times (makes_pipe ∷ [])) refl
+
+-- by its bytes where one was
+still_its_bytes : StillHolds (with_copy (1 ∷ 2 ∷ 0 ∷ []) 0 (makes_pipe ∷ stray_range ∷ []))
+still_its_bytes strayed = its_bytes (makes_pipe ∷ stray_range ∷ [])
+
+still_other_byte : StillHolds (with_copy (1 ∷ 3 ∷ 0 ∷ []) 0 (makes_pipe ∷ stray_range ∷ [])) → ⊥
+still_other_byte holds = other_byte (makes_pipe ∷ stray_range ∷ []) (holds refl)
+
+-- its file is known: the number was given, and the file wasn't changed less often than when it was copied
+known : KnowsFile (with_copy [] 3 []).tree 2 3
+known = record { given = omega arith; up = λ n there. subst (λ (n : Inode). 3 ≤ n.change) (same_Some _ _ there) (omega arith) }
+
+-- a number that wasn't given, and a count that fell
+unknown : KnowsFile (with_copy [] 3 []).tree 3 0 → ⊥
+unknown knows = let given = knows.given in omega (arith, given)
+
+fell : KnowsFile (with_copy [] 3 []).tree 2 4 → ⊥
+fell knows = let up = knows.up (changed 3) refl in omega (arith, up)
+
+-- ---- what ties the parts of a run
+
+tied : AreTied false (whole_table 2) (with_copy [] 0 [])
+tied = record { noted = refl; whole = refl; unmarked = refl }
+
+tied_behind : AreTied true (whole_table 2) (with_copy [] 0 (stray_range ∷ []))
+tied_behind = record { noted = refl; whole = refl; unmarked = refl }
+
+unmarked_stray : AreTied false (whole_table 2) (with_copy [] 0 (stray_range ∷ [])) → ⊥
+unmarked_stray ties = let noted : false ≡ true = ties.noted in cc
+
+short_table : AreTied false (whole_table 1) (with_copy [] 0 []) → ⊥
+short_table ties = let pages = ap length ties.whole in omega (arith, pages)

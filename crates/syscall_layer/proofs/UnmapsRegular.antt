@@ -11,6 +11,7 @@ use Rattle.nommu_regions.specs.declared.region.Source.TheVariants.{Own, Copy}
 use Rattle.nommu_regions.specs.Regions.{AreRegions, with_uses, with_cut}
 use Rattle.mmap_rules.specs.declared.mapping.Mapping.{Mapping}
 use Rattle.mmap_rules.specs.Held.{Held, AreMappings}
+use Rattle.mmap_rules.specs.Copies.{HasSource}
 use Rattle.mmap_rules.specs.Want.{pages_for}
 use Rattle.mmap_rules.specs.Mappings.{page_at, left_of}
 use Rattle.mmap_rules.specs.Sides.{Freed, NameRegions, unmapped}
@@ -25,7 +26,7 @@ use Rattle.mmap_rules.proofs.NamesAll.{what_went}
 use Rattle.mem_files.specs.Inodes.{Inodes}
 use Rattle.syscall_layer.specs.Kept.{Kept}
 use Rattle.syscall_layer.specs.Regular.{Names, Regular, HasSpace, named_in, uses_in}
-use Rattle.syscall_layer.specs.Copies.{HoldsSource, CopiesHold}
+use Rattle.syscall_layer.specs.Copies.{KnowsSource, CopiesHold}
 use Rattle.machine_world.specs.Ages.{kept_calls}
 use Rattle.physical_turns.specs.Physical.{has_stray}
 use Rattle.syscall_layer.proofs.Counts.{get_set, get_other, after_set, named, counted, counted_both}
@@ -180,10 +181,10 @@ unmap_regular k regular number h home shaped addr len f is =
 -- ---- copies
 
 -- the file that a region holds has nothing to do with its uses
-holds_on : (mem : List ℕ) (nodes : Inodes) (r : Region) (uses : ℕ) (source : Source) → HoldsSource mem nodes r source
-    → HoldsSource mem nodes (record r { uses = uses }) source
-holds_on mem nodes r uses Own holds = holds
-holds_on mem nodes r uses (Copy file change first) holds = record { given = holds.given; up = holds.up; same = holds.same }
+holds_on : (mem : List ℕ) (nodes : Inodes) (r : Region) (uses : ℕ) (source : Source) → HasSource mem nodes r source
+    → HasSource mem nodes (record r { uses = uses }) source
+holds_on mem nodes r uses Own has = has
+holds_on mem nodes r uses (Copy file change first) has = has
 
 pub unmap_copies : (k : Kept) → Regular k → CopiesHold k.regions k.mem k.tree k.notes → (number : ℕ) (h : Held)
     → slice_get k.spaces number ≡ Some (Some h) → AreMappings h.pages h.maps → (addr len : ℕ) (f : Freed) → unmapped h k.regions addr len ≡ Some f
@@ -192,9 +193,13 @@ unmap_copies k regular copies number h home shaped addr len f is notes more stra
     let left = left_is k regular number h home shaped addr len f is in
     record {
       hold = λ unstrayed id s there live. elim (left.was id s there) [
-        | inl w ↦ subst (λ (q : Region). HoldsSource k.mem k.tree q q.source) (sym w.same)
+        | inl w ↦ subst (λ (q : Region). HasSource k.mem k.tree q q.source) (sym w.same)
             (holds_on k.mem k.tree w.old s.uses w.old.source (copies.hold (strays unstrayed) id w.old w.there (omega (arith, w.fewer, live))))
-        | inr part ↦ subst (λ (source : Source). HoldsSource k.mem k.tree s source) (sym part.0) tt
+        | inr part ↦ subst (λ (source : Source). HasSource k.mem k.tree s source) (sym part.0) tt
+      ];
+      known = λ id s there live. elim (left.was id s there) [
+        | inl w ↦ subst (λ (q : Region). KnowsSource k.tree q.source) (sym w.same) (copies.known id w.old w.there (omega (arith, w.fewer, live)))
+        | inr part ↦ subst (KnowsSource k.tree) (sym part.0) tt
       ];
       changes = λ id n there. (let few = copies.changes id n there in omega (arith, few, more));
       uses = λ id s there. elim (left.was id s there) [

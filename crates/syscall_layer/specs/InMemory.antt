@@ -116,9 +116,3 @@ abbrev pub ServesOn : List (List ℕ) → About → Kept → Kept → ℕ → Re
 ServesOn headers a old new pid (Ok s) =
     GoesIn headers a (called_on (physical_of headers a old) pid) (with_range pid (first_range (physical_of headers a old) pid) old) new pid s
 ServesOn headers a old new pid (Err error) = new ≡ old
-
--- what is reached behind it
-abbrev pub reach_on : Reach → Option Access → Result Served AllocError → Reach
-reach_on reach (Some access) (Ok s) = Whole
-reach_on reach None (Ok s) = reach
-reach_on reach strays (Err error) = reach

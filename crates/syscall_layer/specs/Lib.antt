@@ -1,10 +1,11 @@
 -- Kept     what is kept of all programs
+-- Parts    the parts of a run: that, its programs, its mode, and whether a stray access was noted; and what ties them
 -- Regular  what holds of it at every moment: the parts of 'stands' that speak of regions, use counts, own bytes and runners
 -- Copies   a live copy holds its file: the part 'copies hold their file' of 'stands'
 -- Stands   the world that it stands for: the parts 'same state' and 'same bytes'
 -- Serves   what a system call, a signal and a stray access leave
 -- Starts   what the start of a program leaves
--- Inside   the fields of `Parts` as what is kept
+-- Inside   the fields of `KeptParts` and of `Parts` as these
 -- Reading  what the reading of a call's bytes answers
 -- Awake    the parts once those go on that wait on a pipe which changed
 -- Gone     the parts without a process, and without a space
@@ -20,6 +21,7 @@
 -- FreeRuns  the free runs that the regions leave
 -- Refusals  why a program doesn't start, by the loader's reason
 pub mod Kept
+pub mod Parts
 pub mod Regular
 pub mod Copies
 pub mod Stands

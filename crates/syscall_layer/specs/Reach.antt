@@ -34,3 +34,8 @@ pub record Reaches (reach : Reach) (pages : ℕ) (h : Held) (table : List PageOw
 abbrev pub is_whole : Reach → Bool
 is_whole Own = false
 is_whole Whole = true
+
+-- a run that goes on reaches all of memory behind a noted stray access
+abbrev pub reach_of : Bool → Reach
+reach_of false = Own
+reach_of true = Whole

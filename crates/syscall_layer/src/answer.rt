@@ -24,8 +24,8 @@ ghost use Rattle.region_watch.specs.declared.mode.Mode.TheVariants.{Halt, GoOn};
 ghost use Rattle.syscall_layer.specs.declared.reach.Reach.TheVariants.{Own, Whole};
 ghost use Rattle.syscall_layer.specs.declared.answer.Served.TheVariants.{Replied, TurnEnds, Waits, Stray};
 ghost use Rattle.syscall_layer.specs.Copies.{HoldsFiles, StillHolds};
-ghost use Rattle.syscall_layer.specs.InMemory.{headers_of, physical_of, ServesIn, InReach, ServesOn, first_range, with_range, reach_on};
-ghost use Rattle.syscall_layer.specs.Reach.{writable, whole_table, is_whole};
+ghost use Rattle.syscall_layer.specs.InMemory.{headers_of, physical_of, ServesIn, InReach, ServesOn, first_range, with_range};
+ghost use Rattle.syscall_layer.specs.Reach.{writable, whole_table};
 ghost use Rattle.syscall_layer.specs.Serves.{Answered, Serves, Tells, WaitsAt, went_by};
 ghost use Rattle.mmap_rules.specs.Copies.{IsKnown};
 ghost use Rattle.syscall_layer.specs.Puts.{first_stray, access_at, IsRange};
@@ -36,6 +36,7 @@ use crate::call::call_of;
 use crate::classes::{is_change, is_exit, is_output};
 use crate::effect::{Effect, effect_of};
 use crate::family::{answer_clone, answer_exec, answer_waitid};
+use crate::kept::KeptParts;
 use crate::maps::want_of;
 use crate::output::{got_len, stray_put};
 use crate::parts::Parts;
@@ -95,7 +96,7 @@ fn has_room_with(log: &Log, call: &Call, got: &[Got]) -> bool
 }
 
 /// Carries out an exit, where the log has room for it.
-fn answer_exit(parts: &mut Parts, call: Call) -> Result<Served, AllocError>
+fn answer_exit(parts: &mut KeptParts, call: Call) -> Result<Served, AllocError>
     requires { CanRun parts.old.procs call.pid }
     ensures serves { (a : About) → (e : Entry Task) → (h : Held) → RunsIn parts.old call.pid e h → IsCall e call →
         Serves a (exited (world_of a parts.old) (ask_in a parts.old e h call)) parts.old parts.new call.pid result }
@@ -112,7 +113,7 @@ fn answer_exit(parts: &mut Parts, call: Call) -> Result<Served, AllocError>
 
 /// Carries out a call with this effect, where the log has room for it.
 pub(crate) fn answer_effect(
-    parts: &mut Parts,
+    parts: &mut KeptParts,
     call: Call,
     effect: Effect,
 ) -> Result<Served, AllocError>
@@ -131,7 +132,7 @@ pub(crate) fn answer_effect(
 }
 
 /// Carries out a call that changes files and doesn't wait, where the log has room for it.
-fn answer_change(parts: &mut Parts, call: Call) -> Result<Served, AllocError>
+fn answer_change(parts: &mut KeptParts, call: Call) -> Result<Served, AllocError>
     requires lives { Lives parts.old.procs call.pid }
     requires change { IsChange call.number }
     requires replies { Replies call parts.old.files }
@@ -149,7 +150,13 @@ fn answer_change(parts: &mut Parts, call: Call) -> Result<Served, AllocError>
 }
 
 /// The first range that the bytes of a call may not be written to.
-fn stray_of(parts: &Parts, pid: u32, got: &[Got], reach: Reach, whole: &Owners) -> Option<Access>
+fn stray_of(
+    parts: &KeptParts,
+    pid: u32,
+    got: &[Got],
+    reach: Reach,
+    whole: &Owners,
+) -> Option<Access>
     requires lives { Lives parts.now.procs pid }
     requires whole { whole.now ≡ whole_table (length parts.now.regions) }
     requires ranges { All IsRange (map written_value got.now) }
@@ -163,7 +170,7 @@ fn stray_of(parts: &Parts, pid: u32, got: &[Got], reach: Reach, whole: &Owners) 
 
 /// What comes of an access beyond reach: it strays, and nothing is done; or it lies outside memory, and the process ends by SIGSEGV.
 fn beyond_reach(
-    parts: &mut Parts,
+    parts: &mut KeptParts,
     pid: u32,
     access: Access,
     reach: Reach,
@@ -185,7 +192,7 @@ fn beyond_reach(
 }
 
 /// What a call gives. Each of its ranges is one that an access can have.
-fn outcome_of(parts: &Parts, call: &Call) -> Result<Outcome, AllocError>
+fn outcome_of(parts: &KeptParts, call: &Call) -> Result<Outcome, AllocError>
     requires output { IsOutput call.now.number }
     requires replies { Replies call.now parts.now.files }
     requires room { slice_index call.now.args 2 < 2 ^ 32 }
@@ -200,7 +207,7 @@ fn outcome_of(parts: &Parts, call: &Call) -> Result<Outcome, AllocError>
 
 /// A call that gives these bytes, where they are within reach and the log has room for them.
 pub(crate) fn answer_given(
-    parts: &mut Parts,
+    parts: &mut KeptParts,
     call: Call,
     outcome: Outcome,
     reach: Reach,
@@ -232,7 +239,7 @@ pub(crate) fn answer_given(
 
 /// Carries out a call that gives bytes and doesn't wait, where they are within reach and the log has room for them.
 fn answer_output(
-    parts: &mut Parts,
+    parts: &mut KeptParts,
     call: Call,
     reach: Reach,
     whole: &Owners,
@@ -256,7 +263,7 @@ fn answer_output(
 
 /// Maps what an mmap2 asks for, where the log has room for the call.
 fn answer_want<F: Fn(&[Run], u32) -> Option<usize>>(
-    parts: &mut Parts,
+    parts: &mut KeptParts,
     call: Call,
     want: Want,
     chooser: &Chooser<F>,
@@ -281,7 +288,7 @@ fn answer_want<F: Fn(&[Run], u32) -> Option<usize>>(
 
 /// Carries out mmap2.
 fn answer_map<F: Fn(&[Run], u32) -> Option<usize>>(
-    parts: &mut Parts,
+    parts: &mut KeptParts,
     call: Call,
     chooser: &Chooser<F>,
 ) -> Result<Served, AllocError>
@@ -302,7 +309,7 @@ fn answer_map<F: Fn(&[Run], u32) -> Option<usize>>(
 }
 
 /// Carries out munmap, where the log has room for it.
-fn answer_unmap(parts: &mut Parts, call: Call) -> Result<Served, AllocError>
+fn answer_unmap(parts: &mut KeptParts, call: Call) -> Result<Served, AllocError>
     requires lives { Lives parts.old.procs call.pid }
     requires munmap { call.number ≡ 215 }
     ensures serves { (a : About) → (e : Entry Task) → (h : Held) → RunsIn parts.old call.pid e h → IsCall e call →
@@ -319,7 +326,7 @@ fn answer_unmap(parts: &mut Parts, call: Call) -> Result<Served, AllocError>
 }
 
 /// The process of a call waits on a pipe, without a note.
-fn answer_wait(parts: &mut Parts, call: &Call, pipe: u32) -> Served
+fn answer_wait(parts: &mut KeptParts, call: &Call, pipe: u32) -> Served
     requires { CanRun parts.old.procs call.now.pid }
     ensures waits { (a : About) → (e : Entry Task) → (h : Held) → RunsIn parts.old call.now.pid e h → IsCall e call.now →
         Answered a (waited (world_of a parts.old) (process_of e) (OnPipe pipe)) parts.old parts.new call.now.pid result }
@@ -333,7 +340,7 @@ fn answer_wait(parts: &mut Parts, call: &Call, pipe: u32) -> Served
 
 /// Carries out a call that is read.
 fn answer<F: Fn(&[Run], u32) -> Option<usize>>(
-    parts: &mut Parts,
+    parts: &mut KeptParts,
     call: Call,
     programs: &[Flat],
     chooser: &Chooser<F>,
@@ -390,7 +397,7 @@ fn went(served: Served) -> bool
 
 /// Carries out a call that is read. Those go on that wait on a pipe which it changed.
 fn answer_and_wake<F: Fn(&[Run], u32) -> Option<usize>>(
-    parts: &mut Parts,
+    parts: &mut KeptParts,
     call: Call,
     programs: &[Flat],
     chooser: &Chooser<F>,
@@ -424,7 +431,7 @@ fn answer_and_wake<F: Fn(&[Run], u32) -> Option<usize>>(
 /// changed. A run of pages that it needs is the chooser's, and the programs that it may run are these. A range beyond its process's own
 /// bytes strays, and nothing is done; one outside memory ends the process by SIGSEGV.
 pub fn serve_within<F: Fn(&[Run], u32) -> Option<usize>>(
-    parts: &mut Parts,
+    parts: &mut KeptParts,
     pid: u32,
     programs: &[Flat],
     chooser: &Chooser<F>,
@@ -445,6 +452,9 @@ pub fn serve_within<F: Fn(&[Run], u32) -> Option<usize>>(
     ensures yields { result ≡ Ok TurnEnds → WaitsAt parts.new.procs pid false }
     ensures waits { result ≡ Ok Waits → parts.old.files.changed ≡ [] → WaitsAt parts.new.procs pid true }
     ensures unnoted { result ≡ Ok Waits → parts.new.notes ≡ parts.old.notes }
+    ensures strayed { has_stray parts.new.notes ≡ has_stray parts.old.notes }
+    ensures pages { length parts.new.regions ≡ length parts.old.regions }
+    ensures marks { parts.old.files.changed ≡ [] → parts.new.files.changed ≡ [] }
 {
     match call_of(parts, pid, reach, whole) {
         Ok(call) => answer_and_wake(parts, call, programs, chooser, reach, whole),
@@ -470,7 +480,7 @@ pub fn serve_within<F: Fn(&[Run], u32) -> Option<usize>>(
 /// Carries out a call with a range that strays, the run's first: it is noted, and the call reaches all of memory. Out of memory
 /// there is no such note either.
 fn serve_noted<F: Fn(&[Run], u32) -> Option<usize>>(
-    parts: &mut Parts,
+    parts: &mut KeptParts,
     pid: u32,
     access: Access,
     programs: &[Flat],
@@ -486,6 +496,9 @@ fn serve_noted<F: Fn(&[Run], u32) -> Option<usize>>(
     ensures yields { result ≡ Ok TurnEnds → WaitsAt parts.new.procs pid false }
     ensures waits { result ≡ Ok Waits → parts.old.files.changed ≡ [] → WaitsAt parts.new.procs pid true }
     ensures unnoted { result ≡ Ok Waits → parts.new.notes ≡ (with_range pid (Some access) parts.old).notes }
+    ensures strayed { IfOk result (λ _. has_stray parts.new.notes ≡ true) }
+    ensures pages { IfOk result (λ _. length parts.new.regions ≡ length parts.old.regions) }
+    ensures marks { IfOk result (λ _. parts.old.files.changed ≡ [] → parts.new.files.changed ≡ []) }
 {
     parts.note_stray(pid, access)?;
     let served = serve_within(parts, pid, programs, chooser, Reach::Whole, whole);
@@ -514,44 +527,53 @@ fn reach_in(mode: Mode, reach: Reach) -> Reach
 pub fn serve<F: Fn(&[Run], u32) -> Option<usize>>(
     parts: &mut Parts,
     pid: u32,
-    programs: &[Flat],
     chooser: &Chooser<F>,
-    mode: Mode,
-    reach: &mut Reach,
-    whole: &Owners,
 ) -> Result<Served, AllocError>
     requires chooser { IsChooser F.pre F.post chooser.now }
-    requires ready { CanRun parts.old.procs pid }
-    requires whole { whole.now ≡ whole_table (length parts.old.regions) }
-    requires strayed { has_stray parts.old.notes ≡ is_whole reach.old }
-    ensures serves { mode ≡ Halt → (a : About) → a.kind ≡ kind_of chooser.now → AreFlats a.programs programs.now → StillHolds parts.old →
-        Serves a (called (world_of a parts.old) pid) parts.old parts.new pid result }
-    ensures memory { mode ≡ GoOn → (a : About) → a.kind ≡ kind_of chooser.now → AreFlats a.programs programs.now →
-        ServesOn (headers_of programs.now) a parts.old parts.new pid result }
-    ensures holds { mode ≡ Halt → HoldsFiles parts.old → HoldsFiles parts.new }
-    ensures within { mode ≡ Halt → (a : About) → a.kind ≡ kind_of chooser.now → AreFlats a.programs programs.now →
-        InReach Own (headers_of programs.now) a (called_in (physical_of (headers_of programs.now) a parts.old) pid) parts.old parts.new pid result }
-    ensures stray { mode ≡ Halt → (access : Access) → result ≡ Ok (Stray access) → parts.new ≡ parts.old }
-    ensures halts { mode ≡ Halt → reach.new ≡ reach.old }
-    ensures goes_on { mode ≡ GoOn → (a : About) → a.kind ≡ kind_of chooser.now → AreFlats a.programs programs.now →
-        reach.new ≡ reach_on reach.old (first_range (physical_of (headers_of programs.now) a parts.old) pid) result }
-    ensures unchanged { OnErr result ((parts.new ≡ parts.old) × (reach.new ≡ reach.old)) }
-    ensures yields { result ≡ Ok TurnEnds → WaitsAt parts.new.procs pid false }
-    ensures waits { result ≡ Ok Waits → parts.old.files.changed ≡ [] → WaitsAt parts.new.procs pid true }
-    ensures unnoted { result ≡ Ok Waits → mode ≡ GoOn → (a : About) → a.kind ≡ kind_of chooser.now → AreFlats a.programs programs.now →
-        parts.new.notes ≡ (with_range pid (first_range (physical_of (headers_of programs.now) a parts.old) pid) parts.old).notes }
+    requires ready { CanRun parts.old.kept.procs pid }
+    ensures programs { parts.new.programs ≡ parts.old.programs }
+    ensures mode { parts.new.mode ≡ parts.old.mode }
+    ensures noted { parts.new.noted ≡ has_stray parts.new.kept.notes }
+    ensures serves { parts.old.mode ≡ Halt → (a : About) → a.kind ≡ kind_of chooser.now → AreFlats a.programs parts.old.programs → StillHolds parts.old.kept →
+        Serves a (called (world_of a parts.old.kept) pid) parts.old.kept parts.new.kept pid result }
+    ensures memory { parts.old.mode ≡ GoOn → (a : About) → a.kind ≡ kind_of chooser.now → AreFlats a.programs parts.old.programs →
+        ServesOn (headers_of parts.old.programs) a parts.old.kept parts.new.kept pid result }
+    ensures holds { parts.old.mode ≡ Halt → HoldsFiles parts.old.kept → HoldsFiles parts.new.kept }
+    ensures within { parts.old.mode ≡ Halt → (a : About) → a.kind ≡ kind_of chooser.now → AreFlats a.programs parts.old.programs →
+        InReach Own (headers_of parts.old.programs) a (called_in (physical_of (headers_of parts.old.programs) a parts.old.kept) pid) parts.old.kept parts.new.kept pid result }
+    ensures halts { parts.old.mode ≡ Halt → parts.new.noted ≡ parts.old.noted }
+    ensures stray { parts.old.mode ≡ Halt → (access : Access) → result ≡ Ok (Stray access) → parts.new ≡ parts.old }
+    ensures unchanged { OnErr result (parts.new ≡ parts.old) }
+    ensures yields { result ≡ Ok TurnEnds → WaitsAt parts.new.kept.procs pid false }
+    ensures waits { result ≡ Ok Waits → WaitsAt parts.new.kept.procs pid true }
+    ensures unnoted { result ≡ Ok Waits → parts.old.mode ≡ GoOn → (a : About) → a.kind ≡ kind_of chooser.now → AreFlats a.programs parts.old.programs →
+        parts.new.kept.notes ≡ (with_range pid (first_range (physical_of (headers_of parts.old.programs) a parts.old.kept) pid) parts.old.kept).notes }
 {
-    let within = reach_in(mode, *reach);
-    let served = serve_within(parts, pid, programs, chooser, within, whole)?;
+    let within = reach_in(parts.mode, parts.reach());
+    let served = serve_within(
+        &mut parts.kept,
+        pid,
+        &parts.programs,
+        chooser,
+        within,
+        &parts.whole,
+    )?;
     let Served::Stray(access) = served else {
         return Ok(served);
     };
-    match mode {
+    match parts.mode {
         Mode::Halt => Ok(served),
         Mode::GoOn => {
-            let noted = serve_noted(parts, pid, access, programs, chooser, whole)?;
-            *reach = Reach::Whole;
-            Ok(noted)
+            let served = serve_noted(
+                &mut parts.kept,
+                pid,
+                access,
+                &parts.programs,
+                chooser,
+                &parts.whole,
+            )?;
+            parts.noted = true;
+            Ok(served)
         }
     }
 }

@@ -11,7 +11,7 @@ ghost use Rattle.syscall_layer.specs.Calls.{RunsIn, Made};
 ghost use Rattle.syscall_layer.specs.Reach.{readable, whole_table};
 ghost use Rattle.syscall_layer.specs.Regular.{HasSpace};
 
-use crate::parts::Parts;
+use crate::kept::KeptParts;
 use crate::reach::{Reach, table_of};
 use crate::reading::{Unread, read_sent};
 use file_calls::Call;
@@ -39,7 +39,7 @@ pub fn home(spaces: &[Option<Space>], number: u32) -> &Space
 }
 
 /// The call at which a process stands, with the bytes that it reads within this reach.
-pub fn call_of(parts: &Parts, pid: u32, reach: Reach, whole: &Owners) -> Result<Call, Unread>
+pub fn call_of(parts: &KeptParts, pid: u32, reach: Reach, whole: &Owners) -> Result<Call, Unread>
     requires lives { Lives parts.now.procs pid }
     requires whole { whole.now ≡ whole_table (length parts.now.regions) }
     ensures made { (e : Entry Task) → (h : Held) → RunsIn parts.now pid e h → Made (only (readable reach (length parts.now.regions) h) (physical parts.now.mem)) e result }

@@ -1,6 +1,6 @@
 //! The end of a process.
 
-ghost use Rattle.std.specs.Prelude.{◌≡◌, ◌≢◌, ℕ, true, List, length, None, Some, slice_get, slice_set};
+ghost use Rattle.std.specs.Prelude.{◌≡◌, ◌≢◌, ℕ, true, List, [], length, None, Some, slice_get, slice_set};
 ghost use Rattle.call_log.specs.Notes.{has_room};
 ghost use Rattle.mmap_rules.specs.Held.{Held};
 ghost use Rattle.vfork_exec.specs.declared.entry.Entry.{Entry as Listed};
@@ -17,7 +17,7 @@ ghost use Rattle.syscall_layer.specs.Gone.{gone, without_space};
 ghost use Rattle.syscall_layer.specs.Calls.{RunsIn, Exits};
 
 use crate::keep::keep;
-use crate::parts::Parts;
+use crate::kept::KeptParts;
 use crate::task::Task;
 use call_log::{Entry, How, Note};
 use file_calls::Call;
@@ -36,7 +36,7 @@ fn take_space(spaces: &mut [Option<Space>], number: u32) -> Space
     }
 }
 
-impl Parts {
+impl KeptParts {
     /// A space goes, in which no process runs, with all its mappings.
     pub(crate) fn give_up(&mut self, number: u32)
         requires there { HasSpace self.old.spaces number }
@@ -118,6 +118,7 @@ impl Parts {
         ensures dies { (a : About) → Dies a (died (world_of a self.old) pid signal) self.old self.new pid result }
         ensures holds { HoldsFiles self.old → HoldsFiles self.new }
         ensures memory { (headers : List (List ℕ)) → (a : About) → DiesIn headers a (died_in (physical_of headers a self.old) pid signal) self.old self.new pid result }
+        ensures marks { self.old.files.changed ≡ [] → self.new.files.changed ≡ [] }
     {
         self.die(pid, signal)?;
         self.wake_changed();

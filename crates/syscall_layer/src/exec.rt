@@ -23,7 +23,7 @@ ghost use Rattle.syscall_layer.specs.Calls.{RunsIn, IsCall, ask_in, noted_call};
 use crate::answer::Served;
 use crate::effect::Effect;
 use crate::keep::{keep, or_unreserve};
-use crate::parts::Parts;
+use crate::kept::KeptParts;
 use crate::strings::ProgramStrings;
 use crate::task::Task;
 use bflt_format::Flat;
@@ -83,7 +83,7 @@ fn note_exec(log: &mut Log, call: Call, got: Vec<Got>, index: u32, base: u32, pa
     );
 }
 
-impl Parts {
+impl KeptParts {
     /// Puts program number `index`, with these strings, in the place of the one that makes this call. Its block is looked for while
     /// the old space is held; then that goes, unless another process lent it. Descriptors close that are marked so. E2BIG where the
     /// start frame doesn't fit, ENOMEM where no free run is long enough. There is room for the call's note.

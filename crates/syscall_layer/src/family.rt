@@ -28,7 +28,7 @@ ghost use Rattle.syscall_layer.specs.Calls.{RunsIn, IsCall, ask_in};
 
 use crate::answer::{Served, answer_effect, answer_given, has_room};
 use crate::effect::Effect;
-use crate::parts::Parts;
+use crate::kept::KeptParts;
 use crate::reach::Reach;
 use crate::strings::{at_zero, program_strings};
 use bflt_format::Flat;
@@ -127,7 +127,7 @@ fn told_outcome(alloc: Global, at: u32, told: Waited) -> Result<Outcome, AllocEr
 
 /// Tells a process of a child that has ended, which goes from the list, or that none has.
 fn answer_told(
-    parts: &mut Parts,
+    parts: &mut KeptParts,
     call: Call,
     who: Who,
     told: Waited,
@@ -157,7 +157,7 @@ fn answer_told(
 
 /// Carries out waitid, where its output is within reach and the log has room for it.
 pub(crate) fn answer_waitid(
-    parts: &mut Parts,
+    parts: &mut KeptParts,
     call: Call,
     reach: Reach,
     whole: &Owners,
@@ -189,7 +189,7 @@ pub(crate) fn answer_waitid(
 }
 
 /// Carries out clone, where the log has room for it.
-pub(crate) fn answer_clone(parts: &mut Parts, call: Call) -> Result<Served, AllocError>
+pub(crate) fn answer_clone(parts: &mut KeptParts, call: Call) -> Result<Served, AllocError>
     requires { CanRun parts.old.procs call.pid }
     ensures memory { parts.new.mem ≡ parts.old.mem }
     ensures serves { (a : About) → (e : Entry Task) → (h : Held) → RunsIn parts.old call.pid e h → IsCall e call →
@@ -226,7 +226,7 @@ fn program_at(tree: &Tree, path: &[u8]) -> Result<u32, Errno>
 
 /// Carries out execve, where the log has room for it.
 pub(crate) fn answer_exec<F: Fn(&[Run], u32) -> Option<usize>>(
-    parts: &mut Parts,
+    parts: &mut KeptParts,
     call: Call,
     programs: &[Flat],
     chooser: &Chooser<F>,

@@ -11,7 +11,7 @@ ghost use Rattle.syscall_layer.specs.Copies.{HoldsFiles};
 ghost use Rattle.syscall_layer.specs.Calls.{RunsIn, Forks};
 
 use crate::keep::or_unreserve;
-use crate::parts::Parts;
+use crate::kept::KeptParts;
 use crate::reply::{finish, set_reply};
 use crate::task::Task;
 use file_calls::Call;
@@ -31,7 +31,7 @@ fn child_regs(parent: &Regs, sp: u32) -> Regs
     regs
 }
 
-impl Parts {
+impl KeptParts {
     /// A process gets a child, which runs in its space, and stands still for it. The call is noted; there is room for its note.
     pub(crate) fn fork(&mut self, call: Call) -> Result<(), AllocError>
         requires ready { CanRun self.old.procs call.pid }

@@ -23,7 +23,7 @@ ghost use Rattle.syscall_layer.specs.Calls.{RunsIn, IsCall, ask_in, Changes};
 ghost use Rattle.syscall_layer.specs.MapsIn.{MapsIn, UnmapsIn, IsAddress, status_of};
 
 use crate::keep::or_unreserve;
-use crate::parts::Parts;
+use crate::kept::KeptParts;
 use crate::reply::finish;
 use call_log::Errno;
 use fd_tables::{Files, Target};
@@ -140,7 +140,7 @@ fn status(unmapped: Result<(), Errno>) -> u32
     }
 }
 
-impl Parts {
+impl KeptParts {
     /// Maps what an mmap2 asks for, and notes the call. There is room for its note.
     pub(crate) fn map<F: Fn(&[Run], u32) -> Option<usize>>(
         &mut self,

@@ -1,72 +1,84 @@
-//! What is kept of all programs.
+//! The parts of a run.
 
-ghost use Rattle.std.specs.Prelude.{◌≡◌, ◌≤◌, IfOk};
-ghost use Rattle.machine_world.specs.Ages.{AreChanged, most_at_boot};
-ghost use Rattle.syscall_layer.specs.Kept.{nothing_yet};
+ghost use Rattle.std.specs.Prelude.{◌≡◌, IfOk, false, []};
+ghost use Rattle.physical_turns.specs.Physical.{has_stray};
+ghost use Rattle.syscall_layer.specs.InMemory.{without_newest};
+ghost use Rattle.syscall_layer.specs.Reach.{is_whole, reach_of};
+ghost use Rattle.syscall_layer.specs.Regular.{IsRegular};
 
-use crate::task::Task;
-use call_log::Log;
-use fd_tables::Files;
-use mem_files::Tree;
-use mmap_rules::Space;
-use nommu_regions::Regions;
-use phys_mem::PhysMem;
+use crate::kept::KeptParts;
+use crate::reach::{Reach, has_stray, whole_table};
+use bflt_format::Flat;
+use mmap_rules::Owners;
+use region_watch::Mode;
 use std::alloc::{AllocError, Global};
 use std::marker::Model;
-use vfork_exec::Procs;
 
-/// Everything of a run but whose turn it is.
+/// What the events of a run change, and beside it what they are carried out by.
 #[derive(Drop)]
 pub struct Parts {
-    /// The memory of all programs.
-    pub mem: PhysMem,
-    /// Which of its pages are held.
-    pub regions: Regions,
-    /// By the number of their load note; None where the space is gone.
-    pub spaces: Vec<Option<Space>>,
-    /// The files and folders.
-    pub tree: Tree,
-    /// What is open.
-    pub files: Files,
-    /// The processes, with those that have ended and weren't waited for.
-    pub procs: Procs<Task>,
-    /// The notes. No memory is kept ready for more.
-    pub log: Log,
-    /// What was written to the console.
-    pub console: Vec<u8>,
+    /// What is kept of all programs.
+    pub kept: KeptParts,
+    /// The programs that an execve may run.
+    pub programs: Vec<Flat>,
+    /// What becomes of the run at its first stray access.
+    pub mode: Mode,
+    /// Whether a stray access was noted.
+    pub noted: bool,
+    /// The table that owns each byte of memory.
+    pub whole: Owners,
 }
 
 impl Model for Parts {
-    ghost use Rattle.std.specs.Prelude.{◌≡◌};
-    ghost use Rattle.syscall_layer.specs.Kept.{Kept};
+    ghost use Rattle.syscall_layer.specs.Parts.{RunParts, AreTied};
 
-    ghost Value = { Kept };
+    ghost Value = { RunParts };
 
-    ghost use Rattle.syscall_layer.specs.Inside.{kept_of};
-    ghost use Rattle.syscall_layer.specs.Regular.{IsRegular};
+    ghost use Rattle.syscall_layer.specs.Inside.{parts_of};
 
-    ghost view = { kept_of };
+    ghost view = { parts_of };
 
-    ghost invariant = { λ p. IsRegular (kept_of p) × (p.log.spare ≡ 0) };
+    ghost invariant = { λ p. AreTied p.noted p.whole p.kept };
 }
 
 impl Parts {
-    /// A memory of so many pages, in which nothing runs, over these files, which were changed at most 2^63 times each.
-    pub fn new(alloc: Global, pages: u32, tree: Tree, files: Files) -> Result<Parts, AllocError>
-        requires some { 1 ≤ pages }
-        requires most { pages ≤ 16384 }
-        requires changes { AreChanged most_at_boot tree }
-        ensures { IfOk result (λ parts. parts ≡ nothing_yet pages tree files.open_files) }
+    /// A run in this mode over what is kept, with the programs that an execve may run. No pipe is marked. It looks through the notes for
+    /// a stray access.
+    pub fn new(
+        alloc: Global,
+        kept: KeptParts,
+        programs: Vec<Flat>,
+        mode: Mode,
+    ) -> Result<Parts, AllocError>
+        requires { kept.files.changed ≡ [] }
+        ensures { IfOk result (λ parts. parts ≡ record { kept = kept; programs = programs.items; mode = mode; noted = has_stray kept.notes }) }
     {
+        let whole = whole_table(alloc, kept.regions.pages())?;
+        let noted = has_stray(kept.log.notes());
         Ok(Parts {
-            mem: PhysMem::new(alloc, pages)?,
-            regions: Regions::new(alloc, pages)?,
-            spaces: Vec::new(alloc),
-            tree,
-            files,
-            procs: Procs::new(alloc)?,
-            log: Log::new(alloc)?,
-            console: Vec::new(alloc),
+            kept,
+            programs,
+            mode,
+            noted,
+            whole,
         })
+    }
+
+    /// What a run that goes on reaches: all of memory behind the note of a stray access.
+    pub fn reach(&self) -> Reach
+        ensures reach { result ≡ reach_of self.now.noted }
+        ensures strayed { has_stray self.now.kept.notes ≡ is_whole result }
+    {
+        if self.noted { Reach::Whole } else { Reach::Own }
+    }
+
+    /// Takes back the newest note, that of the first stray access, where the parts are sound without it.
+    pub fn take_back(&mut self)
+        requires sound { IsRegular (without_newest self.old.kept) }
+        requires first { has_stray (without_newest self.old.kept).notes ≡ false }
+        ensures { self.new ≡ record self.old { kept = without_newest self.old.kept; noted = false } }
+    {
+        self.kept.take_back();
+        self.noted = false;
     }
 }

@@ -4,11 +4,10 @@ ghost use Rattle.std.specs.Prelude.{◌≡◌, ◌≤◌, IfOk, length, map, sli
 ghost use Rattle.call_log.specs.Values.{note_value};
 ghost use Rattle.mmap_rules.specs.Held.{Held};
 ghost use Rattle.physical_turns.specs.Physical.{has_stray};
-ghost use Rattle.syscall_layer.specs.Reach.{Reaches, whole_table, is_whole};
+ghost use Rattle.syscall_layer.specs.Reach.{Reaches, whole_table};
 ghost use Rattle.syscall_layer.specs.Regular.{HasSpace};
 
 use crate::call::home;
-use crate::parts::Parts;
 use call_log::Note;
 use mmap_rules::{Owners, PageOwner, Space};
 use std::alloc::{AllocError, Global};
@@ -23,7 +22,7 @@ pub enum Reach {
 }
 
 /// The table that owns each byte of a memory of so many pages.
-pub fn whole_table(alloc: Global, pages: u32) -> Result<Owners, AllocError>
+pub(crate) fn whole_table(alloc: Global, pages: u32) -> Result<Owners, AllocError>
     requires { pages ≤ 16384 }
     ensures { IfOk result (λ table. table ≡ whole_table pages) }
 {
@@ -53,8 +52,8 @@ pub fn table_of<'a>(
     }
 }
 
-/// Whether the note of a stray access is among these.
-fn has_stray(notes: &[Note]) -> bool
+/// Whether the note of a stray access is among these. It looks through them.
+pub(crate) fn has_stray(notes: &[Note]) -> bool
     ensures { result ≡ has_stray (map note_value notes.now) }
 {
     for note in notes {
@@ -63,17 +62,4 @@ fn has_stray(notes: &[Note]) -> bool
         }
     }
     false
-}
-
-impl Parts {
-    /// What calls reach: all of memory behind the note of a stray access. It looks through the notes, oldest first.
-    pub fn reach(&self) -> Reach
-        ensures { has_stray self.now.notes ≡ is_whole result }
-    {
-        if has_stray(self.log.notes()) {
-            Reach::Whole
-        } else {
-            Reach::Own
-        }
-    }
 }

@@ -23,8 +23,8 @@ ghost use Rattle.syscall_layer.specs.Calls.{RunsIn, IsCall, ask_in, value_of, br
 use crate::call::home;
 use crate::effect::Effect;
 use crate::keep::{keep, or_unreserve};
+use crate::kept::KeptParts;
 use crate::output::{follow, put};
-use crate::parts::Parts;
 use crate::task::Task;
 use call_log::{Entry, Got, Log, Note};
 use file_calls::{Call, Outcome};
@@ -98,7 +98,7 @@ pub(crate) fn finish(procs: &mut Procs<Task>, log: &mut Log, call: Call, value: 
     );
 }
 
-impl Parts {
+impl KeptParts {
     /// Gives a call its reply, and notes it. There is room for its note.
     pub(crate) fn reply(&mut self, call: Call, effect: Effect) -> Result<(), AllocError>
         requires lives { Lives self.old.procs call.pid }

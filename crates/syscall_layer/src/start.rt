@@ -11,7 +11,7 @@ ghost use Rattle.syscall_layer.specs.InMemory.{header_of, LaysOn};
 ghost use Rattle.syscall_layer.specs.Starts.{Starts};
 
 use crate::keep::or_unreserve;
-use crate::parts::Parts;
+use crate::kept::KeptParts;
 use crate::task::Task;
 use bflt_format::Flat;
 use call_log::Note;
@@ -41,7 +41,7 @@ impl From<LoadRefusal> for StartRefusal {
     }
 }
 
-impl Parts {
+impl KeptParts {
     /// Loads program number `index` and starts a process with it. A refusal changes nothing.
     pub fn start<F: Fn(&[Run], u32) -> Option<usize>>(
         &mut self,

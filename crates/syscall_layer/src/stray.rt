@@ -7,7 +7,7 @@ ghost use Rattle.syscall_layer.specs.Regular.{IsRegular};
 ghost use Rattle.syscall_layer.specs.Serves.{NotesStray};
 
 use crate::keep::keep;
-use crate::parts::Parts;
+use crate::kept::KeptParts;
 use call_log::{Note, Seen, SeenKind};
 use rv32im_step::{Access, AccessKind};
 use std::alloc::AllocError;
@@ -30,13 +30,14 @@ fn seen(access: Access) -> Seen
     }
 }
 
-impl Parts {
+impl KeptParts {
     /// Notes the access of a process that strays.
     pub fn note_stray(&mut self, pid: u32, access: Access) -> Result<(), AllocError>
         ensures strays { NotesStray pid access self.old self.new result }
         ensures kept { IfOk result (λ _. self.new ≡ with_range pid (Some access) self.old) }
         ensures sound { IfOk result (λ _. IsRegular (without_newest self.new)) }
         ensures memory { self.new.mem ≡ self.old.mem }
+        ensures files { self.new.files ≡ self.old.files }
     {
         self.log.reserve(1)?;
         keep(
@@ -50,7 +51,7 @@ impl Parts {
     }
 
     /// Takes back the newest note, where the parts are sound without it, such as that of a stray access whose event finds no memory.
-    pub fn take_back(&mut self)
+    pub(crate) fn take_back(&mut self)
         requires { IsRegular (without_newest self.old) }
         ensures { self.new ≡ without_newest self.old }
     {

@@ -6,7 +6,7 @@ use rv32im_step::Regs;
 #[derive(Clone, Copy, Debug, PartialEq, Eq, Drop)]
 pub struct Task {
     pub regs: Regs,
-    /// Its place among the spaces of `Parts`.
+    /// Its place among the spaces of `KeptParts`.
     pub space: u32,
     /// The number of its table of descriptors.
     pub table: u32,

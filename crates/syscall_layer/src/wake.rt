@@ -5,9 +5,9 @@ ghost use Rattle.machine_world.specs.Event.{awake};
 ghost use Rattle.syscall_layer.specs.Awake.{awake_in};
 ghost use Rattle.syscall_layer.specs.Stands.{About, world_of};
 
-use crate::parts::Parts;
+use crate::kept::KeptParts;
 
-impl Parts {
+impl KeptParts {
     /// Those go on that wait on a pipe of which the bytes changed or an end closed, and no pipe is marked any more.
     pub(crate) fn wake_changed(&mut self)
         ensures kept { self.new ≡ awake_in self.old }

@@ -1,9 +1,10 @@
 -- The range is noted, and the call carried out over all of memory.
-use Rattle.std.proofs.Common.{rules, ap, ◌∙◌}
+use Rattle.std.proofs.Common.{◌≡◌, true, [], length, rules, ap, ◌∙◌}
 use Rattle.std.specs.Prelude.{IsOk}
+use Rattle.physical_turns.specs.Physical.{has_stray}
 use Rattle.syscall_layer.specs.InMemory.{headers_of}
 use Rattle.syscall_layer.specs.Kept.{Kept}
-use Rattle.syscall_layer.proofs.CallsOn.{noted_result}
+use Rattle.syscall_layer.proofs.CallsOn.{noted_result, on_ok}
 use Rattle.syscall_layer.proofs.answer.serve_noted.Goals as goal
 
 pub returns-else-is_err-clause-memory : goal.returns-else-is_err-clause-memory
@@ -17,3 +18,18 @@ returns-else-is_err-clause-waits g c = λ is marks. c.serve_within-served.ensure
 
 pub returns-else-is_err-clause-unnoted : goal.returns-else-is_err-clause-unnoted
 returns-else-is_err-clause-unnoted g c = λ is. c.serve_within-served.ensures.unnoted is ∙ ap (λ (x : Kept). x.notes) c.in_ok-note_stray.ensures.kept
+
+pub returns-else-is_err-clause-strayed : goal.returns-else-is_err-clause-strayed
+returns-else-is_err-clause-strayed g c =
+    on_ok (has_stray c.serve_within-served.new.parts.notes ≡ true) c.serve_within-served.result
+    (c.serve_within-served.ensures.strayed ∙ ap (λ (x : Kept). has_stray x.notes) c.in_ok-note_stray.ensures.kept)
+
+pub returns-else-is_err-clause-pages : goal.returns-else-is_err-clause-pages
+returns-else-is_err-clause-pages g c =
+    on_ok (length c.serve_within-served.new.parts.regions ≡ length c.args.parts.now.regions) c.serve_within-served.result
+    (c.serve_within-served.ensures.pages ∙ ap (λ (x : Kept). length x.regions) c.in_ok-note_stray.ensures.kept)
+
+pub returns-else-is_err-clause-marks : goal.returns-else-is_err-clause-marks
+returns-else-is_err-clause-marks g c =
+    on_ok (c.args.parts.now.files.changed ≡ [] → c.serve_within-served.new.parts.files.changed ≡ []) c.serve_within-served.result
+    (λ none. c.serve_within-served.ensures.marks (ap (λ (x : Kept). x.files.changed) c.in_ok-note_stray.ensures.kept ∙ none))

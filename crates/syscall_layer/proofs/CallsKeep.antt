@@ -1,0 +1,244 @@
+-- A call notes no stray access, and none that was noted goes; there are as many pages; and it leaves no pipe marked.
+use Rattle.std.proofs.Common.{◌≡◌, ℕ, Bool, true, false, List, [], length, Option, Some, None, Result, Ok, Err, refl, sym, ap, subst, ◌∙◌}
+use Rattle.std.specs.declared.alloc.AllocError.{AllocError}
+use Rattle.rv32im_step.specs.declared.access.Access.{Access}
+use Rattle.rv32im_step.specs.Meaning.{call}
+use Rattle.mmap_rules.specs.Space.{Space}
+use Rattle.vfork_exec.specs.Keyed.{find}
+use Rattle.machine_world.specs.World.{Process, LiveSpace, Rest, World, pid_of, id_of}
+use Rattle.machine_world.specs.Asks.{Ask}
+use Rattle.machine_world.specs.Rows.{row}
+use Rattle.machine_world.specs.Event.{Outcome, went, strays, full, idle, ended, ask_of, answer, settled, in_space, by_process, at_process, called}
+use Rattle.machine_world.proofs.Kept.{Answers}
+use Rattle.machine_world.proofs.ByRows.{by_rows}
+use Rattle.machine_world.proofs.ByEvents.{Answered as CallHas, Happened, Keeps, by_effect}
+use Rattle.physical_turns.specs.Physical.{Physical, After, after, no_room, nobody, has_stray, settled_in, answer_in, called_in}
+use Rattle.physical_turns.specs.Physical as physical
+use Rattle.physical_turns.specs.Growth.{AfterHas}
+use Rattle.physical_turns.proofs.ByEventsIn.{Steady, by_effect_in}
+use Rattle.syscall_layer.specs.declared.answer.Served.{Served}
+use Rattle.syscall_layer.specs.declared.answer.Served.TheVariants as served
+use Rattle.syscall_layer.specs.declared.reach.Reach.{Reach}
+use Rattle.syscall_layer.specs.declared.reach.Reach.TheVariants.{Own, Whole}
+use Rattle.syscall_layer.specs.Kept.{Kept}
+use Rattle.syscall_layer.specs.Stands.{About, world_of}
+use Rattle.syscall_layer.specs.Serves.{Answered, Serves}
+use Rattle.syscall_layer.specs.InMemory.{physical_of, GoesIn, InReach}
+
+-- whether a stray access was noted, and how many pages there are
+abbrev pub Same : Bool → ℕ → World → Type 0
+Same strayed pages w = (has_stray w.notes ≡ strayed) × (w.rest.pages ≡ pages)
+
+abbrev pub Has : ℕ → Rest → Type 0
+Has pages rest = rest.pages ≡ pages
+
+pub rows_keep : (pages : ℕ) (a : Ask) → Has pages a.rest → Answers (Has pages) (row a)
+rows_keep pages a h = by_rows (Has pages) a (record {
+  dup = λ free is. h;
+  dup3 = λ none. h;
+  close = λ none. h;
+  seek = λ v node at shows is. h;
+  list = λ v node shows is. h;
+  read = λ v node spans shows reads is. h;
+  take = λ v spans shows reads. h;
+  write = λ v node bytes nodes shows may some is. h;
+  print = λ v bytes shows may. h;
+  pipe = λ ends free. h;
+  drain = λ v id end spans shows reads. h;
+  fill = λ v id end bytes shows may. h;
+  make = λ nodes is. h;
+  remove = λ nodes is. h;
+  open_old = λ fd node free found none. h;
+  open_new = λ fd nodes free found may made. h;
+}) h
+
+module _ (strayed : Bool) (pages : ℕ) (w : World) (h : Same strayed pages w) where
+  call_keeps : (a : Ask) → CallHas (λ now t. Same strayed pages now) (Has pages) w a
+  unfolding ended
+  call_keeps a = record {
+    reply = λ ended r m same room. (h.0, same);
+    wait = λ state. h;
+    exit = λ room. h;
+    fork = λ few room. h;
+    load = λ f s page is fits room. h;
+  }
+
+  pub act_keeps : (p : Process) (s : Space) → Happened (λ now t. Same strayed pages now) (Has pages) w p s
+  unfolding ended
+  act_keeps p s = record {
+    step = λ regs bytes. h;
+    trap = λ signal. h;
+    calls = λ bytes. call_keeps (ask_of w p s bytes);
+  }
+
+  -- ---- in the world of private spaces
+
+  in_home : (p : Process) (o : Option LiveSpace) → Keeps (Same strayed pages) (in_space (λ q s. settled (answer w q s)) p o)
+  in_home p None = tt
+  in_home p (Some s) =
+      by_effect (λ now t. Same strayed pages now) (Has pages) (λ now t kept. kept) w h.1 p s.space (act_keeps p s.space) (λ bytes. rows_keep pages (ask_of w p s.space bytes) h.1) call
+
+  in_world : (o : Option Process) → Keeps (Same strayed pages) (by_process w.spaces (λ q s. settled (answer w q s)) o)
+  in_world None = tt
+  in_world (Some p) = in_home p (find id_of p.space w.spaces)
+
+  pub called_keeps : (pid : ℕ) → Keeps (Same strayed pages) (called w pid)
+  unfolding called at_process
+  called_keeps pid = in_world (find pid_of pid w.procs)
+
+-- ---- over one memory, once a stray access was noted
+
+module _ (pages : ℕ) where
+  steady : Steady (Same true pages) (Has pages)
+  steady = record {
+    wakes = λ now h. h;
+    shows = λ memory now h. h;
+    strays = λ pid seen now h. (refl, h.1);
+    reaps = λ ended now h. h;
+    acts = λ w q s h. act_keeps true pages w h q s;
+    rests = λ w h. h.1;
+    rows = λ w q s bytes h. rows_keep pages (ask_of w q s bytes) h.1;
+  }
+
+  module _ (p : Physical) (h : Same true pages p.world) where
+    in_home_of : (q : Process) (o : Option LiveSpace) → AfterHas (Same true pages) (physical.in_space (λ r s. settled_in (answer_in p r s)) q o)
+    in_home_of q None = tt
+    in_home_of q (Some s) = by_effect_in (Same true pages) (Has pages) steady p q s.space call h
+
+    in_memory_of : (o : Option Process) → AfterHas (Same true pages) (physical.by_process p.world.spaces (λ r s. settled_in (answer_in p r s)) o)
+    in_memory_of None = tt
+    in_memory_of (Some q) = in_home_of q (find id_of q.space p.world.spaces)
+
+    called_in_keeps : (pid : ℕ) → AfterHas (Same true pages) (called_in p pid)
+    unfolding called_in physical.at_process
+    called_in_keeps pid = in_memory_of (find pid_of pid p.world.procs)
+
+-- ---- marks of pipes
+
+abbrev Unmarked : World → Type 0
+Unmarked w = w.rest.files.changed ≡ []
+
+-- where it goes
+abbrev Goes : (World → Type 0) → After → Type 0
+Goes P (after now over) = P now.world
+Goes P (no_room now) = Unit {0}
+Goes P nobody = Unit {0}
+
+settled_unmarked : (o : Outcome) → Keeps Unmarked (settled o)
+unfolding settled
+settled_unmarked (went now t) = refl
+settled_unmarked (strays access) = tt
+settled_unmarked full = tt
+settled_unmarked idle = tt
+
+settled_in_unmarked : (a : After) → Goes Unmarked (settled_in a)
+settled_in_unmarked (after now over) = refl
+settled_in_unmarked (no_room now) = tt
+settled_in_unmarked nobody = tt
+
+module _ (w : World) where
+  home_unmarked : (p : Process) (o : Option LiveSpace) → Keeps Unmarked (in_space (λ q s. settled (answer w q s)) p o)
+  home_unmarked p None = tt
+  home_unmarked p (Some s) = settled_unmarked (answer w p s.space)
+
+  world_unmarked : (o : Option Process) → Keeps Unmarked (by_process w.spaces (λ q s. settled (answer w q s)) o)
+  world_unmarked None = tt
+  world_unmarked (Some p) = home_unmarked p (find id_of p.space w.spaces)
+
+  called_unmarked : (pid : ℕ) → Keeps Unmarked (called w pid)
+  unfolding called at_process
+  called_unmarked pid = world_unmarked (find pid_of pid w.procs)
+
+module _ (p : Physical) where
+  home_in_unmarked : (q : Process) (o : Option LiveSpace) → Goes Unmarked (physical.in_space (λ r s. settled_in (answer_in p r s)) q o)
+  home_in_unmarked q None = tt
+  home_in_unmarked q (Some s) = settled_in_unmarked (answer_in p q s.space)
+
+  memory_unmarked : (o : Option Process) → Goes Unmarked (physical.by_process p.world.spaces (λ r s. settled_in (answer_in p r s)) o)
+  memory_unmarked None = tt
+  memory_unmarked (Some q) = home_in_unmarked q (find id_of q.space p.world.spaces)
+
+  called_in_unmarked : (pid : ℕ) → Goes Unmarked (called_in p pid)
+  unfolding called_in physical.at_process
+  called_in_unmarked pid = memory_unmarked (find pid_of pid p.world.procs)
+
+-- ---- of the parts
+
+pub record Remains (old new : Kept) : Type 0 where
+  pub notes : has_stray new.notes ≡ has_stray old.notes
+  pub pages : length new.regions ≡ length old.regions
+  pub marks : old.files.changed ≡ [] → new.files.changed ≡ []
+
+pub remains_same : (old new : Kept) → new ≡ old → Remains old new
+remains_same old new same = record { notes = ap (λ (k : Kept). has_stray k.notes) same; pages = ap (λ (k : Kept). length k.regions) same; marks = λ none. ap (λ (k : Kept). k.files.changed) same ∙ none }
+
+module _ (headers : List (List ℕ)) (a : About) (old new : Kept) (pid : ℕ) where
+  abbrev HasSame : World → Type 0
+  HasSame = Same (has_stray old.notes) (length old.regions)
+
+  by_world : (b : About) (now : World) → now ≡ world_of b new → HasSame now → Unmarked now → Remains old new
+  unfolding world_of
+  by_world b now is h none = let same = subst HasSame is h in record { notes = same.0; pages = same.1; marks = λ was. subst Unmarked is none }
+
+  by_memory : (b : About) (now : Physical) → now ≡ physical_of headers b new → HasSame now.world → Unmarked now.world → Remains old new
+  unfolding physical_of world_of
+  by_memory b now is h none =
+      let same = subst (λ (p : Physical). HasSame p.world) is h in
+      record { notes = same.0; pages = same.1; marks = λ was. subst (λ (p : Physical). Unmarked p.world) is none }
+
+  answered_remains : (o : Outcome) → Keeps HasSame o → Keeps Unmarked o → (s : Served) → Answered a o old new pid s → Remains old new
+  answered_remains (went now t) kept none s x = by_world _ now x.0 kept none
+  answered_remains (strays access) kept none (served.Stray seen) x = remains_same old new x.1
+  answered_remains (strays access) kept none served.Replied x = absurd x
+  answered_remains (strays access) kept none served.TurnEnds x = absurd x
+  answered_remains (strays access) kept none served.Waits x = absurd x
+  answered_remains (strays access) kept none served.Ended x = absurd x
+  answered_remains (strays access) kept none served.LogFull x = absurd x
+  answered_remains full kept none served.LogFull x = remains_same old new x
+  answered_remains full kept none served.Replied x = absurd x
+  answered_remains full kept none served.TurnEnds x = absurd x
+  answered_remains full kept none served.Waits x = absurd x
+  answered_remains full kept none served.Ended x = absurd x
+  answered_remains full kept none (served.Stray access) x = absurd x
+  answered_remains idle kept none s x = absurd x
+
+  goes_remains : (o : After) → AfterHas HasSame o → Goes Unmarked o → (s : Served) → GoesIn headers a o old new pid s → Remains old new
+  goes_remains (after p over) kept none s x = by_memory _ p x.0 kept none
+  goes_remains (no_room p) kept none s x = remains_same old new x.1
+  goes_remains nobody kept none s x = absurd x
+
+  reach_remains : (reach : Reach) (o : After) → AfterHas HasSame o → Goes Unmarked o → (s : Served) → ((access : Access) → s ≡ served.Stray access → new ≡ old) → InReach reach headers a o old new pid (Ok s) → Remains old new
+  reach_remains Whole o kept none s same x = goes_remains o kept none s x
+  reach_remains Own o kept none (served.Stray access) same x = remains_same old new (same access refl)
+  reach_remains Own o kept none served.Replied same x = goes_remains o kept none served.Replied x
+  reach_remains Own o kept none served.TurnEnds same x = goes_remains o kept none served.TurnEnds x
+  reach_remains Own o kept none served.Waits same x = goes_remains o kept none served.Waits x
+  reach_remains Own o kept none served.Ended same x = goes_remains o kept none served.Ended x
+  reach_remains Own o kept none served.LogFull same x = goes_remains o kept none served.LogFull x
+
+  of_world : HasSame (world_of a old)
+  unfolding world_of
+  of_world = (refl, refl)
+
+  of_memory : has_stray old.notes ≡ true → Same true (length old.regions) (physical_of headers a old).world
+  unfolding physical_of world_of
+  of_memory noted = (noted, refl)
+
+  -- within reach, which is all of memory only behind a noted stray access
+  pub call_remains : (reach : Reach) → (reach ≡ Whole → has_stray old.notes ≡ true) → (r : Result Served AllocError)
+      → (reach ≡ Own → has_stray old.notes ≡ false → Serves a (called (world_of a old) pid) old new pid r)
+      → InReach reach headers a (called_in (physical_of headers a old) pid) old new pid r → ((access : Access) → r ≡ Ok (served.Stray access) → new ≡ old) → Remains old new
+  call_remains Own strayed (Err error) serves x same = remains_same old new x
+  call_remains Whole strayed (Err error) serves x same = remains_same old new x
+  call_remains reach strayed (Ok s) serves x same = by_notes (has_stray old.notes) refl
+    where
+      own : (r : Reach) → reach ≡ r → has_stray old.notes ≡ false → reach ≡ Own
+      own Own is quiet = is
+      own Whole is quiet = absurd (let e : true ≡ false = sym (strayed is) ∙ quiet in cc)
+
+      by_notes : (b : Bool) → has_stray old.notes ≡ b → Remains old new
+      by_notes false is = answered_remains (called (world_of a old) pid) (called_keeps (has_stray old.notes) (length old.regions) (world_of a old) of_world pid) (called_unmarked (world_of a old) pid) s (serves (own reach refl is) is)
+      by_notes true is =
+          let kept = called_in_keeps (length old.regions) (physical_of headers a old) (of_memory is) pid in
+          reach_remains reach (called_in (physical_of headers a old) pid) (subst (λ (b : Bool). AfterHas (Same b (length old.regions)) (called_in (physical_of headers a old) pid)) (sym is) kept) (called_in_unmarked (physical_of headers a old) pid) s
+          (λ access is_stray. same access (ap Ok is_stray)) x
