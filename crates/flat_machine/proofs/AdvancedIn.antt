@@ -240,6 +240,7 @@ pub record Advances (reach : Reach) (k now : Kept) (pid count done : ℕ) (stop 
 whole_copies : (k : Kept) (now : List ℕ) → CopiesHold k.regions k.mem k.tree k.notes → has_stray k.notes ≡ true → CopiesHold k.regions now k.tree k.notes
 whole_copies k now copies strayed = record {
   hold = λ unstrayed. absurd (false≢true (sym unstrayed ∙ strayed));
+  known = copies.known;
   changes = copies.changes;
   uses = copies.uses;
 }

@@ -13,8 +13,10 @@ use Rattle.machine_world.specs.Free.{free}
 use Rattle.machine_world.specs.Boot.{StartLine, BootFault, bad_start, args_too_big, no_run, Found, found, path_of, taken, address_of, begun, placed, fitting, located, started, then_started, all_started, empty_world, boot}
 use Rattle.machine_world.specs.Programs.{LoadsPrograms}
 use Rattle.machine_world.proofs.Loads.{boot_loads_programs}
+use Rattle.machine_world.proofs.Marks.{boots_leave_no_mark}
 use Rattle.physical_turns.specs.Physical.{has_stray}
 use Rattle.syscall_layer.specs.Kept.{Kept, nothing_yet}
+use Rattle.syscall_layer.specs.Reach.{is_whole, reach_of}
 use Rattle.syscall_layer.specs.Stands.{About, process_of, live_spaces, world_of}
 use Rattle.flat_machine.specs.declared.boot.BootRefusal.{BootRefusal}
 use Rattle.flat_machine.specs.declared.boot.BootRefusal.TheVariants as refusal
@@ -135,6 +137,16 @@ machine_boots w s all is same = subst (λ (r : Result World BootFault). Boots r 
 
 pub machine_loads : (rest : Rest) (starts : List StartLine) (a : About) (k : Kept) → Ok (world_of a k) ≡ boot rest starts → LoadsPrograms (length rest.programs) (world_of a k)
 machine_loads rest starts a k is = boot_loads_programs rest starts (world_of a k) (sym is)
+
+-- over files of which no pipe is marked none is marked then
+pub unmarked_boot : (rest : Rest) (starts : List StartLine) (a : About) (k : Kept) → rest.files.changed ≡ [] → boot rest starts ≡ Ok (world_of a k) → k.files.changed ≡ []
+unfolding world_of
+unmarked_boot rest starts a k none is = boots_leave_no_mark rest starts (world_of a k) none is
+
+-- behind a noted stray access, and only there, all of memory is reached
+pub whole_reached : (noted : Bool) → noted ≡ is_whole (reach_of noted)
+whole_reached false = refl
+whole_reached true = refl
 
 boot_is : (rest : Rest) (starts : List StartLine) → all_started (empty_world rest) starts ≡ boot rest starts
 unfolding boot

@@ -5,25 +5,24 @@ use Rattle.machine_world.specs.Programs.{AreLoaded}
 use Rattle.flat_machine.specs.declared.machine.Machine.TheInside.{Inside}
 use Rattle.stays_laws.specs.Sound.{IsSound}
 use Rattle.physical_turns.specs.Physical.{has_stray}
-use Rattle.syscall_layer.specs.Reach.{whole_table}
+use Rattle.syscall_layer.specs.Reach.{reach_of}
 use Rattle.flat_machine.specs.State.{State, is_whole, world}
 
 abbrev pub state_of : Inside → State
 state_of m = record {
-  kept = m.parts;
+  kept = m.parts.kept;
   kind = m.kind;
   paths = paths_of m.paths.items;
-  programs = m.programs.items;
+  programs = m.parts.programs;
   events = m.events;
-  mode = m.mode;
-  reach = m.reach;
+  mode = m.parts.mode;
+  reach = reach_of m.parts.noted;
 }
 
 -- each program has a path, each load note names a program that is there, the world is a sound one up to the first stray access, and
--- all of memory is reached just behind that
+-- all of memory is reached just behind that, as the parts say of themselves
 pub record Holds (m : Inside) : Type 0 where
-  pub paths : length m.paths.items ≡ length m.programs.items
-  pub loads : AreLoaded (length m.programs.items) m.parts.notes
-  pub sound : has_stray m.parts.notes ≡ false → IsSound (world (state_of m))
-  pub whole : m.whole ≡ whole_table (length m.parts.regions)
-  pub strayed : has_stray m.parts.notes ≡ is_whole m.reach
+  pub paths : length m.paths.items ≡ length m.parts.programs
+  pub loads : AreLoaded (length m.parts.programs) m.parts.kept.notes
+  pub sound : has_stray m.parts.kept.notes ≡ false → IsSound (world (state_of m))
+  pub strayed : has_stray m.parts.kept.notes ≡ is_whole (reach_of m.parts.noted)

@@ -15,7 +15,7 @@ ghost use Rattle.flat_machine.specs.LeavesIn.{HaltsWithin};
 use mmap_rules::Space;
 use region_watch::{Mode, Progress, Watch, Window, run_steps};
 use rv32im_step::Stop;
-use syscall_layer::{Parts, Reach};
+use syscall_layer::{KeptParts, Reach};
 
 /// The own bytes of the program's block.
 fn window(space: &Space) -> Window
@@ -44,12 +44,13 @@ fn mode_within(reach: Reach) -> Mode
 }
 
 /// Carries out up to `count` instructions of a process that may run, within this reach, and stops at the first that isn't carried out.
-pub(crate) fn advance(parts: &mut Parts, pid: u32, count: u32, reach: Reach) -> Progress
+pub(crate) fn advance(parts: &mut KeptParts, pid: u32, count: u32, reach: Reach) -> Progress
     requires ready { CanRun parts.old.procs pid }
     requires strayed { has_stray parts.old.notes ≡ is_whole reach }
     ensures ready { CanRun parts.new.procs pid }
     ensures within { result.done ≤ count }
     ensures notes { parts.new.notes ≡ parts.old.notes }
+    ensures files { parts.new.files ≡ parts.old.files }
     ensures regions { length parts.new.regions ≡ length parts.old.regions }
     ensures still { result.done ≡ 0 → parts.new ≡ parts.old }
     ensures leads { reach ≡ Own → (a : About) → Leads pid (world_of a parts.old) result.done (world_of (later result.done a) parts.new) }

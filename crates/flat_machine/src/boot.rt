@@ -22,7 +22,7 @@ use mem_files::Tree;
 use page_runs::{Chooser, Run};
 use region_watch::Mode;
 use std::alloc::{AllocError, Global};
-use syscall_layer::{Parts, Reach, StartRefusal, whole_table};
+use syscall_layer::{KeptParts, Parts, StartRefusal};
 
 /// What a machine starts with.
 #[derive(Drop)]
@@ -78,7 +78,7 @@ fn program_at(tree: &Tree, path: &[u8]) -> Option<u32>
 
 /// Starts the program of a start line.
 fn begin<F: Fn(&[Run], u32) -> Option<usize>>(
-    parts: &mut Parts,
+    parts: &mut KeptParts,
     paths: &[Vec<u8>],
     programs: &[Flat],
     start: &Start,
@@ -140,20 +140,15 @@ impl Machine {
             mode,
         } = setup;
         let files = Files::new(alloc, stdin)?;
-        let whole = whole_table(alloc, pages)?;
-        let mut parts = Parts::new(alloc, pages, tree, files)?;
+        let mut parts = KeptParts::new(alloc, pages, tree, files)?;
         for start in &starts {
             begin(&mut parts, &paths, &programs, start, chooser)?;
         }
         Ok(Machine {
-            parts,
+            parts: Parts::new(alloc, parts, programs, mode)?,
             kind: chooser.kind(),
             paths,
-            programs,
             events: 0,
-            mode,
-            reach: Reach::Own,
-            whole,
         })
     }
 }

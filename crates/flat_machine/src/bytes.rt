@@ -13,11 +13,11 @@ use crate::machine::Machine;
 use mmap_rules::Owners;
 use region_watch::Mode;
 use std::alloc::AllocError;
-use syscall_layer::{Parts, Reach, Unread, read_range, table_of};
+use syscall_layer::{KeptParts, Reach, Unread, read_range, table_of};
 
 /// A copy of the bytes of a process that lives, within this reach.
 fn copied(
-    parts: &Parts,
+    parts: &KeptParts,
     pid: u32,
     addr: u32,
     len: u32,
@@ -59,6 +59,13 @@ impl Machine {
         ensures own { self.now.mode ≡ Halt → IfOk result (λ found. option_map (λ bytes. bytes.items) found ≡ own_bytes (world self.now) pid addr len) }
         ensures memory { self.now.mode ≡ GoOn → IfOk result (λ found. option_map (λ bytes. bytes.items) found ≡ memory_bytes (one_memory self.now) pid addr len) }
     {
-        copied(&self.parts, pid, addr, len, shown(self.mode), &self.whole)
+        copied(
+            &self.parts.kept,
+            pid,
+            addr,
+            len,
+            shown(self.parts.mode),
+            &self.parts.whole,
+        )
     }
 }

@@ -9,13 +9,10 @@ ghost use Rattle.physical_turns.specs.Physical.{has_stray};
 ghost use Rattle.stays_laws.specs.Sound.{IsSound};
 ghost use Rattle.flat_machine.specs.State.{world};
 
-use bflt_format::Flat;
 use call_log::Note;
-use mmap_rules::Owners;
 use page_runs::Kind;
-use region_watch::Mode;
 use std::marker::Model;
-use syscall_layer::{Parts, Reach};
+use syscall_layer::Parts;
 
 /// The programs of a run in one memory, and how far they came.
 #[derive(Drop)]
@@ -24,14 +21,8 @@ pub struct Machine {
     pub(crate) kind: Kind,
     /// The path of each program.
     pub(crate) paths: Vec<Vec<u8>>,
-    pub(crate) programs: Vec<Flat>,
     /// How many events were carried out.
     pub(crate) events: u64,
-    pub(crate) mode: Mode,
-    /// All of memory behind the first stray access of a run that goes on.
-    pub(crate) reach: Reach,
-    /// The table that owns all of memory.
-    pub(crate) whole: Owners,
 }
 
 impl Model for Machine {
@@ -56,13 +47,6 @@ impl Machine {
         self.kind
     }
 
-    /// What becomes of it at its first stray access.
-    pub fn mode(&self) -> Mode
-        ensures { result ≡ self.now.mode }
-    {
-        self.mode
-    }
-
     /// How many events were carried out.
     #[tactic(auto, unfolding(syscall_layer::specs::Stands::world_of))]
     pub fn events(&self) -> u64
@@ -76,7 +60,7 @@ impl Machine {
     pub fn console(&self) -> &[u8]
         ensures { result.now ≡ (world self.now).rest.console }
     {
-        &self.parts.console
+        &self.parts.kept.console
     }
 
     /// The notes, oldest first. Those of loads name programs that are there.
@@ -84,7 +68,7 @@ impl Machine {
         ensures loaded { AreLoaded (length (world self.now).rest.programs) (world self.now).notes }
         ensures notes { (world self.now).notes ≡ reverse (map note_value result.now) }
     {
-        self.parts.log.notes()
+        self.parts.kept.log.notes()
     }
 
     /// The paths of the programs, in their order.

@@ -22,13 +22,13 @@ ghost use Rattle.flat_machine.specs.Leaves.{Leaves, TurnLeaves};
 ghost use Rattle.flat_machine.specs.LeavesIn.{LeavesIn, LeavesFirst, TurnLeavesIn, reach_behind, has_rest, is_undone, is_stray};
 
 use crate::machine::Machine;
-use crate::turn::{TurnEnd, turn};
+use crate::turn::{TurnEnd, tell_copies, turn};
 use page_runs::{Chooser, Run};
 use quantum_sched::{Quantum, pick};
 use region_watch::Mode;
 use rv32im_step::Access;
 use std::alloc::AllocError;
-use syscall_layer::{Parts, Reach};
+use syscall_layer::Parts;
 
 /// Why a run stops.
 #[derive(Clone, Copy, Debug, PartialEq, Eq)]
@@ -47,17 +47,17 @@ pub enum End {
 
 /// The process of a quantum, if any may run.
 fn chosen(parts: &Parts, quantum: Quantum) -> Option<u32>
-    ensures picked { (a : About) → result ≡ picked quantum.pick (ready_pids (world_of a parts.now).procs) }
-    ensures ready { IfSome result (λ pid. CanRun parts.now.procs pid) }
+    ensures picked { (a : About) → result ≡ picked quantum.pick (ready_pids (world_of a parts.now.kept).procs) }
+    ensures ready { IfSome result (λ pid. CanRun parts.now.kept.procs pid) }
 {
-    pick(&parts.procs, quantum)
+    pick(&parts.kept.procs, quantum)
 }
 
 /// Why a run stops where no process may run.
 fn none_runs(parts: &Parts) -> End
-    ensures { (a : About) → Ends (Some (none_runs (world_of a parts.now))) result }
+    ensures { (a : About) → Ends (Some (none_runs (world_of a parts.now.kept))) result }
 {
-    if parts.procs.live() == 0 {
+    if parts.kept.procs.live() == 0 {
         End::AllEnded
     } else {
         End::Stuck
@@ -66,30 +66,20 @@ fn none_runs(parts: &Parts) -> End
 
 /// Why a run stops behind its last quantum.
 fn last_end(parts: &Parts) -> End
-    ensures { (a : About) → Ends (turns [] (world_of a parts.now)).end result }
+    ensures { (a : About) → Ends (turns [] (world_of a parts.now.kept)).end result }
 {
-    if parts.procs.runnable() == 0 {
+    if parts.kept.procs.runnable() == 0 {
         none_runs(parts)
     } else {
         End::OutOfQuanta
     }
 }
 
-/// What is reached behind a turn.
-fn reach_behind(reach: Reach, end: &Result<Option<End>, AllocError>) -> Reach
-    ensures { result ≡ reach_behind reach end.now }
-{
-    match end {
-        Ok(Some(End::Stray(_))) => Reach::Whole,
-        _ => reach,
-    }
-}
-
 /// Whether a run goes on with what is left of a turn: it came to a stray access that is noted and not yet carried out.
-fn has_rest(mode: Mode, end: &Result<Option<End>, AllocError>) -> bool
-    ensures { result ≡ has_rest mode end.now }
+fn has_rest(parts: &Parts, end: &Result<Option<End>, AllocError>) -> bool
+    ensures { result ≡ has_rest parts.now.mode end.now }
 {
-    match mode {
+    match parts.mode {
         Mode::Halt => false,
         Mode::GoOn => matches!(end, Ok(Some(End::Stray(_)))),
     }
@@ -103,14 +93,6 @@ fn is_undone(events: u32, end: &Result<Option<End>, AllocError>) -> bool
         Ok(_) => false,
         Err(_) => events == 0,
     }
-}
-
-/// As long as no stray access was noted each live copy of a file that wasn't changed since holds it. Nothing is done.
-fn tell_copies(parts: &Parts)
-    ensures { has_stray parts.now.notes ≡ false → HoldsFiles parts.now }
-{
-    // Whatever is read opens the parts, whose invariant says so.
-    let _live = parts.procs.live();
 }
 
 impl Machine {
@@ -139,18 +121,8 @@ impl Machine {
         ensures leaves { self.old.reach ≡ Own → TurnLeaves pid count (world self.old) result.events (world self.new) result.end }
         ensures memory { TurnLeavesIn self.old.reach pid count (one_memory self.old) result.events (one_memory self.new) result.end }
     {
-        let TurnEnd { events, end } = turn(
-            &mut self.parts,
-            pid,
-            count,
-            &self.programs,
-            chooser,
-            self.reach,
-            &self.whole,
-        );
-        tell_copies(&self.parts);
+        let TurnEnd { events, end } = turn(&mut self.parts, pid, count, chooser);
         self.events += u64::from(events);
-        self.reach = reach_behind(self.reach, &end);
         TurnEnd { events, end }
     }
 
@@ -177,11 +149,10 @@ impl Machine {
             return Ok(Some(none_runs(&self.parts)));
         };
         let TurnEnd { events, end } = self.turn_of(pid, quantum.count, chooser);
-        if has_rest(self.mode, &end) {
+        if has_rest(&self.parts, &end) {
             let rest = self.turn_of(pid, quantum.count - events, chooser);
             if is_undone(rest.events, &rest.end) {
                 self.parts.take_back();
-                self.reach = Reach::Own;
             }
             return rest.end;
         }

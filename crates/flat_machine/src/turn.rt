@@ -1,6 +1,6 @@
 //! The turn of a process.
 
-ghost use Rattle.std.specs.Prelude.{◌≡◌, ◌≤◌, ◌<◌, ℕ, Some, List, length, Ok, OnErr};
+ghost use Rattle.std.specs.Prelude.{◌≡◌, ◌≤◌, ◌<◌, ℕ, false, Some, List, [], length, Ok, OnErr};
 ghost use Rattle.page_runs.specs.Choosers.{IsChooser, kind_of};
 ghost use Rattle.vfork_exec.specs.Procs.{CanRun};
 ghost use Rattle.machine_world.specs.Event.{event};
@@ -10,7 +10,8 @@ ghost use Rattle.physical_turns.specs.Physical.{outside, has_stray, died_in};
 ghost use Rattle.syscall_layer.specs.declared.reach.Reach.TheVariants.{Own, Whole};
 ghost use Rattle.syscall_layer.specs.Flats.{AreFlats};
 ghost use Rattle.syscall_layer.specs.InMemory.{headers_of, physical_of, without_newest};
-ghost use Rattle.syscall_layer.specs.Reach.{whole_table};
+ghost use Rattle.syscall_layer.specs.Copies.{HoldsFiles};
+ghost use Rattle.syscall_layer.specs.Reach.{reach_of, whole_table};
 ghost use Rattle.syscall_layer.specs.Regular.{IsRegular};
 ghost use Rattle.syscall_layer.specs.Stands.{About, later, world_of};
 ghost use Rattle.flat_machine.specs.declared.run.End.TheVariants.{Stray};
@@ -26,7 +27,7 @@ use mmap_rules::Owners;
 use page_runs::{Chooser, Run};
 use rv32im_step::{Access, Stop};
 use std::alloc::AllocError;
-use syscall_layer::{Parts, Reach, Served, serve_within};
+use syscall_layer::{KeptParts, Parts, Reach, Served, serve_within};
 
 /// The signal of an access outside memory.
 const SIGSEGV: u8 = 11;
@@ -43,9 +44,10 @@ enum After {
 }
 
 /// Notes an access that isn't carried out.
-fn stray(parts: &mut Parts, pid: u32, access: Access) -> Result<After, AllocError>
+fn stray(parts: &mut KeptParts, pid: u32, access: Access) -> Result<After, AllocError>
     ensures tells { TellsStray pid access parts.old parts.new result }
     ensures sound { (seen : Access) → result ≡ Ok (RunEnds (Stray seen)) → IsRegular (without_newest parts.new) }
+    ensures marks { parts.old.files.changed ≡ [] → parts.new.files.changed ≡ [] }
 {
     parts.note_stray(pid, access)?;
     Ok(After::RunEnds(End::Stray(access)))
@@ -53,11 +55,17 @@ fn stray(parts: &mut Parts, pid: u32, access: Access) -> Result<After, AllocErro
 
 /// What comes of an instruction's access beyond reach: it strays, with its note; or it lies outside memory, and ends its process by
 /// SIGSEGV.
-fn refused(parts: &mut Parts, pid: u32, access: Access, reach: Reach) -> Result<After, AllocError>
+fn refused(
+    parts: &mut KeptParts,
+    pid: u32,
+    access: Access,
+    reach: Reach,
+) -> Result<After, AllocError>
     requires { CanRun parts.old.procs pid }
     ensures strays { reach ≡ Own → TellsStray pid access parts.old parts.new result }
     ensures memory { reach ≡ Whole → (headers : List (List ℕ)) → (a : About) → CarriedIn headers a (died_in (physical_of headers a parts.old) pid outside) parts.old parts.new pid result }
     ensures sound { (seen : Access) → result ≡ Ok (RunEnds (Stray seen)) → IsRegular (without_newest parts.new) }
+    ensures marks { parts.old.files.changed ≡ [] → parts.new.files.changed ≡ [] }
 {
     match reach {
         Reach::Own => stray(parts, pid, access),
@@ -70,7 +78,7 @@ fn refused(parts: &mut Parts, pid: u32, access: Access, reach: Reach) -> Result<
 
 /// The event of a process that may run and whose next step ends so, within this reach.
 fn next_event<F: Fn(&[Run], u32) -> Option<usize>>(
-    parts: &mut Parts,
+    parts: &mut KeptParts,
     pid: u32,
     stop: Stop,
     programs: &[Flat],
@@ -89,6 +97,7 @@ fn next_event<F: Fn(&[Run], u32) -> Option<usize>>(
     ensures memory { (a : About) → a.kind ≡ kind_of chooser.now → AreFlats a.programs programs.now →
         CarriedWithin reach (headers_of programs.now) a parts.old parts.new pid result }
     ensures sound { (seen : Access) → result ≡ Ok (RunEnds (Stray seen)) → IsRegular (without_newest parts.new) }
+    ensures marks { parts.old.files.changed ≡ [] → parts.new.files.changed ≡ [] }
 {
     match stop {
         Stop::Next => Ok(After::GoesOn),
@@ -116,8 +125,8 @@ pub(crate) struct TurnEnd {
 }
 
 /// Up to `count` events of a process that may run, within this reach.
-pub(crate) fn turn<F: Fn(&[Run], u32) -> Option<usize>>(
-    parts: &mut Parts,
+fn turn_within<F: Fn(&[Run], u32) -> Option<usize>>(
+    parts: &mut KeptParts,
     pid: u32,
     count: u32,
     programs: &[Flat],
@@ -135,6 +144,7 @@ pub(crate) fn turn<F: Fn(&[Run], u32) -> Option<usize>>(
     ensures strays { (access : Access) → result.end ≡ Ok (Some (Stray access)) → result.events < count × CanRun parts.new.procs pid }
     ensures sound { (access : Access) → result.end ≡ Ok (Some (Stray access)) → IsRegular (without_newest parts.new) }
     ensures still { OnErr result.end (result.events ≡ 0 → parts.new ≡ parts.old) }
+    ensures marks { parts.old.files.changed ≡ [] → parts.new.files.changed ≡ [] }
     ensures leaves { reach ≡ Own → (a : About) → a.kind ≡ kind_of chooser.now → AreFlats a.programs programs.now →
         TurnLeaves pid count (world_of a parts.old) result.events (world_of (later result.events a) parts.new) result.end }
     ensures memory { (a : About) → a.kind ≡ kind_of chooser.now → AreFlats a.programs programs.now →
@@ -176,4 +186,60 @@ pub(crate) fn turn<F: Fn(&[Run], u32) -> Option<usize>>(
         events,
         end: Ok(None),
     }
+}
+
+/// Whether a stray access was noted by the end of a turn that began within this reach.
+fn is_noted(reach: Reach, end: &Result<Option<End>, AllocError>) -> bool
+    ensures { result ≡ is_whole (reach_behind reach end.now) }
+{
+    match end {
+        Ok(Some(End::Stray(_))) => true,
+        _ => reach == Reach::Whole,
+    }
+}
+
+/// As long as no stray access was noted each live copy of a file that wasn't changed since holds it. Nothing is done.
+pub(crate) fn tell_copies(parts: &Parts)
+    ensures { has_stray parts.now.kept.notes ≡ false → HoldsFiles parts.now.kept }
+{
+    // Whatever is read opens the parts, whose invariant says so.
+    let _live = parts.kept.procs.live();
+}
+
+/// Up to `count` events of a process that may run, within what the run reaches.
+pub(crate) fn turn<F: Fn(&[Run], u32) -> Option<usize>>(
+    parts: &mut Parts,
+    pid: u32,
+    count: u32,
+    chooser: &Chooser<F>,
+) -> TurnEnd
+    requires chooser { IsChooser F.pre F.post chooser.now }
+    requires ready { CanRun parts.old.kept.procs pid }
+    ensures programs { parts.new.programs ≡ parts.old.programs }
+    ensures mode { parts.new.mode ≡ parts.old.mode }
+    ensures reach { reach_of parts.new.noted ≡ reach_behind (reach_of parts.old.noted) result.end }
+    ensures within { result.events ≤ count }
+    ensures notes { has_stray parts.new.kept.notes ≡ is_whole (reach_behind (reach_of parts.old.noted) result.end) }
+    ensures strays { (access : Access) → result.end ≡ Ok (Some (Stray access)) → result.events < count × CanRun parts.new.kept.procs pid }
+    ensures sound { (access : Access) → result.end ≡ Ok (Some (Stray access)) → IsRegular (without_newest parts.new.kept) }
+    ensures still { OnErr result.end (result.events ≡ 0 → parts.new.kept ≡ parts.old.kept) }
+    ensures copies { has_stray parts.new.kept.notes ≡ false → HoldsFiles parts.new.kept }
+    ensures leaves { reach_of parts.old.noted ≡ Own → (a : About) → a.kind ≡ kind_of chooser.now → AreFlats a.programs parts.old.programs →
+        TurnLeaves pid count (world_of a parts.old.kept) result.events (world_of (later result.events a) parts.new.kept) result.end }
+    ensures memory { (a : About) → a.kind ≡ kind_of chooser.now → AreFlats a.programs parts.old.programs →
+        TurnLeavesIn (reach_of parts.old.noted) pid count (physical_of (headers_of parts.old.programs) a parts.old.kept) result.events (physical_of (headers_of parts.old.programs) (later result.events a) parts.new.kept) result.end }
+{
+    let reach = parts.reach();
+    let TurnEnd { events, end } = turn_within(
+        &mut parts.kept,
+        pid,
+        count,
+        &parts.programs,
+        chooser,
+        reach,
+        &parts.whole,
+    );
+    parts.noted = is_noted(reach, &end);
+    tell_copies(parts);
+    TurnEnd { events, end }
 }

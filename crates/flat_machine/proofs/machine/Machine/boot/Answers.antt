@@ -11,14 +11,13 @@ use Rattle.vfork_exec.specs.Procs.{count, most_entries}
 use Rattle.fd_tables.specs.Files.{OpenFiles}
 use Rattle.syscall_layer.specs.Kept.{Kept}
 use Rattle.physical_turns.specs.Physical.{has_stray}
-use Rattle.syscall_layer.specs.declared.reach.Reach.TheVariants.{Own}
 use Rattle.syscall_layer.specs.InMemory.{headers_of}
-use Rattle.syscall_layer.specs.Reach.{whole_table}
+use Rattle.syscall_layer.specs.Reach.{reach_of}
 use Rattle.syscall_layer.specs.Stands.{world_of}
 use Rattle.stays_laws.proofs.SoundRuns.{boots_are_sound}
 use Rattle.stays_laws.proofs.StaysRuns.{boots_begin_stays}
 use Rattle.flat_machine.specs.State.{about_boot, line_of, lines_of, rest_of}
-use Rattle.flat_machine.proofs.Booted.{more_pids, more_spaces, more_processes, more_pages, more_quiet, left_on, left_fails, left_none, fails_as, boots_from, machine_boots, machine_loads}
+use Rattle.flat_machine.proofs.Booted.{more_pids, more_spaces, more_processes, more_pages, more_quiet, left_on, left_fails, left_none, fails_as, boots_from, machine_boots, machine_loads, unmarked_boot, whole_reached}
 use Rattle.flat_machine.proofs.BootedIn.{lays_none, opened}
 use Rattle.flat_machine.proofs.Waiting.{boots_wait_well}
 use Rattle.flat_machine.proofs.machine.Machine.boot.Goals as goal
@@ -67,6 +66,15 @@ returns-in_err-begin-clause-world g c =
     c.from_residual-in_err-begin.ensures.0 c.from_residual-in_err-begin.ensures.1 fails in
     rw (← c.deref-start-items.ensures.value, ← first_is) told
 
+pub new-requires-3 : goal.new-requires-3
+new-requires-3 g c =
+    let a = about_boot (kind_of c.args.chooser.now) c.args.setup.paths.items c.args.setup.programs.items in
+    let rest = rest_of c.args.setup.pages (kind_of c.args.chooser.now) c.args.setup.paths.items c.args.setup.programs.items c.args.setup.tree c.args.setup.stdin.items in
+    let first_is = boots_from a c.args.setup.pages c.args.setup.tree c.in_ok-files.files.open_files rest c.in_ok-parts.parts (lines_of c.deref-start-items.result.now) c.in_ok-parts.ensures (ap (λ (files : OpenFiles). record rest { files = files }) c.in_ok-files.ensures) refl in
+    let all = left_none c.deref-start-items.result.now c.loop-start.start-index (world_of a c.loop-start.parts) (all_started (world_of a c.in_ok-parts.parts) (lines_of c.deref-start-items.result.now))
+    c.loop-start-test.false c.loop-start.invariant.left in
+    unmarked_boot rest (lines_of c.deref-start-items.result.now) a c.loop-start.parts refl (sym (all ∙ first_is))
+
 pub invariant_of-result : goal.invariant_of-result
 invariant_of-result g c =
     let a = about_boot (kind_of c.args.chooser.now) c.args.setup.paths.items c.args.setup.programs.items in
@@ -77,13 +85,12 @@ invariant_of-result g c =
     let same : length (paths_of c.args.setup.paths.items) ≡ length c.args.setup.programs.items = length-map c.args.setup.paths.items (λ p. p.items) ∙ c.requires.paths in
     let few : length (lines_of c.deref-start-items.result.now) ≤ most_entries = let items = c.deref-start-items.ensures.value in omega (arith, c.requires.starts, length-map c.deref-start-items.result.now line_of, ap (λ (starts : List StartItem). length starts) items) in
     let loads = machine_loads rest (lines_of c.deref-start-items.result.now) a c.loop-start.parts (all ∙ first_is) in
-    record {
+    rw c.in_ok-new.ensures (record {
       paths = c.requires.paths;
       loads = subst (λ n. AreLoaded n c.loop-start.parts.notes) (programs_count (paths_of c.args.setup.paths.items) c.args.setup.programs.items same) (loaded_notes a c.loop-start.parts (length rest.programs) loads);
       sound = λ quiet. rw (c.kind.ensures) (boots_are_sound rest (lines_of c.deref-start-items.result.now) (world_of a c.loop-start.parts) (record { some = c.requires.some; most = c.requires.most; changes = c.requires.changes }) few (sym (all ∙ first_is)));
-      whole = c.in_ok-whole.ensures ∙ ap whole_table (sym c.loop-start.invariant.regions);
-      strayed = c.loop-start.invariant.quiet;
-    }
+      strayed = whole_reached (has_stray c.loop-start.parts.notes);
+    })
 
 pub returns-clause-world : goal.returns-clause-world
 returns-clause-world g c =
@@ -93,9 +100,9 @@ returns-clause-world g c =
     let all = left_none c.deref-start-items.result.now c.loop-start.start-index (world_of a c.loop-start.parts) (all_started (world_of a c.in_ok-parts.parts) (lines_of c.deref-start-items.result.now))
     c.loop-start-test.false c.loop-start.invariant.left in
     let kind = c.kind.ensures in
-    rw (← c.deref-start-items.ensures.value, kind)
+    rw (c.in_ok-new.ensures, ← c.deref-start-items.ensures.value, kind)
     (machine_boots (world_of a c.loop-start.parts)
-    (record { kept = c.loop-start.parts; kind = kind_of c.args.chooser.now; paths = paths_of c.args.setup.paths.items; programs = c.args.setup.programs.items; events = 0; mode = c.args.setup.mode; reach = Own })
+    (record { kept = c.loop-start.parts; kind = kind_of c.args.chooser.now; paths = paths_of c.args.setup.paths.items; programs = c.args.setup.programs.items; events = 0; mode = c.args.setup.mode; reach = reach_of (has_stray c.loop-start.parts.notes) })
     (boot rest (lines_of c.deref-start-items.result.now)) (all ∙ first_is) refl)
 
 pub returns-clause-alone : goal.returns-clause-alone
@@ -106,7 +113,7 @@ returns-clause-alone g c =
     let all = left_none c.deref-start-items.result.now c.loop-start.start-index (world_of a c.loop-start.parts) (all_started (world_of a c.in_ok-parts.parts) (lines_of c.deref-start-items.result.now))
     c.loop-start-test.false c.loop-start.invariant.left in
     let kind = c.kind.ensures in
-    rw (← c.deref-start-items.ensures.value, kind)
+    rw (c.in_ok-new.ensures, ← c.deref-start-items.ensures.value, kind)
     (boots_begin_stays rest (lines_of c.deref-start-items.result.now) (world_of a c.loop-start.parts) (record { some = c.requires.some; most = c.requires.most; changes = c.requires.changes }) (sym (all ∙ first_is)))
 
 pub returns-clause-waits : goal.returns-clause-waits
@@ -118,15 +125,15 @@ returns-clause-waits g c =
     c.loop-start-test.false c.loop-start.invariant.left in
     let few : length (lines_of c.deref-start-items.result.now) ≤ most_entries = let items = c.deref-start-items.ensures.value in omega (arith, c.requires.starts, length-map c.deref-start-items.result.now line_of, ap (λ (starts : List StartItem). length starts) items) in
     let kind = c.kind.ensures in
-    rw kind
+    rw (c.in_ok-new.ensures, kind)
     (λ fresh. boots_wait_well rest (lines_of c.deref-start-items.result.now) (world_of a c.loop-start.parts) (record { some = c.requires.some; most = c.requires.most; changes = c.requires.changes }) fresh few (sym (all ∙ first_is)))
 
 pub returns-clause-quiet : goal.returns-clause-quiet
 unfolding world_of
-returns-clause-quiet g c = c.loop-start.invariant.quiet
+returns-clause-quiet g c = rw c.in_ok-new.ensures c.loop-start.invariant.quiet
 
 pub returns-clause-memory : goal.returns-clause-memory
 returns-clause-memory g c =
     let a = about_boot (kind_of c.args.chooser.now) c.args.setup.paths.items c.args.setup.programs.items in
     let kind = c.kind.ensures in
-    rw kind (opened (headers_of c.args.setup.programs.items) a c.loop-start.parts c.loop-start.invariant.laid)
+    rw (c.in_ok-new.ensures, kind) (opened (headers_of c.args.setup.programs.items) a c.loop-start.parts c.loop-start.invariant.laid)

@@ -42,24 +42,38 @@ returns-in_default-clause-first g c go quiet =
     let calm = rw (← v) at quiet in
     rw (← v) (first_none c.args.quantum (world s) (sym (c.in_default.ensures.picked (about_of s))) c.none_runs.result (c.none_runs.ensures (about_of s)) calm)
 
-pub take_back-requires : goal.take_back-requires
-take_back-requires g c =
+pub take_back-requires-clause-sound : goal.take_back-requires-clause-sound
+take_back-requires-clause-sound g c =
     let s = state_of c.self.inside in
     let v = c.self.view_is in
-    let has : has_rest c.self-2.inside.mode c.turn_of-events.result.end ≡ true = sym c.has_rest.ensures ∙ c.if-has_rest.true in
-    let strays : is_stray c.turn_of-events.result.end ≡ true = rest_strays c.self-2.inside.mode c.turn_of-events.result.end has in
+    let has : has_rest c.self-2.inside.parts.mode c.turn_of-events.result.end ≡ true = sym c.has_rest.ensures ∙ c.if-has_rest.true in
+    let strays : is_stray c.turn_of-events.result.end ≡ true = rest_strays c.self-2.inside.parts.mode c.turn_of-events.result.end has in
     let undone : is_undone c.turn_of-rest.result.events c.turn_of-rest.result.end ≡ true = sym c.is_undone.ensures ∙ c.if-is_undone.true in
     let at = stray_of c.turn_of-events.result.end strays in
     let same : c.turn_of-rest.new.self.kept ≡ c.turn_of-events.new.self.kept =
     undone_has c.turn_of-rest.result.events c.turn_of-rest.result.end (c.turn_of-rest.new.self.kept ≡ c.turn_of-events.new.self.kept) undone c.turn_of-rest.ensures.still in
     subst (λ (k : Kept). IsRegular (without_newest k)) (sym (ap (λ (x : State). x.kept) c.self-then-has_rest.view_is ∙ same)) (c.turn_of-events.ensures.sound at.0 at.1)
 
+pub take_back-requires-clause-first : goal.take_back-requires-clause-first
+take_back-requires-clause-first g c =
+    let has : has_rest c.self-2.inside.parts.mode c.turn_of-events.result.end ≡ true = sym c.has_rest.ensures ∙ c.if-has_rest.true in
+    let strays : is_stray c.turn_of-events.result.end ≡ true = rest_strays c.self-2.inside.parts.mode c.turn_of-events.result.end has in
+    let reached : c.turn_of-events.new.self.reach ≡ Whole = c.turn_of-events.ensures.reach ∙ stray_reach c.args.self.now.reach c.turn_of-events.result.end strays in
+    let rest = subst (λ (reach : Reach). TurnLeavesIn reach c.in-Some.pid (c.args.quantum.count - c.turn_of-events.result.events) (one_memory c.turn_of-events.new.self) c.turn_of-rest.result.events
+    (one_memory c.turn_of-rest.new.self) c.turn_of-rest.result.end) reached c.turn_of-rest.ensures.memory in
+    let undone : is_undone c.turn_of-rest.result.events c.turn_of-rest.result.end ≡ true = sym c.is_undone.ensures ∙ c.if-is_undone.true in
+    let new = state_of c.self-then-has_rest.inside in
+    let left = subst (λ (x : State). TurnLeavesIn Whole c.in-Some.pid (c.args.quantum.count - c.turn_of-events.result.events) (one_memory c.turn_of-events.new.self) c.turn_of-rest.result.events (one_memory x)
+    c.turn_of-rest.result.end) (sym c.self-then-has_rest.view_is) rest in
+    quiet_back c.in-Some.pid c.args.quantum.count (c.args.quantum.count - c.turn_of-events.result.events) c.turn_of-events.result.events c.turn_of-rest.result.events c.args.self.now
+    c.turn_of-events.new.self new c.turn_of-events.result.end c.turn_of-rest.result.end strays c.turn_of-events.ensures.memory undone left
+
 pub invariant_of-self : goal.invariant_of-self
 invariant_of-self g c =
     let s = state_of c.self.inside in
     let v = c.self.view_is in
-    let has : has_rest c.self-2.inside.mode c.turn_of-events.result.end ≡ true = sym c.has_rest.ensures ∙ c.if-has_rest.true in
-    let strays : is_stray c.turn_of-events.result.end ≡ true = rest_strays c.self-2.inside.mode c.turn_of-events.result.end has in
+    let has : has_rest c.self-2.inside.parts.mode c.turn_of-events.result.end ≡ true = sym c.has_rest.ensures ∙ c.if-has_rest.true in
+    let strays : is_stray c.turn_of-events.result.end ≡ true = rest_strays c.self-2.inside.parts.mode c.turn_of-events.result.end has in
     let reached : c.turn_of-events.new.self.reach ≡ Whole = c.turn_of-events.ensures.reach ∙ stray_reach c.args.self.now.reach c.turn_of-events.result.end strays in
     let rest = subst (λ (reach : Reach). TurnLeavesIn reach c.in-Some.pid (c.args.quantum.count - c.turn_of-events.result.events) (one_memory c.turn_of-events.new.self) c.turn_of-rest.result.events
     (one_memory c.turn_of-rest.new.self) c.turn_of-rest.result.end) reached c.turn_of-rest.ensures.memory in
@@ -72,10 +86,9 @@ invariant_of-self g c =
     let sound = subst (λ (x : State). has_stray x.kept.notes ≡ false → IsSound (world x)) v c.self.invariant.sound in
     rw c.take_back.ensures (record {
       paths = c.self-then-has_rest.invariant.paths;
-      loads = loads_back (length c.self-then-has_rest.inside.programs.items) c.self-then-has_rest.inside.parts.notes c.self-then-has_rest.invariant.loads;
+      loads = loads_back (length c.self-then-has_rest.inside.parts.programs) c.self-then-has_rest.inside.parts.kept.notes c.self-then-has_rest.invariant.loads;
       sound = λ quiet. sound_back c.in-Some.pid c.args.quantum.count (c.args.quantum.count - c.turn_of-events.result.events) c.turn_of-events.result.events c.turn_of-rest.result.events c.args.self.now
           c.turn_of-events.new.self new c.turn_of-events.result.end c.turn_of-rest.result.end strays c.turn_of-events.ensures.memory undone left c.turn_of-events.ensures.leaves can strayed sound;
-      whole = c.self-then-has_rest.invariant.whole;
       strayed = quiet_back c.in-Some.pid c.args.quantum.count (c.args.quantum.count - c.turn_of-events.result.events) c.turn_of-events.result.events c.turn_of-rest.result.events c.args.self.now
           c.turn_of-events.new.self new c.turn_of-events.result.end c.turn_of-rest.result.end strays c.turn_of-events.ensures.memory undone left;
     })
@@ -84,8 +97,8 @@ pub returns-then-is_undone-clause-memory : goal.returns-then-is_undone-clause-me
 returns-then-is_undone-clause-memory g c go =
     let s = state_of c.self.inside in
     let v = c.self.view_is in
-    let has : has_rest c.self-2.inside.mode c.turn_of-events.result.end ≡ true = sym c.has_rest.ensures ∙ c.if-has_rest.true in
-    let strays : is_stray c.turn_of-events.result.end ≡ true = rest_strays c.self-2.inside.mode c.turn_of-events.result.end has in
+    let has : has_rest c.self-2.inside.parts.mode c.turn_of-events.result.end ≡ true = sym c.has_rest.ensures ∙ c.if-has_rest.true in
+    let strays : is_stray c.turn_of-events.result.end ≡ true = rest_strays c.self-2.inside.parts.mode c.turn_of-events.result.end has in
     let reached : c.turn_of-events.new.self.reach ≡ Whole = c.turn_of-events.ensures.reach ∙ stray_reach c.args.self.now.reach c.turn_of-events.result.end strays in
     let rest = subst (λ (reach : Reach). TurnLeavesIn reach c.in-Some.pid (c.args.quantum.count - c.turn_of-events.result.events) (one_memory c.turn_of-events.new.self) c.turn_of-rest.result.events
     (one_memory c.turn_of-rest.new.self) c.turn_of-rest.result.end) reached c.turn_of-rest.ensures.memory in
@@ -106,8 +119,8 @@ pub returns-else-is_undone-clause-memory : goal.returns-else-is_undone-clause-me
 returns-else-is_undone-clause-memory g c go =
     let s = state_of c.self.inside in
     let v = c.self.view_is in
-    let has : has_rest c.self-2.inside.mode c.turn_of-events.result.end ≡ true = sym c.has_rest.ensures ∙ c.if-has_rest.true in
-    let strays : is_stray c.turn_of-events.result.end ≡ true = rest_strays c.self-2.inside.mode c.turn_of-events.result.end has in
+    let has : has_rest c.self-2.inside.parts.mode c.turn_of-events.result.end ≡ true = sym c.has_rest.ensures ∙ c.if-has_rest.true in
+    let strays : is_stray c.turn_of-events.result.end ≡ true = rest_strays c.self-2.inside.parts.mode c.turn_of-events.result.end has in
     let reached : c.turn_of-events.new.self.reach ≡ Whole = c.turn_of-events.ensures.reach ∙ stray_reach c.args.self.now.reach c.turn_of-events.result.end strays in
     let rest = subst (λ (reach : Reach). TurnLeavesIn reach c.in-Some.pid (c.args.quantum.count - c.turn_of-events.result.events) (one_memory c.turn_of-events.new.self) c.turn_of-rest.result.events
     (one_memory c.turn_of-rest.new.self) c.turn_of-rest.result.end) reached c.turn_of-rest.ensures.memory in
@@ -125,8 +138,8 @@ pub returns-else-is_undone-clause-first : goal.returns-else-is_undone-clause-fir
 returns-else-is_undone-clause-first g c go quiet =
     let s = state_of c.self.inside in
     let v = c.self.view_is in
-    let has : has_rest c.self-2.inside.mode c.turn_of-events.result.end ≡ true = sym c.has_rest.ensures ∙ c.if-has_rest.true in
-    let strays : is_stray c.turn_of-events.result.end ≡ true = rest_strays c.self-2.inside.mode c.turn_of-events.result.end has in
+    let has : has_rest c.self-2.inside.parts.mode c.turn_of-events.result.end ≡ true = sym c.has_rest.ensures ∙ c.if-has_rest.true in
+    let strays : is_stray c.turn_of-events.result.end ≡ true = rest_strays c.self-2.inside.parts.mode c.turn_of-events.result.end has in
     let reached : c.turn_of-events.new.self.reach ≡ Whole = c.turn_of-events.ensures.reach ∙ stray_reach c.args.self.now.reach c.turn_of-events.result.end strays in
     let rest = subst (λ (reach : Reach). TurnLeavesIn reach c.in-Some.pid (c.args.quantum.count - c.turn_of-events.result.events) (one_memory c.turn_of-events.new.self) c.turn_of-rest.result.events
     (one_memory c.turn_of-rest.new.self) c.turn_of-rest.result.end) reached c.turn_of-rest.ensures.memory in
@@ -163,7 +176,7 @@ returns-clause-memory g c go =
     let s = state_of c.self.inside in
     let v = c.self.view_is in
     let picks : picked c.args.quantum.pick (ready_pids (world c.args.self.now).procs) ≡ Some c.in-Some.pid = rw (← v) (sym (c.in-Some.ensures.picked (about_of s))) in
-    let goes : c.self-2.inside.mode ≡ GoOn = ap (λ (x : State). x.mode) c.self-2.view_is ∙ c.turn_of-events.ensures.mode ∙ go in
+    let goes : c.self-2.inside.parts.mode ≡ GoOn = ap (λ (x : State). x.mode) c.self-2.view_is ∙ c.turn_of-events.ensures.mode ∙ go in
     let calm : is_stray c.turn_of-events.result.end ≡ false = ap (λ (m : Mode). has_rest m c.turn_of-events.result.end) (sym goes) ∙ sym c.has_rest.ensures ∙ c.if-has_rest.false in
     quantum_leaves_in c.args.quantum (one_memory c.args.self.now) c.in-Some.pid (chosen_in c.args.self.now c.args.quantum.pick (Some c.in-Some.pid) picks) c.turn_of-events.result.events
     (one_memory c.turn_of-events.new.self) c.args.self.now.reach c.turn_of-events.result.end calm c.turn_of-events.ensures.memory
@@ -174,7 +187,7 @@ returns-clause-first g c go quiet =
     let v = c.self.view_is in
     let picks : picked c.args.quantum.pick (ready_pids (world c.args.self.now).procs) ≡ Some c.in-Some.pid = rw (← v) (sym (c.in-Some.ensures.picked (about_of s))) in
     let own : c.args.self.now.reach ≡ Own = own_here c.args.self.now quiet (rw (← v) c.self.invariant.strayed) in
-    let goes : c.self-2.inside.mode ≡ GoOn = ap (λ (x : State). x.mode) c.self-2.view_is ∙ c.turn_of-events.ensures.mode ∙ go in
+    let goes : c.self-2.inside.parts.mode ≡ GoOn = ap (λ (x : State). x.mode) c.self-2.view_is ∙ c.turn_of-events.ensures.mode ∙ go in
     let calm : is_stray c.turn_of-events.result.end ≡ false = ap (λ (m : Mode). has_rest m c.turn_of-events.result.end) (sym goes) ∙ sym c.has_rest.ensures ∙ c.if-has_rest.false in
     let still : has_stray (world c.turn_of-events.new.self).notes ≡ false =
     c.turn_of-events.ensures.notes ∙ ap is_whole (c.turn_of-events.ensures.reach ∙ calm_reach c.args.self.now.reach c.turn_of-events.result.end calm ∙ own) in

@@ -2,11 +2,10 @@
 use Rattle.std.proofs.Common.{◌≡◌, length, sym, ap, subst, ◌∙◌}
 use Rattle.std.specs.Prelude.{OnErr}
 use Rattle.std.proofs.lemmas.List.{length-map}
-use Rattle.syscall_layer.specs.Flats.{AreFlats}
 use Rattle.syscall_layer.specs.declared.reach.Reach.{Reach}
 use Rattle.syscall_layer.specs.declared.reach.Reach.TheVariants.{Own}
 use Rattle.syscall_layer.specs.InMemory.{headers_of, physical_of}
-use Rattle.syscall_layer.specs.Reach.{whole_table}
+use Rattle.syscall_layer.specs.Reach.{reach_of}
 use Rattle.syscall_layer.specs.Stands.{later, world_of}
 use Rattle.flat_machine.specs.State.{State, about_of, is_whole}
 use Rattle.flat_machine.specs.Inside.{state_of}
@@ -23,25 +22,24 @@ invariant_of-self g c =
     let a = about_of s in
     let same : length s.paths ≡ length s.programs = length-map m.paths.items (λ path. path.items) ∙ c.self.invariant.paths in
     let so = ap (λ (x : State). x.kind) c.self.view_is ∙ sym c.requires.kind in
-    let are = subst (AreFlats a.programs) (sym c.deref.ensures.value) (are_flats s.paths s.programs same) in
+    let are = are_flats s.paths s.programs same in
     let memory = c.turn-events.ensures.memory a so are in
     let ready = rw (← c.self.view_is) at c.requires.ready in
-    record {
+    rw c.turn-events.ensures.programs (record {
       paths = c.self.invariant.paths;
-      loads = loads_behind m.reach (headers_of c.deref.result.now) a (length m.programs.items) c.args.pid c.args.count c.turn-events.result.events m.parts c.turn-events.new.parts c.turn-events.result.end
+      loads = loads_behind (reach_of m.parts.noted) (headers_of m.parts.programs) a (length m.parts.programs) c.args.pid c.args.count c.turn-events.result.events m.parts.kept c.turn-events.new.parts.kept c.turn-events.result.end
           (λ own. c.turn-events.ensures.leaves own a so are) memory (programs_count s.paths s.programs same) c.self.invariant.loads;
-      sound = rw (c.from.ensures) (sound_behind m.reach (headers_of c.deref.result.now) a (length m.programs.items) c.args.pid c.args.count c.turn-events.result.events m.parts c.turn-events.new.parts c.turn-events.result.end
+      sound = rw (c.from.ensures) (sound_behind (reach_of m.parts.noted) (headers_of m.parts.programs) a (length m.parts.programs) c.args.pid c.args.count c.turn-events.result.events m.parts.kept c.turn-events.new.parts.kept c.turn-events.result.end
           (λ own. c.turn-events.ensures.leaves own a so are) memory ready c.self.invariant.strayed c.turn-events.ensures.notes c.self.invariant.sound);
-      whole = c.self.invariant.whole ∙ ap whole_table (sym c.turn-events.ensures.regions);
-      strayed = c.turn-events.ensures.notes ∙ ap is_whole (sym c.reach_behind-self-inside.ensures);
-    }
+      strayed = c.turn-events.ensures.notes ∙ ap is_whole (sym c.turn-events.ensures.reach);
+    })
 
 pub returns-clause-notes : goal.returns-clause-notes
 unfolding world_of
-returns-clause-notes g c = c.turn-events.ensures.notes ∙ ap is_whole (sym c.reach_behind-self-inside.ensures)
+returns-clause-notes g c = c.turn-events.ensures.notes ∙ ap is_whole (sym c.turn-events.ensures.reach)
 
 pub returns-clause-still : goal.returns-clause-still
-returns-clause-still g c = subst (λ (s : State). OnErr c.turn-events.result.end (c.turn-events.result.events ≡ 0 → c.turn-events.new.parts ≡ s.kept)) c.self.view_is c.turn-events.ensures.still
+returns-clause-still g c = subst (λ (s : State). OnErr c.turn-events.result.end (c.turn-events.result.events ≡ 0 → c.turn-events.new.parts.kept ≡ s.kept)) c.self.view_is c.turn-events.ensures.still
 
 pub returns-clause-leaves : goal.returns-clause-leaves
 returns-clause-leaves g c own =
@@ -50,11 +48,11 @@ returns-clause-leaves g c own =
     let a = about_of s in
     let same : length s.paths ≡ length s.programs = length-map m.paths.items (λ path. path.items) ∙ c.self.invariant.paths in
     let so = ap (λ (x : State). x.kind) c.self.view_is ∙ sym c.requires.kind in
-    let are = subst (AreFlats a.programs) (sym c.deref.ensures.value) (are_flats s.paths s.programs same) in
+    let are = are_flats s.paths s.programs same in
     let v = c.self.view_is in
     let here = ap (λ (x : State). x.reach) v ∙ own in
     let leaves = c.turn-events.ensures.leaves here a so are in
-    rw (← v, c.from.ensures) leaves
+    rw (← v, c.from.ensures, c.turn-events.ensures.programs) leaves
 
 pub returns-clause-memory : goal.returns-clause-memory
 returns-clause-memory g c =
@@ -63,10 +61,10 @@ returns-clause-memory g c =
     let a = about_of s in
     let same : length s.paths ≡ length s.programs = length-map m.paths.items (λ path. path.items) ∙ c.self.invariant.paths in
     let so = ap (λ (x : State). x.kind) c.self.view_is ∙ sym c.requires.kind in
-    let are = subst (AreFlats a.programs) (sym c.deref.ensures.value) (are_flats s.paths s.programs same) in
+    let are = are_flats s.paths s.programs same in
     let v = c.self.view_is in
-    let memory = rw c.deref.ensures.value at (c.turn-events.ensures.memory a so are) in
-    rw (← v, c.from.ensures) memory
+    let memory = c.turn-events.ensures.memory a so are in
+    rw (← v, c.from.ensures, c.turn-events.ensures.programs) memory
 
 pub returns-clause-copies : goal.returns-clause-copies
 returns-clause-copies g c own =
@@ -75,9 +73,9 @@ returns-clause-copies g c own =
     let a = about_of s in
     let same : length s.paths ≡ length s.programs = length-map m.paths.items (λ path. path.items) ∙ c.self.invariant.paths in
     let so = ap (λ (x : State). x.kind) c.self.view_is ∙ sym c.requires.kind in
-    let are = subst (AreFlats a.programs) (sym c.deref.ensures.value) (are_flats s.paths s.programs same) in
-    let here : m.reach ≡ Own = ap (λ (x : State). x.reach) c.self.view_is ∙ own in
-    let memory = subst (λ (reach : Reach). TurnLeavesIn reach c.args.pid c.args.count (physical_of (headers_of c.deref.result.now) a m.parts) c.turn-events.result.events
-    (physical_of (headers_of c.deref.result.now) (later c.turn-events.result.events a) c.turn-events.new.parts) c.turn-events.result.end) here (c.turn-events.ensures.memory a so are) in
-    turn_holds (headers_of c.deref.result.now) a (later c.turn-events.result.events a) c.args.pid c.args.count c.turn-events.result.events m.parts c.turn-events.new.parts c.turn-events.result.end memory
-    c.turn-events.ensures.sound (c.turn-events.ensures.notes ∙ ap (λ (reach : Reach). is_whole (reach_behind reach c.turn-events.result.end)) here) c.tell_copies.ensures
+    let are = are_flats s.paths s.programs same in
+    let here : (reach_of m.parts.noted) ≡ Own = ap (λ (x : State). x.reach) c.self.view_is ∙ own in
+    let memory = subst (λ (reach : Reach). TurnLeavesIn reach c.args.pid c.args.count (physical_of (headers_of m.parts.programs) a m.parts.kept) c.turn-events.result.events
+    (physical_of (headers_of m.parts.programs) (later c.turn-events.result.events a) c.turn-events.new.parts.kept) c.turn-events.result.end) here (c.turn-events.ensures.memory a so are) in
+    turn_holds (headers_of m.parts.programs) a (later c.turn-events.result.events a) c.args.pid c.args.count c.turn-events.result.events m.parts.kept c.turn-events.new.parts.kept c.turn-events.result.end memory
+    c.turn-events.ensures.sound (c.turn-events.ensures.notes ∙ ap (λ (reach : Reach). is_whole (reach_behind reach c.turn-events.result.end)) here) c.turn-events.ensures.copies

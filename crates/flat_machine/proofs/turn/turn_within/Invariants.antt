@@ -1,5 +1,5 @@
 -- Behind the events so far the turn goes on, and its process may run.
-use Rattle.std.proofs.Common.{◌≡◌, ◌-◌, ◌≤◌, length}
+use Rattle.std.proofs.Common.{◌≡◌, ◌-◌, ◌≤◌, [], length}
 use Rattle.page_runs.specs.Choosers.{kind_of}
 use Rattle.vfork_exec.specs.Procs.{CanRun}
 use Rattle.physical_turns.specs.Physical.{has_stray}
@@ -7,7 +7,7 @@ use Rattle.syscall_layer.specs.declared.reach.Reach.TheVariants.{Own}
 use Rattle.flat_machine.specs.State.{is_whole}
 use Rattle.flat_machine.proofs.Turned.{Reached}
 use Rattle.flat_machine.proofs.TurnsIn.{ReachedIn}
-use Rattle.flat_machine.proofs.turn.turn.Given as goal
+use Rattle.flat_machine.proofs.turn.turn_within.Given as goal
 
 abbrev pub invariant-loop-events : goal.invariant-loop-events
 invariant-loop-events g l = record {
@@ -18,6 +18,7 @@ invariant-loop-events g l = record {
   leads : l.reach ≡ Own → Reached (kind_of l.chooser) l.programs l.pid l.fn.parts l.events l.parts;
   leads_in : ReachedIn (kind_of l.chooser) l.programs l.pid l.fn.parts l.events l.parts;
   still : l.events ≡ 0 → l.parts ≡ l.fn.parts;
+  marks : l.fn.parts.files.changed ≡ [] → l.parts.files.changed ≡ [];
 }
 
 abbrev pub decreases-loop-events : goal.decreases-loop-events

@@ -3,6 +3,7 @@ use Rattle.std.proofs.Common.{Ok, refl, ◌≡◌, ◌≢◌, ◌+◌, ◌-◌, 
 use Rattle.page_runs.specs.Choosers.{kind_of}
 use Rattle.rv32im_step.specs.declared.stop.Stop.TheVariants.{Next}
 use Rattle.physical_turns.specs.Physical.{has_stray}
+use Rattle.fd_tables.specs.Files.{OpenFiles}
 use Rattle.syscall_layer.specs.Stands.{later}
 use Rattle.syscall_layer.specs.InMemory.{headers_of, physical_of}
 use Rattle.syscall_layer.specs.Kept.{Kept}
@@ -13,7 +14,7 @@ use Rattle.flat_machine.specs.declared.turn.After.TheVariants.{RunEnds}
 use Rattle.syscall_layer.proofs.Abouts.{some_about}
 use Rattle.flat_machine.proofs.Turned.{reached_none, reached_on, halts_stands, turn_all, turn_ends, turn_stops, turn_fails}
 use Rattle.flat_machine.proofs.TurnsIn.{all_within, less_within, standing, reached_in_none, reached_in_on, continues, ends_notes, ends_regions, turn_ends_in, is_stopped, turn_stops_in, fails_same, still_within, turn_fails_in, turn_all_in}
-use Rattle.flat_machine.proofs.turn.turn.Goals as goal
+use Rattle.flat_machine.proofs.turn.turn_within.Goals as goal
 
 pub loop-events-init : goal.loop-events-init
 loop-events-init g c = record {
@@ -24,6 +25,7 @@ loop-events-init g c = record {
   leads = λ own. reached_none (kind_of c.args.chooser.now) c.args.programs.now c.args.pid c.args.parts.now;
   leads_in = reached_in_none (kind_of c.args.chooser.now) c.args.programs.now c.args.pid c.args.parts.now;
   still = λ none. refl;
+  marks = λ none. none;
 }
 
 pub returns-then-eq-clause-notes : goal.returns-then-eq-clause-notes
@@ -102,6 +104,7 @@ loop-events-preserved g c =
           (reached_in_on (kind_of c.args.chooser.now) c.args.programs.now c.args.pid c.args.parts.now c.loop-events.parts c.advance-progress.new.parts c.loop-events.events c.advance-progress.result.done c.loop-events.invariant.leads_in
           (λ b same are. c.advance-progress.ensures.leads_in (headers_of c.args.programs.now) b)) on.leads_in;
       still = λ none. absurd (omega (arith, none));
+      marks = λ none. c.in-Ok-GoesOn.ensures.marks (ap (λ (f : OpenFiles). f.changed) c.advance-progress.ensures.files ∙ c.loop-events.invariant.marks none);
     }
 
 pub returns-in-Ok-TurnEnds-clause-within : goal.returns-in-Ok-TurnEnds-clause-within
@@ -234,3 +237,19 @@ pub returns-clause-memory : goal.returns-clause-memory
 returns-clause-memory g c =
     let past = c.loop-events-test.false in
     turn_all_in (kind_of c.args.chooser.now) c.args.programs.now c.args.reach c.args.pid c.args.parts.now c.loop-events.parts c.loop-events.parts c.loop-events.events c.args.count (omega (arith, c.loop-events.invariant.within)) c.loop-events.invariant.leads_in
+
+pub returns-then-eq-clause-marks : goal.returns-then-eq-clause-marks
+returns-then-eq-clause-marks g c none =
+    ap (λ (f : OpenFiles). f.changed) c.advance-progress.ensures.files ∙ c.loop-events.invariant.marks none
+
+pub returns-in-Ok-TurnEnds-clause-marks : goal.returns-in-Ok-TurnEnds-clause-marks
+returns-in-Ok-TurnEnds-clause-marks g c none =
+    c.in-Ok-TurnEnds.ensures.marks (ap (λ (f : OpenFiles). f.changed) c.advance-progress.ensures.files ∙ c.loop-events.invariant.marks none)
+
+pub returns-in-Ok-RunEnds-clause-marks : goal.returns-in-Ok-RunEnds-clause-marks
+returns-in-Ok-RunEnds-clause-marks g c none =
+    c.in-Ok-RunEnds.ensures.marks (ap (λ (f : OpenFiles). f.changed) c.advance-progress.ensures.files ∙ c.loop-events.invariant.marks none)
+
+pub returns-in-Err-clause-marks : goal.returns-in-Err-clause-marks
+returns-in-Err-clause-marks g c none =
+    c.in-Err.ensures.marks (ap (λ (f : OpenFiles). f.changed) c.advance-progress.ensures.files ∙ c.loop-events.invariant.marks none)
