@@ -3,6 +3,7 @@
 -- Conversions, Listed: what the commands do behind their load.
 -- Outcomes, RunOutcomes: what an outcome can be.
 -- StatusLaws, HostLaws: the laws over every call.
+-- NoStatus: no status but Memory comes always.
 -- Causes: the counts that rose, by the status of a call.
 -- OneFileLaws, ConvertLaws, CheckLaws, ListLaws, SizesLaw: the laws of the commands.
 -- Shown: what a machine shows and tells, by what becomes of its run at the first stray access.
@@ -15,6 +16,7 @@
 -- GoOn, GoOnTexts, SamePrograms, BothModes: a run that goes on, beside the same run without it.
 -- Demos, DemoFaults, DemoLaws: the manifest of a demo and its programs, and the laws of the command.
 -- Samples, ListSamples, RunSamples: the definitions on the worked example and on small manifests.
+-- BootedSamples, WaitingSamples: what is said of a run from its opening world on, computed on one whose program exits and on one whose program waits.
 pub mod HostCourses
 pub mod HostSteps
 pub mod OneFileSteps
@@ -28,6 +30,7 @@ pub mod Listed
 pub mod RunOutcomes
 pub mod Outcomes
 pub mod StatusLaws
+pub mod NoStatus
 pub mod HostLaws
 pub mod Causes
 pub mod OneFileLaws
@@ -54,3 +57,5 @@ pub mod DemoLaws
 pub mod Samples
 pub mod ListSamples
 pub mod RunSamples
+pub mod BootedSamples
+pub mod WaitingSamples

@@ -156,3 +156,18 @@ UsageIsExact = (arguments : List (List ℕ)) (inputs : Inputs)
 -- the argument of `--stack` says a number exactly where it spells it and it is in the range
 abbrev pub StackIsSpelled : Type 0
 StackIsSpelled = (text : List ℕ) (n : ℕ) → (stack_of text ≡ Some n) ↔ ((text ≡ decimal n) × (least_stack ≤ n) × (n ≤ most_stack))
+
+-- ---- no status always
+
+-- no fault of a sink was counted
+pub record AreSinksCalm (c : Call) : Type 0 where
+  pub out : Rose c.out.faults c.out_after.faults → ⊥
+  pub report : Rose c.report.faults c.report_after.faults → ⊥
+
+-- with these arguments no call ends so, if no sink fails, whatever the host does
+abbrev pub IsNeverOf : Status → List (List ℕ) → Type 0
+IsNeverOf status arguments = (c : Call) → c.arguments ≡ arguments → AreSinksCalm c → MeetsOutcome c → c.status ≢ status
+
+-- each status but Memory has such arguments: no body that always ends with one and the same does what the clause of `suite` says
+abbrev pub NoStatusIsAlways : Type 0
+NoStatusIsAlways = (status : Status) → status ≢ Memory → (arguments : List (List ℕ)) × IsNeverOf status arguments

@@ -1,9 +1,9 @@
 //! Laws over every call of `suite`, by what its clause says. No code runs. Those of one command stand
 //! with the command.
-ghost use Rattle.suite_top.specs.StatusLaws.{AnswersAreWhole, Completes, TextsAreApart, ReadsFail, WritesFail, SinksFail, MemoryIsTold, MemoryIsOneLine, ShortagesStop, UsageIsExact, StackIsSpelled};
+ghost use Rattle.suite_top.specs.StatusLaws.{AnswersAreWhole, Completes, TextsAreApart, ReadsFail, WritesFail, SinksFail, MemoryIsTold, MemoryIsOneLine, ShortagesStop, UsageIsExact, StackIsSpelled, NoStatusIsAlways};
 ghost use Rattle.suite_top.specs.HostLaws.{NamesAreAPrefix, NothingIsAsked, OthersChangeNoFile};
 
-/// When each status comes, and what was written then.
+/// When each status comes, and what was written then; and none but Memory comes always.
 pub fn status_law()
     ensures answers { AnswersAreWhole }
     ensures complete { Completes }
@@ -16,6 +16,7 @@ pub fn status_law()
     ensures memory { MemoryIsTold }
     ensures one_line { MemoryIsOneLine }
     ensures shortage { ShortagesStop }
+    ensures always { NoStatusIsAlways }
 {}
 
 /// What the host was asked, and which files changed.

@@ -25,7 +25,7 @@ mod top;
 pub use check::laws::check_law;
 pub use convert::laws::convert_law;
 pub use delivery::deliver;
-pub use demo_run::laws::demo_law;
+pub use demo_run::laws::{demo_law, demo_turns_law};
 pub use laws::{host_law, status_law};
 pub use list::laws::list_law;
 pub use placements::Placements;

@@ -1,4 +1,5 @@
 -- Each law by its proof over plain values.
+use Rattle.suite_top.proofs.NoStatus.{no_status_is_always}
 use Rattle.suite_top.proofs.Outcomes.{texts_are_apart, usage_is_exact}
 use Rattle.suite_top.proofs.SpelledNumbers.{stack_is_spelled}
 use Rattle.suite_top.proofs.StatusLaws.{answers_are_whole, completes, reads_fail, writes_fail, sinks_fail, memory_is_told, memory_is_one_line, shortages_stop}
@@ -17,4 +18,5 @@ returns c = record {
   memory = memory_is_told;
   one_line = memory_is_one_line;
   shortage = shortages_stop;
+  always = no_status_is_always;
 }
