@@ -1,16 +1,18 @@
 //! One process makes calls.
 
-ghost use Rattle.vfork_exec.specs.Procs.{Lives};
+ghost use Rattle.std.specs.Prelude.{◌≡◌, IfOk, IfSome, []};
+ghost use Rattle.vfork_exec.specs.Procs.{CanRun, Lives};
 
 use bflt_format::Flat;
 use call_log::Note;
 use fd_tables::Files;
 use mem_files::Tree;
 use page_runs::{Chooser, Kind, Run, first_fit};
+use quantum_sched::{Quantum, pick};
 use region_watch::Mode;
 use rv32im_step::{Access, AccessKind};
 use std::test::*;
-use syscall_layer::{Parts, Served, program_strings, serve, whole_table};
+use syscall_layer::{KeptParts, Parts, Served, program_strings, serve};
 
 /// A flat file with a text of 32 bytes that begins with `hi`, a stack of 4096 bytes, and no records.
 const HI: [u8; 96] = [
@@ -29,7 +31,9 @@ const TEXT: u32 = 0x8000_0040;
 const HERE: u32 = 0xffff_ff9c;
 
 /// A memory of two pages in which process 1 has started.
-fn begun(rt: HostRuntime) -> Result<Parts, Fail> {
+fn begun(rt: HostRuntime) -> Result<KeptParts, Fail>
+    ensures { IfOk result (λ parts. parts.files.changed ≡ []) }
+{
     let flat = Flat::read(rt.alloc(), &HI)?;
     let args = vec![in rt.alloc(); Vec::from_slice(rt.alloc(), b"/a")?]?;
     let chooser = Chooser::new(Kind::First, |runs: &[Run], need: u32| {
@@ -37,16 +41,24 @@ fn begun(rt: HostRuntime) -> Result<Parts, Fail> {
     });
     let tree = Tree::new(rt.alloc())?;
     let files = Files::new(rt.alloc(), Vec::from_slice(rt.alloc(), b"in")?)?;
-    let mut parts = Parts::new(rt.alloc(), 2, tree, files)?;
-    if parts.start(0, &flat, &args, &chooser).is_err() {
+    let mut parts = KeptParts::new(rt.alloc(), 2, tree, files)?;
+    let Ok(()) = parts.start(0, &flat, &args, &chooser) else {
         return Err(Fail::from("not started"));
-    }
+    };
     Ok(parts)
 }
 
+/// A run of it in this mode, without programs to be run.
+fn begun_in(rt: HostRuntime, mode: Mode) -> Result<Parts, Fail> {
+    Ok(Parts::new(rt.alloc(), begun(rt)?, Vec::new(rt.alloc()), mode)?)
+}
+
 /// Lets a process stand at a call.
-fn set_call(parts: &mut Parts, pid: u32, number: u32, args: [u32; 3])
+fn set_call(parts: &mut KeptParts, pid: u32, number: u32, args: [u32; 3])
     requires { Lives parts.old.procs pid }
+    ensures notes { parts.new.notes ≡ parts.old.notes }
+    ensures regions { parts.new.regions ≡ parts.old.regions }
+    ensures files { parts.new.files ≡ parts.old.files }
 {
     let task = parts.procs.get_mut(pid);
     task.regs.x[17] = number;
@@ -55,37 +67,45 @@ fn set_call(parts: &mut Parts, pid: u32, number: u32, args: [u32; 3])
     task.regs.x[12] = args[2];
 }
 
-/// What comes of a call of process 1, and what a0 is then; None where it doesn't live.
+/// The first process that may run.
+fn ready(parts: &Parts) -> Option<u32>
+    ensures { IfSome result (λ pid. CanRun parts.now.kept.procs pid) }
+{
+    pick(&parts.kept.procs, Quantum { pick: 0, count: 1 })
+}
+
+/// What a0 of process 1 is; None where it doesn't live.
+fn left(parts: &Parts) -> Option<u32> {
+    if !parts.kept.procs.lives(1) {
+        return None;
+    }
+    Some(parts.kept.procs.get(1).regs.x[10])
+}
+
+/// What comes of a call of process 1, and what a0 is then; None where it may not run.
 fn call(
     rt: HostRuntime,
     parts: &mut Parts,
-    mode: Mode,
     number: u32,
     args: [u32; 3],
 ) -> Result<(Option<Served>, Option<u32>), Fail> {
-    if !parts.procs.lives(1) {
+    if !parts.kept.procs.lives(1) {
         return Ok((None, None));
     }
-    set_call(parts, 1, number, args);
-    if parts.procs.runnable() == 0 {
-        return Ok((None, None));
-    }
-    let pid = parts.procs.runnable_at(0);
+    set_call(&mut parts.kept, 1, number, args);
+    let Some(pid) = ready(parts) else {
+        return Ok((None, left(parts)));
+    };
     let chooser = Chooser::new(Kind::First, |runs: &[Run], need: u32| {
         first_fit(runs, need)
     });
-    let whole = whole_table(rt.alloc(), parts.regions.pages())?;
-    let mut reach = parts.reach();
-    let served = serve(parts, pid, &[], &chooser, mode, &mut reach, &whole)?;
-    if !parts.procs.lives(1) {
-        return Ok((Some(served), None));
-    }
-    Ok((Some(served), Some(parts.procs.get(1).regs.x[10])))
+    let served = serve(parts, pid, &chooser)?;
+    Ok((Some(served), left(parts)))
 }
 
 #[test]
 fn calls_are_answered(rt: HostRuntime) -> Result<(), Fail> {
-    let mut parts = begun(rt)?;
+    let mut parts = begun_in(rt, Mode::Halt)?;
     let stray = Access {
         pc: TEXT,
         addr: 64,
@@ -103,20 +123,20 @@ fn calls_are_answered(rt: HostRuntime) -> Result<(), Fail> {
         (94, [7, 0, 0], Served::Ended, None),
     ] {
         assert_eq!(rt;
-            call(rt, &mut parts, Mode::Halt, number, args)?,
+            call(rt, &mut parts, number, args)?,
             (Some(served), value),
             "{number}"
         );
     }
-    assert_eq!(rt; parts.console.as_slice(), b"hi".as_slice());
-    assert_eq!(rt; parts.log.notes().len(), 9);
+    assert_eq!(rt; parts.kept.console.as_slice(), b"hi".as_slice());
+    assert_eq!(rt; parts.kept.log.notes().len(), 9);
     Ok(())
 }
 
 /// A file comes, is written and read; the last row strays, and reads nothing.
 #[test]
 fn files_are_written_and_read(rt: HostRuntime) -> Result<(), Fail> {
-    let mut parts = begun(rt)?;
+    let mut parts = begun_in(rt, Mode::Halt)?;
     let stray = Access {
         pc: TEXT + 44,
         addr: 64,
@@ -138,14 +158,14 @@ fn files_are_written_and_read(rt: HostRuntime) -> Result<(), Fail> {
         (63, [0, 64, 1], Served::Stray(stray), Some(0)),
     ] {
         assert_eq!(rt;
-            call(rt, &mut parts, Mode::Halt, number, args)?,
+            call(rt, &mut parts, number, args)?,
             (Some(served), value),
             "{number}"
         );
     }
-    assert_eq!(rt; parts.console.as_slice(), b"hi".as_slice());
-    assert_eq!(rt; parts.files.stdin_left(), b"in".as_slice());
-    assert_eq!(rt; parts.log.notes().len(), 12);
+    assert_eq!(rt; parts.kept.console.as_slice(), b"hi".as_slice());
+    assert_eq!(rt; parts.kept.files.stdin_left(), b"in".as_slice());
+    assert_eq!(rt; parts.kept.log.notes().len(), 12);
     Ok(())
 }
 
@@ -153,17 +173,17 @@ fn files_are_written_and_read(rt: HostRuntime) -> Result<(), Fail> {
 /// at the path.
 #[test]
 fn an_execve_reads_strings(rt: HostRuntime) -> Result<(), Fail> {
-    let mut parts = begun(rt)?;
-    if !parts.procs.lives(1) {
+    let mut parts = begun_in(rt, Mode::Halt)?;
+    if !parts.kept.procs.lives(1) {
         return Err(Fail::from("not started"));
     }
-    let sp = parts.procs.get(1).regs.x[2];
+    let sp = parts.kept.procs.get(1).regs.x[2];
     let path = sp.wrapping_add(16);
     let args = sp.wrapping_add(4);
     let env = sp.wrapping_add(12);
-    let answer = call(rt, &mut parts, Mode::Halt, 221, [path, args, env])?;
+    let answer = call(rt, &mut parts, 221, [path, args, env])?;
     assert_eq!(rt; answer, (Some(Served::Replied), Some(0xffff_fffe)));
-    let Some(Note::Call(entry)) = parts.log.notes().last() else {
+    let Some(Note::Call(entry)) = parts.kept.log.notes().last() else {
         return Err(Fail::from("no call is noted"));
     };
     assert_eq!(rt; entry.sent.len(), 3 + 4 + 3 + 4 + 4);
@@ -186,26 +206,33 @@ fn a_stray_range_is_noted(rt: HostRuntime) -> Result<(), Fail> {
         ([1, header, 4], Served::Replied, Some(4), b"bFLT".as_slice()),
         ([1, 64, 2], Served::Ended, None, b"".as_slice()),
     ] {
-        let mut parts = begun(rt)?;
-        let answer = call(rt, &mut parts, Mode::GoOn, 64, args)?;
+        let mut parts = begun_in(rt, Mode::GoOn)?;
+        let answer = call(rt, &mut parts, 64, args)?;
         assert_eq!(rt; answer, (Some(served), value));
-        assert_eq!(rt; parts.console.as_slice(), console);
-        assert_eq!(rt; parts.log.notes().len(), 3);
-        let seen = match parts.log.notes().get(1) {
+        assert_eq!(rt; parts.kept.console.as_slice(), console);
+        assert_eq!(rt; parts.kept.log.notes().len(), 3);
+        let seen = match parts.kept.log.notes().get(1) {
             Some(Note::Stray { access, .. }) => access.addr,
             _ => 0,
         };
         assert_eq!(rt; seen, args[1]);
-        assert_eq!(rt; parts.log.spare(), 0);
+        assert_eq!(rt; parts.kept.log.spare(), 0);
+        assert!(rt; parts.noted);
     }
     Ok(())
+}
+
+/// A run that halts, of a process whose access was noted.
+fn begun_behind(rt: HostRuntime, stray: Access) -> Result<Parts, Fail> {
+    let mut kept = begun(rt)?;
+    kept.note_stray(1, stray)?;
+    Ok(Parts::new(rt.alloc(), kept, Vec::new(rt.alloc()), Mode::Halt)?)
 }
 
 /// In a run that halts a call reads its process's own bytes alone, whatever was noted: a range that strays is answered and leaves all,
 /// and the next call is carried out.
 #[test]
 fn a_noted_stray_access_opens_nothing(rt: HostRuntime) -> Result<(), Fail> {
-    let mut parts = begun(rt)?;
     let header = 0x8000_0000;
     let stray = Access {
         pc: TEXT,
@@ -213,16 +240,15 @@ fn a_noted_stray_access_opens_nothing(rt: HostRuntime) -> Result<(), Fail> {
         len: 4,
         kind: AccessKind::Call,
     };
-    parts.note_stray(1, stray)?;
-    for (args, served, value, notes) in [
-        ([1, header, 4], Served::Stray(stray), Some(1), 2),
-        ([1, TEXT, 2], Served::Replied, Some(2), 3),
-    ] {
-        let answer = call(rt, &mut parts, Mode::Halt, 64, args)?;
-        assert_eq!(rt; answer, (Some(served), value));
-        assert_eq!(rt; parts.log.notes().len(), notes);
-    }
-    assert_eq!(rt; parts.console.as_slice(), b"hi".as_slice());
+    let mut parts = begun_behind(rt, stray)?;
+    let answer = call(rt, &mut parts, 64, [1, header, 4])?;
+    assert_eq!(rt; answer, (Some(Served::Stray(stray)), Some(1)));
+    assert_eq!(rt; parts.kept.log.notes().len(), 2);
+    let answer = call(rt, &mut parts, 64, [1, TEXT, 2])?;
+    assert_eq!(rt; answer, (Some(Served::Replied), Some(2)));
+    assert_eq!(rt; parts.kept.log.notes().len(), 3);
+    assert!(rt; parts.noted);
+    assert_eq!(rt; parts.kept.console.as_slice(), b"hi".as_slice());
     Ok(())
 }
 

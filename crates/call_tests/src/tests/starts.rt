@@ -7,7 +7,7 @@ use fd_tables::Files;
 use mem_files::Tree;
 use page_runs::{Chooser, Kind, Run, first_fit};
 use std::test::*;
-use syscall_layer::{Parts, StartRefusal};
+use syscall_layer::{KeptParts, StartRefusal};
 
 /// A flat file with a text of 32 bytes, of which the first four are an `ecall`, a stack of 4096 bytes, and no records.
 const SMALL: [u8; 96] = [
@@ -35,7 +35,7 @@ fn started(
     });
     let tree = Tree::new(rt.alloc())?;
     let files = Files::new(rt.alloc(), Vec::new(rt.alloc()))?;
-    let mut parts = Parts::new(rt.alloc(), pages, tree, files)?;
+    let mut parts = KeptParts::new(rt.alloc(), pages, tree, files)?;
     if let Err(refusal) = parts.start(0, &flat, &args, &chooser) {
         return Ok(Err(refusal));
     }
