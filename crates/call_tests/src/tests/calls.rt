@@ -11,6 +11,8 @@ use page_runs::{Chooser, Kind, Run, first_fit};
 use quantum_sched::{Quantum, pick};
 use region_watch::Mode;
 use rv32im_step::{Access, AccessKind};
+use std::alloc::Global;
+use std::process::Abort;
 use std::test::*;
 use syscall_layer::{KeptParts, Parts, Served, program_strings, serve};
 
@@ -23,6 +25,9 @@ const HI: [u8; 96] = [
     0x68, 0x69, 0x00, 0x00, 0x00, 0x00, 0x00, 0x00, 0x00, 0x00, 0x00, 0x00, 0x00, 0x00, 0x00, 0x00,
     0x00, 0x00, 0x00, 0x00, 0x00, 0x00, 0x00, 0x00, 0x00, 0x00, 0x00, 0x00, 0x00, 0x00, 0x00, 0x00,
 ];
+
+/// The address of its header in memory, which is nobody's.
+const HEADER: u32 = 0x8000_0000;
 
 /// The address of the text.
 const TEXT: u32 = 0x8000_0040;
@@ -84,7 +89,6 @@ fn left(parts: &Parts) -> Option<u32> {
 
 /// What comes of a call of process 1, and what a0 is then; None where it may not run.
 fn call(
-    rt: HostRuntime,
     parts: &mut Parts,
     number: u32,
     args: [u32; 3],
@@ -103,9 +107,8 @@ fn call(
     Ok((Some(served), left(parts)))
 }
 
-#[test]
-fn calls_are_answered(rt: HostRuntime) -> Result<(), Fail> {
-    let mut parts = begun_in(rt, Mode::Halt)?;
+/// Calls of the console, of no file and of no number, and an exit.
+fn answers_calls(rt: &impl Abort, parts: &mut Parts) -> Result<(), Fail> {
     let stray = Access {
         pc: TEXT,
         addr: 64,
@@ -123,7 +126,7 @@ fn calls_are_answered(rt: HostRuntime) -> Result<(), Fail> {
         (94, [7, 0, 0], Served::Ended, None),
     ] {
         assert_eq!(rt;
-            call(rt, &mut parts, number, args)?,
+            call(parts, number, args)?,
             (Some(served), value),
             "{number}"
         );
@@ -133,10 +136,14 @@ fn calls_are_answered(rt: HostRuntime) -> Result<(), Fail> {
     Ok(())
 }
 
-/// A file comes, is written and read; the last row strays, and reads nothing.
 #[test]
-fn files_are_written_and_read(rt: HostRuntime) -> Result<(), Fail> {
+fn calls_are_answered(rt: HostRuntime) -> Result<(), Fail> {
     let mut parts = begun_in(rt, Mode::Halt)?;
+    answers_calls(&rt, &mut parts)
+}
+
+/// A file comes, is written and read; the last row strays, and reads nothing.
+fn writes_and_reads(rt: &impl Abort, parts: &mut Parts) -> Result<(), Fail> {
     let stray = Access {
         pc: TEXT + 44,
         addr: 64,
@@ -158,7 +165,7 @@ fn files_are_written_and_read(rt: HostRuntime) -> Result<(), Fail> {
         (63, [0, 64, 1], Served::Stray(stray), Some(0)),
     ] {
         assert_eq!(rt;
-            call(rt, &mut parts, number, args)?,
+            call(parts, number, args)?,
             (Some(served), value),
             "{number}"
         );
@@ -169,11 +176,15 @@ fn files_are_written_and_read(rt: HostRuntime) -> Result<(), Fail> {
     Ok(())
 }
 
+#[test]
+fn files_are_written_and_read(rt: HostRuntime) -> Result<(), Fail> {
+    let mut parts = begun_in(rt, Mode::Halt)?;
+    writes_and_reads(&rt, &mut parts)
+}
+
 /// An execve with the path, the arguments and the environment that the process has on its own stack: they are read, and no file is
 /// at the path.
-#[test]
-fn an_execve_reads_strings(rt: HostRuntime) -> Result<(), Fail> {
-    let mut parts = begun_in(rt, Mode::Halt)?;
+fn reads_strings(alloc: Global, rt: &impl Abort, parts: &mut Parts) -> Result<(), Fail> {
     if !parts.kept.procs.lives(1) {
         return Err(Fail::from("not started"));
     }
@@ -181,13 +192,13 @@ fn an_execve_reads_strings(rt: HostRuntime) -> Result<(), Fail> {
     let path = sp.wrapping_add(16);
     let args = sp.wrapping_add(4);
     let env = sp.wrapping_add(12);
-    let answer = call(rt, &mut parts, 221, [path, args, env])?;
+    let answer = call(parts, 221, [path, args, env])?;
     assert_eq!(rt; answer, (Some(Served::Replied), Some(0xffff_fffe)));
     let Some(Note::Call(entry)) = parts.kept.log.notes().last() else {
         return Err(Fail::from("no call is noted"));
     };
     assert_eq!(rt; entry.sent.len(), 3 + 4 + 3 + 4 + 4);
-    let Some(strings) = program_strings(rt.alloc(), &entry.sent, args, env)? else {
+    let Some(strings) = program_strings(alloc, &entry.sent, args, env)? else {
         return Err(Fail::from("no strings"));
     };
     assert_eq!(rt; strings.args.len(), 1);
@@ -198,28 +209,51 @@ fn an_execve_reads_strings(rt: HostRuntime) -> Result<(), Fail> {
     Ok(())
 }
 
+#[test]
+fn an_execve_reads_strings(rt: HostRuntime) -> Result<(), Fail> {
+    let mut parts = begun_in(rt, Mode::Halt)?;
+    reads_strings(rt.alloc(), &rt, &mut parts)
+}
+
+/// How many notes there are, and whether one of a stray access is marked.
+fn noted(parts: &Parts) -> (usize, bool) {
+    (parts.kept.log.notes().len(), parts.noted)
+}
+
+/// The address that the note behind the load has, where that is of a stray access.
+fn stray_at(parts: &Parts) -> Option<u32> {
+    match parts.kept.log.notes().get(1) {
+        Some(Note::Stray { access, .. }) => Some(access.addr),
+        _ => None,
+    }
+}
+
+/// A write of a range that strays is noted before the call, which writes this to the console.
+fn notes_stray(
+    rt: &impl Abort,
+    parts: &mut Parts,
+    args: [u32; 3],
+    answer: (Option<Served>, Option<u32>),
+    console: &[u8],
+) -> Result<(), Fail> {
+    assert_eq!(rt; call(parts, 64, args)?, answer);
+    let behind = &*parts;
+    assert_eq!(rt; noted(behind), (3, true));
+    assert_eq!(rt; stray_at(behind), Some(args[1]));
+    assert_eq!(rt; behind.kept.console.as_slice(), console);
+    assert_eq!(rt; behind.kept.log.spare(), 0);
+    Ok(())
+}
+
 /// A run that goes on notes the first range that strays before the call, which reads it, or ends by a signal where it isn't memory.
 #[test]
 fn a_stray_range_is_noted(rt: HostRuntime) -> Result<(), Fail> {
-    let header = 0x8000_0000;
-    for (args, served, value, console) in [
-        ([1, header, 4], Served::Replied, Some(4), b"bFLT".as_slice()),
-        ([1, 64, 2], Served::Ended, None, b"".as_slice()),
-    ] {
-        let mut parts = begun_in(rt, Mode::GoOn)?;
-        let answer = call(rt, &mut parts, 64, args)?;
-        assert_eq!(rt; answer, (Some(served), value));
-        assert_eq!(rt; parts.kept.console.as_slice(), console);
-        assert_eq!(rt; parts.kept.log.notes().len(), 3);
-        let seen = match parts.kept.log.notes().get(1) {
-            Some(Note::Stray { access, .. }) => access.addr,
-            _ => 0,
-        };
-        assert_eq!(rt; seen, args[1]);
-        assert_eq!(rt; parts.kept.log.spare(), 0);
-        assert!(rt; parts.noted);
-    }
-    Ok(())
+    let read = (Some(Served::Replied), Some(4));
+    let mut parts = begun_in(rt, Mode::GoOn)?;
+    notes_stray(&rt, &mut parts, [1, HEADER, 4], read, b"bFLT")?;
+    let ended = (Some(Served::Ended), None);
+    let mut parts = begun_in(rt, Mode::GoOn)?;
+    notes_stray(&rt, &mut parts, [1, 64, 2], ended, b"")
 }
 
 /// A run that halts, of a process whose access was noted.
@@ -231,25 +265,29 @@ fn begun_behind(rt: HostRuntime, stray: Access) -> Result<Parts, Fail> {
 
 /// In a run that halts a call reads its process's own bytes alone, whatever was noted: a range that strays is answered and leaves all,
 /// and the next call is carried out.
+fn opens_nothing(rt: &impl Abort, parts: &mut Parts, stray: Access) -> Result<(), Fail> {
+    let strayed = (Some(Served::Stray(stray)), Some(1));
+    assert_eq!(rt; call(parts, 64, [1, HEADER, 4])?, strayed);
+    let behind = &*parts;
+    assert_eq!(rt; noted(behind), (2, true));
+    let written = (Some(Served::Replied), Some(2));
+    assert_eq!(rt; call(parts, 64, [1, TEXT, 2])?, written);
+    let behind = &*parts;
+    assert_eq!(rt; noted(behind), (3, true));
+    assert_eq!(rt; behind.kept.console.as_slice(), b"hi".as_slice());
+    Ok(())
+}
+
 #[test]
 fn a_noted_stray_access_opens_nothing(rt: HostRuntime) -> Result<(), Fail> {
-    let header = 0x8000_0000;
     let stray = Access {
         pc: TEXT,
-        addr: header,
+        addr: HEADER,
         len: 4,
         kind: AccessKind::Call,
     };
     let mut parts = begun_behind(rt, stray)?;
-    let answer = call(rt, &mut parts, 64, [1, header, 4])?;
-    assert_eq!(rt; answer, (Some(Served::Stray(stray)), Some(1)));
-    assert_eq!(rt; parts.kept.log.notes().len(), 2);
-    let answer = call(rt, &mut parts, 64, [1, TEXT, 2])?;
-    assert_eq!(rt; answer, (Some(Served::Replied), Some(2)));
-    assert_eq!(rt; parts.kept.log.notes().len(), 3);
-    assert!(rt; parts.noted);
-    assert_eq!(rt; parts.kept.console.as_slice(), b"hi".as_slice());
-    Ok(())
+    opens_nothing(&rt, &mut parts, stray)
 }
 
 #[test]
