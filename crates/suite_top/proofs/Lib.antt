@@ -9,7 +9,6 @@
 -- Shown: what a machine shows and tells, by what becomes of its run at the first stray access.
 -- Reports: the parts of the report of a run.
 -- OneFileSteps: a command that goes on with one file.
--- Opened: a list opened at one place.
 -- LoadedItems: the loads of a manifest's lines.
 -- Booted, RunEndings, RunLaws: what a boot of the machine gives, how a run ends, and when it reaches its machine.
 -- BootedRuns: what is said of a run from its opening world on, by the laws of boots, turns and runs.
@@ -38,7 +37,6 @@ pub mod ConvertLaws
 pub mod CheckLaws
 pub mod ListLaws
 pub mod SizesLaw
-pub mod Opened
 pub mod Shown
 pub mod Reports
 pub mod LoadedItems

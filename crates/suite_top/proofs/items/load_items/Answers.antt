@@ -2,7 +2,7 @@
 use Rattle.std.proofs.lemmas.List.{length-map, map-append}
 use Rattle.manifest_text.specs.Values.{item_value}
 use Rattle.manifest_text.specs.Laws.{IsItem}
-use Rattle.suite_top.proofs.Opened.{opened, each_at}
+use Rattle.run_setup.proofs.Opened.{opened, each_at}
 use Rattle.suite_top.proofs.LoadedItems.{no_loads, loads_more, ends_within, runs_out_within, all_loaded}
 use Rattle.suite_top.proofs.items.load_items.Goals as goal
 
