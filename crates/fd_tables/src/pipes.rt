@@ -1,7 +1,8 @@
 //! Pipes: made, read, written, and marked where they changed.
 
-ghost use Rattle.std.specs.Prelude.{◌≡◌, ℕ, ◌+◌, ◌≤◌, ◌<◌, length, take, position, nat_le, IfOk, OnErr, Some};
+ghost use Rattle.std.specs.Prelude.{◌≡◌, ℕ, ◌+◌, ◌≤◌, ◌<◌, ◌^◌, length, count_by, is_some, take, position, nat_le, IfOk, IfSome, OnErr, Some};
 ghost use Rattle.vfork_exec.specs.Keyed.{Falls, place_of};
+ghost use Rattle.fd_tables.specs.Inside.{Rises};
 ghost use Rattle.fd_tables.specs.Kept.{KeepsSpare};
 ghost use Rattle.fd_tables.specs.Files.{free_number, two_free};
 ghost use Rattle.fd_tables.specs.Pipes.{most_held, pipe_id, pipe_view, pipe_bytes, pipe_taken, pipe_put, without_end, marked, with_pipe};
@@ -29,6 +30,7 @@ impl Files {
         ensures ready { 1 ≤ self.old.spare → 1 ≤ self.new.spare }
         ensures spare_tables { self.old.spare_tables ≤ self.new.spare_tables }
         ensures refused { OnErr result (KeepsSpare self.old self.new) }
+        ensures numbers { IfOk result (λ _. count_by is_some self.old.open_files.files + 2 ≤ 2 ^ 32) }
     {
         let Some(ends) = self.two_free(table) else {
             return Err(FdFault::Errno(Errno::Emfile));
@@ -54,6 +56,7 @@ impl Files {
         ensures spare { IfOk result (λ _. 3 ≤ self.new.spare) }
         ensures same { OnErr result (self.new.open_files ≡ self.old.open_files) }
         ensures keeps { KeepsSpare self.old self.new }
+        ensures numbers { IfOk result (λ _. length self.old.open_files.files + 3 ≤ 2 ^ 32) }
     {
         if self.made == u32::MAX {
             return Err(AllocError);
@@ -169,6 +172,7 @@ impl Files {
     /// mark went; it may be gone itself.
     pub fn next_changed(&mut self) -> Option<u32>
         ensures changed { Unmarks self.old.open_files self.new.open_files result }
+        ensures lowest { IfSome result (λ id. Rises (id + 1) self.new.open_files.changed) }
         ensures spare { KeepsSpare self.old self.new }
     {
         if self.changed.is_empty() {

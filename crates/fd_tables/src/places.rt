@@ -1,6 +1,6 @@
 //! Lists in which a thing stands at the place of its number.
 
-ghost use Rattle.std.specs.Prelude.{◌≡◌, ◌+◌, ◌≤◌, IfOk, OnErr, slice_set};
+ghost use Rattle.std.specs.Prelude.{◌≡◌, ◌+◌, ◌≤◌, ◌^◌, length, IfOk, OnErr, slice_set};
 ghost use Rattle.fd_tables.specs.Files.{at_number, first_free, free_number, with_next};
 ghost use Rattle.fd_tables.specs.Kept.{spare_places};
 
@@ -39,6 +39,7 @@ pub(crate) fn ready_places<T>(places: &mut Vec<Option<T>>, count: usize) -> Resu
     ensures same { places.new.items ≡ places.old.items }
     ensures spare { IfOk result (λ _. count ≤ spare_places places.new) }
     ensures keeps { spare_places places.old ≤ spare_places places.new }
+    ensures numbers { IfOk result (λ _. length places.old.items + count ≤ 2 ^ 32) }
 {
     if places.len() + count > u32::MAX as usize + 1 {
         return Err(AllocError);

@@ -1,5 +1,5 @@
 -- One mark goes, and one pipe more at most isn't marked.
-use Rattle.std.proofs.Common.{◌≡◌, ℕ, ◌+◌, ◌<◌, ◌≤◌, List, [], ◌∷◌, length, subst, sym, ◌∙◌, arith}
+use Rattle.std.proofs.Common.{◌≡◌, ℕ, ◌+◌, ◌<◌, ◌≤◌, List, [], ◌∷◌, length, get_or, subst, sym, ◌∙◌, arith}
 use Rattle.std.specs.Prelude.{◌==◌, false, vec_capacity}
 use Rattle.std.specs.List.{remove}
 use Rattle.std.proofs.lemmas.Bool.Decides.{nat_tests}
@@ -37,3 +37,17 @@ invariant_of-self c =
           let few = few_rest (c.self.inside.made + 1) room xs ps some inv.numbers inv.marks in
           omega (arith, subst (λ ys. length ys + unmarked ys ps ≤ room) (sym rest) few, c.remove.ensures.capacity);
     }
+
+-- those behind the first one are higher
+higher : (xs : List ℕ) → 0 < length xs → (d : ℕ) → Rises 0 xs → Rises (get_or xs 0 d + 1) (remove xs 0)
+higher [] some d r = absurd (omega (arith, some))
+higher (x ∷ xs) some d r = r.1
+
+pub returns-clause-lowest : goal.returns-clause-lowest
+returns-clause-lowest c =
+    let xs = c.self.inside.changed.items in
+    let some : 0 < length xs = some_left c.self.inside.changed.len xs (sym c.self.inside.changed.ok.0) (sym c.is_empty.ensures ∙ c.if-is_empty.false) in
+    let value : c.remove.result ≡ get_or xs 0 c.remove.result = c.remove.ensures.value in
+    let items : c.remove.new.self.items ≡ remove xs 0 = c.remove.ensures.items in
+    let behind : Rises (get_or xs 0 c.remove.result + 1) (remove xs 0) = higher xs some c.remove.result c.self.invariant.ascending in
+    subst (Rises (c.remove.result + 1)) (sym items) (subst (λ (n : ℕ). Rises (n + 1) (remove xs 0)) (sym value) behind)
