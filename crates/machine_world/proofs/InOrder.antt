@@ -42,7 +42,7 @@ steady most rest h = record { tree = h.tree; tables = refl }
 
 -- ---- descriptors
 
-free_is : (v : Option View) (o : Option ℕ) (free : ℕ) → dup_number v o ≡ Ok free → o ≡ Some free
+pub free_is : (v : Option View) (o : Option ℕ) (free : ℕ) → dup_number v o ≡ Ok free → o ≡ Some free
 free_is None o free is = let no : ⊥ = cc in absurd no
 free_is (Some v) None free is = let no : ⊥ = cc in absurd no
 free_is (Some v) (Some k) free is = let same : k ≡ free = cc in ap Some same
@@ -51,7 +51,7 @@ free_place : (o : Option Table) (free : ℕ) → IsWhole o → free_in o ≡ Som
 free_place None free whole is = let no : ⊥ = cc in absurd no
 free_place (Some table) free whole is = let h = first_there table free is in (omega (arith, h.0, whole), h.1)
 
-lowest_place : (fs : OpenFiles) (t free : ℕ) → IsWhole (table_at fs t) → lowest_free fs t ≡ Some free → (free < most_descriptors) × (descriptor fs t free ≡ None)
+pub lowest_place : (fs : OpenFiles) (t free : ℕ) → IsWhole (table_at fs t) → lowest_free fs t ≡ Some free → (free < most_descriptors) × (descriptor fs t free ≡ None)
 unfolding lowest_free
 lowest_place fs t free whole is = free_place (table_at fs t) free whole is
 
@@ -61,7 +61,7 @@ low_by true shown false is = let no : ⊥ = cc in absurd no
 low_by false false false is = let no : ⊥ = cc in absurd no
 low_by false true false is = let no : ⊥ = cc in absurd no
 
-new_low : (v : Option View) (old new : ℕ) → dup3_fault v old new ≡ None → new < most_descriptors
+pub new_low : (v : Option View) (old new : ℕ) → dup3_fault v old new ≡ None → new < most_descriptors
 new_low v old new is = ltb-true new most_descriptors (low_by (old == new) (is_some v) (nat_lt new most_descriptors) is)
 
 -- ---- paths

@@ -21,6 +21,9 @@
 -- InOrder   counts are exact and the nodes a tree after every row
 -- OrderKept  and so after every event, turn and run
 -- OrderBegins  and in the opening world
+-- Counted   what opens and closes keeps the counts of what is open exact, whatever the nodes
+-- CountedKept  and so does every event, turn and run
+-- CountedBoots  and in the opening world they are exact
 -- Refused   a refused call brings nothing, and leaves its space
 -- PlacementLaws  which pages a block and a mapping of its own get
 -- NodesAge  nodes age by each change of the tree
@@ -51,6 +54,9 @@ pub mod Steady
 pub mod InOrder
 pub mod OrderKept
 pub mod OrderBegins
+pub mod Counted
+pub mod CountedKept
+pub mod CountedBoots
 pub mod Refused
 mod PlacementLaws
 pub mod NodesAge

@@ -41,11 +41,11 @@ module _ (most : ℕ) (rest : Rest) (h : IsOrderly most rest) where
 
 -- ---- calls that are noted
 
-room_calls : (notes : List Note) (b : ℕ) → has_room notes b ≡ true → kept_calls notes + 1 ≤ most_calls
+pub room_calls : (notes : List Note) (b : ℕ) → has_room notes b ≡ true → kept_calls notes + 1 ≤ most_calls
 unfolding has_room
 room_calls notes b h = grind (arith, nat_tests)
 
-noted_call : (e : CallEntry) (notes : List Note) → kept_calls (call_note e ∷ notes) ≡ kept_calls notes + 1
+pub noted_call : (e : CallEntry) (notes : List Note) → kept_calls (call_note e ∷ notes) ≡ kept_calls notes + 1
 noted_call e notes = let more = sum_by-cons (λ n. n) 1 (map calls_in notes) in omega (arith, more)
 
 -- ---- an event

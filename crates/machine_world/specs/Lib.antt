@@ -18,7 +18,7 @@
 -- Others   what an event leaves of all other processes, spaces and tables of descriptors
 -- Placements  which pages a block and a mapping of its own get
 -- Ages     a file's bytes change only with its count of changes
--- Order    the nodes are a tree of names, and counts are exact, after every event
+-- Order    the nodes are a tree of names, and counts are exact, after every event; and what is open is counted, whatever the tree
 pub mod World
 pub mod Families
 pub mod Free

@@ -1,8 +1,10 @@
 -- Every event keeps the tree of names, and exact counts of what is open (POSIX.1-2017, 4.13 Pathname Resolution, close).
 use Rattle.std.specs.Prelude.{◌≡◌, ℕ, ◌+◌, ◌≤◌, ◌^◌, List, length, Ok}
 use Rattle.quantum_sched.specs.declared.Quantum.{Quantum}
+use Rattle.mem_files.specs.Inodes.{Inodes}
 use Rattle.mem_files.specs.Trees.{IsTree, AreNamedAndClosed}
-use Rattle.fd_tables.specs.Files.{nothing_open}
+use Rattle.fd_tables.specs.Files.{OpenFiles, nothing_open}
+use Rattle.fd_tables.specs.Changes.{storage}
 use Rattle.fd_tables.specs.Counts.{Counted}
 use Rattle.call_log.specs.Notes.{most_calls}
 use Rattle.machine_world.specs.World.{Rest, World}
@@ -44,3 +46,31 @@ pub record IsFresh (rest : Rest) : Type 0 where
 
 abbrev pub BootsBeginInOrder : Type 0
 BootsBeginInOrder = (rest : Rest) (starts : List StartLine) (w : World) → IsFresh rest → length starts ≤ most_tables → boot rest starts ≡ Ok w → IsInOrder w
+
+-- ---- what is open, whatever the tree
+
+-- how many descriptors share an open file, and which ends of a pipe are open, is counted exactly: there are nodes over which each
+-- count is exact. The tree of the run needn't be these
+pub record AreCounted (fs : OpenFiles) : Type 0 where
+  pub nodes : Inodes
+  pub counts : Counted (storage nodes fs)
+
+pub record IsCounted (w : World) : Type 0 where
+  pub counted : AreCounted w.rest.files
+  pub tables : length w.rest.files.tables ≤ most_tables + kept_calls w.notes
+  pub calls : kept_calls w.notes ≤ most_calls
+
+abbrev pub EventsKeepCounted : Type 0
+EventsKeepCounted = (w : World) (pid : ℕ) (now : World) (t : Trace) → IsCounted w → event w pid ≡ went now t → IsCounted now
+
+abbrev pub TurnsKeepCounted : Type 0
+TurnsKeepCounted = (count pid : ℕ) (w : World) → IsCounted w → IsCounted (turn count pid w).world
+
+abbrev pub RunsKeepCounted : Type 0
+RunsKeepCounted = (quanta : List Quantum) (w : World) → IsCounted w → IsCounted (turns quanta w).world
+
+-- the opening world, before which nothing is open
+abbrev pub BootsBeginCounted : Type 0
+BootsBeginCounted =
+    (rest : Rest) (starts : List StartLine) (w : World) → rest.files ≡ nothing_open rest.files.stdin → length starts ≤ most_tables →
+    boot rest starts ≡ Ok w → IsCounted w

@@ -2,7 +2,7 @@
 
 ghost use Rattle.machine_world.specs.Ages.{EventsAgeFiles};
 ghost use Rattle.machine_world.specs.Laws.{InstructionsAreEvents, RefusalsChangeNothingElse, BootsLeaveNoMark, EventsLeaveNoMark, TurnsLeaveNoMark, RunsLeaveNoMark};
-ghost use Rattle.machine_world.specs.Order.{EventsKeepOrder, TurnsKeepOrder, RunsKeepOrder, BootsBeginInOrder};
+ghost use Rattle.machine_world.specs.Order.{EventsKeepOrder, TurnsKeepOrder, RunsKeepOrder, BootsBeginInOrder, EventsKeepCounted, TurnsKeepCounted, RunsKeepCounted, BootsBeginCounted};
 ghost use Rattle.machine_world.specs.Others.{EventsLeaveOthers};
 ghost use Rattle.machine_world.specs.Placements.{MapsAreExact, StartsAreExact, ExecsAreExact};
 ghost use Rattle.machine_world.specs.Programs.{BootsLoadPrograms, TurnsLoadPrograms, RunsLoadPrograms};
@@ -45,6 +45,15 @@ pub fn counts_law()
     ensures events { EventsKeepOrder }
     ensures turns { TurnsKeepOrder }
     ensures runs { RunsKeepOrder }
+{}
+
+/// Every event keeps it that what is open is counted exactly, whatever the tree: how many descriptors share an open file, and which
+/// ends of a pipe are open. So it is in every world of a run before which nothing is open.
+pub fn open_files_law()
+    ensures boots { BootsBeginCounted }
+    ensures events { EventsKeepCounted }
+    ensures turns { TurnsKeepCounted }
+    ensures runs { RunsKeepCounted }
 {}
 
 /// The bytes of a file change only with its count of changes, as long as that is below its end, 2^64 - 1, and a number is given
