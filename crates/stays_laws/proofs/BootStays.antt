@@ -1,12 +1,12 @@
 -- What is told of the first stays is right for the opening world.
-use Rattle.std.proofs.Common.{◌≡◌, ◌≢◌, ℕ, ◌+◌, ◌≤◌, Bool, true, false, inl, inr, List, [], ◌∷◌, ◌++◌, length, Option, Some, None, Result, Ok, Err, refl, sym, ap, subst, ◌∙◌, arith, length-append}
+use Rattle.std.proofs.Common.{◌≡◌, ◌≢◌, ℕ, ◌+◌, ◌≤◌, Bool, true, false, inl, inr, List, [], ◌∷◌, ◌++◌, length, map, Option, Some, None, Result, Ok, Err, refl, sym, ap, subst, ◌∙◌, arith, length-append}
 use Rattle.std.specs.Prelude.{slice_get}
 use Rattle.std.proofs.lemmas.List.{map-append, append-nil}
 use Rattle.std.proofs.Common.{append_assoc}
 use Rattle.vfork_exec.specs.declared.family.State.TheVariants.{Ready}
 use Rattle.vfork_exec.specs.Keyed.{find}
 use Rattle.vfork_exec.proofs.Keyed.{find_head}
-use Rattle.flat_loader.specs.Original.{block_pages}
+use Rattle.flat_loader.specs.Original.{Original, block_pages}
 use Rattle.flat_loader.specs.Frame.{frame_fits}
 use Rattle.flat_loader.specs.Begin.{Loading, begin_space, begin_regs}
 use Rattle.flat_loader.specs.Alone.{memory_of}
@@ -14,9 +14,10 @@ use Rattle.fd_tables.specs.Files.{free_number}
 use Rattle.machine_world.specs.World.{Process, Rest, World, id_of}
 use Rattle.machine_world.specs.Free.{free}
 use Rattle.machine_world.specs.Boot.{StartLine, BootFault, Found, found, path_of, begun, address_of, taken, placed, fitting, located, started, then_started, all_started, empty_world, boot}
-use Rattle.stays_laws.specs.Stays.{Stay, loading_at, loading_in, loading_of, first_stay, behind_start, first_stays, runner_of, runners, Agrees, kept_calls_of, loads_of, belonging, head_of, loaded_head, AreRight}
+use Rattle.stays_laws.specs.Stays.{Stay, loading_at, loading_in, loading_of, first_stay, behind_start, first_stays, runner_of, runners, Agrees, kept_calls_of, loads_of, belonging, original_at, head_of, loaded_head, AreRight}
 use Rattle.stays_laws.specs.Laws.{BootsBeginStays}
 use Rattle.stays_laws.proofs.Lists.{eqb_other, eqb_same, more_item, item_below}
+use Rattle.stays_laws.proofs.Named.{found_names}
 use Rattle.stays_laws.proofs.Runners.{runners_head}
 use Rattle.stays_laws.proofs.SoloRuns.{begins_alone}
 use Rattle.stays_laws.proofs.Frame.{agrees_same, told_new}
@@ -28,7 +29,7 @@ pub record Opens (ys : List Stay) (w : World) : Type 0 where
   pub right : AreRight ys w
   pub none : (i : ℕ) → w.loads ≤ i → runners i w.procs ≡ []
 
-module _ (ys : List Stay) (w : World) (opens : Opens ys w) (index : ℕ) (l : Loading) where
+module _ (ys : List Stay) (w : World) (opens : Opens ys w) (index : ℕ) (l : Loading) (names : Some l.original ≡ original_at w.rest.programs index) where
   abbrev now : World
   now = begun w index l
 
@@ -62,7 +63,10 @@ module _ (ys : List Stay) (w : World) (opens : Opens ys w) (index : ℕ) (l : Lo
   begins = record {
     right = record {
       count = len;
-      loads = map-append head_of ys (new ∷ []) ∙ ap (λ hs. hs ++ head_of new ∷ []) opens.right.loads ∙ sym (map-append loaded_head (loads_of w.notes) (_ ∷ []));
+      loads =
+          map-append head_of ys (new ∷ []) ∙ ap (λ hs. hs ++ head_of new ∷ []) opens.right.loads
+          ∙ ap (λ (o : Option Original). map (loaded_head w.rest.programs) (loads_of w.notes) ++ (w.next_pid, l.block, o) ∷ []) names
+          ∙ sym (map-append (loaded_head w.rest.programs) (loads_of w.notes) (_ ∷ []));
       agree = λ j y there. elim (more_item ys new j y there) [
         | inl old ↦ agree_old j y old
         | inr new_one ↦
@@ -84,21 +88,21 @@ OpensBehind ys (Ok now) = Opens ys now
 OpensBehind ys (Err fault) = Unit {0}
 
 module _ (ys : List Stay) (w : World) (opens : Opens ys w) (s : StartLine) where
-  opens_placed : (f : Found) (page : Option ℕ) → OpensBehind (ys ++ first_stay w.next_pid (loading_at s f page)) (placed w s f page)
-  opens_placed f None = tt
-  opens_placed f (Some page) = begins ys w opens f.index (record { original = f.original; block = address_of page; args = s.args; env = [] })
+  opens_placed : (f : Found) → Some f.original ≡ original_at w.rest.programs f.index → (page : Option ℕ) → OpensBehind (ys ++ first_stay w.next_pid (loading_at s f page)) (placed w s f page)
+  opens_placed f names None = tt
+  opens_placed f names (Some page) = begins ys w opens f.index (record { original = f.original; block = address_of page; args = s.args; env = [] }) names
 
-  opens_fitting : (f : Found) (fits : Bool) → OpensBehind (ys ++ first_stay w.next_pid (loading_in w s (Some f))) (fitting w s f fits)
-  opens_fitting f true = opens_placed f (taken w (block_pages f.original) (free w))
-  opens_fitting f false = tt
+  opens_fitting : (f : Found) → Some f.original ≡ original_at w.rest.programs f.index → (fits : Bool) → OpensBehind (ys ++ first_stay w.next_pid (loading_in w s (Some f))) (fitting w s f fits)
+  opens_fitting f names true = opens_placed f names (taken w (block_pages f.original) (free w))
+  opens_fitting f names false = tt
 
-  opens_located : (o : Option Found) → OpensBehind (ys ++ first_stay w.next_pid (loading_in w s o)) (located w s o)
-  opens_located None = tt
-  opens_located (Some f) = opens_fitting f (frame_fits f.original s.args [])
+  opens_located : (o : Option Found) → found w.rest (path_of s) ≡ o → OpensBehind (ys ++ first_stay w.next_pid (loading_in w s o)) (located w s o)
+  opens_located None is = tt
+  opens_located (Some f) is = opens_fitting f (found_names w.rest (path_of s) f is) (frame_fits f.original s.args [])
 
   opens_started : OpensBehind (ys ++ first_stay w.next_pid (loading_of w s)) (started w s)
   unfolding started
-  opens_started = opens_located (found w.rest (path_of s))
+  opens_started = opens_located (found w.rest (path_of s)) refl
 
 opens_all : (ss : List StartLine) (ys : List Stay) (w : World) → Opens ys w → OpensBehind (ys ++ first_stays w ss) (all_started w ss)
 unfolding all_started first_stays

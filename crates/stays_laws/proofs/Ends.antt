@@ -48,11 +48,11 @@ module _ (ys : List Stay) (w : World) (sound : IsSound w) (right : AreRight ys w
         (record { end = record { stack = those; memory = memory_of s.space }; is = end; empty = none_still owns })
   ]
 
-  keeps_departed : (now : World) (items : List Item) → now.loads ≡ w.loads → loads_of now.notes ≡ loads_of w.notes → kept_calls_of now.notes ≡ kept_calls_of w.notes ++ entries_of items
+  keeps_departed : (now : World) (items : List Item) → now.loads ≡ w.loads → now.rest.programs ≡ w.rest.programs → loads_of now.notes ≡ loads_of w.notes → kept_calls_of now.notes ≡ kept_calls_of w.notes ++ entries_of items
       → now.procs ≡ all_left_by p w.procs → now.spaces ≡ spaces_left p w.procs w.spaces → solo_step before items ≡ Some (record { stack = those; memory = memory_of s.space }, [])
       → AreRight (collect ys (record { space = p.space; events = 1; items = items; begins = None; over = true })) now
-  keeps_departed now items loads load_notes calls procs spaces steps =
-      right_after ys w sound right p s lives ready has now items true loads load_notes calls
+  keeps_departed now items loads programs load_notes calls procs spaces steps =
+      right_after ys w sound right p s lives ready has now items true loads programs load_notes calls
       (record {
         procs = λ j other old. ap (runners j) procs ∙ runners_left p j w.procs ∙ runners_beside_without w.next_pid p w.procs sound.pids lives j (λ e. other (sym e));
         spaces = λ j other old. ap (find id_of j) spaces ∙ space_beside p w.procs w.spaces j other;
@@ -66,7 +66,7 @@ module _ (ys : List Stay) (w : World) (sound : IsSound w) (right : AreRight ys w
   pub keeps_trapped : (signal : ℕ) → means ys w sound right p s lives ready has ≡ trap signal → Keeps ys (trapped w p signal)
   unfolding trapped ended kept_calls_of loads_of
   keeps_trapped signal is =
-      keeps_departed _ [] refl refl (sym (append-nil (kept_calls_of w.notes))) refl refl (steps ys w sound right p s lives ready has [] (trap signal) is)
+      keeps_departed _ [] refl refl refl (sym (append-nil (kept_calls_of w.notes))) refl refl (steps ys w sound right p s lives ready has [] (trap signal) is)
 
   pub keeps_exited : (is : means ys w sound right p s lives ready has ≡ call) (bytes : List ℕ) → sent (number_of p.regs) (args_of p.regs) s.space.bytes ≡ Ok bytes
       → is_exit (number_of p.regs) ≡ true → Keeps ys (exited w (ask_of w p s.space bytes))
@@ -76,7 +76,7 @@ module _ (ys : List Stay) (w : World) (sound : IsSound w) (right : AreRight ys w
       let now : Solo = solo_of (with_regs p (replied p.regs 0)) those s.space in
       let leaves : leaves_space i.entry ≡ true = ap (λ (b : Bool). b || (number_of p.regs == 221 && true)) exits in
       keeps_if ys (has_room w.notes (weight_of bytes [])) (went _ (record { space = p.space; events = 1; items = i ∷ []; begins = None; over = true })) full
-      (keeps_departed _ (i ∷ []) refl refl refl refl refl
+      (keeps_departed _ (i ∷ []) refl refl refl refl refl refl
       (takes ys w sound right p s lives ready has is bytes reads i (tells p s.space w bytes 0 [])
       ∙ ap (with_items []) (if_yes (leaves_space i.entry) (Some (record { stack = those; memory = memory_of s.space })) (if is_errno 0 then Some now else solo_effect now p.regs i) leaves)))
       tt

@@ -19,6 +19,7 @@ use Rattle.machine_world.specs.Asks.{Ask, Reply, Row, replies, waits}
 use Rattle.machine_world.specs.Event.{Trace, Outcome, went, strays, full, idle, counted, stepped, ask_of, entry_of, item_of, served, put, waited, with_state, answered, awake, settled}
 use Rattle.machine_world.proofs.States.{with_regs, with_own}
 use Rattle.machine_world.proofs.Awake.{woke, all_roused_is}
+use Rattle.machine_world.proofs.Kept.{Answers}
 use Rattle.stays_laws.specs.Stays.{Stay, change_at, longer, collect, runner_of, runners, alone_end, Agrees, kept_calls_of, loads_of, head_of, loaded_head, AreRight}
 use Rattle.stays_laws.specs.Sound.{IsSound}
 use Rattle.stays_laws.proofs.Lists.{eqb_same, length-change_at, map-change_at, change_at-same}
@@ -114,7 +115,7 @@ module _ (ys : List Stay) (w : World) (sound : IsSound w) (right : AreRight ys w
       h ∙ ap (λ l. Some (record { stack = l; memory = memory_of s.space })) first
 
   -- an event with these calls
-  module _ (now : World) (items : List Item) (over : Bool) (loads : now.loads ≡ w.loads) (load_notes : loads_of now.notes ≡ loads_of w.notes)
+  module _ (now : World) (items : List Item) (over : Bool) (loads : now.loads ≡ w.loads) (programs : now.rest.programs ≡ w.rest.programs) (load_notes : loads_of now.notes ≡ loads_of w.notes)
       (calls : kept_calls_of now.notes ≡ kept_calls_of w.notes ++ entries_of items) where
     abbrev pub trace : Trace
     trace = record { space = p.space; events = 1; items = items; begins = None; over = over }
@@ -125,7 +126,7 @@ module _ (ys : List Stay) (w : World) (sound : IsSound w) (right : AreRight ys w
         subst (λ (zs : List Stay). AreRight zs now) (sym (append-nil (change_at p.space (longer trace) ys)))
         (record {
           count = length-change_at (longer trace) p.space ys ∙ right.count ∙ sym loads;
-          loads = map-change_at (longer trace) head_of (λ y. refl) p.space ys ∙ right.loads ∙ ap (map loaded_head) (sym load_notes);
+          loads = map-change_at (longer trace) head_of (λ y. refl) p.space ys ∙ right.loads ∙ (λ i. map (loaded_head (sym programs i)) (sym load_notes i));
           agree = agree_after ys w now p.space (longer trace) right.count right.agree beside here;
           told = told_after ys w.notes now.notes p.space 1 items None over has_stay right.told calls;
         })
@@ -165,7 +166,7 @@ module _ (ys : List Stay) (w : World) (sound : IsSound w) (right : AreRight ys w
   pub keeps_stepped : (regs : Regs) (bytes : Bytes) → means ≡ next regs bytes → Keeps ys (stepped w p s.space regs bytes)
   unfolding stepped
   keeps_stepped regs bytes is =
-      keeps_state _ [] false refl refl (sym (append-nil (kept_calls_of w.notes))) regs (record s.space { bytes = bytes }) refl refl (steps [] (next regs bytes) is)
+      keeps_state _ [] false refl refl refl (sym (append-nil (kept_calls_of w.notes))) regs (record s.space { bytes = bytes }) refl refl (steps [] (next regs bytes) is)
 
   -- ---- a call
 
@@ -180,14 +181,14 @@ module _ (ys : List Stay) (w : World) (sound : IsSound w) (right : AreRight ys w
     abbrev pub the_ask : Ask
     the_ask = ask_of w p s.space bytes
 
-    keeps_put : (r : Reply) → Follows p below s.space the_ask (replies r) → (found : Result Bytes Span) → put_got r.space.bytes (writable_in r.space.maps) r.got ≡ found
+    keeps_put : (r : Reply) → Follows p below s.space the_ask (replies r) → r.rest.programs ≡ w.rest.programs → (found : Result Bytes Span) → put_got r.space.bytes (writable_in r.space.maps) r.got ≡ found
         → Keeps ys (put w the_ask r found)
     unfolding served kept_calls_of loads_of
-    keeps_put r follows (Err span) wrote = tt
-    keeps_put r follows (Ok m) wrote =
+    keeps_put r follows programs (Err span) wrote = tt
+    keeps_put r follows programs (Ok m) wrote =
         let i : Item = item_of (entry_of the_ask r.value r.got) m in
         keeps_if ys (has_room w.notes (weight_of bytes r.got)) (went _ (record { space = p.space; events = 1; items = i ∷ []; begins = None; over = r.over })) full
-        (keeps_state _ (i ∷ []) r.over refl refl refl (replied p.regs r.value) (record r.space { bytes = m }) refl refl
+        (keeps_state _ (i ∷ []) r.over refl programs refl refl (replied p.regs r.value) (record r.space { bytes = m }) refl refl
         (takes i (tells p s.space w bytes r.value r.got) ∙ ap (with_items []) (follows m wrote)))
         tt
 
@@ -206,6 +207,6 @@ module _ (ys : List Stay) (w : World) (sound : IsSound w) (right : AreRight ys w
           told = right.told;
         })
 
-    pub keeps_answered : (r : Row) → Follows p below s.space the_ask r → Keeps ys (answered w the_ask r)
-    keeps_answered (replies r) follows = keeps_put r follows (put_got r.space.bytes (writable_in r.space.maps) r.got) refl
-    keeps_answered (waits state) follows = keeps_waited state
+    pub keeps_answered : (r : Row) → Follows p below s.space the_ask r → Answers (λ rest. rest.programs ≡ w.rest.programs) r → Keeps ys (answered w the_ask r)
+    keeps_answered (replies r) follows programs = keeps_put r follows programs (put_got r.space.bytes (writable_in r.space.maps) r.got) refl
+    keeps_answered (waits state) follows programs = keeps_waited state

@@ -11,7 +11,7 @@ use Rattle.call_log.specs.Sent.{has_zero, sent}
 use Rattle.vfork_exec.specs.declared.family.State.TheVariants.{Ready}
 use Rattle.vfork_exec.specs.Keyed.{find, change}
 use Rattle.vfork_exec.proofs.Keyed.{find_head}
-use Rattle.flat_loader.specs.Original.{block_pages}
+use Rattle.flat_loader.specs.Original.{Original, block_pages}
 use Rattle.flat_loader.specs.Frame.{frame_fits}
 use Rattle.flat_loader.specs.Begin.{Loading, begin_space}
 use Rattle.flat_loader.specs.Alone.{Runner, Solo, Item, memory_of, number_of, args_of, replied, is_errno, leaves_space, with_items, solo_effect, solo_step, none_left}
@@ -25,13 +25,14 @@ use Rattle.machine_world.specs.PathCalls.{path_of}
 use Rattle.machine_world.specs.Event.{Trace, went, full, counted, noted, ask_of, entry_of, plain_item, with_exec, load_of, answered, executed, exec_at, exec_program, exec_strings, exec, is_exit}
 use Rattle.machine_world.proofs.States.{with_regs}
 use Rattle.machine_world.proofs.Chains.{begun}
-use Rattle.stays_laws.specs.Stays.{Stay, change_at, longer, collect, runner_of, runners, Agrees, kept_calls_of, loads_of, head_of, loaded_head, AreRight}
+use Rattle.stays_laws.specs.Stays.{Stay, change_at, longer, collect, runner_of, runners, Agrees, kept_calls_of, loads_of, original_at, head_of, loaded_head, AreRight}
 use Rattle.stays_laws.specs.Sound.{IsSound}
 use Rattle.stays_laws.proofs.Lists.{if_yes, eqb_same, eqb_is, eqb_other, length-change_at, map-change_at, more_item}
 use Rattle.stays_laws.proofs.Runners.{runners_sharing, runners_exec, runners_beside_change, runners_moved, runners_new}
 use Rattle.stays_laws.proofs.SpacesLeft.{space_beside}
 use Rattle.stays_laws.proofs.SoundBegins.{none_new}
 use Rattle.stays_laws.proofs.Frame.{BesideSpace, agree_after, told_after, told_new}
+use Rattle.stays_laws.proofs.Named.{runs_names}
 use Rattle.stays_laws.proofs.SoloRuns.{alone_more, begins_alone}
 use Rattle.stays_laws.proofs.EventStays.{solo_of, tells, Keeps, keeps_if, below, solo, first, given, has_stay, end_of, means, takes, keeps_answered}
 use Rattle.stays_laws.proofs.Ends.{left_there}
@@ -59,7 +60,7 @@ module _ (ys : List Stay) (w : World) (sound : IsSound w) (right : AreRight ys w
   old_below : p.space < w.loads
   old_below = given ys w sound right p s lives ready has
 
-  module _ (index : ℕ) (l : Loading) where
+  module _ (index : ℕ) (l : Loading) (names : Some l.original ≡ original_at w.rest.programs index) where
     abbrev procs : List Process
     procs = (with_exec w p l).procs
 
@@ -151,7 +152,8 @@ module _ (ys : List Stay) (w : World) (sound : IsSound w) (right : AreRight ys w
           loads =
               map-append head_of olds (new ∷ [])
               ∙ ap (λ hs. hs ++ head_of new ∷ []) (map-change_at (longer trace) head_of (λ y. refl) p.space ys ∙ right.loads)
-              ∙ sym (map-append loaded_head (loads_of w.notes) (_ ∷ []));
+              ∙ ap (λ (o : Option Original). map (loaded_head w.rest.programs) (loads_of w.notes) ++ (p.pid, l.block, o) ∷ []) names
+              ∙ sym (map-append (loaded_head w.rest.programs) (loads_of w.notes) (_ ∷ []));
           agree = λ j y there. elim (more_item olds new j y there) [
             | inl old ↦ agree_old j y old
             | inr new_one ↦
@@ -168,20 +170,20 @@ module _ (ys : List Stay) (w : World) (sound : IsSound w) (right : AreRight ys w
     keeps_executed = keeps_if ys (has_room w.notes (weight_of bytes [])) (went behind trace) full right_executed tt
 
   refused_here : (e : Errno) → Keeps ys (answered w a (refuses a e))
-  refused_here e = keeps_answered ys w sound right p s lives ready has is bytes reads (refuses a e) (follows_refused w p those s.space bytes stays e)
+  refused_here e = keeps_answered ys w sound right p s lives ready has is bytes reads (refuses a e) (follows_refused w p those s.space bytes stays e) refl
 
-  keeps_exec_at : (f : Found) (strings : ProgramStrings) (page : Option ℕ) → Keeps ys (exec_at w a f strings page)
-  keeps_exec_at f strings None = refused_here Enomem
-  keeps_exec_at f strings (Some page) = keeps_executed f.index (record { original = f.original; block = address_of page; args = strings.args; env = strings.env })
+  keeps_exec_at : (f : Found) → Some f.original ≡ original_at w.rest.programs f.index → (strings : ProgramStrings) (page : Option ℕ) → Keeps ys (exec_at w a f strings page)
+  keeps_exec_at f names strings None = refused_here Enomem
+  keeps_exec_at f names strings (Some page) = keeps_executed f.index (record { original = f.original; block = address_of page; args = strings.args; env = strings.env }) names
 
-  keeps_exec_program : (strings : ProgramStrings) (o : Result Found Errno) → Keeps ys (exec_program w a strings o)
-  keeps_exec_program strings (Ok f) =
+  keeps_exec_program : (strings : ProgramStrings) (o : Result Found Errno) → runs w.rest (path_of a) ≡ o → Keeps ys (exec_program w a strings o)
+  keeps_exec_program strings (Ok f) is =
       keeps_if ys (frame_fits f.original strings.args strings.env) (exec_at w a f strings (taken w (block_pages f.original) (free w))) (answered w a (refuses a E2big))
-      (keeps_exec_at f strings (taken w (block_pages f.original) (free w))) (refused_here E2big)
-  keeps_exec_program strings (Err e) = refused_here e
+      (keeps_exec_at f (runs_names w.rest (path_of a) f is) strings (taken w (block_pages f.original) (free w))) (refused_here E2big)
+  keeps_exec_program strings (Err e) is = refused_here e
 
   keeps_exec_strings : (o : Option ProgramStrings) → Keeps ys (exec_strings w a o)
-  keeps_exec_strings (Some strings) = keeps_exec_program strings (runs w.rest (path_of a))
+  keeps_exec_strings (Some strings) = keeps_exec_program strings (runs w.rest (path_of a)) refl
   keeps_exec_strings None = refused_here E2big
 
   pub keeps_exec : Keeps ys (exec w a)

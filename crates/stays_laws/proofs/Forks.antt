@@ -78,7 +78,7 @@ module _ (ys : List Stay) (w : World) (sound : IsSound w) (right : AreRight ys w
   keeps_forked =
       let i : Item = plain_item (entry_of a w.next_pid []) in
       keeps_if ys (has_room w.notes (weight_of bytes [])) (went _ (record { space = p.space; events = 1; items = i ∷ []; begins = None; over = true })) full
-      (right_after ys w sound right p s lives ready has _ (i ∷ []) true refl refl refl
+      (right_after ys w sound right p s lives ready has _ (i ∷ []) true refl refl refl refl
       (record { procs = λ j other old. runs_beside j other; spaces = λ j other old. refl })
       (λ y there.
       subst (λ o. Agrees p.space (with_child w a).procs (longer (record { space = p.space; events = 1; items = i ∷ []; begins = None; over = true }) y) o) (sym has)
@@ -91,6 +91,6 @@ module _ (ys : List Stay) (w : World) (sound : IsSound w) (right : AreRight ys w
   unfolding cloned
   keeps_cloned =
       keeps_if ys (not (arg a 0 == vfork_flags)) (answered w a (refuses a Einval)) _
-      (keeps_answered ys w sound right p s lives ready has is bytes reads (refuses a Einval) (follows_refused w p those s.space bytes stays Einval))
+      (keeps_answered ys w sound right p s lives ready has is bytes reads (refuses a Einval) (follows_refused w p those s.space bytes stays Einval) refl)
       (keeps_if ys (is_full w) (answered w a (refuses a Eagain)) (forked w a)
-      (keeps_answered ys w sound right p s lives ready has is bytes reads (refuses a Eagain) (follows_refused w p those s.space bytes stays Eagain)) keeps_forked)
+      (keeps_answered ys w sound right p s lives ready has is bytes reads (refuses a Eagain) (follows_refused w p those s.space bytes stays Eagain) refl) keeps_forked)

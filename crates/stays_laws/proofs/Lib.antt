@@ -19,6 +19,7 @@
 -- SoundExecs   a sound world in which a process has gone on to another program
 -- SoundRuns    each event, turn and run keeps a world sound
 -- Frame        what is told stays right where one space changes
+-- Named        the program to which a path leads is the one of its number
 -- EventStays   instructions, answered calls and waits keep what is told right
 -- Ends         and so do ends
 -- PlainCalls   calls that are refused, and those that leave the mappings
@@ -56,6 +57,7 @@ pub mod SoundForks
 pub mod SoundExecs
 pub mod SoundRuns
 pub mod Frame
+pub mod Named
 pub mod EventStays
 pub mod Ends
 pub mod PlainCalls

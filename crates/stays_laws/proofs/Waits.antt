@@ -52,12 +52,12 @@ module _ (ys : List Stay) (w : World) (sound : IsSound w) (right : AreRight ys w
       let same = ended_right ys w ended right in
       keeps_answered ys v fine same p s lives ready has is bytes reads (gives a value got w.rest)
       (follows_same v p (below ys v fine same p s lives ready has) s.space bytes stays (isnt 215 refl) (isnt 222 refl) (isnt 220 refl) (isnt 221 refl) (gives a value got w.rest)
-      (record { maps = refl; bytes = refl }))
+      (record { maps = refl; bytes = refl })) refl
 
   refused_here : (e : Errno) → Keeps ys (answered w a (refuses a e))
   refused_here e =
       keeps_answered ys w sound right p s lives ready has is bytes reads (refuses a e)
-      (follows_refused w p (below ys w sound right p s lives ready has) s.space bytes stays e)
+      (follows_refused w p (below ys w sound right p s lives ready has) s.space bytes stays e) refl
 
   keeps_reaped : (who : Who) (r : Result Waited Errno) → Keeps ys (reaped w a who r)
   keeps_reaped who (Ok (Child child how)) = given_here (without_first p.pid who w.ended) 0 (info_at (arg a 2) (child_info child how))

@@ -1,12 +1,12 @@
 -- The life of each space, as a stay of a program: what is told of it, and when that is right for a world.
-use Rattle.std.specs.Prelude.{◌≡◌, ℕ, zero, suc, ◌+◌, ◌==◌, ◌≤◌, if◌then◌else◌, List, [], ◌∷◌, ◌++◌, map, length, Option, Some, None, Result, Ok, Err, slice_get}
+use Rattle.std.specs.Prelude.{◌≡◌, ℕ, zero, suc, ◌+◌, ◌==◌, ◌≤◌, if◌then◌else◌, List, [], ◌∷◌, ◌++◌, map, length, Option, Some, None, Result, Ok, Err, option_map, slice_get}
 use Rattle.call_log.specs.Notes.{CallEntry, LoadEntry, Note, call_note, load_note, end_note, stray_note}
 use Rattle.quantum_sched.specs.declared.Quantum.{Quantum}
 use Rattle.vfork_exec.specs.Keyed.{find}
 use Rattle.flat_loader.specs.Begin.{Loading}
 use Rattle.flat_loader.specs.Alone.{Runner, Solo, Item, memory_of, alone}
-use Rattle.flat_loader.specs.Original.{block_pages}
-use Rattle.machine_world.specs.World.{Process, LiveSpace, World, id_of}
+use Rattle.flat_loader.specs.Original.{Original, block_pages}
+use Rattle.machine_world.specs.World.{Program, Process, LiveSpace, World, id_of}
 use Rattle.machine_world.specs.Event.{Begins, Trace}
 use Rattle.machine_world.specs.Turns.{turns}
 use Rattle.machine_world.specs.Free.{free}
@@ -131,17 +131,21 @@ pub record AreTold (ys : List Stay) (notes : List Note) : Type 0 where
   pub entries : (i : ℕ) (y : Stay) → slice_get ys i ≡ Some y → map (λ (x : Item). x.entry) y.items ≡ belonging i places (kept_calls_of notes)
   pub no_others : (i : ℕ) → length ys ≤ i → belonging i places (kept_calls_of notes) ≡ []
 
--- the pid and the first address of a stay's block
-abbrev pub head_of : Stay → ℕ × ℕ
-head_of y = (y.pid, y.loading.block)
+-- the original of a program, by its number
+abbrev pub original_at : List Program → ℕ → Option Original
+original_at programs index = option_map (λ p. p.original) (slice_get programs index)
 
-abbrev pub loaded_head : LoadEntry → ℕ × ℕ
-loaded_head l = (l.pid, l.base)
+-- the pid of a stay, the first address of its block, and its program
+abbrev pub head_of : Stay → ℕ × ℕ × Option Original
+head_of y = (y.pid, y.loading.block, Some y.loading.original)
+
+abbrev pub loaded_head : List Program → LoadEntry → ℕ × ℕ × Option Original
+loaded_head programs l = (l.pid, l.base, original_at programs l.program)
 
 pub record AreRight (ys : List Stay) (w : World) : Type 0 where
-  -- one stay for each load note, in their order
+  -- one stay for each load note, in their order, of the program that the note names
   pub count : length ys ≡ w.loads
-  pub loads : map head_of ys ≡ map loaded_head (loads_of w.notes)
+  pub loads : map head_of ys ≡ map (loaded_head w.rest.programs) (loads_of w.notes)
   -- each is a run of its program alone that isn't refuted, and agrees with its space
   pub agree : AllAgree ys w
   -- and has the calls that were kept
