@@ -137,7 +137,7 @@ module _ (p : Physical) (h : IsBounded p.world) (pid : ℕ) (q : Process) (lives
         (plain_if p.world (has_room p.world.notes (weight_of bytes [])) _ _ (λ room. record {
           more = _ ∷ [];
           is = refl;
-          each = (no_errno p.world.next_pid (let given = h.given in let calls = h.order.calls in omega (arith, given, calls)), tt);
+          each = (no_errno p.world.next_pid (let given = h.given in let calls = h.counted.calls in omega (arith, given, calls)), tt);
         })));
     load = λ index page l is chosen. inr (plain_carried p p.memory (executed p.world a index l)
         (plain_if p.world (has_room p.world.notes (weight_of bytes [])) _ _ (λ room. record { more = _ ∷ _ ∷ []; is = refl; each = (tt, (no_errno 0 (omega arith), tt)) })));

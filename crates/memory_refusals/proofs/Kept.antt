@@ -39,13 +39,13 @@ use Rattle.memory_refusals.proofs.Changes.{IsTidy, tidy_awake, Outside, outside,
 -- ---- in two halves
 
 tidy : (w : World) → IsBounded w → IsTidy w
-tidy w h = record { most = h.most; pids = h.pids; given = h.given; order = h.order }
+tidy w h = record { most = h.most; pids = h.pids; given = h.given; counted = h.counted }
 
 its : (w : World) → IsBounded w → AreBounded w
 its w h = record { parents = h.parents; spaces = h.spaces }
 
 joined : (w : World) → IsTidy w → AreBounded w → IsBounded w
-joined w t b = record { most = t.most; pids = t.pids; given = t.given; parents = b.parents; spaces = b.spaces; order = t.order }
+joined w t b = record { most = t.most; pids = t.pids; given = t.given; parents = b.parents; spaces = b.spaces; counted = t.counted }
 
 joined_in : (o : Outcome) → Went (λ now t. IsTidy now) o → Went (λ now t. AreBounded now) o → Went (λ now t. IsBounded now) o
 joined_in (went now t) tidy bounds = joined now tidy bounds
@@ -62,7 +62,7 @@ bounded_showing memory w h = record {
   given = h.given;
   parents = h.parents;
   spaces = each_map IsWithin (shown_space memory) (λ s is. record { break = record { brk = is.break.brk; high = is.break.high }; copies = is.copies }) w.spaces h.spaces;
-  order = record { tree = h.order.tree; counts = h.order.counts; tables = h.order.tables; calls = h.order.calls };
+  counted = record { counted = h.counted.counted; tables = h.counted.tables; calls = h.counted.calls };
 }
 
 bounded_awake : (w : World) → IsBounded w → IsBounded (awake w)
@@ -75,7 +75,7 @@ bounded_told ended w h = record {
   given = h.given;
   parents = h.parents;
   spaces = h.spaces;
-  order = record { tree = h.order.tree; counts = h.order.counts; tables = h.order.tables; calls = h.order.calls };
+  counted = record { counted = h.counted.counted; tables = h.counted.tables; calls = h.counted.calls };
 }
 
 -- the note of a stray access is that of no call
@@ -87,7 +87,7 @@ bounded_stray p pid (Some access) h = record {
   given = h.given;
   parents = h.parents;
   spaces = h.spaces;
-  order = record { tree = h.order.tree; counts = h.order.counts; tables = h.order.tables; calls = h.order.calls };
+  counted = record { counted = h.counted.counted; tables = h.counted.tables; calls = h.counted.calls };
 }
 
 bounded_settled : (x : After) → AfterHas IsBounded x → AfterHas IsBounded (settled_in x)
@@ -249,6 +249,6 @@ unfolding opening
 bounded_opening headers w h = bounded_showing (first_memory headers w) w h
 
 pub boots_are_regular_in : BootsAreRegularIn
-boots_are_regular_in rest starts w headers can fresh few is =
-    let r = boots_are_regular rest starts w can fresh few is in
+boots_are_regular_in rest starts w headers can closed few is =
+    let r = boots_are_regular rest starts w can closed few is in
     record { shown = openings_show headers w; unmarked = openings_have_no_mark headers w r.unmarked; bounded = bounded_opening headers w (bounded w r) }

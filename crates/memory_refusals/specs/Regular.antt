@@ -1,10 +1,10 @@
--- What holds of the one memory of a run over fresh files between its events, before its first stray access and behind it.
+-- What holds of the one memory of a run between its events, before its first stray access and behind it.
 use Rattle.std.specs.Prelude.{◌≡◌, ℕ, ◌≤◌, List, length, Ok}
 use Rattle.quantum_sched.specs.declared.Quantum.{Quantum}
+use Rattle.fd_tables.specs.Files.{nothing_open}
 use Rattle.vfork_exec.specs.Procs.{most_entries}
 use Rattle.machine_world.specs.World.{Rest, World}
 use Rattle.machine_world.specs.Boot.{StartLine, boot}
-use Rattle.machine_world.specs.Order.{IsFresh}
 use Rattle.stays_laws.specs.Laws.{CanBoot}
 use Rattle.refusal_laws.specs.Bounded.{IsBounded}
 use Rattle.physical_turns.specs.Physical.{Physical, After, after, no_room, nobody, physical_event, physical_turn, physical_turns, opening}
@@ -16,7 +16,7 @@ pub record IsRegularIn (p : Physical) : Type 0 where
   pub shown : IsShown p
   -- no pipe is marked as changed
   pub unmarked : HasNoMark p.world
-  -- pids are few and given once, counts are exact, each process is younger than its parent, and breaks and copies lie in memory
+  -- pids are few and given once, what is open is counted exactly, each process is younger than its parent, and breaks and copies lie in memory
   pub bounded : IsBounded p.world
 
 -- of what an event leaves
@@ -28,8 +28,8 @@ AfterIsRegular nobody = Unit {0}
 -- whatever headers the programs have
 abbrev pub BootsAreRegularIn : Type 0
 BootsAreRegularIn =
-    (rest : Rest) (starts : List StartLine) (w : World) (headers : List (List ℕ)) → CanBoot rest → IsFresh rest → length starts ≤ most_entries →
-    boot rest starts ≡ Ok w → IsRegularIn (opening headers w)
+    (rest : Rest) (starts : List StartLine) (w : World) (headers : List (List ℕ)) → CanBoot rest → rest.files ≡ nothing_open rest.files.stdin →
+    length starts ≤ most_entries → boot rest starts ≡ Ok w → IsRegularIn (opening headers w)
 
 abbrev pub EventsKeepRegularIn : Type 0
 EventsKeepRegularIn = (p : Physical) (pid : ℕ) → IsRegularIn p → AfterIsRegular (physical_event p pid)

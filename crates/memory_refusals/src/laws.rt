@@ -4,7 +4,7 @@ ghost use Rattle.memory_refusals.specs.Regular.{BootsAreRegularIn, EventsKeepReg
 ghost use Rattle.memory_refusals.specs.Refusals.{ErrnosAreRefusedIn};
 ghost use Rattle.memory_refusals.specs.Enomem.{EnomemIsExactIn};
 
-/// Of the one memory of a run over fresh files: every space shows it, no pipe is marked, counts are exact, each process is younger than its
+/// Of the one memory of a run: every space shows it, no pipe is marked, what is open is counted exactly, each process is younger than its
 /// parent, and breaks and copies lie in memory. It is so at boot, and every event, turn and run keeps it, before the first stray access
 /// and behind it.
 pub fn regular_in_memory_law()

@@ -34,5 +34,5 @@ bounded w r = record {
     copies = each_by_place (λ m. IsPlaced m m.source) s.space.maps
         (λ j m there. placed w.rest.pages m r.sound.most ((r.sound.spaces i s found).inside j m there) ((r.sound.spaces i s found).mappings j m there));
   });
-  order = r.order;
+  counted = r.counted;
 }

@@ -128,7 +128,7 @@ module _ (w : World) (r : IsBounded w) (pid : ℕ) (p : Process) (lives : find p
     exit = inr (plain_if (has_room w.notes (weight_of bytes [])) _ _ (λ room. no_errno 0 (omega arith)));
     told = λ ended got. inr (plain_row (record w { ended = ended }) a (gives a 0 got w.rest) (λ room. no_errno 0 (omega arith)));
     waiting = λ state. inr tt;
-    fork = inr (plain_if (has_room w.notes (weight_of bytes [])) _ _ (λ room. no_errno w.next_pid (let given = r.given in let calls = r.order.calls in omega (arith, given, calls))));
+    fork = inr (plain_if (has_room w.notes (weight_of bytes [])) _ _ (λ room. no_errno w.next_pid (let given = r.given in let calls = r.counted.calls in omega (arith, given, calls))));
     load = λ index page l is chosen. inr (plain_if (has_room w.notes (weight_of bytes [])) _ _ (λ room. no_errno 0 (omega arith)));
     no_run = λ number lacks. so_answered w a (refuses a Enomem) (no_run w a (inr (number, lacks)));
   }

@@ -15,8 +15,8 @@ use Rattle.machine_world.specs.Turns.{Walk, End, stays_at, traced, turned, turn,
 use Rattle.machine_world.specs.Boot.{StartLine, BootFault, path_of, placed, fitting, located, started, all_started, then_started, empty_world, boot}
 use Rattle.machine_world.proofs.Runnable.{ready_found, may_run_still}
 use Rattle.machine_world.proofs.Marks.{boots_leave_no_mark, events_leave_no_mark, turns_leave_no_mark}
-use Rattle.machine_world.proofs.OrderBegins.{boots_begin_in_order}
-use Rattle.machine_world.proofs.OrderKept.{events_keep_order, turns_keep_order}
+use Rattle.machine_world.proofs.CountedBoots.{boots_begin_counted}
+use Rattle.machine_world.proofs.CountedKept.{events_keep_counted, turns_keep_counted}
 use Rattle.stays_laws.proofs.SoundRuns.{boots_are_sound, events_keep_sound, turns_keep_sound}
 use Rattle.refusal_laws.specs.Regular.{HasBreak, IsRegular}
 use Rattle.refusal_laws.specs.Bounded.{IsWithin}
@@ -33,7 +33,7 @@ events_keep_regular w pid now t r may is =
     let bounds : AreBounded now = bounds_kept w (bounded w r) pid now t is in
     record {
       sound = events_keep_sound w pid now t r.sound may is;
-      order = events_keep_order w pid now t r.order is;
+      counted = events_keep_counted w pid now t r.counted is;
       unmarked = events_leave_no_mark w pid now t r.unmarked is;
       parents = bounds.parents;
       breaks = breaks_of now bounds;
@@ -65,7 +65,7 @@ turns_keep_regular count pid w r may =
     let bounds : AreBounded (turn count pid w).world = turn_bounded count pid w r may in
     record {
       sound = turns_keep_sound count pid w r.sound may;
-      order = turns_keep_order count pid w r.order;
+      counted = turns_keep_counted count pid w r.counted;
       unmarked = turns_leave_no_mark count pid w r.unmarked;
       parents = bounds.parents;
       breaks = breaks_of (turn count pid w).world bounds;
@@ -138,13 +138,13 @@ module _ (pages : ℕ) (most : pages ≤ 16384) where
 
 pub boots_are_regular : BootsAreRegular
 unfolding boot
-boots_are_regular rest starts w can fresh few is =
+boots_are_regular rest starts w can closed few is =
     let empty : Opens rest.pages (empty_world rest) = record { some = omega arith; pages = refl; bounds = record { parents = tt; spaces = tt } } in
     let opens : Opens rest.pages w = subst (Begins rest.pages) is (begins_all rest.pages can.most starts (empty_world rest) empty) in
     record {
       sound = boots_are_sound rest starts w can few is;
-      order = boots_begin_in_order rest starts w fresh (omega (arith, few)) is;
-      unmarked = boots_leave_no_mark rest starts w (ap (λ (fs : OpenFiles). fs.changed) fresh.files) is;
+      counted = boots_begin_counted rest starts w closed (omega (arith, few)) is;
+      unmarked = boots_leave_no_mark rest starts w (ap (λ (fs : OpenFiles). fs.changed) closed) is;
       parents = opens.bounds.parents;
       breaks = breaks_of w opens.bounds;
     }

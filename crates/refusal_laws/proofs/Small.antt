@@ -57,7 +57,7 @@ module _ (w : World) (r : IsBounded w) (pid : ℕ) (p : Process) (lives : find p
       let own = find_key pid_of pid w.procs p lives in
       let below = find_below pid_of pid w.next_pid w.procs p r.pids lives in
       let given = r.given in
-      let calls = r.order.calls in
+      let calls = r.counted.calls in
       omega (arith, own, below, given, calls)
 
   pub parent_fits : p.parent < 0xfffff001
@@ -69,7 +69,7 @@ module _ (w : World) (r : IsBounded w) (pid : ℕ) (p : Process) (lives : find p
   -- the descriptors of a table
   pub few_free : (s : LiveSpace) (bytes : List ℕ) (fd : ℕ) → free_of (ask_of w p s.space bytes) ≡ Some fd → fd < most_descriptors
   unfolding lowest_free
-  few_free s bytes fd is = by (table_at w.rest.files p.table) (r.order.counts.whole p.table) is
+  few_free s bytes fd is = by (table_at w.rest.files p.table) (r.counted.counted.counts.whole p.table) is
     where
       by : (o : Option Table) → IfSome o (λ table. length table ≡ most_descriptors) → free_in o ≡ Some fd → fd < most_descriptors
       by None whole is = absurd cc

@@ -1,4 +1,4 @@
--- What holds of every world of a run over fresh files, behind a stray store too: it says nothing of a byte. So no pid, no descriptor
+-- What holds of every world of a run, behind a stray store too: it says nothing of a byte. So no pid, no descriptor
 -- and no address is an errno.
 use Rattle.std.specs.Prelude.{◌≡◌, ◌+◌, ◌≤◌, false}
 use Rattle.std.specs.List.{AllByRecursion}
@@ -9,7 +9,7 @@ use Rattle.vfork_exec.specs.Keyed.{Falls}
 use Rattle.flat_loader.specs.Alone.{most_pages}
 use Rattle.machine_world.specs.World.{LiveSpace, World, pid_of}
 use Rattle.machine_world.specs.Ages.{kept_calls}
-use Rattle.machine_world.specs.Order.{IsInOrder}
+use Rattle.machine_world.specs.Order.{IsCounted}
 use Rattle.stays_laws.specs.Sound.{most_given}
 use Rattle.refusal_laws.specs.Regular.{IsYounger, HasBreak}
 
@@ -33,5 +33,5 @@ pub record IsBounded (w : World) : Type 0 where
   pub parents : AllByRecursion IsYounger w.procs
   -- breaks and copies lie in memory
   pub spaces : AllByRecursion IsWithin w.spaces
-  -- the names are a tree, counts of what is open are exact, and no more calls are noted than the log keeps
-  pub order : IsInOrder w
+  -- what is open is counted exactly, and no more calls are noted than the log keeps
+  pub counted : IsCounted w

@@ -5,6 +5,7 @@ use Rattle.call_log.specs.declared.errno.Errno.{Errno}
 use Rattle.call_log.specs.declared.errno.Errno.TheVariants.{Enomem}
 use Rattle.call_log.specs.Errno.{refusal}
 use Rattle.call_log.specs.Notes.{weight_of, has_room}
+use Rattle.fd_tables.specs.Files.{nothing_open}
 use Rattle.vfork_exec.specs.Procs.{most_entries}
 use Rattle.flat_loader.specs.Alone.{Item, is_errno}
 use Rattle.machine_world.specs.World.{Rest, World}
@@ -12,7 +13,6 @@ use Rattle.machine_world.specs.Families.{MayRun}
 use Rattle.machine_world.specs.Event.{Trace, went, event}
 use Rattle.machine_world.specs.Turns.{turn, turns}
 use Rattle.machine_world.specs.Boot.{StartLine, no_run, started, boot}
-use Rattle.machine_world.specs.Order.{IsFresh}
 use Rattle.machine_world.specs.Laws.{refused_outcome}
 use Rattle.stays_laws.specs.Laws.{CanBoot}
 use Rattle.refusal_laws.specs.Calls.{Call, ask}
@@ -23,7 +23,8 @@ use Rattle.refusal_laws.specs.NoRun.{LacksRun, LacksRunToStart, LacksRunToBoot}
 
 abbrev pub BootsAreRegular : Type 0
 BootsAreRegular =
-    (rest : Rest) (starts : List StartLine) (w : World) → CanBoot rest → IsFresh rest → length starts ≤ most_entries → boot rest starts ≡ Ok w → IsRegular w
+    (rest : Rest) (starts : List StartLine) (w : World) → CanBoot rest → rest.files ≡ nothing_open rest.files.stdin → length starts ≤ most_entries →
+    boot rest starts ≡ Ok w → IsRegular w
 
 abbrev pub EventsKeepRegular : Type 0
 EventsKeepRegular = (w : World) (pid : ℕ) (now : World) (t : Trace) → IsRegular w → MayRun w pid → event w pid ≡ went now t → IsRegular now

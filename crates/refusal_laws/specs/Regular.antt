@@ -1,10 +1,10 @@
--- What holds of every world of a run over fresh files, so that no pid, no descriptor and no address is an errno.
+-- What holds of every world of a run, so that no pid, no descriptor and no address is an errno.
 use Rattle.std.specs.Prelude.{◌≡◌, ℕ, ◌+◌, ◌*◌, ◌≤◌, ◌<◌, []}
 use Rattle.std.specs.List.{AllByRecursion}
 use Rattle.mmap_rules.specs.Space.{memory_base, page_size}
 use Rattle.flat_loader.specs.Alone.{most_pages}
 use Rattle.machine_world.specs.World.{Process, LiveSpace, World}
-use Rattle.machine_world.specs.Order.{IsInOrder}
+use Rattle.machine_world.specs.Order.{IsCounted}
 use Rattle.stays_laws.specs.Sound.{IsSound}
 
 -- where the largest memory ends
@@ -20,10 +20,10 @@ pub record HasBreak (s : LiveSpace) : Type 0 where
   pub brk : s.space.brk ≤ memory_end
   pub high : s.space.brk_high ≤ memory_end
 
--- a sound world, whose counts are exact and in which no pipe is marked
+-- a sound world, in which what is open is counted exactly and no pipe is marked
 pub record IsRegular (w : World) : Type 0 where
   pub sound : IsSound w
-  pub order : IsInOrder w
+  pub counted : IsCounted w
   pub unmarked : w.rest.files.changed ≡ []
   pub parents : AllByRecursion IsYounger w.procs
   pub breaks : AllByRecursion HasBreak w.spaces

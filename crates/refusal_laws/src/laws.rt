@@ -2,8 +2,8 @@
 
 ghost use Rattle.refusal_laws.specs.Laws.{BootsAreRegular, EventsKeepRegular, TurnsKeepRegular, RunsKeepRegular, ErrnosAreRefusals, EnomemIsExact, NoRunIsExact, BootsWithoutRunAreExact};
 
-/// Of every world of a run over fresh files: it is sound, its counts are exact, no pipe is marked, each process is younger than its
-/// parent, and no break lies behind memory. It is so at boot, and every event, turn and run keeps it.
+/// Of every world of a run: it is sound, what is open is counted exactly, no pipe is marked, each process is younger than its parent,
+/// and no break lies behind memory. It is so at boot, and every event, turn and run keeps it.
 pub fn regular_law()
     ensures boots { BootsAreRegular }
     ensures events { EventsKeepRegular }

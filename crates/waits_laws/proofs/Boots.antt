@@ -15,8 +15,8 @@ use Rattle.vfork_exec.proofs.Keyed.{eqb_same, find_head, find_later}
 use Rattle.machine_world.specs.World.{Process, Rest, World, pid_of}
 use Rattle.machine_world.specs.Free.{free}
 use Rattle.machine_world.specs.Boot.{StartLine, BootFault, Found, found, path_of, begun, taken, placed, fitting, located, started, all_started, then_started, empty_world, boot}
+use Rattle.machine_world.proofs.CountedBoots.{boots_begin_counted}
 use Rattle.machine_world.proofs.Marks.{boots_leave_no_mark}
-use Rattle.machine_world.proofs.OrderBegins.{boots_begin_in_order}
 use Rattle.stays_laws.proofs.SoundRuns.{boots_are_sound}
 use Rattle.waits_laws.specs.Waits.{WaitsAgain, IfWaits}
 use Rattle.waits_laws.specs.Laws.{IsOrdered, BootsWaitWell}
@@ -129,12 +129,12 @@ unfolding boot
 boot_opens rest starts w is = subst Begins is (begins_all starts (empty_world rest) (empty_opens rest))
 
 pub boots_wait_well : BootsWaitWell
-boots_wait_well rest starts w can fresh few is =
+boots_wait_well rest starts w can closed few is =
     let opens : Opens w = boot_opens rest starts w is in
     let order : IsOrdered w = record {
       sound = boots_are_sound rest starts w can few is;
-      order = boots_begin_in_order rest starts w fresh (omega (arith, few)) is;
-      unmarked = boots_leave_no_mark rest starts w (ap (λ (fs : OpenFiles). fs.changed) fresh.files) is;
+      counted = boots_begin_counted rest starts w closed (omega (arith, few)) is;
+      unmarked = boots_leave_no_mark rest starts w (ap (λ (fs : OpenFiles). fs.changed) closed) is;
     } in (
       order,
       record {

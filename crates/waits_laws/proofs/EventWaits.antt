@@ -11,7 +11,6 @@ use Rattle.call_log.specs.Sent.{Span, sent}
 use Rattle.mmap_rules.specs.Space.{Space, writable_in}
 use Rattle.fd_tables.specs.Files.{free_number, view}
 use Rattle.fd_tables.specs.Pipes.{pipe_view, is_marked, none_changed}
-use Rattle.fd_tables.specs.Counts.{Counted}
 use Rattle.fd_tables.proofs.TablesThere.{has_table}
 use Rattle.vfork_exec.specs.declared.family.Who.{Who}
 use Rattle.vfork_exec.specs.declared.family.State.{State}
@@ -23,7 +22,7 @@ use Rattle.vfork_exec.proofs.Keyed.{eqb_is, eqb_same, eqb_other, any_map, any_ch
 use Rattle.vfork_exec.proofs.Families.{none_without}
 use Rattle.machine_world.specs.World.{Process, LiveSpace, World, pid_of, id_of}
 use Rattle.machine_world.specs.Families.{MayRun, has_child, AreChains}
-use Rattle.machine_world.specs.Asks.{Ask, Row, replies, waits, storage_of}
+use Rattle.machine_world.specs.Asks.{Ask, Row, replies, waits}
 use Rattle.machine_world.specs.Rows.{row}
 use Rattle.machine_world.specs.Event.{Trace, went, with_state, with_space, counted, number_of, args_of, replied, ask_of, stepped, trapped, ended, waited, classed, asked, answer, awake, effect, event}
 use Rattle.machine_world.specs.Others.{LeavesOthers}
@@ -33,6 +32,7 @@ use Rattle.machine_world.proofs.ByEvents.{Went, Answered, loading_of, by_classed
 use Rattle.machine_world.proofs.States.{event_is}
 use Rattle.machine_world.proofs.Beside.{events_leave_others}
 use Rattle.waits_laws.specs.Waits.{WaitsAgain, IfWaits, WaitsWell}
+use Rattle.machine_world.specs.Order.{AreCounted}
 use Rattle.waits_laws.specs.Laws.{IsOrdered}
 use Rattle.waits_laws.proofs.Shown.{shows_itself}
 use Rattle.waits_laws.proofs.RowsShow.{ShowsAsIn, rows_show}
@@ -217,7 +217,7 @@ module _ (w : World) (p : Process) (s : Space) (bytes : List ℕ) where
   call_is = by_classed (OneOrWait w p) (λ rest. Unit {0}) w a one_or_wait tt (any_row (row a))
 
   module _ (falls : Falls pid_of w.next_pid w.procs) (lives : find pid_of p.pid w.procs ≡ Some p) (ready : p.state ≡ Ready)
-      (has : has_table w.rest.files p.table ≡ true) (counts : Counted (storage_of w.rest)) where
+      (has : has_table w.rest.files p.table ≡ true) (counts : AreCounted w.rest.files) where
     none_told : (ended : List Ended) → Told w a ended → (own : ℕ) (who : Who) → first_ended own who w.ended ≡ None → first_ended own who ended ≡ None
     none_told ended (inl same) own who none = ap (first_ended own who) same ∙ none
     none_told ended (inr told) own who none = ap (first_ended own who) told.1 ∙ none_without own who p.pid told.0 w.ended none
@@ -248,8 +248,8 @@ module _ (w : World) (order : IsOrdered w) (well : WaitsWell w) (p : Process) (s
   has : has_table w.rest.files p.table ≡ true
   has = well.has_table p.pid p lives
 
-  counts : Counted (storage_of w.rest)
-  counts = order.order.counts
+  counts : AreCounted w.rest.files
+  counts = order.counted.counted
 
   -- where no pipe is marked
   settled_plain : (v : World) → v.rest.files.changed ≡ [] → Moves w p v.procs v.ended v.rest.files → Settled w p v

@@ -1,3 +1,4 @@
+-- Ordered   every event, turn and run leaves a world in order
 -- Shown     what a change of open files leaves of what other tables show of pipes, as a relation that chains
 -- ShownBehind  each change of open files leaves that
 -- RowsShow  and so does every row
@@ -12,6 +13,7 @@
 -- WaitRuns  behind every turn and run
 -- Boots     and in the opening world
 -- Stuck     where a run is stuck each that lives waits so, or stands still
+pub mod Ordered
 pub mod Shown
 pub mod ShownBehind
 pub mod RowsShow

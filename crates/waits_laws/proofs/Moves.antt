@@ -6,7 +6,6 @@ use Rattle.call_log.specs.declared.how.How.{How}
 use Rattle.rv32im_step.specs.declared.regs.Regs.{Regs}
 use Rattle.fd_tables.specs.Files.{Table, OpenFiles, table_at, free_number}
 use Rattle.fd_tables.specs.Changes.{with_copy, exec_closed, without_table}
-use Rattle.fd_tables.specs.Counts.{Counted}
 use Rattle.fd_tables.proofs.TablesThere.{has_table, has-exec_closed, copy_there, copy_keeps_tables}
 use Rattle.flat_loader.specs.Begin.{Loading}
 use Rattle.vfork_exec.specs.declared.family.Who.{Who}
@@ -23,6 +22,7 @@ use Rattle.machine_world.specs.Asks.{Ask, storage_of}
 use Rattle.machine_world.specs.Event.{child_of, with_child, with_exec}
 use Rattle.machine_world.proofs.Chains.{find_left, find_left_own, find_forked, find_forked_child, find_forked_own, find_exec, find_exec_own}
 use Rattle.waits_laws.specs.Waits.{IfWaits}
+use Rattle.machine_world.specs.Order.{AreCounted}
 use Rattle.waits_laws.proofs.Shown.{Shows}
 use Rattle.waits_laws.proofs.ShownBehind.{shows-with_copy, shows-exec_closed, shows-without_table}
 
@@ -66,7 +66,7 @@ still_same w procs ended q none child (OnPipe id) is = is
 still_same w procs ended q none child (Lent to) is = tt
 
 module _ (w : World) (p : Process) (falls : Falls pid_of w.next_pid w.procs) (lives : find pid_of p.pid w.procs ≡ Some p) (ready : p.state ≡ Ready)
-    (has : has_table w.rest.files p.table ≡ true) (counts : Counted (storage_of w.rest)) where
+    (has : has_table w.rest.files p.table ≡ true) (counts : AreCounted w.rest.files) where
   low : p.pid < w.next_pid
   low = find_below pid_of p.pid w.next_pid w.procs p falls lives
 

@@ -6,13 +6,13 @@ use Rattle.fd_tables.specs.Files.{Table, Pipe, OpenFiles, at_number}
 use Rattle.fd_tables.proofs.TablesThere.{has_table, has-duplicated, has-replaced, has-closed, has-moved, has-taken, has-piped, has-opened}
 use Rattle.machine_world.proofs.OtherTables.{tables-pipe_taken, tables-pipe_put}
 use Rattle.fd_tables.specs.Pipes.{pipe_at, shown_pipe, held_in, pipe_view, pipe_bytes}
-use Rattle.fd_tables.specs.Counts.{Counted}
 use Rattle.machine_world.specs.World.{Rest}
 use Rattle.machine_world.specs.Asks.{Ask, storage_of}
 use Rattle.machine_world.specs.Descriptors.{table_of}
 use Rattle.machine_world.specs.Rows.{row}
 use Rattle.machine_world.proofs.Kept.{Kept, Answers}
 use Rattle.machine_world.proofs.ByRows.{by_rows}
+use Rattle.machine_world.specs.Order.{AreCounted}
 use Rattle.waits_laws.proofs.Shown.{Shows, shows_itself}
 use Rattle.waits_laws.proofs.ShownBehind.{shows-duplicated, shows-replaced, shows-closed, shows-moved, shows-taken, shows-piped, shows-pipe_taken, shows-pipe_put, shows-opened}
 
@@ -31,7 +31,7 @@ held_bytes fs id = held_is (pipe_at fs id)
 front_fits : (fs : OpenFiles) (id n : ℕ) → length (take n (pipe_bytes fs id)) ≤ (pipe_view fs id).held
 front_fits fs id n = omega (arith, length-take n (pipe_bytes fs id), held_bytes fs id)
 
-module _ (a : Ask) (counts : Counted (storage_of a.rest)) where
+module _ (a : Ask) (counts : AreCounted a.rest.files) where
   abbrev t : ℕ
   t = table_of a
 

@@ -12,7 +12,7 @@ use Rattle.fd_tables.specs.declared.open_file.Handle.TheVariants.{Input, Output,
 use Rattle.fd_tables.specs.declared.open_file.Descriptor.{Descriptor}
 use Rattle.fd_tables.specs.Files.{OpenFiles, at_number, table_at, free_number, descriptor, file_view, handle_view, descriptor_view, view}
 use Rattle.fd_tables.specs.Pipes.{pipe_id, pipe_view}
-use Rattle.fd_tables.specs.Changes.{Storage}
+use Rattle.fd_tables.specs.Changes.{Storage, storage}
 use Rattle.fd_tables.specs.Counts.{Counted}
 use Rattle.fd_tables.proofs.NextNumbers.{free_nothing}
 use Rattle.fd_tables.proofs.EndCounts.{EndThere, end_there}
@@ -26,7 +26,6 @@ use Rattle.vfork_exec.specs.Families.{first_ended}
 use Rattle.vfork_exec.proofs.Keyed.{find_key, find_below, find_head, find_later}
 use Rattle.machine_world.specs.World.{Process, World, pid_of, id_of}
 use Rattle.machine_world.specs.Families.{has_child, sharing, is_lent, AreLenders, AreChains}
-use Rattle.machine_world.specs.Asks.{storage_of}
 use Rattle.machine_world.specs.Event.{waited, answer}
 use Rattle.machine_world.specs.Others.{KeepsOwn, IsKept, LeavesOthers}
 use Rattle.machine_world.proofs.Chains.{find_sharing, head_ready}
@@ -160,7 +159,7 @@ module _ (w : World) (p : Process) (now : World) (order : IsOrdered w) (well : W
           pipes = λ fd v id end shown leads on.
               (let same : pipe ≡ id = cc in
               subst (λ (n : ℕ). pipe_view now.rest.files n ≡ pipe_view w.rest.files n) same
-              (found.1 (subst (λ (n : ℕ). n < w.rest.files.next_pipe) (sym same) (pipe_given (storage_of w.rest) q.table fd v id end order.order.counts shown leads))));
+              (found.1 (subst (λ (n : ℕ). n < w.rest.files.next_pipe) (sym same) (pipe_given (storage order.counted.counted.nodes w.rest.files) q.table fd v id end order.counted.counted.counts shown leads))));
           ended = λ who on. absurd cc;
           child = λ who on. absurd cc;
         }) (subst (λ (x : State). IfWaits x (WaitsAgain w q)) found.0 old)

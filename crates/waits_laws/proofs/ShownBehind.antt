@@ -15,7 +15,7 @@ use Rattle.fd_tables.specs.declared.open_file.Handle.TheVariants.{Input, Output,
 use Rattle.fd_tables.specs.declared.open_file.Descriptor.{Descriptor}
 use Rattle.fd_tables.specs.Files.{Table, Pipe, OpenFiles, at_number, table_at, with_next, descriptor_in, descriptor}
 use Rattle.fd_tables.specs.Pipes.{pipe_id, pipe_at, shown_pipe, pipe_view, is_marked, with_changed, with_pipe, pipe_taken, pipe_put}
-use Rattle.fd_tables.specs.Changes.{Storage, with_item, with_descriptor, with_file, shared, let_go, dropped, dropped_file, closed, closed_descriptor, new_file, with_open_file, opened, pipe_end, with_end, piped, copied_descriptor, with_cloexec, duplicated, replaced, moved, moved_handle, taken, first_table, with_table, all_shared, copied_table, with_copy, all_closed, all_descriptors, exec_closed, without_table}
+use Rattle.fd_tables.specs.Changes.{Storage, storage, with_item, with_descriptor, with_file, shared, let_go, dropped, dropped_file, closed, closed_descriptor, new_file, with_open_file, opened, pipe_end, with_end, piped, copied_descriptor, with_cloexec, duplicated, replaced, moved, moved_handle, taken, first_table, with_table, all_shared, copied_table, with_copy, all_closed, all_descriptors, exec_closed, without_table}
 use Rattle.fd_tables.specs.Counts.{uses_in, stands_for, leads_to, Counted}
 use Rattle.fd_tables.specs.CountLaws.{same_flag, shows_same, MarksExactly}
 use Rattle.fd_tables.proofs.AtNumbers.{made, item_at, item_other}
@@ -26,6 +26,8 @@ use Rattle.fd_tables.proofs.Sharing.{one, descriptor_counts}
 use Rattle.fd_tables.proofs.Uses.{itself}
 use Rattle.fd_tables.proofs.Counting.{counted-closed}
 use Rattle.fd_tables.proofs.MarksExact.{marks-closed, marks-pipe_taken, marks-pipe_put}
+use Rattle.machine_world.specs.Order.{AreCounted}
+use Rattle.machine_world.proofs.Counted.{closed-files, exec_closed-files, without_table-files}
 use Rattle.waits_laws.proofs.Shown.{Shows, shows_itself, shows_then, StaysAs, FilesStay, stays_itself, stays_as, still_shown, Quiet, quiet_shows}
 
 -- ---- open files
@@ -316,8 +318,8 @@ module _ (t : ℕ) where
   unfolding closed
   gone_of s fd = gone_descriptor s t fd (descriptor s.files t fd)
 
-  pub shows-closed : (s : Storage) (fd : ℕ) → Counted s → Shows t s.files (closed s t fd).files
-  shows-closed s fd counts =
+  shows-one_closed : (s : Storage) (fd : ℕ) → Counted s → Shows t s.files (closed s t fd).files
+  shows-one_closed s fd counts =
       let now : Storage = closed s t fd in
       let tables : (other : ℕ) → other ≢ t → table_at now.files other ≡ table_at s.files other = tables_of s fd in
       let files : FilesStay (Unit {0}) s.files.files now.files.files = (gone_of s fd).0 in
@@ -332,7 +334,11 @@ module _ (t : ℕ) where
         next = omega arith;
       }
 
-  pub shows-replaced : (s : Storage) (old new : ℕ) (cloexec : Bool) → Counted s → Shows t s.files (replaced s t old new cloexec).files
+  -- it shows so whatever the nodes
+  pub shows-closed : (s : Storage) (fd : ℕ) → AreCounted s.files → Shows t s.files (closed s t fd).files
+  shows-closed s fd c = subst (Shows t s.files) (closed-files c.nodes s.nodes s.files t fd) (shows-one_closed (storage c.nodes s.files) fd c.counts)
+
+  pub shows-replaced : (s : Storage) (old new : ℕ) (cloexec : Bool) → AreCounted s.files → Shows t s.files (replaced s t old new cloexec).files
   unfolding replaced
   shows-replaced s old new cloexec counts =
       shows_then t s.files (closed s t new).files (duplicated (closed s t new).files t old new cloexec)
@@ -342,7 +348,7 @@ module _ (t : ℕ) where
 
   module _ (test : Descriptor → Bool) where
     counts_by : (s : Storage) (fd : ℕ) (d : Descriptor) (b : Bool) → descriptor s.files t fd ≡ Some d → test d ≡ b → Counted s → Shows t s.files (all_closed test s t (fd ∷ [])).files × Counted (all_closed test s t (fd ∷ []))
-    counts_by s fd d true e f counts = rw (e, f) (shows-closed s fd counts, counted-closed s t fd counts)
+    counts_by s fd d true e f counts = rw (e, f) (shows-one_closed s fd counts, counted-closed s t fd counts)
     counts_by s fd d false e f counts = rw (e, f) (shows_itself t s.files, counts)
 
     one_closed : (s : Storage) (fd : ℕ) (o : Option Descriptor) → descriptor s.files t fd ≡ o → Counted s → Shows t s.files (all_closed test s t (fd ∷ [])).files × Counted (all_closed test s t (fd ∷ []))
@@ -355,9 +361,12 @@ module _ (t : ℕ) where
         let first = one_closed s fd _ refl counts in
         shows_then t s.files (all_closed test s t (fd ∷ [])).files (all_closed test s t (fd ∷ fds)).files first.0 (shows-all_closed fds (all_closed test s t (fd ∷ [])) first.1)
 
-  pub shows-exec_closed : (s : Storage) → Counted s → Shows t s.files (exec_closed s t).files
+  shows-exec : (s : Storage) → Counted s → Shows t s.files (exec_closed s t).files
   unfolding exec_closed
-  shows-exec_closed s counts = shows-all_closed (λ d. d.cloexec) all_descriptors s counts
+  shows-exec s counts = shows-all_closed (λ d. d.cloexec) all_descriptors s counts
+
+  pub shows-exec_closed : (s : Storage) → AreCounted s.files → Shows t s.files (exec_closed s t).files
+  shows-exec_closed s c = subst (Shows t s.files) (exec_closed-files c.nodes s.nodes s.files t) (shows-exec (storage c.nodes s.files) c.counts)
 
   -- the table goes
   shows-gone : (fs : OpenFiles) → Shows t fs (record fs { tables = with_item (λ table. None) fs.tables t })
@@ -369,9 +378,12 @@ module _ (t : ℕ) where
     next = refl;
   })
 
-  pub shows-without_table : (s : Storage) → Counted s → Shows t s.files (without_table s t).files
+  shows-departed : (s : Storage) → Counted s → Shows t s.files (without_table s t).files
   unfolding without_table
-  shows-without_table s counts =
+  shows-departed s counts =
       let now : Storage = all_closed (λ d. true) s t all_descriptors in
       shows_then t s.files now.files (record now.files { tables = with_item (λ table. None) now.files.tables t })
       (shows-all_closed (λ d. true) all_descriptors s counts) (shows-gone now.files)
+
+  pub shows-without_table : (s : Storage) → AreCounted s.files → Shows t s.files (without_table s t).files
+  shows-without_table s c = subst (Shows t s.files) (without_table-files c.nodes s.nodes s.files t) (shows-departed (storage c.nodes s.files) c.counts)

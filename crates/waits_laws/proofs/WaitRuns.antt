@@ -9,37 +9,22 @@ use Rattle.vfork_exec.specs.Keyed.{find}
 use Rattle.vfork_exec.proofs.Keyed.{find_key}
 use Rattle.machine_world.specs.World.{Process, World, pid_of}
 use Rattle.machine_world.specs.Families.{MayRun, ready_pids}
-use Rattle.machine_world.specs.Event.{Trace, Outcome, went, strays, full, idle, noted, event}
+use Rattle.machine_world.specs.Event.{Outcome, went, strays, full, idle, noted, event}
 use Rattle.machine_world.specs.Turns.{Walk, End, seen_of, stays_at, traced, turned, turn, going_on, quantum_turn, turns}
 use Rattle.machine_world.proofs.Runnable.{ready_found, may_run_still}
-use Rattle.machine_world.proofs.Marks.{events_leave_no_mark, turns_leave_no_mark}
-use Rattle.machine_world.proofs.OrderKept.{events_keep_order, turns_keep_order}
-use Rattle.stays_laws.proofs.SoundRuns.{events_keep_sound, turns_keep_sound}
+use Rattle.stays_laws.proofs.SoundRuns.{events_keep_sound}
 use Rattle.waits_laws.specs.Waits.{WaitsAgain, IfWaits, WaitsWell}
 use Rattle.waits_laws.specs.Laws.{IsOrdered, EventsKeepWaits, TurnsKeepWaits, RunsKeepWaits}
 use Rattle.waits_laws.proofs.Again.{waits_again}
 use Rattle.waits_laws.proofs.Lenders.{events_keep_lenders}
 use Rattle.waits_laws.proofs.EventWaits.{events_keep_waits_in}
+use Rattle.waits_laws.proofs.Ordered.{events_keep_ordered, turns_keep_ordered}
 
 pub events_keep_waits : EventsKeepWaits
 events_keep_waits w pid now t order well may is =
     let sound = events_keep_sound w pid now t order.sound may is in
     let lenders = events_keep_lenders w pid now t order.sound.chains order.sound.pids well.lenders may is sound.chains sound.pids in
     events_keep_waits_in w pid now t order well may is sound.chains lenders
-
-events_keep_ordered : (w : World) (pid : ℕ) (now : World) (t : Trace) → IsOrdered w → MayRun w pid → event w pid ≡ went now t → IsOrdered now
-events_keep_ordered w pid now t order may is = record {
-  sound = events_keep_sound w pid now t order.sound may is;
-  order = events_keep_order w pid now t order.order is;
-  unmarked = events_leave_no_mark w pid now t order.unmarked is;
-}
-
-turns_keep_ordered : (count pid : ℕ) (w : World) → IsOrdered w → MayRun w pid → IsOrdered (turn count pid w).world
-turns_keep_ordered count pid w order may = record {
-  sound = turns_keep_sound count pid w order.sound may;
-  order = turns_keep_order count pid w order.order;
-  unmarked = turns_leave_no_mark count pid w order.unmarked;
-}
 
 -- ---- a note more
 

@@ -1,5 +1,6 @@
 -- Who waits would wait again, at boot and along every run.
 use Rattle.std.specs.Prelude.{◌≡◌, ℕ, ◌≤◌, [], List, length, Some, Ok}
+use Rattle.fd_tables.specs.Files.{nothing_open}
 use Rattle.quantum_sched.specs.declared.Quantum.{Quantum}
 use Rattle.vfork_exec.specs.declared.family.State.{State}
 use Rattle.vfork_exec.specs.declared.family.State.TheVariants.{Ready, Waiting, OnPipe, Lent}
@@ -10,15 +11,15 @@ use Rattle.machine_world.specs.Families.{MayRun}
 use Rattle.machine_world.specs.Event.{Trace, went, event}
 use Rattle.machine_world.specs.Turns.{stuck, turn, turns}
 use Rattle.machine_world.specs.Boot.{StartLine, boot}
-use Rattle.machine_world.specs.Order.{IsFresh, IsInOrder}
+use Rattle.machine_world.specs.Order.{IsCounted}
 use Rattle.stays_laws.specs.Sound.{IsSound}
 use Rattle.stays_laws.specs.Laws.{CanBoot}
 use Rattle.waits_laws.specs.Waits.{WaitsAgain, HasVforkChild, WaitsWell}
 
--- a world that is sound, whose counts are exact and in which no pipe is marked, as every world of a run that boots over fresh files
+-- a world that is sound, in which what is open is counted exactly and no pipe is marked, as every world of a run
 pub record IsOrdered (w : World) : Type 0 where
   pub sound : IsSound w
-  pub order : IsInOrder w
+  pub counted : IsCounted w
   pub unmarked : w.rest.files.changed ≡ []
 
 abbrev pub EventsKeepWaits : Type 0
@@ -30,11 +31,11 @@ TurnsKeepWaits = (count pid : ℕ) (w : World) → IsOrdered w → WaitsWell w �
 abbrev pub RunsKeepWaits : Type 0
 RunsKeepWaits = (quanta : List Quantum) (w : World) → IsOrdered w → WaitsWell w → WaitsWell (turns quanta w).world
 
--- the opening world, over fresh files
+-- the opening world, before which nothing is open
 abbrev pub BootsWaitWell : Type 0
 BootsWaitWell =
-    (rest : Rest) (starts : List StartLine) (w : World) → CanBoot rest → IsFresh rest → length starts ≤ most_entries → boot rest starts ≡ Ok w →
-    IsOrdered w × WaitsWell w
+    (rest : Rest) (starts : List StartLine) (w : World) → CanBoot rest → rest.files ≡ nothing_open rest.files.stdin → length starts ≤ most_entries →
+    boot rest starts ≡ Ok w → IsOrdered w × WaitsWell w
 
 -- it waits so, or stands still for its vfork child, which lives and runs in its space
 abbrev pub WaitsOrLent : World → Process → State → Type 0
