@@ -1,13 +1,14 @@
 //! The parts of a run.
 
-ghost use Rattle.std.specs.Prelude.{◌≡◌, IfOk, false, []};
+ghost use Rattle.std.specs.Prelude.{◌≡◌, IfOk};
 ghost use Rattle.physical_turns.specs.Physical.{has_stray};
+ghost use Rattle.syscall_layer.specs.Awake.{awake_in};
 ghost use Rattle.syscall_layer.specs.InMemory.{without_newest};
 ghost use Rattle.syscall_layer.specs.Reach.{is_whole, reach_of};
 ghost use Rattle.syscall_layer.specs.Regular.{IsRegular};
 
 use crate::kept::KeptParts;
-use crate::reach::{Reach, has_stray, whole_table};
+use crate::reach::{Reach, whole_table};
 use bflt_format::Flat;
 use mmap_rules::Owners;
 use region_watch::Mode;
@@ -42,19 +43,19 @@ impl Model for Parts {
 }
 
 impl Parts {
-    /// A run in this mode over what is kept, with the programs that an execve may run. No pipe is marked. It looks through the notes for
-    /// a stray access.
+    /// A run in this mode over what is kept, with the programs that an execve may run. Those go on that wait on a pipe which changed,
+    /// so that no pipe is marked. It looks through the notes for a stray access.
     pub fn new(
         alloc: Global,
-        kept: KeptParts,
+        mut kept: KeptParts,
         programs: Vec<Flat>,
         mode: Mode,
     ) -> Result<Parts, AllocError>
-        requires { kept.files.changed ≡ [] }
-        ensures { IfOk result (λ parts. parts ≡ record { kept = kept; programs = programs.items; mode = mode; noted = has_stray kept.notes }) }
+        ensures { IfOk result (λ parts. parts ≡ record { kept = awake_in kept; programs = programs.items; mode = mode; noted = has_stray kept.notes }) }
     {
+        kept.wake_changed();
         let whole = whole_table(alloc, kept.regions.pages())?;
-        let noted = has_stray(kept.log.notes());
+        let noted = kept.has_stray();
         Ok(Parts {
             kept,
             programs,
@@ -72,13 +73,12 @@ impl Parts {
         if self.noted { Reach::Whole } else { Reach::Own }
     }
 
-    /// Takes back the newest note, that of the first stray access, where the parts are sound without it.
+    /// Takes back the newest note, where the parts are sound without it, and looks through the others for a stray access.
     pub fn take_back(&mut self)
         requires sound { IsRegular (without_newest self.old.kept) }
-        requires first { has_stray (without_newest self.old.kept).notes ≡ false }
-        ensures { self.new ≡ record self.old { kept = without_newest self.old.kept; noted = false } }
+        ensures { self.new ≡ record self.old { kept = without_newest self.old.kept; noted = has_stray (without_newest self.old.kept).notes } }
     {
         self.kept.take_back();
-        self.noted = false;
+        self.noted = self.kept.has_stray();
     }
 }

@@ -2,12 +2,14 @@
 
 ghost use Rattle.std.specs.Prelude.{◌≡◌, IfOk, Some};
 ghost use Rattle.machine_world.specs.Turns.{seen_of};
+ghost use Rattle.physical_turns.specs.Physical.{has_stray};
 ghost use Rattle.syscall_layer.specs.InMemory.{with_range, without_newest};
 ghost use Rattle.syscall_layer.specs.Regular.{IsRegular};
 ghost use Rattle.syscall_layer.specs.Serves.{NotesStray};
 
 use crate::keep::keep;
 use crate::kept::KeptParts;
+use crate::reach::has_stray;
 use call_log::{Note, Seen, SeenKind};
 use rv32im_step::{Access, AccessKind};
 use std::alloc::AllocError;
@@ -31,6 +33,13 @@ fn seen(access: Access) -> Seen
 }
 
 impl KeptParts {
+    /// Whether a stray access was noted. It looks through the notes.
+    pub(crate) fn has_stray(&self) -> bool
+        ensures { result ≡ has_stray self.now.notes }
+    {
+        has_stray(self.log.notes())
+    }
+
     /// Notes the access of a process that strays.
     pub fn note_stray(&mut self, pid: u32, access: Access) -> Result<(), AllocError>
         ensures strays { NotesStray pid access self.old self.new result }

@@ -1,6 +1,6 @@
 //! One process makes calls.
 
-ghost use Rattle.std.specs.Prelude.{◌≡◌, IfOk, IfSome, []};
+ghost use Rattle.std.specs.Prelude.{◌≡◌, IfSome};
 ghost use Rattle.vfork_exec.specs.Procs.{CanRun, Lives};
 
 use bflt_format::Flat;
@@ -36,9 +36,7 @@ const TEXT: u32 = 0x8000_0040;
 const HERE: u32 = 0xffff_ff9c;
 
 /// A memory of two pages in which process 1 has started.
-fn begun(rt: HostRuntime) -> Result<KeptParts, Fail>
-    ensures { IfOk result (λ parts. parts.files.changed ≡ []) }
-{
+fn begun(rt: HostRuntime) -> Result<KeptParts, Fail> {
     let flat = Flat::read(rt.alloc(), &HI)?;
     let args = vec![in rt.alloc(); Vec::from_slice(rt.alloc(), b"/a")?]?;
     let chooser = Chooser::new(Kind::First, |runs: &[Run], need: u32| {
