@@ -15,7 +15,11 @@ use Rattle.machine_world.specs.Programs.{LoadsPrograms}
 use Rattle.machine_world.proofs.Loads.{boot_loads_programs}
 use Rattle.machine_world.proofs.Marks.{boots_leave_no_mark}
 use Rattle.physical_turns.specs.Physical.{has_stray}
+use Rattle.bflt_format.specs.Values.{Values}
+use Rattle.region_watch.specs.declared.mode.Mode.{Mode}
+use Rattle.syscall_layer.specs.Awake.{with_wakes, awake_in}
 use Rattle.syscall_layer.specs.Kept.{Kept, nothing_yet}
+use Rattle.syscall_layer.specs.Parts.{RunParts}
 use Rattle.syscall_layer.specs.Reach.{is_whole, reach_of}
 use Rattle.syscall_layer.specs.Stands.{About, process_of, live_spaces, world_of}
 use Rattle.flat_machine.specs.declared.boot.BootRefusal.{BootRefusal}
@@ -139,9 +143,22 @@ pub machine_loads : (rest : Rest) (starts : List StartLine) (a : About) (k : Kep
 machine_loads rest starts a k is = boot_loads_programs rest starts (world_of a k) (sym is)
 
 -- over files of which no pipe is marked none is marked then
-pub unmarked_boot : (rest : Rest) (starts : List StartLine) (a : About) (k : Kept) → rest.files.changed ≡ [] → boot rest starts ≡ Ok (world_of a k) → k.files.changed ≡ []
+unmarked_boot : (rest : Rest) (starts : List StartLine) (a : About) (k : Kept) → rest.files.changed ≡ [] → boot rest starts ≡ Ok (world_of a k) → k.files.changed ≡ []
 unfolding world_of
 unmarked_boot rest starts a k none is = boots_leave_no_mark rest starts (world_of a k) none is
+
+-- where none is marked nobody goes on
+not_awake : (k : Kept) → k.files.changed ≡ [] → awake_in k ≡ k
+unfolding with_wakes
+not_awake k none =
+    ap (λ (marks : List ℕ). record k { procs = with_wakes marks k.procs; files = record k.files { changed = [] } }) none
+    ∙ ap (λ (marks : List ℕ). record k { files = record k.files { changed = marks } }) (sym none)
+
+-- so the parts of a run that boots have what the start lines left
+pub parts_boot : (rest : Rest) (starts : List StartLine) (a : About) (k : Kept) → rest.files.changed ≡ [] → boot rest starts ≡ Ok (world_of a k) → (parts : RunParts) (programs : List Values) (mode : Mode)
+    → parts ≡ record { kept = awake_in k; programs = programs; mode = mode; noted = has_stray k.notes } → parts ≡ record { kept = k; programs = programs; mode = mode; noted = has_stray k.notes }
+parts_boot rest starts a k none is parts programs mode are =
+    are ∙ ap (λ (x : Kept). record { kept = x; programs = programs; mode = mode; noted = has_stray k.notes }) (not_awake k (unmarked_boot rest starts a k none is))
 
 -- behind a noted stray access, and only there, all of memory is reached
 pub whole_reached : (noted : Bool) → noted ≡ is_whole (reach_of noted)

@@ -20,9 +20,10 @@ use Rattle.flat_machine.specs.declared.run.End.{End as Told}
 use Rattle.flat_machine.specs.declared.run.End.TheVariants as told
 use Rattle.stays_laws.specs.Stays.{AreRight, stays}
 use Rattle.stays_laws.specs.Sound.{IsSound}
-use Rattle.stays_laws.proofs.SoundRuns.{turns_keep_sound}
+use Rattle.waits_laws.specs.Laws.{IsOrdered}
+use Rattle.waits_laws.proofs.Ordered.{turns_keep_ordered}
 use Rattle.stays_laws.proofs.StaysRuns.{runs_keep_stays}
-use Rattle.flat_machine.specs.Runs.{repeated, Ends, Stops, Runs, KeepsStays}
+use Rattle.flat_machine.specs.Runs.{repeated, Ends, Stops, Runs, gone_through, KeepsStays}
 use Rattle.flat_machine.specs.State.{State, world}
 use Rattle.syscall_layer.specs.Kept.{Kept}
 use Rattle.syscall_layer.specs.Stands.{About, world_of}
@@ -81,16 +82,29 @@ turn_loads a b n pid count done old new r x same are =
     loaded_notes b new n (turn_has (LoadsPrograms n) pid count (world_of a old) done (world_of b new) r x
     (λ m. turn_loads_programs n m pid (world_of a old) (loads_programs a old n same are)))
 
--- and leaves a sound world
-pub turn_sound : (a b : About) (pid count done : ℕ) (old new : Kept) (r : Result (Option Told) AllocError) → TurnLeaves pid count (world_of a old) done (world_of b new) r
-    → CanRun old.procs pid → IsSound (world_of a old) → IsSound (world_of b new)
-turn_sound a b pid count done old new r x can sound =
-    turn_has IsSound pid count (world_of a old) done (world_of b new) r x (λ m. turns_keep_sound m pid (world_of a old) sound (may_run a old pid can))
+-- and leaves a world in order
+pub turn_ordered : (a b : About) (pid count done : ℕ) (old new : Kept) (r : Result (Option Told) AllocError) → TurnLeaves pid count (world_of a old) done (world_of b new) r
+    → CanRun old.procs pid → IsOrdered (world_of a old) → IsOrdered (world_of b new)
+turn_ordered a b pid count done old new r x can order =
+    turn_has IsOrdered pid count (world_of a old) done (world_of b new) r x (λ m. turns_keep_ordered m pid (world_of a old) order (may_run a old pid can))
+
+-- the world behind quanta that are all gone through
+pub comes_to : (front : List Quantum) (old new : World) → Comes front old new → (turns front old).world ≡ new
+comes_to front old new comes =
+    ap (λ qs. (turns qs old).world) (sym (append-nil front)) ∙ ap (λ (v : Walk). v.world) (comes.on []) ∙ ap (λ (v : Walk). v.world) (none_left new)
+
+-- and out of memory that of what was gone through
+went_through : (qs : List Quantum) (old new : World) (x : Stops qs old new) → (turns (gone_through x) old).world ≡ new
+went_through qs old new x =
+    let part : Quantum = record x.quantum { count = x.done } in
+    let behind : Comes (part ∷ []) x.before (turn x.done x.pid x.before).world = turn_comes part x.before x.pid x.chosen (turn x.done x.pid x.before) refl x.goes_on in
+    comes_to (gone_through x) old new (comes_on x.front (part ∷ []) old x.before new x.reached (subst (Comes (part ∷ []) x.before) x.walked behind))
 
 -- and every run what is right of the stays
 pub run_keeps_stays : (qs : List Quantum) (old new : State) (r : Result Told AllocError) → IsSound (world old) → Runs qs old new r → KeepsStays qs old new r
 run_keeps_stays qs old new (Ok end) sound x = λ told right. subst (AreRight (stays told (world old) qs)) (sym x.0) (runs_keep_stays told qs (world old) sound right)
-run_keeps_stays qs old new (Err error) sound x = tt
+run_keeps_stays qs old new (Err error) sound x = λ stops told right.
+    subst (AreRight (stays told (world old) (gone_through stops))) (went_through qs (world old) (world new) stops) (runs_keep_stays told (gone_through stops) (world old) sound right)
 
 -- ---- one after the other
 

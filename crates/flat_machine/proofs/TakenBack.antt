@@ -1,5 +1,5 @@
 -- Where memory ends in the event of the run's first stray access, its note is taken back, and the machine stands before that event.
-use Rattle.std.proofs.Common.{◌≡◌, ℕ, zero, suc, ◌+◌, ◌≤◌, true, false, List, [], ◌∷◌, drop, map, Option, Some, None, Result, Ok, Err, refl, sym, ap, subst, ◌∙◌, arith}
+use Rattle.std.proofs.Common.{◌≡◌, ℕ, zero, suc, ◌+◌, ◌≤◌, Bool, true, false, List, [], ◌∷◌, drop, length, map, Option, Some, None, Result, Ok, Err, refl, sym, ap, subst, ◌∙◌, arith}
 use Rattle.std.specs.Prelude.{OnErr}
 use Rattle.std.specs.declared.alloc.AllocError.{AllocError}
 use Rattle.std.proofs.lemmas.Bool.{false≢true, eqb-true}
@@ -9,11 +9,14 @@ use Rattle.vfork_exec.specs.Procs.{CanRun}
 use Rattle.machine_world.specs.World.{World}
 use Rattle.machine_world.specs.Programs.{AreLoaded}
 use Rattle.machine_world.specs.Ages.{AreChanged, kept_calls, most_at_boot}
+use Rattle.machine_world.specs.Order.{most_tables}
 use Rattle.stays_laws.specs.Sound.{most_given, IsSound}
+use Rattle.waits_laws.specs.Laws.{IsOrdered}
 use Rattle.physical_turns.specs.Physical.{Physical, Walk, has_stray}
 use Rattle.syscall_layer.specs.declared.reach.Reach.{Reach}
 use Rattle.syscall_layer.specs.declared.reach.Reach.TheVariants.{Own, Whole}
 use Rattle.syscall_layer.specs.InMemory.{physical_of, without_newest}
+use Rattle.syscall_layer.specs.Parts.{RunParts}
 use Rattle.syscall_layer.specs.Stands.{world_of}
 use Rattle.region_watch.specs.declared.mode.Mode.{Mode}
 use Rattle.region_watch.specs.declared.mode.Mode.TheVariants.{Halt, GoOn}
@@ -22,7 +25,7 @@ use Rattle.flat_machine.specs.declared.run.End.TheVariants as told
 use Rattle.flat_machine.specs.State.{State, about_of, world, one_memory, is_whole}
 use Rattle.flat_machine.specs.Leaves.{TurnLeaves}
 use Rattle.flat_machine.specs.LeavesIn.{StraysIn, TurnStopsIn, TurnLeavesIn, is_stray, has_rest, is_undone}
-use Rattle.flat_machine.proofs.Rounds.{turn_sound}
+use Rattle.flat_machine.proofs.Rounds.{turn_ordered}
 use Rattle.flat_machine.proofs.StraysOn.{first_is_quiet, taken_in, none_of}
 
 -- ---- without the newest note
@@ -48,6 +51,18 @@ sound_alike w notes same sound = record {
   calls = subst (λ (n : ℕ). n ≤ most_calls) same sound.calls;
 }
 
+-- and so it is in order
+order_alike : (w : World) (notes : List Note) → kept_calls w.notes ≡ kept_calls notes → IsOrdered w → IsOrdered (record w { notes = notes })
+order_alike w notes same order = record {
+  sound = sound_alike w notes same order.sound;
+  counted = record {
+    counted = order.counted.counted;
+    tables = subst (λ (n : ℕ). length w.rest.files.tables ≤ most_tables + n) same order.counted.tables;
+    calls = subst (λ (n : ℕ). n ≤ most_calls) same order.counted.calls;
+  };
+  unmarked = order.unmarked;
+}
+
 module _ (pid : ℕ) (at mid : Physical) (x : StraysIn pid at mid) where
   before_is : taken_in true mid ≡ at
   before_is = ap (taken_in true) x.noted
@@ -62,8 +77,8 @@ module _ (pid : ℕ) (at mid : Physical) (x : StraysIn pid at mid) where
       ap (λ (p : Physical). kept_calls p.world.notes) x.noted ∙ sum_by-cons (λ (k : ℕ). k) 0 (map calls_in at.world.notes) ∙ none
       ∙ sym (ap (λ (p : Physical). kept_calls p.world.notes) before_is)
 
-  sound_before : IsSound mid.world → IsSound (taken_in true mid).world
-  sound_before sound = sound_alike mid.world (drop 1 mid.world.notes) calls_alike sound
+  order_before : IsOrdered mid.world → IsOrdered (taken_in true mid).world
+  order_before order = order_alike mid.world (drop 1 mid.world.notes) calls_alike order
 
 -- ---- a turn that came to the run's first stray access
 
@@ -110,6 +125,11 @@ pub memory_back : (s : State) → one_memory (back s) ≡ taken_in true (one_mem
 unfolding physical_of world_of
 memory_back s = refl
 
+-- where no other stray access is noted, none is marked
+pub parts_back : (old new : RunParts) → new ≡ record old { kept = without_newest old.kept; noted = has_stray (drop 1 old.kept.notes) } → has_stray (drop 1 old.kept.notes) ≡ false
+    → new ≡ record old { kept = without_newest old.kept; noted = false }
+parts_back old new is quiet = is ∙ ap (λ (b : Bool). record old { kept = without_newest old.kept; noted = b }) quiet
+
 module _ (pid count left done later : ℕ) (old mid new : State) (first r : Result (Option Told) AllocError) (strays : is_stray first ≡ true)
     (x : TurnLeavesIn old.reach pid count (one_memory old) done (one_memory mid) first) (undone : is_undone later r ≡ true)
     (y : TurnLeavesIn Whole pid left (one_memory mid) later (one_memory new) r) where
@@ -123,9 +143,9 @@ module _ (pid count left done later : ℕ) (old mid new : State) (first r : Resu
   unfolding physical_of world_of
   quiet_back = ap (λ (p : Physical). has_stray (drop 1 p.world.notes)) still ∙ quiet_before pid there.at (one_memory mid) there.strays
 
-  pub sound_back : (old.reach ≡ Own → TurnLeaves pid count (world old) done (world mid) first) → CanRun old.kept.procs pid → has_stray old.kept.notes ≡ is_whole old.reach
-      → (has_stray old.kept.notes ≡ false → IsSound (world old)) → IsSound (world (back new))
+  pub order_back : (old.reach ≡ Own → TurnLeaves pid count (world old) done (world mid) first) → CanRun old.kept.procs pid → has_stray old.kept.notes ≡ is_whole old.reach
+      → (has_stray old.kept.notes ≡ false → IsOrdered (world old)) → IsOrdered (world (back new))
   unfolding physical_of world_of
-  sound_back leaves can strayed sound =
-      let here : IsSound (world mid) = turn_sound (about_of old) (about_of mid) pid count done old.kept mid.kept first (leaves there.own) can (sound (strayed ∙ ap is_whole there.own)) in
-      subst (λ (p : Physical). IsSound (taken_in true p).world) (sym still) (sound_before pid there.at (one_memory mid) there.strays here)
+  order_back leaves can strayed order =
+      let here : IsOrdered (world mid) = turn_ordered (about_of old) (about_of mid) pid count done old.kept mid.kept first (leaves there.own) can (order (strayed ∙ ap is_whole there.own)) in
+      subst (λ (p : Physical). IsOrdered (taken_in true p).world) (sym still) (order_before pid there.at (one_memory mid) there.strays here)

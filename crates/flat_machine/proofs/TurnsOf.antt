@@ -5,7 +5,7 @@ use Rattle.std.proofs.lemmas.Bool.{false≢true}
 use Rattle.vfork_exec.specs.Procs.{CanRun}
 use Rattle.machine_world.specs.World.{World}
 use Rattle.machine_world.specs.Programs.{AreLoaded}
-use Rattle.stays_laws.specs.Sound.{IsSound}
+use Rattle.waits_laws.specs.Laws.{IsOrdered}
 use Rattle.physical_turns.specs.Physical.{Physical, has_stray, physical_turn, Walk}
 use Rattle.physical_turns.proofs.Growth.{turns_leave_programs}
 use Rattle.syscall_layer.specs.declared.reach.Reach.{Reach}
@@ -18,7 +18,7 @@ use Rattle.flat_machine.specs.declared.run.End.TheVariants as told
 use Rattle.flat_machine.specs.State.{is_whole}
 use Rattle.flat_machine.specs.Leaves.{TurnLeaves}
 use Rattle.flat_machine.specs.LeavesIn.{TurnStopsIn, TurnLeavesIn, reach_behind}
-use Rattle.flat_machine.proofs.Rounds.{turn_loads, turn_sound}
+use Rattle.flat_machine.proofs.Rounds.{turn_loads, turn_ordered}
 
 -- what is loaded once is loaded for good
 abbrev Loaded : World → World → Type 0
@@ -69,12 +69,12 @@ module _ (reach : Reach) (headers : List (List ℕ)) (a : About) (n : ℕ) (pid 
       by Whole whole x = loads_whole x count_is are
 
   -- where none was noted behind it none was before it
-  pub sound_behind : CanRun old.procs pid → has_stray old.notes ≡ is_whole reach → has_stray new.notes ≡ is_whole (reach_behind reach r)
-      → (has_stray old.notes ≡ false → IsSound (world_of a old)) → has_stray new.notes ≡ false → IsSound (world_of (later done a) new)
-  sound_behind can before behind sound quiet = by reach refl
+  pub order_behind : CanRun old.procs pid → has_stray old.notes ≡ is_whole reach → has_stray new.notes ≡ is_whole (reach_behind reach r)
+      → (has_stray old.notes ≡ false → IsOrdered (world_of a old)) → has_stray new.notes ≡ false → IsOrdered (world_of (later done a) new)
+  order_behind can before behind order quiet = by reach refl
     where
-      by : (t : Reach) → reach ≡ t → IsSound (world_of (later done a) new)
-      by Own own = turn_sound a (later done a) pid count done old new r (leaves own) can (sound (before ∙ ap is_whole own))
+      by : (t : Reach) → reach ≡ t → IsOrdered (world_of (later done a) new)
+      by Own own = turn_ordered a (later done a) pid count done old new r (leaves own) can (order (before ∙ ap is_whole own))
       by Whole whole =
           let all : has_stray new.notes ≡ true = behind ∙ ap (λ (t : Reach). is_whole (reach_behind t r)) whole ∙ ap is_whole (whole_behind r) in
           absurd (false≢true (sym quiet ∙ all))

@@ -6,10 +6,8 @@ use Rattle.machine_world.specs.World.{Rest, World}
 use Rattle.machine_world.specs.Boot.{StartLine, BootFault, bad_start, args_too_big, no_run, empty_world}
 use Rattle.flat_machine.specs.declared.boot.BootRefusal.{BootRefusal}
 use Rattle.flat_machine.specs.declared.boot.BootRefusal.TheVariants as refusal
-use Rattle.machine_world.specs.Order.{IsFresh}
 use Rattle.stays_laws.specs.Stays.{AreRight, first_stays}
 use Rattle.waits_laws.specs.Waits.{WaitsWell}
-use Rattle.waits_laws.specs.Laws.{IsOrdered}
 use Rattle.syscall_layer.specs.Kept.{Kept}
 use Rattle.syscall_layer.specs.Stands.{About, world_of}
 use Rattle.flat_machine.specs.State.{State, world}
@@ -44,9 +42,9 @@ Begins a (Ok now) new (Err other) = ⊥
 Begins a (Err fault) new (Ok done) = ⊥
 Begins a (Err fault) new (Err refusal) = IsFault fault refusal
 
--- over fresh files all that wait in the machine's world wait well: none does yet
-abbrev pub BeginsWaits : Rest → Result State BootRefusal → Type 0
-BeginsWaits rest result = IfOk result (λ machine. IsFresh rest → IsOrdered (world machine) × WaitsWell (world machine))
+-- all that wait in the machine's world wait well: none does yet
+abbrev pub BeginsWaits : Result State BootRefusal → Type 0
+BeginsWaits result = IfOk result (λ machine. WaitsWell (world machine))
 
 -- the stays of the start lines are right for the machine's world: a program each, with no call and no event
 abbrev pub BeginsStays : Rest → List StartLine → Result State BootRefusal → Type 0

@@ -3,7 +3,7 @@ use Rattle.std.specs.Prelude.{◌≡◌, false, length}
 use Rattle.call_log.specs.Programs.{paths_of}
 use Rattle.machine_world.specs.Programs.{AreLoaded}
 use Rattle.flat_machine.specs.declared.machine.Machine.TheInside.{Inside}
-use Rattle.stays_laws.specs.Sound.{IsSound}
+use Rattle.waits_laws.specs.Laws.{IsOrdered}
 use Rattle.physical_turns.specs.Physical.{has_stray}
 use Rattle.syscall_layer.specs.Reach.{reach_of}
 use Rattle.flat_machine.specs.State.{State, is_whole, world}
@@ -19,10 +19,10 @@ state_of m = record {
   reach = reach_of m.parts.noted;
 }
 
--- each program has a path, each load note names a program that is there, the world is a sound one up to the first stray access, and
--- all of memory is reached just behind that, as the parts say of themselves
+-- each program has a path, each load note names a program that is there, the world is in order up to the first stray access, and all of
+-- memory is reached just behind that, as the parts say of themselves
 pub record Holds (m : Inside) : Type 0 where
   pub paths : length m.paths.items ≡ length m.parts.programs
   pub loads : AreLoaded (length m.parts.programs) m.parts.kept.notes
-  pub sound : has_stray m.parts.kept.notes ≡ false → IsSound (world (state_of m))
+  pub order : has_stray m.parts.kept.notes ≡ false → IsOrdered (world (state_of m))
   pub strayed : has_stray m.parts.kept.notes ≡ is_whole (reach_of m.parts.noted)

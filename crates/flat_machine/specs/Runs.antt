@@ -1,5 +1,5 @@
 -- What a run leaves, and why it stops.
-use Rattle.std.specs.Prelude.{◌≡◌, ◌≢◌, ℕ, zero, suc, ◌<◌, List, [], ◌∷◌, ◌++◌, Option, Some, None, Result, Ok, Err, OnOk}
+use Rattle.std.specs.Prelude.{◌≡◌, ◌≢◌, ℕ, zero, suc, ◌<◌, List, [], ◌∷◌, ◌++◌, Option, Some, None, Result, Ok, Err}
 use Rattle.std.specs.declared.alloc.AllocError.{AllocError}
 use Rattle.byte_words.specs.ByteMap.{Bytes}
 use Rattle.rv32im_step.specs.declared.regs.Regs.{Regs}
@@ -14,7 +14,7 @@ use Rattle.machine_world.specs.Courses.{Comes}
 use Rattle.machine_world.specs.Turns.{End, all_ended, stuck, out_of_quanta, stray_at, log_full, turn, turns}
 use Rattle.stays_laws.specs.Stays.{Stay, AreRight, stays}
 use Rattle.waits_laws.specs.Waits.{WaitsWell}
-use Rattle.waits_laws.specs.Laws.{IsOrdered, WaitsOrLent}
+use Rattle.waits_laws.specs.Laws.{WaitsOrLent}
 use Rattle.flat_machine.specs.declared.run.End.{End as Told}
 use Rattle.flat_machine.specs.declared.run.End.TheVariants as told
 use Rattle.flat_machine.specs.State.{State, world}
@@ -63,19 +63,27 @@ abbrev pub Runs : List Quantum → State → State → Result Told AllocError �
 Runs quanta old new (Ok end) = (world new ≡ (turns quanta (world old)).world) × Ends (turns quanta (world old)).end end
 Runs quanta old new (Err error) = Stops quanta (world old) (world new)
 
--- where what is told of each space's stay was right, it is right as it goes on along the turns: each process does what its program
--- does alone under the same replies
-abbrev pub KeepsStays : List Quantum → State → State → Result Told AllocError → Type 0
-KeepsStays quanta old new result =
-    OnOk result ((told : List Stay) → AreRight told (world old) → AreRight (stays told (world old) quanta) (world new))
+-- where what is told of each space's stay was right, it is right as it goes on along the turns of these quanta: each process does what
+-- its program does alone under the same replies
+abbrev pub KeepsStaysAlong : List Quantum → World → World → Type 0
+KeepsStaysAlong quanta old new = (told : List Stay) → AreRight told old → AreRight (stays told old quanta) new
 
--- where the world was in order and those that waited in it waited well, so it is behind the run, also out of memory
+-- what a run that is out of memory went through: the quanta in front, and so many events of the next one
+abbrev pub gone_through : {quanta : List Quantum} {old new : World} → Stops quanta old new → List Quantum
+gone_through stops = stops.front ++ record stops.quantum { count = stops.done } ∷ []
+
+-- along all of them, and out of memory along what was gone through
+abbrev pub KeepsStays : List Quantum → State → State → Result Told AllocError → Type 0
+KeepsStays quanta old new (Ok end) = KeepsStaysAlong quanta (world old) (world new)
+KeepsStays quanta old new (Err error) = (stops : Stops quanta (world old) (world new)) → KeepsStaysAlong (gone_through stops) (world old) (world new)
+
+-- where those that waited waited well, so they do behind the run, also out of memory
 abbrev pub KeepsWaits : State → State → Type 0
-KeepsWaits old new = IsOrdered (world old) → WaitsWell (world old) → IsOrdered (world new) × WaitsWell (world new)
+KeepsWaits old new = WaitsWell (world old) → WaitsWell (world new)
 
 -- and where the run is stuck, each process that lives waits in a call that would wait again, or stands still for its vfork child
 abbrev pub WaitsWhereStuck : State → State → Result Told AllocError → Type 0
 WaitsWhereStuck old new (Ok told.Stuck) =
-    IsOrdered (world old) → WaitsWell (world old) → (pid : ℕ) (p : Process) → find pid_of pid (world new).procs ≡ Some p → WaitsOrLent (world new) p p.state
+    WaitsWell (world old) → (pid : ℕ) (p : Process) → find pid_of pid (world new).procs ≡ Some p → WaitsOrLent (world new) p p.state
 WaitsWhereStuck old new (Ok other) = Unit {0}
 WaitsWhereStuck old new (Err error) = Unit {0}

@@ -127,7 +127,7 @@ impl Machine {
         ensures memory { IfOk result (λ machine. one_memory machine ≡ opening (headers_of setup.programs.items) (world machine)) }
         ensures mode { IfOk result (λ machine. machine.mode ≡ setup.mode) }
         ensures quiet { IfOk result (λ machine. has_stray (world machine).notes ≡ false) }
-        ensures waits { BeginsWaits (rest_of setup.pages (kind_of chooser.now) setup.paths.items setup.programs.items setup.tree setup.stdin.items) result }
+        ensures waits { BeginsWaits result }
         ensures alone { BeginsStays (rest_of setup.pages (kind_of chooser.now) setup.paths.items setup.programs.items setup.tree setup.stdin.items) (lines_of setup.starts.items) result }
     {
         let Setup {

@@ -6,7 +6,7 @@ ghost use Rattle.call_log.specs.Programs.{paths_of};
 ghost use Rattle.machine_world.specs.World.{program_path};
 ghost use Rattle.machine_world.specs.Programs.{AreLoaded};
 ghost use Rattle.physical_turns.specs.Physical.{has_stray};
-ghost use Rattle.stays_laws.specs.Sound.{IsSound};
+ghost use Rattle.waits_laws.specs.Laws.{IsOrdered};
 ghost use Rattle.flat_machine.specs.State.{world};
 
 use call_log::Note;
@@ -42,7 +42,7 @@ impl Machine {
     #[tactic(auto, unfolding(syscall_layer::specs::Stands::world_of))]
     pub fn kind(&self) -> Kind
         ensures kind { result ≡ (world self.now).rest.kind }
-        ensures sound { has_stray (world self.now).notes ≡ false → IsSound (world self.now) }
+        ensures order { has_stray (world self.now).notes ≡ false → IsOrdered (world self.now) }
     {
         self.kind
     }

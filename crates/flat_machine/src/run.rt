@@ -232,7 +232,7 @@ impl Machine {
         ensures stuck { IsHalting self.old → WaitsWhereStuck self.old self.new result }
         ensures alone { IsHalting self.old → KeepsStays (repeated count quanta.now) self.old self.new result }
     {
-        // Both for their clauses: as long as nothing strayed the world is sound, and copies hold their files.
+        // Both for their clauses: as long as nothing strayed the world is in order, and copies hold their files.
         let _kind = self.kind();
         tell_copies(&self.parts);
         for _time in 0..count {

@@ -14,10 +14,9 @@ use Rattle.physical_turns.specs.Physical.{has_stray}
 use Rattle.syscall_layer.specs.InMemory.{headers_of}
 use Rattle.syscall_layer.specs.Reach.{reach_of}
 use Rattle.syscall_layer.specs.Stands.{world_of}
-use Rattle.stays_laws.proofs.SoundRuns.{boots_are_sound}
 use Rattle.stays_laws.proofs.StaysRuns.{boots_begin_stays}
 use Rattle.flat_machine.specs.State.{about_boot, line_of, lines_of, rest_of}
-use Rattle.flat_machine.proofs.Booted.{more_pids, more_spaces, more_processes, more_pages, more_quiet, left_on, left_fails, left_none, fails_as, boots_from, machine_boots, machine_loads, unmarked_boot, whole_reached}
+use Rattle.flat_machine.proofs.Booted.{more_pids, more_spaces, more_processes, more_pages, more_quiet, left_on, left_fails, left_none, fails_as, boots_from, machine_boots, machine_loads, parts_boot, whole_reached}
 use Rattle.flat_machine.proofs.BootedIn.{lays_none, opened}
 use Rattle.flat_machine.proofs.Waiting.{boots_wait_well}
 use Rattle.flat_machine.proofs.machine.Machine.boot.Goals as goal
@@ -28,7 +27,7 @@ loop-start-init g c =
     let headers = headers_of c.args.setup.programs.items in
     let is = c.in_ok-parts.ensures in
     record {
-      left = refl;
+      left = refl {a = all_started (world_of a c.in_ok-parts.parts) (lines_of c.deref-start-items.result.now)};
       pids = ap (λ (k : Kept). k.procs.next_pid) is;
       spaces = ap (λ (k : Kept). length k.spaces) is;
       processes = ap (λ (k : Kept). count k.procs) is;
@@ -66,15 +65,6 @@ returns-in_err-begin-clause-world g c =
     c.from_residual-in_err-begin.ensures.0 c.from_residual-in_err-begin.ensures.1 fails in
     rw (← c.deref-start-items.ensures.value, ← first_is) told
 
-pub new-requires-3 : goal.new-requires-3
-new-requires-3 g c =
-    let a = about_boot (kind_of c.args.chooser.now) c.args.setup.paths.items c.args.setup.programs.items in
-    let rest = rest_of c.args.setup.pages (kind_of c.args.chooser.now) c.args.setup.paths.items c.args.setup.programs.items c.args.setup.tree c.args.setup.stdin.items in
-    let first_is = boots_from a c.args.setup.pages c.args.setup.tree c.in_ok-files.files.open_files rest c.in_ok-parts.parts (lines_of c.deref-start-items.result.now) c.in_ok-parts.ensures (ap (λ (files : OpenFiles). record rest { files = files }) c.in_ok-files.ensures) refl in
-    let all = left_none c.deref-start-items.result.now c.loop-start.start-index (world_of a c.loop-start.parts) (all_started (world_of a c.in_ok-parts.parts) (lines_of c.deref-start-items.result.now))
-    c.loop-start-test.false c.loop-start.invariant.left in
-    unmarked_boot rest (lines_of c.deref-start-items.result.now) a c.loop-start.parts refl (sym (all ∙ first_is))
-
 pub invariant_of-result : goal.invariant_of-result
 invariant_of-result g c =
     let a = about_boot (kind_of c.args.chooser.now) c.args.setup.paths.items c.args.setup.programs.items in
@@ -82,13 +72,14 @@ invariant_of-result g c =
     let first_is = boots_from a c.args.setup.pages c.args.setup.tree c.in_ok-files.files.open_files rest c.in_ok-parts.parts (lines_of c.deref-start-items.result.now) c.in_ok-parts.ensures (ap (λ (files : OpenFiles). record rest { files = files }) c.in_ok-files.ensures) refl in
     let all = left_none c.deref-start-items.result.now c.loop-start.start-index (world_of a c.loop-start.parts) (all_started (world_of a c.in_ok-parts.parts) (lines_of c.deref-start-items.result.now))
     c.loop-start-test.false c.loop-start.invariant.left in
+    let parts_is = parts_boot rest (lines_of c.deref-start-items.result.now) a c.loop-start.parts refl (sym (all ∙ first_is)) _ c.args.setup.programs.items c.args.setup.mode c.in_ok-new.ensures in
     let same : length (paths_of c.args.setup.paths.items) ≡ length c.args.setup.programs.items = length-map c.args.setup.paths.items (λ p. p.items) ∙ c.requires.paths in
     let few : length (lines_of c.deref-start-items.result.now) ≤ most_entries = let items = c.deref-start-items.ensures.value in omega (arith, c.requires.starts, length-map c.deref-start-items.result.now line_of, ap (λ (starts : List StartItem). length starts) items) in
     let loads = machine_loads rest (lines_of c.deref-start-items.result.now) a c.loop-start.parts (all ∙ first_is) in
-    rw c.in_ok-new.ensures (record {
+    rw parts_is (record {
       paths = c.requires.paths;
       loads = subst (λ n. AreLoaded n c.loop-start.parts.notes) (programs_count (paths_of c.args.setup.paths.items) c.args.setup.programs.items same) (loaded_notes a c.loop-start.parts (length rest.programs) loads);
-      sound = λ quiet. rw (c.kind.ensures) (boots_are_sound rest (lines_of c.deref-start-items.result.now) (world_of a c.loop-start.parts) (record { some = c.requires.some; most = c.requires.most; changes = c.requires.changes }) few (sym (all ∙ first_is)));
+      order = λ quiet. rw (c.kind.ensures) (boots_wait_well rest (lines_of c.deref-start-items.result.now) (world_of a c.loop-start.parts) (record { some = c.requires.some; most = c.requires.most; changes = c.requires.changes }) refl few (sym (all ∙ first_is))).0;
       strayed = whole_reached (has_stray c.loop-start.parts.notes);
     })
 
@@ -99,8 +90,9 @@ returns-clause-world g c =
     let first_is = boots_from a c.args.setup.pages c.args.setup.tree c.in_ok-files.files.open_files rest c.in_ok-parts.parts (lines_of c.deref-start-items.result.now) c.in_ok-parts.ensures (ap (λ (files : OpenFiles). record rest { files = files }) c.in_ok-files.ensures) refl in
     let all = left_none c.deref-start-items.result.now c.loop-start.start-index (world_of a c.loop-start.parts) (all_started (world_of a c.in_ok-parts.parts) (lines_of c.deref-start-items.result.now))
     c.loop-start-test.false c.loop-start.invariant.left in
+    let parts_is = parts_boot rest (lines_of c.deref-start-items.result.now) a c.loop-start.parts refl (sym (all ∙ first_is)) _ c.args.setup.programs.items c.args.setup.mode c.in_ok-new.ensures in
     let kind = c.kind.ensures in
-    rw (c.in_ok-new.ensures, ← c.deref-start-items.ensures.value, kind)
+    rw (parts_is, ← c.deref-start-items.ensures.value, kind)
     (machine_boots (world_of a c.loop-start.parts)
     (record { kept = c.loop-start.parts; kind = kind_of c.args.chooser.now; paths = paths_of c.args.setup.paths.items; programs = c.args.setup.programs.items; events = 0; mode = c.args.setup.mode; reach = reach_of (has_stray c.loop-start.parts.notes) })
     (boot rest (lines_of c.deref-start-items.result.now)) (all ∙ first_is) refl)
@@ -112,8 +104,9 @@ returns-clause-alone g c =
     let first_is = boots_from a c.args.setup.pages c.args.setup.tree c.in_ok-files.files.open_files rest c.in_ok-parts.parts (lines_of c.deref-start-items.result.now) c.in_ok-parts.ensures (ap (λ (files : OpenFiles). record rest { files = files }) c.in_ok-files.ensures) refl in
     let all = left_none c.deref-start-items.result.now c.loop-start.start-index (world_of a c.loop-start.parts) (all_started (world_of a c.in_ok-parts.parts) (lines_of c.deref-start-items.result.now))
     c.loop-start-test.false c.loop-start.invariant.left in
+    let parts_is = parts_boot rest (lines_of c.deref-start-items.result.now) a c.loop-start.parts refl (sym (all ∙ first_is)) _ c.args.setup.programs.items c.args.setup.mode c.in_ok-new.ensures in
     let kind = c.kind.ensures in
-    rw (c.in_ok-new.ensures, ← c.deref-start-items.ensures.value, kind)
+    rw (parts_is, ← c.deref-start-items.ensures.value, kind)
     (boots_begin_stays rest (lines_of c.deref-start-items.result.now) (world_of a c.loop-start.parts) (record { some = c.requires.some; most = c.requires.most; changes = c.requires.changes }) (sym (all ∙ first_is)))
 
 pub returns-clause-waits : goal.returns-clause-waits
@@ -123,10 +116,11 @@ returns-clause-waits g c =
     let first_is = boots_from a c.args.setup.pages c.args.setup.tree c.in_ok-files.files.open_files rest c.in_ok-parts.parts (lines_of c.deref-start-items.result.now) c.in_ok-parts.ensures (ap (λ (files : OpenFiles). record rest { files = files }) c.in_ok-files.ensures) refl in
     let all = left_none c.deref-start-items.result.now c.loop-start.start-index (world_of a c.loop-start.parts) (all_started (world_of a c.in_ok-parts.parts) (lines_of c.deref-start-items.result.now))
     c.loop-start-test.false c.loop-start.invariant.left in
+    let parts_is = parts_boot rest (lines_of c.deref-start-items.result.now) a c.loop-start.parts refl (sym (all ∙ first_is)) _ c.args.setup.programs.items c.args.setup.mode c.in_ok-new.ensures in
     let few : length (lines_of c.deref-start-items.result.now) ≤ most_entries = let items = c.deref-start-items.ensures.value in omega (arith, c.requires.starts, length-map c.deref-start-items.result.now line_of, ap (λ (starts : List StartItem). length starts) items) in
     let kind = c.kind.ensures in
-    rw (c.in_ok-new.ensures, kind)
-    (λ fresh. boots_wait_well rest (lines_of c.deref-start-items.result.now) (world_of a c.loop-start.parts) (record { some = c.requires.some; most = c.requires.most; changes = c.requires.changes }) fresh few (sym (all ∙ first_is)))
+    rw (parts_is, kind)
+    (boots_wait_well rest (lines_of c.deref-start-items.result.now) (world_of a c.loop-start.parts) (record { some = c.requires.some; most = c.requires.most; changes = c.requires.changes }) refl few (sym (all ∙ first_is))).1
 
 pub returns-clause-quiet : goal.returns-clause-quiet
 unfolding world_of
@@ -135,5 +129,10 @@ returns-clause-quiet g c = rw c.in_ok-new.ensures c.loop-start.invariant.quiet
 pub returns-clause-memory : goal.returns-clause-memory
 returns-clause-memory g c =
     let a = about_boot (kind_of c.args.chooser.now) c.args.setup.paths.items c.args.setup.programs.items in
+    let rest = rest_of c.args.setup.pages (kind_of c.args.chooser.now) c.args.setup.paths.items c.args.setup.programs.items c.args.setup.tree c.args.setup.stdin.items in
+    let first_is = boots_from a c.args.setup.pages c.args.setup.tree c.in_ok-files.files.open_files rest c.in_ok-parts.parts (lines_of c.deref-start-items.result.now) c.in_ok-parts.ensures (ap (λ (files : OpenFiles). record rest { files = files }) c.in_ok-files.ensures) refl in
+    let all = left_none c.deref-start-items.result.now c.loop-start.start-index (world_of a c.loop-start.parts) (all_started (world_of a c.in_ok-parts.parts) (lines_of c.deref-start-items.result.now))
+    c.loop-start-test.false c.loop-start.invariant.left in
+    let parts_is = parts_boot rest (lines_of c.deref-start-items.result.now) a c.loop-start.parts refl (sym (all ∙ first_is)) _ c.args.setup.programs.items c.args.setup.mode c.in_ok-new.ensures in
     let kind = c.kind.ensures in
-    rw (c.in_ok-new.ensures, kind) (opened (headers_of c.args.setup.programs.items) a c.loop-start.parts c.loop-start.invariant.laid)
+    rw (parts_is, kind) (opened (headers_of c.args.setup.programs.items) a c.loop-start.parts c.loop-start.invariant.laid)

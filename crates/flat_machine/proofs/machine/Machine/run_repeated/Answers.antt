@@ -112,31 +112,35 @@ returns-clause-first g c go quiet =
 
 pub returns-in-Some-clause-alone : goal.returns-in-Some-clause-alone
 returns-in-Some-clause-alone g c halting =
-    run_keeps_stays (repeated c.args.count c.args.quanta.now) c.args.self.now c.round.new.self (Ok c.in-Some.end) (c.kind-kind.ensures.sound halting.quiet) (returns-in-Some-clause-turns g c halting)
+    run_keeps_stays (repeated c.args.count c.args.quanta.now) c.args.self.now c.round.new.self (Ok c.in-Some.end) (c.kind-kind.ensures.order halting.quiet).sound (returns-in-Some-clause-turns g c halting)
 
 pub returns-in-Some-clause-waits : goal.returns-in-Some-clause-waits
 returns-in-Some-clause-waits g c halting =
-    run_keeps_waits (repeated c.args.count c.args.quanta.now) c.args.self.now c.round.new.self (Ok c.in-Some.end) (returns-in-Some-clause-turns g c halting)
+    run_keeps_waits (repeated c.args.count c.args.quanta.now) c.args.self.now c.round.new.self (Ok c.in-Some.end) (c.kind-kind.ensures.order halting.quiet) (returns-in-Some-clause-turns g c halting)
 
 pub returns-in-Some-clause-stuck : goal.returns-in-Some-clause-stuck
 returns-in-Some-clause-stuck g c halting =
-    run_waits_where_stuck (repeated c.args.count c.args.quanta.now) c.args.self.now c.round.new.self (Ok c.in-Some.end) (returns-in-Some-clause-turns g c halting)
+    run_waits_where_stuck (repeated c.args.count c.args.quanta.now) c.args.self.now c.round.new.self (Ok c.in-Some.end) (c.kind-kind.ensures.order halting.quiet) (returns-in-Some-clause-turns g c halting)
 
 pub returns-clause-alone : goal.returns-clause-alone
 returns-clause-alone g c halting =
-    run_keeps_stays (repeated c.args.count c.args.quanta.now) c.args.self.now c.loop-time.self (Ok c.last_end.result) (c.kind-kind.ensures.sound halting.quiet) (returns-clause-turns g c halting)
+    run_keeps_stays (repeated c.args.count c.args.quanta.now) c.args.self.now c.loop-time.self (Ok c.last_end.result) (c.kind-kind.ensures.order halting.quiet).sound (returns-clause-turns g c halting)
 
 pub returns-clause-waits : goal.returns-clause-waits
 returns-clause-waits g c halting =
-    run_keeps_waits (repeated c.args.count c.args.quanta.now) c.args.self.now c.loop-time.self (Ok c.last_end.result) (returns-clause-turns g c halting)
+    run_keeps_waits (repeated c.args.count c.args.quanta.now) c.args.self.now c.loop-time.self (Ok c.last_end.result) (c.kind-kind.ensures.order halting.quiet) (returns-clause-turns g c halting)
 
 pub returns-clause-stuck : goal.returns-clause-stuck
 returns-clause-stuck g c halting =
-    run_waits_where_stuck (repeated c.args.count c.args.quanta.now) c.args.self.now c.loop-time.self (Ok c.last_end.result) (returns-clause-turns g c halting)
+    run_waits_where_stuck (repeated c.args.count c.args.quanta.now) c.args.self.now c.loop-time.self (Ok c.last_end.result) (c.kind-kind.ensures.order halting.quiet) (returns-clause-turns g c halting)
+
+pub returns-in_err-end-clause-alone : goal.returns-in_err-end-clause-alone
+returns-in_err-end-clause-alone g c halting =
+    run_keeps_stays (repeated c.args.count c.args.quanta.now) c.args.self.now c.round.new.self c.from_residual.result (c.kind-kind.ensures.order halting.quiet).sound (returns-in_err-end-clause-turns g c halting)
 
 pub returns-in_err-end-clause-waits : goal.returns-in_err-end-clause-waits
 returns-in_err-end-clause-waits g c halting =
-    run_keeps_waits (repeated c.args.count c.args.quanta.now) c.args.self.now c.round.new.self c.from_residual.result (returns-in_err-end-clause-turns g c halting)
+    run_keeps_waits (repeated c.args.count c.args.quanta.now) c.args.self.now c.round.new.self c.from_residual.result (c.kind-kind.ensures.order halting.quiet) (returns-in_err-end-clause-turns g c halting)
 
 -- ---- whether it met a stray access
 

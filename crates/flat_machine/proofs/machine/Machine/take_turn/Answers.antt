@@ -1,9 +1,9 @@
 -- The process of the quantum has its turn, and what is left of it behind the first stray access.
-use Rattle.std.proofs.Common.{◌≡◌, ◌-◌, ◌∷◌, [], Bool, false, true, length, Some, None, Ok, sym, ap, subst, ◌∙◌}
+use Rattle.std.proofs.Common.{◌≡◌, ◌-◌, ◌∷◌, [], Bool, false, true, drop, length, Some, None, Ok, sym, ap, subst, ◌∙◌}
 use Rattle.quantum_sched.specs.Picked.{picked}
 use Rattle.machine_world.specs.Families.{ready_pids}
 use Rattle.vfork_exec.specs.Procs.{CanRun}
-use Rattle.stays_laws.specs.Sound.{IsSound}
+use Rattle.waits_laws.specs.Laws.{IsOrdered}
 use Rattle.physical_turns.specs.Physical.{Physical, has_stray}
 use Rattle.syscall_layer.specs.declared.reach.Reach.{Reach}
 use Rattle.syscall_layer.specs.declared.reach.Reach.TheVariants.{Own, Whole}
@@ -20,7 +20,7 @@ use Rattle.flat_machine.specs.LeavesIn.{LeavesIn, TurnLeavesIn, is_stray, has_re
 use Rattle.flat_machine.proofs.Rounds.{quantum_none, quantum_leaves}
 use Rattle.flat_machine.proofs.RoundsIn.{quantum_none_in, quantum_leaves_in, quantum_goes_past, stray_of, stray_reach, calm_reach, first_none, first_quiet, past_by, chosen_in, may_run_in, tells_in, own_here}
 use Rattle.flat_machine.proofs.StraysOn.{taken_in}
-use Rattle.flat_machine.proofs.TakenBack.{back, loads_back, memory_back, quiet_back, rest_strays, sound_back, undone_has}
+use Rattle.flat_machine.proofs.TakenBack.{back, loads_back, memory_back, quiet_back, rest_strays, order_back, parts_back, undone_has}
 use Rattle.flat_machine.proofs.machine.Machine.take_turn.Goals as goal
 
 pub returns-in_default-clause-leaves : goal.returns-in_default-clause-leaves
@@ -42,8 +42,8 @@ returns-in_default-clause-first g c go quiet =
     let calm = rw (← v) at quiet in
     rw (← v) (first_none c.args.quantum (world s) (sym (c.in_default.ensures.picked (about_of s))) c.none_runs.result (c.none_runs.ensures (about_of s)) calm)
 
-pub take_back-requires-clause-sound : goal.take_back-requires-clause-sound
-take_back-requires-clause-sound g c =
+pub take_back-requires : goal.take_back-requires
+take_back-requires g c =
     let s = state_of c.self.inside in
     let v = c.self.view_is in
     let has : has_rest c.self-2.inside.parts.mode c.turn_of-events.result.end ≡ true = sym c.has_rest.ensures ∙ c.if-has_rest.true in
@@ -52,21 +52,9 @@ take_back-requires-clause-sound g c =
     let at = stray_of c.turn_of-events.result.end strays in
     let same : c.turn_of-rest.new.self.kept ≡ c.turn_of-events.new.self.kept =
     undone_has c.turn_of-rest.result.events c.turn_of-rest.result.end (c.turn_of-rest.new.self.kept ≡ c.turn_of-events.new.self.kept) undone c.turn_of-rest.ensures.still in
-    subst (λ (k : Kept). IsRegular (without_newest k)) (sym (ap (λ (x : State). x.kept) c.self-then-has_rest.view_is ∙ same)) (c.turn_of-events.ensures.sound at.0 at.1)
-
-pub take_back-requires-clause-first : goal.take_back-requires-clause-first
-take_back-requires-clause-first g c =
-    let has : has_rest c.self-2.inside.parts.mode c.turn_of-events.result.end ≡ true = sym c.has_rest.ensures ∙ c.if-has_rest.true in
-    let strays : is_stray c.turn_of-events.result.end ≡ true = rest_strays c.self-2.inside.parts.mode c.turn_of-events.result.end has in
-    let reached : c.turn_of-events.new.self.reach ≡ Whole = c.turn_of-events.ensures.reach ∙ stray_reach c.args.self.now.reach c.turn_of-events.result.end strays in
-    let rest = subst (λ (reach : Reach). TurnLeavesIn reach c.in-Some.pid (c.args.quantum.count - c.turn_of-events.result.events) (one_memory c.turn_of-events.new.self) c.turn_of-rest.result.events
-    (one_memory c.turn_of-rest.new.self) c.turn_of-rest.result.end) reached c.turn_of-rest.ensures.memory in
-    let undone : is_undone c.turn_of-rest.result.events c.turn_of-rest.result.end ≡ true = sym c.is_undone.ensures ∙ c.if-is_undone.true in
-    let new = state_of c.self-then-has_rest.inside in
-    let left = subst (λ (x : State). TurnLeavesIn Whole c.in-Some.pid (c.args.quantum.count - c.turn_of-events.result.events) (one_memory c.turn_of-events.new.self) c.turn_of-rest.result.events (one_memory x)
-    c.turn_of-rest.result.end) (sym c.self-then-has_rest.view_is) rest in
-    quiet_back c.in-Some.pid c.args.quantum.count (c.args.quantum.count - c.turn_of-events.result.events) c.turn_of-events.result.events c.turn_of-rest.result.events c.args.self.now
-    c.turn_of-events.new.self new c.turn_of-events.result.end c.turn_of-rest.result.end strays c.turn_of-events.ensures.memory undone left
+    let sound : IsRegular (without_newest c.self-then-has_rest.inside.parts.kept) =
+    subst (λ (k : Kept). IsRegular (without_newest k)) (sym (ap (λ (x : State). x.kept) c.self-then-has_rest.view_is ∙ same)) (c.turn_of-events.ensures.sound at.0 at.1) in
+    record { sound = sound }
 
 pub invariant_of-self : goal.invariant_of-self
 invariant_of-self g c =
@@ -83,14 +71,17 @@ invariant_of-self g c =
     c.turn_of-rest.result.end) (sym c.self-then-has_rest.view_is) rest in
     let can = subst (λ (x : State). CanRun x.kept.procs c.in-Some.pid) v c.in-Some.ensures.ready in
     let strayed = subst (λ (x : State). has_stray x.kept.notes ≡ is_whole x.reach) v c.self.invariant.strayed in
-    let sound = subst (λ (x : State). has_stray x.kept.notes ≡ false → IsSound (world x)) v c.self.invariant.sound in
-    rw c.take_back.ensures (record {
+    let order = subst (λ (x : State). has_stray x.kept.notes ≡ false → IsOrdered (world x)) v c.self.invariant.order in
+    let quiet : has_stray (drop 1 new.kept.notes) ≡ false =
+    quiet_back c.in-Some.pid c.args.quantum.count (c.args.quantum.count - c.turn_of-events.result.events) c.turn_of-events.result.events c.turn_of-rest.result.events c.args.self.now
+    c.turn_of-events.new.self new c.turn_of-events.result.end c.turn_of-rest.result.end strays c.turn_of-events.ensures.memory undone left in
+    let taken = parts_back c.self-then-has_rest.inside.parts _ c.take_back.ensures quiet in
+    rw taken (record {
       paths = c.self-then-has_rest.invariant.paths;
       loads = loads_back (length c.self-then-has_rest.inside.parts.programs) c.self-then-has_rest.inside.parts.kept.notes c.self-then-has_rest.invariant.loads;
-      sound = λ quiet. sound_back c.in-Some.pid c.args.quantum.count (c.args.quantum.count - c.turn_of-events.result.events) c.turn_of-events.result.events c.turn_of-rest.result.events c.args.self.now
-          c.turn_of-events.new.self new c.turn_of-events.result.end c.turn_of-rest.result.end strays c.turn_of-events.ensures.memory undone left c.turn_of-events.ensures.leaves can strayed sound;
-      strayed = quiet_back c.in-Some.pid c.args.quantum.count (c.args.quantum.count - c.turn_of-events.result.events) c.turn_of-events.result.events c.turn_of-rest.result.events c.args.self.now
-          c.turn_of-events.new.self new c.turn_of-events.result.end c.turn_of-rest.result.end strays c.turn_of-events.ensures.memory undone left;
+      order = λ none. order_back c.in-Some.pid c.args.quantum.count (c.args.quantum.count - c.turn_of-events.result.events) c.turn_of-events.result.events c.turn_of-rest.result.events c.args.self.now
+          c.turn_of-events.new.self new c.turn_of-events.result.end c.turn_of-rest.result.end strays c.turn_of-events.ensures.memory undone left c.turn_of-events.ensures.leaves can strayed order;
+      strayed = quiet;
     })
 
 pub returns-then-is_undone-clause-memory : goal.returns-then-is_undone-clause-memory
@@ -113,7 +104,13 @@ returns-then-is_undone-clause-memory g c go =
     let new = state_of c.self-then-has_rest.inside in
     let is : taken_in (is_undone c.turn_of-rest.result.events c.turn_of-rest.result.end) (one_memory c.turn_of-rest.new.self) ≡ one_memory (back new) =
     (λ i. taken_in (undone i) (one_memory (sym c.self-then-has_rest.view_is i))) ∙ sym (memory_back new) in
-    rw c.take_back.ensures (subst (λ (p : Physical). LeavesIn (c.args.quantum ∷ []) (one_memory c.args.self.now) p c.turn_of-rest.result.end) is past)
+    let left = subst (λ (x : State). TurnLeavesIn Whole c.in-Some.pid (c.args.quantum.count - c.turn_of-events.result.events) (one_memory c.turn_of-events.new.self) c.turn_of-rest.result.events (one_memory x)
+    c.turn_of-rest.result.end) (sym c.self-then-has_rest.view_is) rest in
+    let quiet : has_stray (drop 1 new.kept.notes) ≡ false =
+    quiet_back c.in-Some.pid c.args.quantum.count (c.args.quantum.count - c.turn_of-events.result.events) c.turn_of-events.result.events c.turn_of-rest.result.events c.args.self.now
+    c.turn_of-events.new.self new c.turn_of-events.result.end c.turn_of-rest.result.end strays c.turn_of-events.ensures.memory undone left in
+    let taken = parts_back c.self-then-has_rest.inside.parts _ c.take_back.ensures quiet in
+    rw taken (subst (λ (p : Physical). LeavesIn (c.args.quantum ∷ []) (one_memory c.args.self.now) p c.turn_of-rest.result.end) is past)
 
 pub returns-else-is_undone-clause-memory : goal.returns-else-is_undone-clause-memory
 returns-else-is_undone-clause-memory g c go =

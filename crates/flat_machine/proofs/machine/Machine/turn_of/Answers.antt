@@ -12,7 +12,7 @@ use Rattle.flat_machine.specs.Inside.{state_of}
 use Rattle.flat_machine.specs.LeavesIn.{TurnLeavesIn, reach_behind}
 use Rattle.flat_machine.proofs.Readers.{are_flats, programs_count}
 use Rattle.flat_machine.proofs.HoldFiles.{turn_holds}
-use Rattle.flat_machine.proofs.TurnsOf.{loads_behind, sound_behind}
+use Rattle.flat_machine.proofs.TurnsOf.{loads_behind, order_behind}
 use Rattle.flat_machine.proofs.machine.Machine.turn_of.Goals as goal
 
 pub invariant_of-self : goal.invariant_of-self
@@ -29,8 +29,8 @@ invariant_of-self g c =
       paths = c.self.invariant.paths;
       loads = loads_behind (reach_of m.parts.noted) (headers_of m.parts.programs) a (length m.parts.programs) c.args.pid c.args.count c.turn-events.result.events m.parts.kept c.turn-events.new.parts.kept c.turn-events.result.end
           (λ own. c.turn-events.ensures.leaves own a so are) memory (programs_count s.paths s.programs same) c.self.invariant.loads;
-      sound = rw (c.from.ensures) (sound_behind (reach_of m.parts.noted) (headers_of m.parts.programs) a (length m.parts.programs) c.args.pid c.args.count c.turn-events.result.events m.parts.kept c.turn-events.new.parts.kept c.turn-events.result.end
-          (λ own. c.turn-events.ensures.leaves own a so are) memory ready c.self.invariant.strayed c.turn-events.ensures.notes c.self.invariant.sound);
+      order = rw (c.from.ensures) (order_behind (reach_of m.parts.noted) (headers_of m.parts.programs) a (length m.parts.programs) c.args.pid c.args.count c.turn-events.result.events m.parts.kept c.turn-events.new.parts.kept c.turn-events.result.end
+          (λ own. c.turn-events.ensures.leaves own a so are) memory ready c.self.invariant.strayed c.turn-events.ensures.notes c.self.invariant.order);
       strayed = c.turn-events.ensures.notes ∙ ap is_whole (sym c.turn-events.ensures.reach);
     })
 
