@@ -10,6 +10,7 @@
 -- CountSamples  open files, their counts, and counts that are wrong
 -- OrderSamples  a world in which both are right, and two in which one isn't
 -- SoundSamples  a sound world, and worlds that aren't sound
+-- OrderedSamples  a world in order, and three that aren't
 -- CopySamples   two spaces that share a copy of a file's page, and what isn't shared or copied so
 -- RegularSamples  a regular world, a bounded one and one memory that is so, and such as aren't
 -- ImageSamples  the image of a small ELF file, at two bases
@@ -43,6 +44,7 @@ pub mod TreeSamples
 mod CountSamples
 pub mod OrderSamples
 pub mod SoundSamples
+pub mod OrderedSamples
 mod CopySamples
 mod RegularSamples
 mod ImageSamples

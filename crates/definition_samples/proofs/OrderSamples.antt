@@ -73,7 +73,7 @@ whole : (t : ℕ) → IfSome (table_at rest.files t) (λ table. length table ≡
 whole zero = refl
 whole (suc t) = tt
 
-counted : Counted (storage_of rest)
+pub counted : Counted (storage_of rest)
 unfolding pipe_view find
 counted = record {
   uses = λ n. refl;
@@ -102,7 +102,7 @@ refuted-tree : IsInOrder (with_rest (record rest { tree = twice })) → ⊥
 refuted-tree o = refuted-twice o.tree
 
 -- a descriptor stands for an open file that isn't there
-abbrev lost : OpenFiles
+abbrev pub lost : OpenFiles
 lost = record rest.files { tables = Some (Some (record { handle = Open 0; cloexec = false }) ∷ replicate 31 None) ∷ [] }
 
 refuted-counts : IsInOrder (with_rest (record rest { files = lost })) → ⊥

@@ -16,7 +16,7 @@ use Rattle.physical_turns.specs.Physical.{Physical, or_below, over, zeros}
 use Rattle.physical_turns.specs.Courses.{IsShown}
 use Rattle.memory_refusals.specs.Regular.{IsRegularIn}
 use Rattle.definition_samples.proofs.Exits.{loading, process, space, running}
-use Rattle.definition_samples.proofs.OrderSamples.{in-order}
+use Rattle.definition_samples.proofs.OrderedSamples.{is-counted}
 use Rattle.definition_samples.proofs.SoundSamples.{is-sound}
 
 abbrev now : World
@@ -31,7 +31,7 @@ breaks = record { brk = omega arith; high = omega arith }
 is-regular : IsRegular now
 is-regular = record {
   sound = is-sound 0x8000_0080 0 0;
-  order = in-order 0x8000_0080 0 0;
+  counted = is-counted;
   unmarked = refl;
   parents = (omega arith, tt);
   breaks = (breaks, tt);
@@ -65,7 +65,7 @@ is-bounded = record {
   given = omega arith;
   parents = (omega arith, tt);
   spaces = (record { break = breaks; copies = (tt, tt) }, tt);
-  order = in-order 0x8000_0080 0 0;
+  counted = is-counted;
 }
 
 -- a page more than memory can have

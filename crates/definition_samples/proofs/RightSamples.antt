@@ -1,14 +1,15 @@
 -- What is right of stays for a world: of a program that is loaded, runs and exits; and what is told wrongly.
-use Rattle.std.proofs.Common.{◌≡◌, ℕ, zero, suc, ◌≤◌, Bool, true, false, List, [], ◌∷◌, map, sum, length, Some, refl, ap, sym, ◌∙◌, subst, arith}
+use Rattle.std.proofs.Common.{◌≡◌, ℕ, zero, suc, ◌+◌, ◌≤◌, Bool, true, false, List, [], ◌∷◌, map, sum, length, Option, Some, None, refl, ap, sym, ◌∙◌, subst, arith}
 use Rattle.std.specs.Prelude.{◌==◌, if◌then◌else◌, slice_get}
 use Rattle.std.proofs.lemmas.Bool.Decides.{nat_tests}
 use Rattle.std.proofs.lemmas.Option.{none-some, same_Some}
 use Rattle.call_log.specs.Notes.{CallEntry, call_note, load_note}
+use Rattle.flat_loader.specs.Original.{Original}
 use Rattle.flat_loader.specs.Alone.{Runner, Solo, Item, memory_of}
 use Rattle.vfork_exec.specs.Keyed.{find}
 use Rattle.machine_world.specs.World.{Process}
 use Rattle.stays_laws.specs.Stays.{Stay, runners, kept_calls_of, loads_of, belonging, alone_end, IsOver, Agrees, AllAgree, AreRight}
-use Rattle.definition_samples.proofs.Exits.{regs, exit_entry, exit_item, process, space, load, running, over}
+use Rattle.definition_samples.proofs.Exits.{exits, loading, regs, exit_entry, exit_item, process, space, load, running, over}
 use Rattle.definition_samples.proofs.StaysSamples.{stay, alone-first, alone-one, alone-all, alone-untold}
 
 -- ---- the parts
@@ -145,3 +146,16 @@ refuted-reply r = by r.told.places r.told.each (r.told.entries 0 (stay (other �
     by [] each is = omega (arith, each)
     by (n ∷ []) each is = first (n == 0) is
     by (n ∷ m ∷ ns) each is = omega (arith, each)
+
+-- of another program than the one that the load note names
+abbrev larger : Original
+larger = record exits { size = exits.size + 1 }
+
+sizes : List (ℕ × ℕ × Option Original) → ℕ
+sizes [] = 0
+sizes ((pid, block, None) ∷ heads) = 0
+sizes ((pid, block, Some original) ∷ heads) = original.size
+
+refuted-program : AreRight (record (stay [] 0) { loading = record loading { original = larger } } ∷ []) (running 0x8000_0080 0 0) → ⊥
+unfolding loads_of sizes
+refuted-program r = let is : exits.size + 1 ≡ exits.size = ap sizes r.loads in omega (arith, is)

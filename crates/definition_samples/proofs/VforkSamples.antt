@@ -16,7 +16,7 @@ use Rattle.rv32im_step.specs.Registers.{register, with_register}
 use Rattle.call_log.specs.Notes.{CallEntry, call_note, has_room}
 use Rattle.call_log.specs.Sent.{sent}
 use Rattle.mmap_rules.specs.Space.{writable_in}
-use Rattle.fd_tables.specs.Files.{nothing_open}
+use Rattle.fd_tables.specs.Files.{OpenFiles, nothing_open}
 use Rattle.fd_tables.specs.Changes.{first_table, closed, with_copy, without_table, all_descriptors}
 use Rattle.flat_loader.specs.Original.{Original, block_pages}
 use Rattle.flat_loader.specs.Frame.{frame_len, frame, frame_start}
@@ -28,7 +28,7 @@ use Rattle.vfork_exec.specs.declared.family.State.{State}
 use Rattle.vfork_exec.specs.declared.family.State.TheVariants.{Ready, Lent}
 use Rattle.vfork_exec.specs.Keyed.{find, change, without}
 use Rattle.vfork_exec.specs.Families.{resumed, state_behind, ended_behind}
-use Rattle.machine_world.specs.World.{Process, LiveSpace, World}
+use Rattle.machine_world.specs.World.{Rest, Process, LiveSpace, World}
 use Rattle.machine_world.specs.Families.{is_full, borrows, spaces_left, all_left_by, all_roused, ready_pids}
 use Rattle.machine_world.specs.Event.{ended, stepped, exited, forked, cloned, answer, settled, at_process, event}
 use Rattle.machine_world.specs.Turns.{turn, turns}
@@ -43,6 +43,10 @@ vforks = record {
   entry = 128;
   stack = 4096;
 }
+
+-- the program that stands as /x
+abbrev vforking : OpenFiles → Rest
+vforking files = record (rest_with files) { programs = record { path = codes "/x"; original = vforks } ∷ [] }
 
 abbrev loading : Loading
 loading = record { original = vforks; block = 0x8000_0000; args = codes "/x" ∷ []; env = [] }
@@ -63,7 +67,7 @@ first = record {
   spaces = space ∷ [];
   loads = 1;
   next_pid = 2;
-  rest = rest_with (record (nothing_open []) { tables = Some first_table ∷ [] });
+  rest = vforking (record (nothing_open []) { tables = Some first_table ∷ [] });
   notes = load ∷ [];
   events = 0;
 }
@@ -81,7 +85,7 @@ abbrev pub lent : World
 lent = record first {
   procs = process 2 1 1 (regs 0x8000_0090 0 220) Ready ∷ process 1 0 0 (regs 0x8000_0090 2 220) (Lent 2) ∷ [];
   next_pid = 3;
-  rest = rest_with (record (nothing_open []) { tables = Some first_table ∷ Some first_table ∷ [] });
+  rest = vforking (record (nothing_open []) { tables = Some first_table ∷ Some first_table ∷ [] });
   notes = call_note (entry 1 220 0x4111 2) ∷ load ∷ [];
   events = 4;
 }

@@ -1,16 +1,16 @@
 -- What is said of a run from its opening world on, of `run` and of `demo` alike. What the lines bring in has pages as the manifest says,
--- a tree of names in which each node is named and none is held, no file that was changed, and nothing is open yet: so the laws of boots hold.
-use Rattle.std.proofs.Common.{ℕ, ◌≤◌, List, length, map, refl, arith}
+-- no file that was changed, and nothing is open yet: so the laws of boots hold.
+use Rattle.std.proofs.Common.{◌≡◌, ℕ, ◌≤◌, List, length, map, refl, arith}
 use Rattle.std.proofs.lemmas.List.{length-map}
 use Rattle.page_runs.specs.declared.place.Kind.{Kind}
 use Rattle.quantum_sched.specs.declared.Quantum.{Quantum}
 use Rattle.manifest_text.specs.Values.{Manifest}
 use Rattle.manifest_text.specs.Laws.{Reasonable}
 use Rattle.run_setup.specs.Brought.{nothing_brought}
-use Rattle.run_setup.proofs.Unchanged.{opening_unchanged, lines_unchanged, lines_tree, lines_closed}
+use Rattle.fd_tables.specs.Files.{nothing_open}
+use Rattle.run_setup.proofs.Unchanged.{opening_unchanged, lines_unchanged}
 use Rattle.machine_world.specs.World.{Rest}
 use Rattle.machine_world.specs.Boot.{StartLine, empty_world}
-use Rattle.machine_world.specs.Order.{IsFresh}
 use Rattle.stays_laws.specs.Laws.{CanBoot}
 use Rattle.stays_laws.specs.Sound.{IsSound}
 use Rattle.stays_laws.specs.Stays.{Stay, AreRight, first_stays}
@@ -48,12 +48,8 @@ module _ {kind : Kind} {m : Manifest} {files : List (List ℕ)} (is : Reasonable
   pub few_starts : length starts ≤ 64
   few_starts = omega (arith, length-map m.starts start_line, is.starts)
 
-  pub fresh : IsFresh rest
-  fresh = record {
-    tree = lines_tree m.items files b.brought b.brings;
-    closed = lines_closed m.items files b.brought b.brings;
-    files = refl;
-  }
+  pub closed : rest.files ≡ nothing_open rest.files.stdin
+  closed = refl
 
   -- ---- each process by itself
 
@@ -76,11 +72,11 @@ module _ {kind : Kind} {m : Manifest} {files : List (List ℕ)} (is : Reasonable
 
   pub waits_to_the_end : WaitsToTheEnd b
   waits_to_the_end =
-      let begins = boots_wait_well rest starts b.world can_boot fresh few_starts b.boots in
+      let begins = boots_wait_well rest starts b.world can_boot closed few_starts b.boots in
       record {
         waits = runs_keep_waits quanta b.world begins.0 begins.1;
         when_stuck = stuck_runs_wait quanta b.world begins.0 begins.1;
       }
 
   pub has_regular_worlds : HasRegularWorlds b
-  has_regular_worlds some_quanta = runs_keep_regular some_quanta b.world (boots_are_regular rest starts b.world can_boot fresh few_starts b.boots)
+  has_regular_worlds some_quanta = runs_keep_regular some_quanta b.world (boots_are_regular rest starts b.world can_boot closed few_starts b.boots)

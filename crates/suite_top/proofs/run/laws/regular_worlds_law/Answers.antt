@@ -3,7 +3,7 @@ use Rattle.std.proofs.Common.{map}
 use Rattle.physical_turns.specs.Physical.{opening as memory_opening}
 use Rattle.memory_refusals.proofs.Kept.{boots_are_regular_in, runs_keep_regular_in}
 use Rattle.suite_top.specs.Run.{start_line, opening}
-use Rattle.suite_top.proofs.BootedRuns.{can_boot, few_starts, fresh, has_regular_worlds}
+use Rattle.suite_top.proofs.BootedRuns.{can_boot, few_starts, closed, has_regular_worlds}
 use Rattle.suite_top.proofs.RunLaws.{reasonable}
 use Rattle.suite_top.proofs.run.laws.regular_worlds_law.Goals as goal
 
@@ -16,4 +16,4 @@ returns-clause-memory c t name kind o quanta =
     let b = o.booted in
     let headers = b.brought.headers in
     runs_keep_regular_in quanta (memory_opening headers b.world)
-    (boots_are_regular_in (opening kind o.manifest b.brought) (map start_line o.manifest.starts) b.world headers (can_boot is b) (fresh is b) (few_starts is b) b.boots)
+    (boots_are_regular_in (opening kind o.manifest b.brought) (map start_line o.manifest.starts) b.world headers (can_boot is b) (closed is b) (few_starts is b) b.boots)
