@@ -1,6 +1,7 @@
 -- What a row may leave outside of the space: each change that rows make there, with the condition under which they make it.
 use Rattle.std.proofs.Common.{◌≡◌, ℕ, ◌+◌, ◌*◌, Bool, true, false, List, [], ◌++◌, length, take, drop, Option, Some, None, Result, Ok, Err, refl}
 use Rattle.std.specs.Prelude.{⊤, ◌==◌, ◌^◌, if◌then◌else◌}
+use Rattle.page_runs.specs.declared.place.Kind.{Kind}
 use Rattle.call_log.specs.declared.errno.Errno.{Errno}
 use Rattle.call_log.specs.Sent.{Span}
 use Rattle.mem_files.specs.declared.node.Node.TheVariants.{Dir, File}
@@ -15,7 +16,7 @@ use Rattle.fd_tables.specs.Files.{OpenFiles, two_free}
 use Rattle.fd_tables.specs.Pipes.{pipe_view, pipe_bytes, pipe_taken, pipe_put}
 use Rattle.fd_tables.specs.Changes.{closed, opened, duplicated, replaced, moved, taken, piped}
 use Rattle.fd_tables.specs.Calls.{dup_number, dup3_fault, close_fault}
-use Rattle.machine_world.specs.World.{Rest}
+use Rattle.machine_world.specs.World.{Program, Rest}
 use Rattle.machine_world.specs.Asks.{Ask, arg, Row, replies, waits, unless, with_ok, view_of, with_view, free_of, with_free, with_tree, with_files, storage_of, with_storage}
 use Rattle.machine_world.specs.Descriptors.{table_of, close_on_exec, position_from, base_of, listing}
 use Rattle.machine_world.specs.Transfers.{moved_bytes, write_position, pipe_room}
@@ -79,6 +80,27 @@ pub record Kept (P : Rest → Type 0) (a : Ask) : Type 0 where
       → open_fault a.rest.tree node (arg a 2) ≡ None → P (opened_as a fd node (emptied a.rest.tree node (arg a 2)))
   pub open_new : (fd : ℕ) (nodes : Inodes) → free_of a ≡ Some fd → lookup a.rest.tree (path_of a) ≡ Ok None
       → creates (arg a 2) ≡ true → with_file a.rest.tree (path_of a) [] None ≡ Ok nodes → P (opened_as a fd (length a.rest.tree) nodes)
+
+-- rows leave the programs, the pages and the choice of free runs: what says nothing of all else holds after each change
+pub kept_outside : (P : List Program → ℕ → Kind → Type 0) (a : Ask) → P a.rest.programs a.rest.pages a.rest.kind → Kept (λ rest. P rest.programs rest.pages rest.kind) a
+kept_outside P a same = record {
+  dup = λ free is. same;
+  dup3 = λ none. same;
+  close = λ none. same;
+  seek = λ v node at shows is. same;
+  list = λ v node shows is. same;
+  read = λ v node spans shows reads is. same;
+  take = λ v spans shows reads. same;
+  write = λ v node bytes nodes shows may some is. same;
+  print = λ v bytes shows may. same;
+  pipe = λ ends free. same;
+  drain = λ v id end spans shows reads. same;
+  fill = λ v id end bytes shows may. same;
+  make = λ nodes is. same;
+  remove = λ nodes is. same;
+  open_old = λ fd node free found none. same;
+  open_new = λ fd nodes free found may made. same;
+}
 
 -- ---- by tests
 

@@ -16,7 +16,7 @@ use Rattle.machine_world.specs.FamilyCalls.{or_eacces, runs_node, runs}
 use Rattle.machine_world.specs.Event.{ended, ask_of, event}
 use Rattle.machine_world.specs.Boot.{StartLine, BootFault, path_of, placed, fitting, located, started, all_started, then_started, empty_world, boot}
 use Rattle.machine_world.specs.Programs.{AreLoaded, LoadsPrograms, BootsLoadPrograms, TurnsLoadPrograms, RunsLoadPrograms}
-use Rattle.machine_world.proofs.Kept.{Kept}
+use Rattle.machine_world.proofs.Kept.{kept_outside}
 use Rattle.machine_world.proofs.ByRows.{by_rows}
 use Rattle.machine_world.proofs.ByEvents.{Answered, Happened, Keeps, by_event, by_turn, by_turns}
 
@@ -65,26 +65,6 @@ runs_below rest path f is = by_node (lookup rest.tree path) is
 abbrev Counts : ℕ → Rest → Type 0
 Counts n rest = length rest.programs ≡ n
 
-rows_count : (n : ℕ) (a : Ask) → Counts n a.rest → Kept (Counts n) a
-rows_count n a same = record {
-  dup = λ free is. same;
-  dup3 = λ none. same;
-  close = λ none. same;
-  seek = λ v node at shows is. same;
-  list = λ v node shows is. same;
-  read = λ v node spans shows reads is. same;
-  take = λ v spans shows reads. same;
-  write = λ v node bytes nodes shows may some is. same;
-  print = λ v bytes shows may. same;
-  pipe = λ ends free. same;
-  drain = λ v id end spans shows reads. same;
-  fill = λ v id end bytes shows may. same;
-  make = λ nodes is. same;
-  remove = λ nodes is. same;
-  open_old = λ fd node free found none. same;
-  open_new = λ fd nodes free found may made. same;
-}
-
 module _ (n : ℕ) (w : World) (h : LoadsPrograms n w) where
   call_loads : (a : Ask) → Answered (λ now t. LoadsPrograms n now) (Counts n) w a
   unfolding ended
@@ -109,7 +89,7 @@ module _ (n : ℕ) (w : World) (h : LoadsPrograms n w) where
   event_loads : (pid : ℕ) → Keeps (LoadsPrograms n) (event w pid)
   event_loads pid =
       by_event (λ now t. LoadsPrograms n now) (Counts n) (λ now t kept. record { count = kept.count; loaded = kept.loaded }) w h.count pid (λ p s lives has. act_loads p s.space)
-      (λ p s bytes. by_rows (Counts n) (ask_of w p s bytes) (rows_count n (ask_of w p s bytes) h.count) h.count)
+      (λ p s bytes. by_rows (Counts n) (ask_of w p s bytes) (kept_outside (λ programs pages kind. length programs ≡ n) (ask_of w p s bytes) h.count) h.count)
 
 -- ---- turns
 

@@ -10,9 +10,11 @@ use Rattle.fd_tables.proofs.TablesCounted.{counted-with_copy}
 use Rattle.fd_tables.proofs.PipesCounted.{counted-none_changed}
 use Rattle.machine_world.specs.World.{Process, Rest, World}
 use Rattle.machine_world.specs.Asks.{Ask, with_files, storage_of, with_storage}
+use Rattle.machine_world.specs.Rows.{row}
 use Rattle.machine_world.specs.Event.{ask_of, entry_of, ended, awake, event}
 use Rattle.machine_world.specs.Ages.{kept_calls}
 use Rattle.machine_world.specs.Order.{most_tables, IsInOrder, EventsKeepOrder, TurnsKeepOrder, RunsKeepOrder}
+use Rattle.machine_world.proofs.Kept.{Answers}
 use Rattle.machine_world.proofs.ByRows.{by_rows}
 use Rattle.machine_world.proofs.ByEvents.{Answered, Happened, Keeps, by_event, by_turn, by_turns}
 use Rattle.machine_world.proofs.FreeNumbers.{free_within}
@@ -51,7 +53,7 @@ noted_call e notes = let more = sum_by-cons (λ n. n) 1 (map calls_in notes) in 
 -- ---- an event
 
 -- where those go on who wait on pipes
-order_awake : (w : World) → IsInOrder w → IsInOrder (awake w)
+pub order_awake : (w : World) → IsInOrder w → IsInOrder (awake w)
 order_awake w h = record { tree = h.tree; counts = counted-none_changed (storage_of w.rest) h.counts; tables = h.tables; calls = h.calls }
 
 -- a world by what is outside of its spaces, and by its kept calls
@@ -59,10 +61,10 @@ of_rest : (w : World) (most kept : ℕ) → kept_calls w.notes ≡ kept → most
 of_rest w most kept is few calls h = record { tree = h.tree; counts = h.counts; tables = omega (arith, is, h.tables, few); calls = omega (arith, is, calls) }
 
 module _ (w : World) (h : IsInOrder w) where
-  abbrev many : ℕ
+  abbrev pub many : ℕ
   many = most_tables + kept_calls w.notes
 
-  orderly : IsOrderly many w.rest
+  pub orderly : IsOrderly many w.rest
   orderly = record { tree = h.tree; counts = h.counts; tables = h.tables }
 
   small : many < 2 ^ 27
@@ -86,7 +88,7 @@ module _ (w : World) (h : IsInOrder w) where
     load = λ f s page is fits room. of_call _ room (entry_of a 0 []) _ refl many (omega arith) (orderly_exec many w.rest orderly a.process.table);
   }
 
-  act_order : (p : Process) (s : Space) → Happened (λ now t. IsInOrder now) (IsOrderly many) w p s
+  pub act_order : (p : Process) (s : Space) → Happened (λ now t. IsInOrder now) (IsOrderly many) w p s
   unfolding ended
   act_order p s = record {
     step = λ regs bytes. of_rest _ many (kept_calls w.notes) refl (omega arith) h.calls orderly;
@@ -94,10 +96,11 @@ module _ (w : World) (h : IsInOrder w) where
     calls = λ bytes. call_order (ask_of w p s bytes);
   }
 
+  pub rows_orderly : (p : Process) (s : Space) (bytes : List ℕ) → Answers (IsOrderly many) (row (ask_of w p s bytes))
+  rows_orderly p s bytes = by_rows (IsOrderly many) (ask_of w p s bytes) (rows_keep_order (ask_of w p s bytes) many small orderly) orderly
+
   event_order : (pid : ℕ) → Keeps IsInOrder (event w pid)
-  event_order pid =
-      by_event (λ now t. IsInOrder now) (IsOrderly many) (λ now t order. order_awake now order) w orderly pid (λ p s lives has. act_order p s.space)
-      (λ p s bytes. by_rows (IsOrderly many) (ask_of w p s bytes) (rows_keep_order (ask_of w p s bytes) many small orderly) orderly)
+  event_order pid = by_event (λ now t. IsInOrder now) (IsOrderly many) (λ now t order. order_awake now order) w orderly pid (λ p s lives has. act_order p s.space) rows_orderly
 
 pub events_keep_order : EventsKeepOrder
 events_keep_order w pid now t h is = subst (Keeps IsInOrder) is (event_order w h pid)

@@ -11,7 +11,7 @@ use Rattle.machine_world.specs.Rows.{row}
 use Rattle.machine_world.specs.Event.{ask_of, entry_of, ended, awake}
 use Rattle.machine_world.specs.Ages.{kept_calls}
 use Rattle.machine_world.specs.Order.{most_tables, IsCounted}
-use Rattle.machine_world.proofs.Kept.{Kept, Answers}
+use Rattle.machine_world.proofs.Kept.{Answers, kept_outside}
 use Rattle.machine_world.proofs.ByRows.{by_rows}
 use Rattle.machine_world.proofs.ByEvents.{Answered, Happened}
 use Rattle.machine_world.proofs.Counted.{HasCounted, behind-exec_closed, behind-without_table}
@@ -32,27 +32,6 @@ pub record IsTidy (w : World) : Type 0 where
 both : (P Q : Rest → Type 0) (x : Row) → Answers P x → Answers Q x → Answers (λ rest. P rest × Q rest) x
 both P Q (replies r) p q = (p, q)
 both P Q (waits state) p q = tt
-
--- memory has as many pages behind each change that a row makes
-same_pages : (a : Ask) → a.rest.pages ≤ most_pages → Kept (λ rest. rest.pages ≤ most_pages) a
-same_pages a h = record {
-  dup = λ free is. h;
-  dup3 = λ none. h;
-  close = λ none. h;
-  seek = λ v node at shows is. h;
-  list = λ v node shows is. h;
-  read = λ v node spans shows reads is. h;
-  take = λ v spans shows reads. h;
-  write = λ v node bytes nodes shows may some is. h;
-  print = λ v bytes shows may. h;
-  pipe = λ ends free. h;
-  drain = λ v id end spans shows reads. h;
-  fill = λ v id end bytes shows may. h;
-  make = λ nodes is. h;
-  remove = λ nodes is. h;
-  open_old = λ fd node free found none. h;
-  open_new = λ fd nodes free found may made. h;
-}
 
 -- ---- an event
 
@@ -85,7 +64,7 @@ module _ (w : World) (h : IsTidy w) where
   rows_outside p s bytes =
       let a : Ask = ask_of w p s bytes in
       both (λ rest. HasCounted many rest.files) (λ rest. rest.pages ≤ most_pages) (row a) (by_rows (λ rest. HasCounted many rest.files) a (rows_keep_counted a many small now_counted) now_counted)
-      (by_rows (λ rest. rest.pages ≤ most_pages) a (same_pages a h.most) h.most)
+      (by_rows (λ rest. rest.pages ≤ most_pages) a (kept_outside (λ programs pages kind. pages ≤ most_pages) a h.most) h.most)
 
   -- behind a call that is noted
   module _ (b : ℕ) (room : has_room w.notes b ≡ true) (e : CallEntry) (now : World) (is : kept_calls now.notes ≡ kept_calls (call_note e ∷ w.notes)) where

@@ -8,8 +8,6 @@ use Rattle.mem_files.specs.Paths.{lookup}
 use Rattle.machine_world.specs.World.{Program, Rest}
 use Rattle.machine_world.specs.Found.{Found, found_program, found_mark, found_node, found}
 use Rattle.machine_world.specs.FamilyCalls.{or_eacces, runs_node, runs}
-use Rattle.machine_world.proofs.Kept.{Kept}
-use Rattle.machine_world.specs.Asks.{Ask}
 use Rattle.stays_laws.specs.Stays.{original_at}
 
 abbrev Names : List Program → Found → Type 0
@@ -46,25 +44,3 @@ runs_names rest path f is = by_node (lookup rest.tree path) is
         mark_names rest.programs f (program_of rest.tree node) (mark_runs (found_mark rest.programs (program_of rest.tree node)) f same)
     by_node (Ok None) same = absurd cc
     by_node (Err errno) same = absurd cc
-
--- ---- the programs stay behind each change that a row makes
-
-pub rows_keep_programs : (a : Ask) (programs : List Program) → a.rest.programs ≡ programs → Kept (λ rest. rest.programs ≡ programs) a
-rows_keep_programs a programs same = record {
-  dup = λ free is. same;
-  dup3 = λ none. same;
-  close = λ none. same;
-  seek = λ v node at shows is. same;
-  list = λ v node shows is. same;
-  read = λ v node spans shows reads is. same;
-  take = λ v spans shows reads. same;
-  write = λ v node bytes nodes shows may some is. same;
-  print = λ v bytes shows may. same;
-  pipe = λ ends free. same;
-  drain = λ v id end spans shows reads. same;
-  fill = λ v id end bytes shows may. same;
-  make = λ nodes is. same;
-  remove = λ nodes is. same;
-  open_old = λ fd node free found none. same;
-  open_new = λ fd nodes free found may made. same;
-}

@@ -44,7 +44,7 @@ use Rattle.machine_world.specs.Rows.{row}
 use Rattle.machine_world.specs.Event.{Outcome, went, strays, full, idle, number_of, args_of, replied, entry_of, exit_code, noted, put_got, stepped, trapped, ended, served, put, waited, answered, exited, is_exit, reaped, told_in, waitid_behind, waitid, forked, cloned, load_of, executed, exec_at, exec_program, exec_strings, exec, classed, asked, ask_of, answer, settled, effect, in_space, by_process, at_process, event}
 use Rattle.machine_world.specs.Turns.{Walk, End, traced, stays_at, turned, turn, seen_of, going_on, quantum_turn, turns}
 use Rattle.machine_world.specs.Ages.{AreChanged, Follows, most_changes, kept_calls, most_at_boot}
-use Rattle.machine_world.proofs.Kept.{Answers, Kept}
+use Rattle.machine_world.proofs.Kept.{Answers, kept_outside}
 use Rattle.machine_world.proofs.ByRows.{by_rows}
 use Rattle.machine_world.proofs.Aging.{rows_age, table_ages, exec_ages}
 use Rattle.machine_world.proofs.Runnable.{may_run_still, ready_found}
@@ -81,27 +81,7 @@ more_changed m n nodes le low = λ id node there. (let most = low id node there 
 -- ---- rows
 
 same_pages : (a : Ask) → Answers (λ rest. rest.pages ≡ a.rest.pages) (row a)
-same_pages a = by_rows (λ rest. rest.pages ≡ a.rest.pages) a kept refl
-  where
-    kept : Kept (λ rest. rest.pages ≡ a.rest.pages) a
-    kept = record {
-      dup = λ free is. refl;
-      dup3 = λ none. refl;
-      close = λ none. refl;
-      seek = λ v node at shows is. refl;
-      list = λ v node shows is. refl;
-      read = λ v node spans shows reads is. refl;
-      take = λ v spans shows reads. refl;
-      write = λ v node bytes nodes shows may some is. refl;
-      print = λ v bytes shows may. refl;
-      pipe = λ ends free. refl;
-      drain = λ v id end spans shows reads. refl;
-      fill = λ v id end bytes shows may. refl;
-      make = λ nodes is. refl;
-      remove = λ nodes is. refl;
-      open_old = λ fd node free found none. refl;
-      open_new = λ fd nodes free found may made. refl;
-    }
+same_pages a = by_rows (λ rest. rest.pages ≡ a.rest.pages) a (kept_outside (λ programs pages kind. pages ≡ a.rest.pages) a refl) refl
 
 module _ (a : Ask) (front back : List Mapping) (fit : IsFit a.rest.pages front back a.rest.tree a.space) where
   -- a row that leaves the mappings and the bytes

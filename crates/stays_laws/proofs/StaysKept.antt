@@ -13,6 +13,7 @@ use Rattle.machine_world.specs.Families.{MayRun}
 use Rattle.machine_world.specs.Asks.{Ask}
 use Rattle.machine_world.specs.Rows.{row}
 use Rattle.machine_world.specs.Event.{ask_of, answered, exited, is_exit, waitid, cloned, exec, asked, answer, trapped, effect, in_space, by_process, at_process, event}
+use Rattle.machine_world.proofs.Kept.{kept_outside}
 use Rattle.machine_world.proofs.ByRows.{by_rows}
 use Rattle.machine_world.proofs.States.{find_has}
 use Rattle.stays_laws.specs.Stays.{Stay, AreRight}
@@ -23,7 +24,6 @@ use Rattle.stays_laws.proofs.Ends.{keeps_trapped, keeps_exited}
 use Rattle.stays_laws.proofs.Forks.{keeps_cloned}
 use Rattle.stays_laws.proofs.Execs.{keeps_exec}
 use Rattle.stays_laws.proofs.Waits.{keeps_waitid}
-use Rattle.stays_laws.proofs.Named.{rows_keep_programs}
 use Rattle.stays_laws.proofs.RowStays.{follows_row}
 
 module _ (ys : List Stay) (w : World) (sound : IsSound w) (right : AreRight ys w) where
@@ -39,7 +39,7 @@ module _ (ys : List Stay) (w : World) (sound : IsSound w) (right : AreRight ys w
         (λ no_clone. keeps_test ys (a.number == 221) (exec w a) (answered w a (row a)) (λ execs. keeps_exec ys w sound right p s lives ready has is bytes reads execs)
         (λ no_execve. keeps_answered ys w sound right p s lives ready has is bytes reads (row a)
         (follows_row w sound p (below ys w sound right p s lives ready has) s has bytes stays no_clone no_execve)
-        (by_rows (λ rest. rest.programs ≡ w.rest.programs) a (rows_keep_programs a w.rest.programs refl) refl)))))
+        (by_rows (λ rest. rest.programs ≡ w.rest.programs) a (kept_outside (λ programs pages kind. programs ≡ w.rest.programs) a refl) refl)))))
 
     keeps_effect : (m : Meaning) → means ys w sound right p s lives ready has ≡ m → Keeps ys (effect w p s.space m)
     unfolding answer

@@ -6,7 +6,7 @@ use Rattle.machine_world.specs.World.{Program, Process, Rest, World}
 use Rattle.machine_world.specs.Asks.{Ask}
 use Rattle.machine_world.specs.Event.{ended, ask_of, event}
 use Rattle.machine_world.specs.Turns.{turns}
-use Rattle.machine_world.proofs.Kept.{Kept}
+use Rattle.machine_world.proofs.Kept.{kept_outside}
 use Rattle.machine_world.proofs.ByRows.{by_rows}
 use Rattle.machine_world.proofs.ByEvents.{Answered, Happened, Keeps, by_event, by_turns}
 
@@ -14,26 +14,6 @@ abbrev Has : List Program → Rest → Type 0
 Has ps rest = rest.programs ≡ ps
 
 module _ (ps : List Program) where
-  rows_leave : (a : Ask) → Has ps a.rest → Kept (Has ps) a
-  rows_leave a same = record {
-    dup = λ free is. same;
-    dup3 = λ none. same;
-    close = λ none. same;
-    seek = λ v node at shows is. same;
-    list = λ v node shows is. same;
-    read = λ v node spans shows reads is. same;
-    take = λ v spans shows reads. same;
-    write = λ v node bytes nodes shows may some is. same;
-    print = λ v bytes shows may. same;
-    pipe = λ ends free. same;
-    drain = λ v id end spans shows reads. same;
-    fill = λ v id end bytes shows may. same;
-    make = λ nodes is. same;
-    remove = λ nodes is. same;
-    open_old = λ fd node free found none. same;
-    open_new = λ fd nodes free found may made. same;
-  }
-
   module _ (w : World) (h : Has ps w.rest) where
     call_leaves : (a : Ask) → Answered (λ now t. Has ps now.rest) (Has ps) w a
     unfolding ended
@@ -52,7 +32,7 @@ module _ (ps : List Program) where
     event_leaves : (pid : ℕ) → Keeps (λ now. Has ps now.rest) (event w pid)
     event_leaves pid =
         by_event (λ now t. Has ps now.rest) (Has ps) (λ now t kept. kept) w h pid (λ p s lives has. act_leaves p s.space)
-        (λ p s bytes. by_rows (Has ps) (ask_of w p s bytes) (rows_leave (ask_of w p s bytes) h) h)
+        (λ p s bytes. by_rows (Has ps) (ask_of w p s bytes) (kept_outside (λ programs pages kind. programs ≡ ps) (ask_of w p s bytes) h) h)
 
   pub programs_stay : (quanta : List Quantum) (w : World) → w.rest.programs ≡ ps → (turns quanta w).world.rest.programs ≡ ps
   programs_stay quanta w h = by_turns (λ now. Has ps now.rest) (λ v own holds. event_leaves v holds own) (λ v own access holds. holds) quanta w h
