@@ -19,7 +19,8 @@ use Rattle.machine_world.specs.Turns.{log_full}
 use Rattle.machine_world.specs.Courses.{EndsAs, StandsAt}
 use Rattle.physical_turns.specs.Physical.{Physical, After as Outcome_in, after as goes, no_room, nobody, has_stray, next_meaning, physical_event, physical_turn, stays_at}
 use Rattle.physical_turns.specs.Courses.{LeadsIn, StandsIn}
-use Rattle.physical_turns.specs.Growth.{AfterHas, Adds, LeavesPrograms}
+use Rattle.physical_turns.specs.After.{AfterHas}
+use Rattle.physical_turns.specs.Growth.{Adds, LeavesPrograms}
 use Rattle.physical_turns.proofs.Growth.{events_add, events_leave_programs}
 use Rattle.physical_turns.proofs.TurnsIn.{leads_in_none, leads_in_on, leads_in_event, turn_in_over, turn_in_full, turn_in_used, turn_in_from}
 use Rattle.syscall_layer.specs.declared.reach.Reach.{Reach}

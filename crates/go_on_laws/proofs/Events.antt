@@ -19,7 +19,8 @@ use Rattle.stays_laws.specs.Sound.{IsSound}
 use Rattle.stays_laws.proofs.RowSpaces.{LeavesSpace, row_leaves, row-munmap, row-mmap2}
 use Rattle.physical_turns.specs.Physical.{Physical, in_memory, shown_space, After, after, no_room, carried, answered_in, waitid_in, classed_in, asked_in, answer_in, effect_in, in_space as in_space_in, by_process as by_process_in, at_process as at_process_in, next_meaning, carried_out, has_stray, physical_event}
 use Rattle.physical_turns.specs.Wider.{Widens}
-use Rattle.physical_turns.specs.Growth.{AfterHas, LeavesPrograms}
+use Rattle.physical_turns.specs.After.{AfterHas}
+use Rattle.physical_turns.specs.Growth.{LeavesPrograms}
 use Rattle.physical_turns.proofs.Sub.{sent_sub}
 use Rattle.physical_turns.proofs.Widened.{wide_meaning}
 use Rattle.physical_turns.proofs.Moves.{event_in_calm}

@@ -1,12 +1,11 @@
 -- Over one memory no pipe is marked between two events.
-use Rattle.std.proofs.Common.{ℕ, zero, suc, Bool, true, false, List, [], ◌∷◌, Option, Some, None, Result, Ok, Err, refl}
+use Rattle.std.proofs.Common.{ℕ, Bool, true, false, List, Option, Some, None, Result, Ok, Err, refl}
 use Rattle.std.specs.Prelude.{◌==◌, if◌then◌else◌}
 use Rattle.byte_words.specs.ByteMap.{Bytes}
 use Rattle.rv32im_step.specs.declared.access.Access.{Access}
 use Rattle.rv32im_step.specs.Meaning.{Meaning, next, call, trap, refused}
 use Rattle.call_log.specs.declared.errno.Errno.{Errno}
 use Rattle.call_log.specs.Sent.{Span, sent}
-use Rattle.quantum_sched.specs.Picked.{picked}
 use Rattle.vfork_exec.specs.declared.family.Who.{Who}
 use Rattle.vfork_exec.specs.declared.family.State.TheVariants.{Waiting}
 use Rattle.vfork_exec.specs.declared.family.Waited.{Waited}
@@ -15,14 +14,13 @@ use Rattle.vfork_exec.specs.Keyed.{find}
 use Rattle.mmap_rules.specs.Space.{Space}
 use Rattle.flat_loader.specs.Alone.{number_of, args_of, put_got}
 use Rattle.machine_world.specs.World.{Process, LiveSpace, pid_of, id_of}
-use Rattle.machine_world.specs.Families.{ready_pids}
 use Rattle.machine_world.specs.Asks.{Ask, Reply, Row, replies, waits, arg, gives, refuses}
 use Rattle.machine_world.specs.FamilyCalls.{who_of, waitid_fault, no_info, info_at}
 use Rattle.machine_world.specs.Rows.{row}
 use Rattle.machine_world.specs.Event.{Outcome, went, strays, full, idle, trapped, served, waited, told_in, ask_of, classed}
-use Rattle.machine_world.specs.Turns.{End}
-use Rattle.physical_turns.specs.Physical.{Physical, in_memory, After, after, no_room, nobody, carried, settled_in, outside, killed, put_in, answered_in, full_at, reaped_in, waitid_behind_in, waitid_in, writes_nothing, classed_in, asked_in, answer_in, effect_in, in_space, by_process, at_process, next_meaning, carried_out, first_stray, with_stray, physical_event, Walk, stays_at, turned, physical_turn, going_on, quantum_turn, physical_turns, opening}
-use Rattle.physical_turns.specs.Growth.{AfterHas}
+use Rattle.physical_turns.specs.Physical.{Physical, in_memory, After, after, no_room, nobody, carried, settled_in, outside, killed, put_in, answered_in, full_at, reaped_in, waitid_behind_in, waitid_in, writes_nothing, classed_in, asked_in, answer_in, effect_in, in_space, by_process, at_process, next_meaning, carried_out, first_stray, with_stray, physical_event, opening}
+use Rattle.physical_turns.specs.After.{AfterHas}
+use Rattle.physical_turns.proofs.ByTurnsIn.{by_turn_in, by_run_in}
 use Rattle.go_on_laws.specs.Marks.{HasNoMark, OpeningsHaveNoMark, EventsHaveNoMark, TurnsHaveNoMark, RunsHaveNoMark}
 
 pub openings_have_no_mark : OpeningsHaveNoMark
@@ -128,31 +126,8 @@ events_have_no_mark p pid unmarked = marks_carried_out (with_stray pid (first_st
 
 -- ---- turns and runs
 
-marks_turned_in : (more : Physical → Walk) (p : Physical) (a : After) → HasNoMark p.world → AfterHas HasNoMark a
-    → ((now : Physical) → HasNoMark now.world → HasNoMark (more now).now.world) → HasNoMark (turned more p a).now.world
-marks_turned_in more p (after now true) unmarked none on = none
-marks_turned_in more p (after now false) unmarked none on = on now none
-marks_turned_in more p (no_room now) unmarked none on = none
-marks_turned_in more p nobody unmarked none on = unmarked
-
 pub turns_have_no_mark : TurnsHaveNoMark
-unfolding physical_turn
-turns_have_no_mark zero pid p unmarked = unmarked
-turns_have_no_mark (suc count) pid p unmarked =
-    marks_turned_in (physical_turn count pid) p (physical_event p pid) unmarked (events_have_no_mark p pid unmarked) (λ now none. turns_have_no_mark count pid now none)
-
-marks_going_in : (more : Physical → Walk) (now : Physical) (end : Option End) → HasNoMark now.world → ((p : Physical) → HasNoMark p.world → HasNoMark (more p).now.world)
-    → HasNoMark (going_on more (stays_at now end)).now.world
-marks_going_in more now (Some end) unmarked on = unmarked
-marks_going_in more now None unmarked on = on now unmarked
-
-marks_quantum_in : (more : Physical → Walk) (p : Physical) (count : ℕ) (chosen : Option ℕ) → HasNoMark p.world
-    → ((now : Physical) → HasNoMark now.world → HasNoMark (more now).now.world) → HasNoMark (quantum_turn more p count chosen).now.world
-marks_quantum_in more p count None unmarked on = unmarked
-marks_quantum_in more p count (Some pid) unmarked on =
-    marks_going_in more (physical_turn count pid p).now (physical_turn count pid p).end (turns_have_no_mark count pid p unmarked) on
+turns_have_no_mark = by_turn_in (λ p. HasNoMark p.world) events_have_no_mark
 
 pub runs_have_no_mark : RunsHaveNoMark
-unfolding physical_turns
-runs_have_no_mark [] p unmarked = unmarked
-runs_have_no_mark (q ∷ qs) p unmarked = marks_quantum_in (physical_turns qs) p q.count (picked q.pick (ready_pids p.world.procs)) unmarked (λ now none. runs_have_no_mark qs now none)
+runs_have_no_mark = by_run_in (λ p. HasNoMark p.world) events_have_no_mark

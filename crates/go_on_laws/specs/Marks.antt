@@ -3,7 +3,7 @@ use Rattle.std.specs.Prelude.{◌≡◌, ℕ, List, []}
 use Rattle.quantum_sched.specs.declared.Quantum.{Quantum}
 use Rattle.machine_world.specs.World.{World}
 use Rattle.physical_turns.specs.Physical.{Physical, physical_event, physical_turn, physical_turns, opening}
-use Rattle.physical_turns.specs.Growth.{AfterHas}
+use Rattle.physical_turns.specs.After.{AfterHas}
 
 -- no pipe is marked as changed
 abbrev pub HasNoMark : World → Type 0

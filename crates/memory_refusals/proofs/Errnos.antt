@@ -26,7 +26,7 @@ use Rattle.refusal_laws.proofs.EachCall.{EachCall, each_call}
 use Rattle.refusal_laws.proofs.Small.{no_errno}
 use Rattle.refusal_laws.proofs.Refusals.{RefusesRow, IsLow, low_or_refuses}
 use Rattle.physical_turns.specs.Physical.{Physical, in_memory, After, after, no_room, nobody, carried, settled_in, outside, killed, put_in, answered_in, classed_in, asked_in, answer_in, effect_in, in_space, by_process, at_process, next_meaning, carried_out, first_stray, physical_event}
-use Rattle.physical_turns.specs.Growth.{AfterHas}
+use Rattle.physical_turns.specs.After.{AfterHas}
 use Rattle.physical_turns.proofs.Moves.{event_in_carried}
 use Rattle.go_on_laws.specs.Refusals.{CallIn, ask_in, over_memory, IsRefusedIn}
 use Rattle.go_on_laws.proofs.Refused.{refused_events_leave_memory}

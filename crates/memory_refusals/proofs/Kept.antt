@@ -1,5 +1,5 @@
 -- The one memory of a run stays regular: at boot, and behind every event, turn and run, before the first stray access and behind it.
-use Rattle.std.proofs.Common.{◌≡◌, ℕ, zero, suc, Bool, true, false, List, [], ◌∷◌, Option, Some, None, Result, Ok, Err, refl}
+use Rattle.std.proofs.Common.{◌≡◌, ℕ, Bool, true, false, List, [], Option, Some, None, Result, Ok, Err, refl}
 use Rattle.std.specs.Prelude.{if◌then◌else◌}
 use Rattle.byte_words.specs.ByteMap.{Bytes}
 use Rattle.rv32im_step.specs.declared.access.Access.{Access}
@@ -7,18 +7,14 @@ use Rattle.rv32im_step.specs.Meaning.{Meaning, next, call, trap, refused}
 use Rattle.call_log.specs.Errno.{refusal}
 use Rattle.call_log.specs.Notes.{Written, weight_of, has_room}
 use Rattle.call_log.specs.Sent.{Span, sent}
-use Rattle.quantum_sched.specs.declared.Quantum.{Quantum}
-use Rattle.quantum_sched.specs.Picked.{picked}
 use Rattle.vfork_exec.specs.declared.family.State.{State}
 use Rattle.vfork_exec.specs.declared.family.Ended.{Ended}
 use Rattle.vfork_exec.specs.Keyed.{find}
 use Rattle.flat_loader.specs.Alone.{number_of, args_of, put_got}
 use Rattle.machine_world.specs.World.{Process, LiveSpace, World, pid_of, id_of}
-use Rattle.machine_world.specs.Families.{ready_pids}
 use Rattle.machine_world.specs.Asks.{Ask, Reply, Row, replies, waits, gives}
 use Rattle.machine_world.specs.Rows.{row}
 use Rattle.machine_world.specs.Event.{Trace, Outcome, went, strays, full, idle, stepped, trapped, served, waited, ask_of, classed, awake}
-use Rattle.machine_world.specs.Turns.{End}
 use Rattle.machine_world.proofs.Kept.{Answers}
 use Rattle.machine_world.proofs.ByEvents.{Went, by_classed}
 use Rattle.refusal_laws.specs.Bounded.{IsWithin, IsBounded}
@@ -26,13 +22,14 @@ use Rattle.refusal_laws.proofs.Lists.{each_map}
 use Rattle.refusal_laws.proofs.Bounded.{bounded}
 use Rattle.refusal_laws.proofs.Bounds.{AreBounded, InMemory, LeavesInMemory, parents_roused, keeps_stepped, keeps_trapped, keeps_waited, keeps_served, own, row_in_memory, keeps_classed}
 use Rattle.refusal_laws.proofs.Runs.{boots_are_regular}
-use Rattle.physical_turns.specs.Physical.{Physical, in_memory, shown_space, showing, laid_behind, After, after, no_room, nobody, carried, settled_in, outside as outside_memory, killed, put_in, answered_in, asked_in, answer_in, effect_in, in_space, by_process, at_process, next_meaning, carried_out, first_stray, with_stray, physical_event, Walk, stays_at, turned, physical_turn, going_on, quantum_turn, physical_turns, first_memory, opening}
-use Rattle.physical_turns.specs.Courses.{AfterShows}
-use Rattle.physical_turns.specs.Growth.{AfterHas}
-use Rattle.physical_turns.proofs.Shows.{openings_show, events_show, turns_show, runs_show}
+use Rattle.physical_turns.specs.Physical.{Physical, in_memory, shown_space, showing, laid_behind, After, after, no_room, nobody, carried, settled_in, outside as outside_memory, killed, put_in, answered_in, asked_in, answer_in, effect_in, in_space, by_process, at_process, next_meaning, carried_out, first_stray, with_stray, physical_event, first_memory, opening}
+use Rattle.physical_turns.specs.Courses.{IsShown}
+use Rattle.physical_turns.specs.After.{AfterIs, AfterHas}
+use Rattle.physical_turns.proofs.ByTurnsIn.{by_turn_in, by_run_in}
+use Rattle.physical_turns.proofs.Shows.{openings_show, events_show}
 use Rattle.go_on_laws.specs.Marks.{HasNoMark}
-use Rattle.go_on_laws.proofs.Marked.{openings_have_no_mark, events_have_no_mark, turns_have_no_mark, runs_have_no_mark}
-use Rattle.memory_refusals.specs.Regular.{AfterIsRegular, BootsAreRegularIn, EventsKeepRegularIn, TurnsKeepRegularIn, RunsKeepRegularIn}
+use Rattle.go_on_laws.proofs.Marked.{openings_have_no_mark, events_have_no_mark}
+use Rattle.memory_refusals.specs.Regular.{IsRegularIn, BootsAreRegularIn, EventsKeepRegularIn, TurnsKeepRegularIn, RunsKeepRegularIn}
 use Rattle.memory_refusals.proofs.Answers.{EachAnswer, by_classed_in}
 use Rattle.memory_refusals.proofs.Changes.{IsTidy, tidy_awake, Outside, outside, rows_outside, call_tidy, act_tidy}
 
@@ -196,39 +193,9 @@ bounded_event : (p : Physical) (pid : ℕ) → IsBounded p.world → AfterHas Is
 unfolding physical_event
 bounded_event p pid h = bounded_carried_out (with_stray pid (first_stray p pid) p) (bounded_stray p pid (first_stray p pid) h) pid
 
--- ---- turns and runs
+-- ---- with what spaces show, and no mark; so turns and runs
 
-bounded_turned : (more : Physical → Walk) (p : Physical) (x : After) → IsBounded p.world → AfterHas IsBounded x → ((now : Physical) → IsBounded now.world → IsBounded (more now).now.world)
-    → IsBounded (turned more p x).now.world
-bounded_turned more p (after now true) h kept on = kept
-bounded_turned more p (after now false) h kept on = on now kept
-bounded_turned more p (no_room now) h kept on = kept
-bounded_turned more p nobody h kept on = h
-
-bounded_turn : (count pid : ℕ) (p : Physical) → IsBounded p.world → IsBounded (physical_turn count pid p).now.world
-unfolding physical_turn
-bounded_turn zero pid p h = h
-bounded_turn (suc count) pid p h =
-    bounded_turned (physical_turn count pid) p (physical_event p pid) h (bounded_event p pid h) (λ now kept. bounded_turn count pid now kept)
-
-bounded_going : (more : Physical → Walk) (now : Physical) (end : Option End) → IsBounded now.world → ((p : Physical) → IsBounded p.world → IsBounded (more p).now.world)
-    → IsBounded (going_on more (stays_at now end)).now.world
-bounded_going more now (Some end) h on = h
-bounded_going more now None h on = on now h
-
-bounded_quantum : (more : Physical → Walk) (p : Physical) (count : ℕ) (chosen : Option ℕ) → IsBounded p.world → ((now : Physical) → IsBounded now.world → IsBounded (more now).now.world)
-    → IsBounded (quantum_turn more p count chosen).now.world
-bounded_quantum more p count None h on = h
-bounded_quantum more p count (Some pid) h on = bounded_going more (physical_turn count pid p).now (physical_turn count pid p).end (bounded_turn count pid p h) on
-
-bounded_run : (quanta : List Quantum) (p : Physical) → IsBounded p.world → IsBounded (physical_turns quanta p).now.world
-unfolding physical_turns
-bounded_run [] p h = h
-bounded_run (q ∷ qs) p h = bounded_quantum (physical_turns qs) p q.count (picked q.pick (ready_pids p.world.procs)) h (λ now kept. bounded_run qs now kept)
-
--- ---- with what spaces show, and no mark
-
-regular_after : (x : After) → AfterShows x → AfterHas HasNoMark x → AfterHas IsBounded x → AfterIsRegular x
+regular_after : (x : After) → AfterIs IsShown x → AfterHas HasNoMark x → AfterHas IsBounded x → AfterIs IsRegularIn x
 regular_after (after now over) shown unmarked bounds = record { shown = shown; unmarked = unmarked; bounded = bounds }
 regular_after (no_room now) shown unmarked bounds = record { shown = shown; unmarked = unmarked; bounded = bounds }
 regular_after nobody shown unmarked bounds = tt
@@ -237,12 +204,10 @@ pub events_keep_regular_in : EventsKeepRegularIn
 events_keep_regular_in p pid r = regular_after (physical_event p pid) (events_show p pid r.shown) (events_have_no_mark p pid r.unmarked) (bounded_event p pid r.bounded)
 
 pub turns_keep_regular_in : TurnsKeepRegularIn
-turns_keep_regular_in count pid p r =
-    record { shown = turns_show count pid p r.shown; unmarked = turns_have_no_mark count pid p r.unmarked; bounded = bounded_turn count pid p r.bounded }
+turns_keep_regular_in = by_turn_in IsRegularIn events_keep_regular_in
 
 pub runs_keep_regular_in : RunsKeepRegularIn
-runs_keep_regular_in quanta p r =
-    record { shown = runs_show quanta p r.shown; unmarked = runs_have_no_mark quanta p r.unmarked; bounded = bounded_run quanta p r.bounded }
+runs_keep_regular_in = by_run_in IsRegularIn events_keep_regular_in
 
 bounded_opening : (headers : List (List ℕ)) (w : World) → IsBounded w → IsBounded (opening headers w).world
 unfolding opening

@@ -7,7 +7,8 @@ use Rattle.machine_world.specs.World.{Rest, World}
 use Rattle.machine_world.specs.Boot.{StartLine, boot}
 use Rattle.stays_laws.specs.Laws.{CanBoot}
 use Rattle.refusal_laws.specs.Bounded.{IsBounded}
-use Rattle.physical_turns.specs.Physical.{Physical, After, after, no_room, nobody, physical_event, physical_turn, physical_turns, opening}
+use Rattle.physical_turns.specs.Physical.{Physical, physical_event, physical_turn, physical_turns, opening}
+use Rattle.physical_turns.specs.After.{AfterIs}
 use Rattle.physical_turns.specs.Courses.{IsShown}
 use Rattle.go_on_laws.specs.Marks.{HasNoMark}
 
@@ -19,12 +20,6 @@ pub record IsRegularIn (p : Physical) : Type 0 where
   -- pids are few and given once, what is open is counted exactly, each process is younger than its parent, and breaks and copies lie in memory
   pub bounded : IsBounded p.world
 
--- of what an event leaves
-abbrev pub AfterIsRegular : After → Type 0
-AfterIsRegular (after now over) = IsRegularIn now
-AfterIsRegular (no_room now) = IsRegularIn now
-AfterIsRegular nobody = Unit {0}
-
 -- whatever headers the programs have
 abbrev pub BootsAreRegularIn : Type 0
 BootsAreRegularIn =
@@ -32,7 +27,7 @@ BootsAreRegularIn =
     length starts ≤ most_entries → boot rest starts ≡ Ok w → IsRegularIn (opening headers w)
 
 abbrev pub EventsKeepRegularIn : Type 0
-EventsKeepRegularIn = (p : Physical) (pid : ℕ) → IsRegularIn p → AfterIsRegular (physical_event p pid)
+EventsKeepRegularIn = (p : Physical) (pid : ℕ) → IsRegularIn p → AfterIs IsRegularIn (physical_event p pid)
 
 abbrev pub TurnsKeepRegularIn : Type 0
 TurnsKeepRegularIn = (count pid : ℕ) (p : Physical) → IsRegularIn p → IsRegularIn (physical_turn count pid p).now

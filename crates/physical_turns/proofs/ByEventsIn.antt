@@ -1,6 +1,5 @@
--- What holds of the world behind each change that an event makes holds behind every event over one memory; and so behind turns and
--- runs.
-use Rattle.std.proofs.Common.{◌≡◌, ℕ, zero, suc, Bool, true, false, List, [], ◌∷◌, Option, Some, None, Result, Ok, Err, refl}
+-- What holds of the world behind each change that an event makes holds behind every event over one memory.
+use Rattle.std.proofs.Common.{◌≡◌, ℕ, Bool, true, false, List, [], Option, Some, None, Result, Ok, Err, refl}
 use Rattle.std.specs.Prelude.{◌==◌, if◌then◌else◌}
 use Rattle.byte_words.specs.ByteMap.{Bytes}
 use Rattle.rv32im_step.specs.declared.access.Access.{Access}
@@ -11,8 +10,6 @@ use Rattle.call_log.specs.Errno.{refusal}
 use Rattle.call_log.specs.Notes.{Written, stray_note, weight_of, has_room}
 use Rattle.call_log.specs.Sent.{Span, sent}
 use Rattle.mmap_rules.specs.Space.{Space}
-use Rattle.quantum_sched.specs.declared.Quantum.{Quantum}
-use Rattle.quantum_sched.specs.Picked.{picked}
 use Rattle.vfork_exec.specs.declared.family.Who.{Who}
 use Rattle.vfork_exec.specs.declared.family.State.{State}
 use Rattle.vfork_exec.specs.declared.family.State.TheVariants.{Waiting}
@@ -23,16 +20,15 @@ use Rattle.vfork_exec.specs.Keyed.{find}
 use Rattle.vfork_exec.specs.Families.{without_first}
 use Rattle.flat_loader.specs.Alone.{number_of, args_of, put_got}
 use Rattle.machine_world.specs.World.{Process, LiveSpace, Rest, World, pid_of, id_of}
-use Rattle.machine_world.specs.Families.{ready_pids}
 use Rattle.machine_world.specs.Asks.{Ask, Reply, Row, replies, waits, arg, gives, refuses}
 use Rattle.machine_world.specs.FamilyCalls.{who_of, waitid_fault, child_info, no_info, info_at}
 use Rattle.machine_world.specs.Rows.{row}
 use Rattle.machine_world.specs.Event.{Outcome, went, strays, full, idle, noted, trapped, served, waited, told_in, ask_of, classed, awake}
-use Rattle.machine_world.specs.Turns.{End, seen_of}
+use Rattle.machine_world.specs.Turns.{seen_of}
 use Rattle.machine_world.proofs.Kept.{Answers}
 use Rattle.machine_world.proofs.ByEvents.{Keeps, Answered, Happened, by_classed}
-use Rattle.physical_turns.specs.Physical.{Physical, in_memory, showing, laid_behind, After, after, no_room, nobody, carried, settled_in, outside, killed, put_in, answered_in, full_at, reaped_in, waitid_behind_in, waitid_in, writes_nothing, classed_in, asked_in, answer_in, effect_in, in_space, by_process, at_process, next_meaning, carried_out, first_stray, with_stray, physical_event, Walk, stays_at, turned, physical_turn, going_on, quantum_turn, physical_turns}
-use Rattle.physical_turns.specs.Growth.{AfterHas}
+use Rattle.physical_turns.specs.Physical.{Physical, in_memory, showing, laid_behind, After, after, no_room, nobody, carried, settled_in, outside, killed, put_in, answered_in, full_at, reaped_in, waitid_behind_in, waitid_in, writes_nothing, classed_in, asked_in, answer_in, effect_in, in_space, by_process, at_process, next_meaning, carried_out, first_stray, with_stray, physical_event}
+use Rattle.physical_turns.specs.After.{AfterHas}
 
 after_if : (P : World → Type 0) (test : Bool) (x y : After) → AfterHas P x → AfterHas P y → AfterHas P (if test then x else y)
 after_if P true x y hx hy = hx
@@ -42,17 +38,17 @@ keeps_test : (P : World → Type 0) (test : Bool) (o : Outcome) → (test ≡ tr
 keeps_test P true o h = h refl
 keeps_test P false o h = tt
 
--- what each change keeps: P of the world, Q of what a row leaves outside of the space
-pub record Steady (P : World → Type 0) (Q : Rest → Type 0) : Type 0 where
+-- what each change keeps: P of the world, Q of what a row leaves outside of the space, in the world of its call
+pub record Steady (P : World → Type 0) (Q : World → Rest → Type 0) : Type 0 where
   pub wakes : (now : World) → P now → P (awake now)
   pub shows : (memory : Bytes) (now : World) → P now → P (showing memory now)
   pub strays : (pid : ℕ) (seen : Seen) (now : World) → P now → P (noted (stray_note pid seen) now)
   pub reaps : (ended : List Ended) (now : World) → P now → P (record now { ended = ended })
-  pub acts : (w : World) (q : Process) (s : Space) → P w → Happened (λ now t. P now) Q w q s
-  pub rests : (w : World) → P w → Q w.rest
-  pub rows : (w : World) (q : Process) (s : Space) (bytes : List ℕ) → P w → Answers Q (row (ask_of w q s bytes))
+  pub acts : (w : World) (q : Process) (s : Space) → P w → Happened (λ now t. P now) (Q w) w q s
+  pub rests : (w : World) → P w → Q w w.rest
+  pub rows : (w : World) (q : Process) (s : Space) (bytes : List ℕ) → P w → Answers (Q w) (row (ask_of w q s bytes))
 
-module _ (P : World → Type 0) (Q : Rest → Type 0) (steady : Steady P Q) where
+module _ (P : World → Type 0) (Q : World → Rest → Type 0) (steady : Steady P Q) where
   by_carried : (p : Physical) (memory : Bytes) (o : Outcome) → P p.world → Keeps P o → AfterHas P (carried p memory o)
   by_carried p memory (went now t) h kept = steady.shows (laid_behind p memory now t) now kept
   by_carried p memory (strays access) h kept = tt
@@ -82,10 +78,10 @@ module _ (P : World → Type 0) (Q : Rest → Type 0) (steady : Steady P Q) wher
     abbrev the_ask : Ask
     the_ask = ask_of w q s bytes
 
-    each : Answered (λ now t. P now) Q w the_ask
+    each : Answered (λ now t. P now) (Q w) w the_ask
     each = (steady.acts w q s begun).calls bytes
 
-    by_served : (ended : List Ended) (r : Reply) (m : Bytes) → Q r.rest → Keeps P (served (record w { ended = ended }) the_ask r m)
+    by_served : (ended : List Ended) (r : Reply) (m : Bytes) → Q w r.rest → Keeps P (served (record w { ended = ended }) the_ask r m)
     unfolding served
     by_served ended r m holds = keeps_test P (has_room w.notes (weight_of bytes r.got)) (went _ _) (λ room. each.reply ended r m holds room)
 
@@ -95,7 +91,7 @@ module _ (P : World → Type 0) (Q : Rest → Type 0) (steady : Steady P Q) wher
 
     -- of the same world, or of one that was told of a child that ended
     module _ (p : Physical) (ended : List Ended) (is : p.world ≡ record w { ended = ended }) (h : P p.world) where
-      by_put_in : (r : Reply) (o : Result Bytes Span) → Q r.rest → AfterHas P (put_in p the_ask r o)
+      by_put_in : (r : Reply) (o : Result Bytes Span) → Q w r.rest → AfterHas P (put_in p the_ask r o)
       by_put_in r (Ok memory) holds = by_carried p memory (served p.world the_ask r r.space.bytes) h (rw is (by_served ended r r.space.bytes holds))
       by_put_in r (Err span) holds = by_killed p q s outside h
 
@@ -113,7 +109,7 @@ module _ (P : World → Type 0) (Q : Rest → Type 0) (steady : Steady P Q) wher
       by_waited_in : (state : State) → AfterHas P (carried p p.memory (waited p.world q state))
       by_waited_in state = by_carried p p.memory (waited p.world q state) holds_in (rw is (by_waited w.ended state))
 
-      by_answered_in : (r : Row) → Answers Q r → AfterHas P (answered_in p the_ask r)
+      by_answered_in : (r : Row) → Answers (Q w) r → AfterHas P (answered_in p the_ask r)
       by_answered_in (replies r) holds = by_put_in p w.ended is holds_in r (put_got p.memory (in_memory p.world) r.got) holds
       by_answered_in (waits state) holds = by_waited_in state
 
@@ -138,7 +134,7 @@ module _ (P : World → Type 0) (Q : Rest → Type 0) (steady : Steady P Q) wher
       by_classed_in =
           after_if P (writes_nothing (number_of q.regs)) (carried p p.memory (classed p.world the_ask)) _
           (by_carried p p.memory (classed p.world the_ask) holds_in
-          (rw is (by_classed (λ now t. P now) Q w the_ask each (steady.rests w begun) (steady.rows w q s bytes begun))))
+          (rw is (by_classed (λ now t. P now) (Q w) w the_ask each (steady.rests w begun) (steady.rows w q s bytes begun))))
           (after_if P (number_of q.regs == 95) (waitid_in p the_ask) (answered_in p the_ask (row the_ask)) by_waitid_in
           (by_answered_in (row the_ask) (steady.rows w q s bytes begun)))
 
@@ -179,30 +175,3 @@ module _ (P : World → Type 0) (Q : Rest → Type 0) (steady : Steady P Q) wher
   by_event_in p pid h =
       let now : Physical = with_stray pid (first_stray p pid) p in
       by_act_in now pid (λ q s. effect_in now q s (next_meaning now q)) (λ q s. by_effect_in now q s (next_meaning now q) (by_stray_in p pid (first_stray p pid) h))
-
-  -- ---- turns and runs
-
-  by_turned_in : (more : Physical → Walk) (p : Physical) (a : After) → P p.world → AfterHas P a → ((now : Physical) → P now.world → P (more now).now.world) → P (turned more p a).now.world
-  by_turned_in more p (after now true) h kept on = kept
-  by_turned_in more p (after now false) h kept on = on now kept
-  by_turned_in more p (no_room now) h kept on = kept
-  by_turned_in more p nobody h kept on = h
-
-  pub by_turn_in : (count pid : ℕ) (p : Physical) → P p.world → P (physical_turn count pid p).now.world
-  unfolding physical_turn
-  by_turn_in zero pid p h = h
-  by_turn_in (suc count) pid p h = by_turned_in (physical_turn count pid) p (physical_event p pid) h (by_event_in p pid h) (λ now kept. by_turn_in count pid now kept)
-
-  by_going_in : (more : Physical → Walk) (now : Physical) (end : Option End) → P now.world → ((p : Physical) → P p.world → P (more p).now.world) → P (going_on more (stays_at now end)).now.world
-  by_going_in more now (Some end) h on = h
-  by_going_in more now None h on = on now h
-
-  by_quantum_in : (more : Physical → Walk) (p : Physical) (count : ℕ) (chosen : Option ℕ) → P p.world → ((now : Physical) → P now.world → P (more now).now.world)
-      → P (quantum_turn more p count chosen).now.world
-  by_quantum_in more p count None h on = h
-  by_quantum_in more p count (Some pid) h on = by_going_in more (physical_turn count pid p).now (physical_turn count pid p).end (by_turn_in count pid p h) on
-
-  pub by_run_in : (quanta : List Quantum) (p : Physical) → P p.world → P (physical_turns quanta p).now.world
-  unfolding physical_turns
-  by_run_in [] p h = h
-  by_run_in (q ∷ qs) p h = by_quantum_in (physical_turns qs) p q.count (picked q.pick (ready_pids p.world.procs)) h (λ now kept. by_run_in qs now kept)

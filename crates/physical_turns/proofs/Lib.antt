@@ -6,8 +6,10 @@
 -- TurnsIn  turns and runs, event by event and quantum by quantum
 -- StepsIn  instructions are events
 -- Shows    every space shows memory behind every event
--- ByEventsIn  what holds after each change of an event holds after every event, turn and run
+-- ByTurnsIn  what every event keeps is kept by turns and runs
+-- ByEventsIn  what holds after each change of an event holds after every event
 -- Growth   what a run only adds to, and what it leaves
+-- OrderIn  the nodes are a tree of names, and counts are exact
 -- WideRuns several instructions, and the bytes that a call writes
 pub mod Sub
 pub mod Widened
@@ -16,7 +18,9 @@ pub mod InMemory
 pub mod Moves
 pub mod TurnsIn
 pub mod StepsIn
+pub mod ByTurnsIn
 pub mod Shows
 pub mod ByEventsIn
 pub mod Growth
+pub mod OrderIn
 pub mod Samples

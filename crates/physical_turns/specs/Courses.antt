@@ -10,7 +10,8 @@ use Rattle.quantum_sched.specs.declared.Quantum.{Quantum}
 use Rattle.vfork_exec.specs.Keyed.{find}
 use Rattle.machine_world.specs.World.{Process, LiveSpace, World, pid_of, id_of}
 use Rattle.machine_world.specs.Courses.{EndsAs}
-use Rattle.physical_turns.specs.Physical.{Physical, in_memory, shown_space, After, after, no_room, nobody, moved_in, next_meaning, has_stray, physical_event, physical_turn, physical_turns, opening}
+use Rattle.physical_turns.specs.Physical.{Physical, in_memory, shown_space, moved_in, next_meaning, has_stray, physical_event, physical_turn, physical_turns, opening}
+use Rattle.physical_turns.specs.After.{AfterIs}
 use Rattle.physical_turns.specs.Wider.{IsWithin, Grows}
 
 -- behind so many events of a process a turn of it goes on in the new world
@@ -60,17 +61,11 @@ WholeInstructionsLead =
 
 -- ---- every space shows memory in the opening world, and behind every event, turn and run
 
--- what an event leaves shows it
-abbrev pub AfterShows : After → Type 0
-AfterShows (after now over) = IsShown now
-AfterShows (no_room now) = IsShown now
-AfterShows nobody = Unit {0}
-
 abbrev pub OpeningsShow : Type 0
 OpeningsShow = (headers : List (List ℕ)) (w : World) → IsShown (opening headers w)
 
 abbrev pub EventsShow : Type 0
-EventsShow = (p : Physical) (pid : ℕ) → IsShown p → AfterShows (physical_event p pid)
+EventsShow = (p : Physical) (pid : ℕ) → IsShown p → AfterIs IsShown (physical_event p pid)
 
 abbrev pub TurnsShow : Type 0
 TurnsShow = (count pid : ℕ) (p : Physical) → IsShown p → IsShown (physical_turn count pid p).now

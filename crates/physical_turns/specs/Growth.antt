@@ -4,13 +4,8 @@ use Rattle.quantum_sched.specs.declared.Quantum.{Quantum}
 use Rattle.call_log.specs.Notes.{Note}
 use Rattle.machine_world.specs.World.{World}
 use Rattle.machine_world.specs.Programs.{AreLoaded}
-use Rattle.physical_turns.specs.Physical.{Physical, After, after, no_room, nobody, physical_event, physical_turn, physical_turns}
-
--- what holds of the world that an event leaves
-abbrev pub AfterHas : (World → Type 0) → After → Type 0
-AfterHas P (after now over) = P now.world
-AfterHas P (no_room now) = P now.world
-AfterHas P nobody = Unit {0}
+use Rattle.physical_turns.specs.Physical.{Physical, physical_event, physical_turn, physical_turns}
+use Rattle.physical_turns.specs.After.{AfterHas}
 
 -- notes come before those that are there, and the console has more behind what it has
 abbrev pub Adds : (old now : World) → Type 0

@@ -2,6 +2,7 @@
 
 ghost use Rattle.physical_turns.specs.Courses.{OwnInstructionsLead, WholeInstructionsLead, OpeningsShow, EventsShow, TurnsShow, RunsShow};
 ghost use Rattle.physical_turns.specs.Growth.{EventsAdd, TurnsAdd, RunsAdd, EventsLeavePrograms, TurnsLeavePrograms, RunsLeavePrograms};
+ghost use Rattle.physical_turns.specs.Order.{OpeningsKeepOrder, EventsKeepOrderIn, TurnsKeepOrderIn, RunsKeepOrderIn};
 ghost use Rattle.physical_turns.specs.Wider.{MeaningWidens, InstructionsWiden, SentWidens, PutWidens};
 
 /// What a program does in a part of memory it does in all of it, as long as it doesn't stray: an instruction and several, the bytes
@@ -33,6 +34,15 @@ pub fn notes_stay_law()
     ensures events { EventsAdd }
     ensures turns { TurnsAdd }
     ensures runs { RunsAdd }
+{}
+
+/// Every event keeps the nodes a tree of names, and all counts exact, behind the first stray access as before it: an open file counts the
+/// descriptors that share it, and a node the open files that hold it. The opening memory has them as its world has.
+pub fn counts_in_memory_law()
+    ensures openings { OpeningsKeepOrder }
+    ensures events { EventsKeepOrderIn }
+    ensures turns { TurnsKeepOrderIn }
+    ensures runs { RunsKeepOrderIn }
 {}
 
 /// The programs, the pages and the choice of free runs stay, and load notes name programs that are

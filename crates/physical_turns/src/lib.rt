@@ -3,4 +3,7 @@
 
 mod laws;
 
-pub use laws::{instructions_in_law, notes_stay_law, physical_programs_law, shown_law, wider_law};
+pub use laws::{
+    counts_in_memory_law, instructions_in_law, notes_stay_law, physical_programs_law, shown_law,
+    wider_law,
+};

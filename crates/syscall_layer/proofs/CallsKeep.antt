@@ -9,12 +9,12 @@ use Rattle.machine_world.specs.World.{Process, LiveSpace, Rest, World, pid_of, i
 use Rattle.machine_world.specs.Asks.{Ask}
 use Rattle.machine_world.specs.Rows.{row}
 use Rattle.machine_world.specs.Event.{Outcome, went, strays, full, idle, ended, ask_of, answer, settled, in_space, by_process, at_process, called}
-use Rattle.machine_world.proofs.Kept.{Answers}
+use Rattle.machine_world.proofs.Kept.{Answers, kept_outside}
 use Rattle.machine_world.proofs.ByRows.{by_rows}
 use Rattle.machine_world.proofs.ByEvents.{Answered as CallHas, Happened, Keeps, by_effect}
 use Rattle.physical_turns.specs.Physical.{Physical, After, after, no_room, nobody, has_stray, settled_in, answer_in, called_in}
 use Rattle.physical_turns.specs.Physical as physical
-use Rattle.physical_turns.specs.Growth.{AfterHas}
+use Rattle.physical_turns.specs.After.{AfterHas}
 use Rattle.physical_turns.proofs.ByEventsIn.{Steady, by_effect_in}
 use Rattle.syscall_layer.specs.declared.answer.Served.{Served}
 use Rattle.syscall_layer.specs.declared.answer.Served.TheVariants as served
@@ -33,24 +33,7 @@ abbrev pub Has : ℕ → Rest → Type 0
 Has pages rest = rest.pages ≡ pages
 
 pub rows_keep : (pages : ℕ) (a : Ask) → Has pages a.rest → Answers (Has pages) (row a)
-rows_keep pages a h = by_rows (Has pages) a (record {
-  dup = λ free is. h;
-  dup3 = λ none. h;
-  close = λ none. h;
-  seek = λ v node at shows is. h;
-  list = λ v node shows is. h;
-  read = λ v node spans shows reads is. h;
-  take = λ v spans shows reads. h;
-  write = λ v node bytes nodes shows may some is. h;
-  print = λ v bytes shows may. h;
-  pipe = λ ends free. h;
-  drain = λ v id end spans shows reads. h;
-  fill = λ v id end bytes shows may. h;
-  make = λ nodes is. h;
-  remove = λ nodes is. h;
-  open_old = λ fd node free found none. h;
-  open_new = λ fd nodes free found may made. h;
-}) h
+rows_keep pages a h = by_rows (Has pages) a (kept_outside (λ programs n kind. n ≡ pages) a h) h
 
 module _ (strayed : Bool) (pages : ℕ) (w : World) (h : Same strayed pages w) where
   call_keeps : (a : Ask) → CallHas (λ now t. Same strayed pages now) (Has pages) w a
@@ -89,7 +72,7 @@ module _ (strayed : Bool) (pages : ℕ) (w : World) (h : Same strayed pages w) w
 -- ---- over one memory, once a stray access was noted
 
 module _ (pages : ℕ) where
-  steady : Steady (Same true pages) (Has pages)
+  steady : Steady (Same true pages) (λ w. Has pages)
   steady = record {
     wakes = λ now h. h;
     shows = λ memory now h. h;
@@ -103,7 +86,7 @@ module _ (pages : ℕ) where
   module _ (p : Physical) (h : Same true pages p.world) where
     in_home_of : (q : Process) (o : Option LiveSpace) → AfterHas (Same true pages) (physical.in_space (λ r s. settled_in (answer_in p r s)) q o)
     in_home_of q None = tt
-    in_home_of q (Some s) = by_effect_in (Same true pages) (Has pages) steady p q s.space call h
+    in_home_of q (Some s) = by_effect_in (Same true pages) (λ w. Has pages) steady p q s.space call h
 
     in_memory_of : (o : Option Process) → AfterHas (Same true pages) (physical.by_process p.world.spaces (λ r s. settled_in (answer_in p r s)) o)
     in_memory_of None = tt
