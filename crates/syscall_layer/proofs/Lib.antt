@@ -127,5 +127,5 @@ pub mod CallsIn
 pub mod CallsOn
 mod CallEvents
 mod Samples
-mod NotedStrays
+pub mod NotedStrays
 pub mod Abouts

@@ -1,5 +1,5 @@
 -- What the start of a program leaves of the one memory: its block with its header, over the blocks of those before it, and else zeros.
-use Rattle.std.proofs.Common.{◌≡◌, ℕ, ◌+◌, ◌*◌, ◌<◌, ◌≤◌, true, List, [], ◌∷◌, length, take, arith, sym, ap, subst, ◌∙◌, length-set}
+use Rattle.std.proofs.Common.{◌≡◌, ℕ, ◌+◌, ◌*◌, ◌<◌, ◌≤◌, true, false, List, [], ◌∷◌, length, take, arith, sym, ap, subst, ◌∙◌, length-set}
 use Rattle.std.specs.Prelude.{Some, None, slice_get, slice_range, if◌then◌else◌, ◌&&◌, nat_le, nat_lt}
 use Rattle.std.proofs.lemmas.Bool.Decides.{nat_tests}
 use Rattle.byte_words.specs.ByteMap.{Bytes}
@@ -21,6 +21,7 @@ use Rattle.syscall_layer.specs.Kept.{Kept}
 use Rattle.syscall_layer.specs.Regular.{Regular}
 use Rattle.syscall_layer.specs.Stands.{About, live_spaces, world_of}
 use Rattle.syscall_layer.specs.InMemory.{header_of, LaysOn}
+use Rattle.syscall_layer.specs.Starts.{LeavesOtherBytes}
 use Rattle.syscall_layer.proofs.Apart.{page_of}
 use Rattle.syscall_layer.proofs.FreeBytes.{spaces_none}
 use Rattle.syscall_layer.proofs.Loaded.{Placed, placed_by, spaces_begin}
@@ -81,3 +82,12 @@ lays_by old k n view regular kind index f args b headers listed =
     subst (λ (x : Kept). LaysOn headers x n) view
     (λ a before. lays headers a k regular index f args b.is.page n.mem (placed_by kind k regular f args [] n.regions n.mem b.loaded b.is) b.is.header listed before
     ∙ ap (λ (x : Kept). first_memory headers (world_of a x)) (sym b.new))
+
+pub others_by : (old k n : Kept) → k ≡ old → (kind : Kind) (index : ℕ) (f : Values) (args : List (List ℕ)) → Begun k n kind index f args → LeavesOtherBytes old n
+others_by old k n view kind index f args b l noted at outside =
+    let now : List Note = (with_program k index f args b.is.page n.mem).notes in
+    let same : load_note l ∷ old.notes ≡ now = sym noted ∙ ap (λ (x : Kept). x.notes) b.new in
+    let base : l.base ≡ page_address b.is.page = cc in
+    let pages : l.pages ≡ block_pages (flat_original f) = cc in
+    let free : in_block (page_loading f b.is.page args []) at ≡ false = grind (arith, nat_tests, base, pages, outside) in
+    b.is.others at free ∙ ap (λ (x : Kept). physical x.mem at) view

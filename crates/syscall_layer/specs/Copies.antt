@@ -19,12 +19,16 @@ abbrev pub KnowsSource : Inodes → Source → Type 0
 KnowsSource nodes Own = Unit {0}
 KnowsSource nodes (Copy file change first) = KnowsFile nodes file change
 
+-- that of each live copy
+abbrev pub AllKnown : List Region → Inodes → Type 0
+AllKnown regions nodes = (id : ℕ) (r : Region) → slice_get regions id ≡ Some r → 0 < r.uses → KnowsSource nodes r.source
+
 -- copies hold their file, and each change and each use but a start's has its kept call
 pub record CopiesHold (regions : List Region) (mem : List ℕ) (nodes : Inodes) (notes : List Note) : Type 0 where
   -- as long as no stray access was noted each live copy holds its file
   pub hold : has_stray notes ≡ false → AllHold regions mem nodes
   -- its file was given, and its count didn't fall, whatever was stored
-  pub known : (id : ℕ) (r : Region) → slice_get regions id ≡ Some r → 0 < r.uses → KnowsSource nodes r.source
+  pub known : AllKnown regions nodes
   pub changes : AreChanged (most_at_boot + kept_calls notes) nodes
   pub uses : (id : ℕ) (r : Region) → slice_get regions id ≡ Some r → r.uses ≤ 1 + kept_calls notes
 
@@ -34,6 +38,10 @@ pub record CopiesHold (regions : List Region) (mem : List ℕ) (nodes : Inodes) 
 abbrev pub HoldsFiles : Kept → Type 0
 HoldsFiles k = AllHold k.regions k.mem k.tree
 
--- it does where a stray access was noted; as long as none was it does of itself
+-- its file is known
+abbrev pub KnowsFiles : Kept → Type 0
+KnowsFiles k = AllKnown k.regions k.tree
+
+-- it holds its file where a stray access was noted; as long as none was it does of itself
 abbrev pub StillHolds : Kept → Type 0
 StillHolds k = has_stray k.notes ≡ true → HoldsFiles k

@@ -1,17 +1,20 @@
 //! The parts of a run.
 
-ghost use Rattle.std.specs.Prelude.{◌≡◌, IfOk};
+ghost use Rattle.std.specs.Prelude.{◌≡◌, IfOk, option_map};
+ghost use Rattle.machine_world.specs.Turns.{seen_of};
 ghost use Rattle.physical_turns.specs.Physical.{has_stray};
 ghost use Rattle.syscall_layer.specs.Awake.{awake_in};
 ghost use Rattle.syscall_layer.specs.InMemory.{without_newest};
+ghost use Rattle.syscall_layer.specs.Parts.{halted_at};
 ghost use Rattle.syscall_layer.specs.Reach.{is_whole, reach_of};
 ghost use Rattle.syscall_layer.specs.Regular.{IsRegular};
 
 use crate::kept::KeptParts;
-use crate::reach::{Reach, whole_table};
+use crate::reach::{Reach, first_stray, whole_table};
 use bflt_format::Flat;
 use mmap_rules::Owners;
 use region_watch::Mode;
+use rv32im_step::Access;
 use std::alloc::{AllocError, Global};
 use std::marker::Model;
 
@@ -71,6 +74,22 @@ impl Parts {
         ensures strayed { has_stray self.now.kept.notes ≡ is_whole result }
     {
         if self.noted { Reach::Whole } else { Reach::Own }
+    }
+
+    /// Where a run has ended that ends at its first stray access.
+    pub fn halted_at(&self) -> Option<Access>
+        ensures { option_map seen_of result ≡ halted_at self.now.mode self.now.kept.notes }
+    {
+        match self.mode {
+            Mode::GoOn => None,
+            Mode::Halt => {
+                if self.noted {
+                    first_stray(self.kept.log.notes())
+                } else {
+                    None
+                }
+            }
+        }
     }
 
     /// Takes back the newest note, where the parts are sound without it, and looks through the others for a stray access.

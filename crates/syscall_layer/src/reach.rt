@@ -1,15 +1,18 @@
 //! What a system call may read and write.
 
-ghost use Rattle.std.specs.Prelude.{◌≡◌, ◌≤◌, IfOk, length, map, slice_get, Some};
+ghost use Rattle.std.specs.Prelude.{◌≡◌, ◌≤◌, IfOk, length, map, option_map, slice_get, Some};
 ghost use Rattle.call_log.specs.Values.{note_value};
 ghost use Rattle.mmap_rules.specs.Held.{Held};
 ghost use Rattle.physical_turns.specs.Physical.{has_stray};
+ghost use Rattle.machine_world.specs.Turns.{seen_of};
+ghost use Rattle.syscall_layer.specs.Parts.{first_noted};
 ghost use Rattle.syscall_layer.specs.Reach.{Reaches, whole_table};
 ghost use Rattle.syscall_layer.specs.Regular.{HasSpace};
 
 use crate::call::home;
-use call_log::Note;
+use call_log::{Note, Seen, SeenKind};
 use mmap_rules::{Owners, PageOwner, Space};
+use rv32im_step::{Access, AccessKind};
 use std::alloc::{AllocError, Global};
 
 /// Which bytes the instructions and the system calls of a process may read and write.
@@ -52,14 +55,39 @@ pub fn table_of<'a>(
     }
 }
 
+/// The access that was noted, as it was seen.
+fn accessed(seen: Seen) -> Access
+    ensures { seen_of result ≡ seen }
+{
+    let kind = match seen.kind {
+        SeenKind::Fetch => AccessKind::Fetch,
+        SeenKind::Load => AccessKind::Load,
+        SeenKind::Store => AccessKind::Store,
+        SeenKind::Call => AccessKind::Call,
+    };
+    Access {
+        pc: seen.pc,
+        addr: seen.addr,
+        len: seen.len,
+        kind,
+    }
+}
+
+/// The first stray access among notes that stand oldest first. It looks through them.
+pub(crate) fn first_stray(notes: &[Note]) -> Option<Access>
+    ensures { option_map seen_of result ≡ first_noted (map note_value notes.now) }
+{
+    for note in notes {
+        if let Note::Stray { access, .. } = note {
+            return Some(accessed(*access));
+        }
+    }
+    None
+}
+
 /// Whether the note of a stray access is among these. It looks through them.
 pub(crate) fn has_stray(notes: &[Note]) -> bool
     ensures { result ≡ has_stray (map note_value notes.now) }
 {
-    for note in notes {
-        if let Note::Stray { .. } = note {
-            return true;
-        }
-    }
-    false
+    first_stray(notes).is_some()
 }

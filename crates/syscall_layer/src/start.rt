@@ -8,7 +8,7 @@ ghost use Rattle.vfork_exec.specs.Procs.{count, most_entries};
 ghost use Rattle.syscall_layer.specs.Regular.{most_first};
 ghost use Rattle.syscall_layer.specs.Refusals.{refusal_of};
 ghost use Rattle.syscall_layer.specs.InMemory.{header_of, LaysOn};
-ghost use Rattle.syscall_layer.specs.Starts.{Starts};
+ghost use Rattle.syscall_layer.specs.Starts.{LeavesOtherBytes, Starts};
 
 use crate::keep::or_unreserve;
 use crate::kept::KeptParts;
@@ -56,6 +56,7 @@ impl KeptParts {
         requires spaces { length self.old.spaces < most_first }
         ensures starts { Starts (kind_of chooser.now) index (flat_original flat.now) (texts args.now) self.old self.new result }
         ensures memory { (headers : List (List ℕ)) → slice_get headers index ≡ Some (header_of flat.now) → IfOk result (λ _. LaysOn headers self.old self.new) }
+        ensures others { IfOk result (λ _. LeavesOtherBytes self.old self.new) }
     {
         if self.spaces.reserve(1).is_err()
             || self.files.ready().is_err()

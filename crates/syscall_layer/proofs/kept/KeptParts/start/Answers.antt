@@ -10,7 +10,7 @@ use Rattle.fd_tables.specs.Changes.{with_table}
 use Rattle.syscall_layer.specs.Kept.{Kept}
 use Rattle.syscall_layer.specs.Inside.{kept_of}
 use Rattle.syscall_layer.proofs.Boots.{refuses_by, Begun, begun_by, regular_by, copies_by, starts_by, process_started, note_pushed}
-use Rattle.syscall_layer.proofs.StartMemory.{lays_by}
+use Rattle.syscall_layer.proofs.StartMemory.{lays_by, others_by}
 use Rattle.syscall_layer.proofs.kept.KeptParts.start.Goals as goal
 
 pub returns-in_err-space-clause-starts : goal.returns-in_err-space-clause-starts
@@ -63,3 +63,6 @@ returns-clause-starts g c = starts_by c.args.self.now (kept_of c.self.inside) (n
 
 pub returns-clause-memory : goal.returns-clause-memory
 returns-clause-memory g c = lays_by c.args.self.now (kept_of c.self.inside) (new_parts g c) (search rules) c.self.invariant.0.0 _ _ _ _ (begun g c)
+
+pub returns-clause-others : goal.returns-clause-others
+returns-clause-others g c = others_by c.args.self.now (kept_of c.self.inside) (new_parts g c) (search rules) _ _ _ _ (begun g c)
