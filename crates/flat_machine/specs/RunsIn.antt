@@ -1,12 +1,14 @@
 -- What a run that goes on behind its first stray access leaves, and why it stops.
-use Rattle.std.specs.Prelude.{◌≡◌, Bool, true, false, List, Result, Ok, Err}
+use Rattle.std.specs.Prelude.{◌≡◌, Bool, true, false, List, Some, Result, Ok, Err}
 use Rattle.std.specs.declared.alloc.AllocError.{AllocError}
 use Rattle.quantum_sched.specs.declared.Quantum.{Quantum}
-use Rattle.machine_world.specs.Turns.{turns}
+use Rattle.call_log.specs.declared.how.Seen.{Seen}
+use Rattle.machine_world.specs.Turns.{seen_of, turns}
 use Rattle.physical_turns.specs.Physical.{has_stray, physical_turns}
 use Rattle.flat_machine.specs.declared.run.End.{End as Told}
 use Rattle.flat_machine.specs.declared.run.End.TheVariants as told
 use Rattle.region_watch.specs.declared.mode.Mode.TheVariants.{Halt}
+use Rattle.syscall_layer.specs.Parts.{halted_at}
 use Rattle.flat_machine.specs.State.{State, world, one_memory}
 use Rattle.flat_machine.specs.Runs.{Ends, Runs}
 use Rattle.flat_machine.specs.LeavesIn.{StopsIn, GoesPast}
@@ -32,3 +34,12 @@ abbrev pub GoesOn : List Quantum → State → State → Result Told AllocError 
 GoesOn quanta old new (Ok end) =
     (has_stray (world new).notes ≡ false → Runs quanta old new (Ok end)) × (has_stray (world new).notes ≡ true → GoesPast (turns quanta (world old)) (world new))
 GoesOn quanta old new (Err error) = Unit {0}
+
+-- that access is told
+abbrev pub TellsAccess : Seen → Result Told AllocError → Type 0
+TellsAccess seen (Ok (told.Stray access)) = seen_of access ≡ seen
+TellsAccess seen other = ⊥
+
+-- a run that has ended at its first stray access stays there, and tells it again
+abbrev pub StaysHalted : State → State → Result Told AllocError → Type 0
+StaysHalted old new r = (seen : Seen) → halted_at old.mode old.kept.notes ≡ Some seen → (new ≡ old) × TellsAccess seen r

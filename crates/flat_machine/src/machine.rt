@@ -7,8 +7,10 @@ ghost use Rattle.machine_world.specs.World.{program_path};
 ghost use Rattle.machine_world.specs.Programs.{AreLoaded};
 ghost use Rattle.physical_turns.specs.Physical.{has_stray};
 ghost use Rattle.waits_laws.specs.Laws.{IsOrdered};
+ghost use Rattle.syscall_layer.specs.Copies.{KnowsFiles};
 ghost use Rattle.flat_machine.specs.State.{world};
 
+use crate::turn::tell_copies;
 use call_log::Note;
 use page_runs::Kind;
 use std::marker::Model;
@@ -38,12 +40,15 @@ impl Model for Machine {
 }
 
 impl Machine {
-    /// How free runs are chosen.
+    /// How free runs are chosen. Of every machine it is so that its world is in order up to the first stray access, and that the files
+    /// of its live copies are known.
     #[tactic(auto, unfolding(syscall_layer::specs::Stands::world_of))]
     pub fn kind(&self) -> Kind
         ensures kind { result ≡ (world self.now).rest.kind }
         ensures order { has_stray (world self.now).notes ≡ false → IsOrdered (world self.now) }
+        ensures known { KnowsFiles self.now.kept }
     {
+        tell_copies(&self.parts);
         self.kind
     }
 

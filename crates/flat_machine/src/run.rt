@@ -17,7 +17,7 @@ ghost use Rattle.flat_machine.specs.declared.run.End.TheVariants.{Stray};
 ghost use Rattle.flat_machine.specs.State.{is_whole, world, one_memory};
 ghost use Rattle.syscall_layer.specs.Copies.{HoldsFiles};
 ghost use Rattle.flat_machine.specs.Runs.{Ends, Runs, KeepsStays, KeepsWaits, WaitsWhereStuck, repeated};
-ghost use Rattle.flat_machine.specs.RunsIn.{ends_astray, IsHalting, RunsIn, GoesOn};
+ghost use Rattle.flat_machine.specs.RunsIn.{ends_astray, IsHalting, RunsIn, GoesOn, StaysHalted};
 ghost use Rattle.flat_machine.specs.Leaves.{Leaves, TurnLeaves};
 ghost use Rattle.flat_machine.specs.LeavesIn.{LeavesIn, LeavesFirst, TurnLeavesIn, reach_behind, has_rest, is_undone, is_stray};
 
@@ -185,7 +185,8 @@ impl Machine {
         Ok(None)
     }
 
-    /// Gives each quantum its turn, until the run stops. The chooser is of the kind that booted.
+    /// Gives each quantum its turn, until the run stops. The chooser is of the kind that booted. A run that has ended at its first stray
+    /// access stays there, and tells it again.
     pub fn run<F: Fn(&[Run], u32) -> Option<usize>>(
         &mut self,
         quanta: &[Quantum],
@@ -205,12 +206,13 @@ impl Machine {
         ensures waits { IsHalting self.old → KeepsWaits self.old self.new }
         ensures stuck { IsHalting self.old → WaitsWhereStuck self.old self.new result }
         ensures alone { IsHalting self.old → KeepsStays quanta.now self.old self.new result }
+        ensures halted { StaysHalted self.old self.new result }
     {
         self.run_repeated(quanta, 1, chooser)
     }
 
     /// Gives each quantum its turn, and all of them so many times, until the run stops. The chooser is of
-    /// the kind that booted.
+    /// the kind that booted. A run that has ended at its first stray access stays there, and tells it again.
     pub fn run_repeated<F: Fn(&[Run], u32) -> Option<usize>>(
         &mut self,
         quanta: &[Quantum],
@@ -231,7 +233,11 @@ impl Machine {
         ensures waits { IsHalting self.old → KeepsWaits self.old self.new }
         ensures stuck { IsHalting self.old → WaitsWhereStuck self.old self.new result }
         ensures alone { IsHalting self.old → KeepsStays (repeated count quanta.now) self.old self.new result }
+        ensures halted { StaysHalted self.old self.new result }
     {
+        if let Some(access) = self.parts.halted_at() {
+            return Ok(End::Stray(access));
+        }
         // Both for their clauses: as long as nothing strayed the world is in order, and copies hold their files.
         let _kind = self.kind();
         tell_copies(&self.parts);

@@ -10,7 +10,7 @@ ghost use Rattle.physical_turns.specs.Physical.{outside, has_stray, died_in};
 ghost use Rattle.syscall_layer.specs.declared.reach.Reach.TheVariants.{Own, Whole};
 ghost use Rattle.syscall_layer.specs.Flats.{AreFlats};
 ghost use Rattle.syscall_layer.specs.InMemory.{headers_of, physical_of, without_newest};
-ghost use Rattle.syscall_layer.specs.Copies.{HoldsFiles};
+ghost use Rattle.syscall_layer.specs.Copies.{HoldsFiles, KnowsFiles};
 ghost use Rattle.syscall_layer.specs.Reach.{reach_of, whole_table};
 ghost use Rattle.syscall_layer.specs.Regular.{IsRegular};
 ghost use Rattle.syscall_layer.specs.Stands.{About, later, world_of};
@@ -198,9 +198,11 @@ fn is_noted(reach: Reach, end: &Result<Option<End>, AllocError>) -> bool
     }
 }
 
-/// As long as no stray access was noted each live copy of a file that wasn't changed since holds it. Nothing is done.
+/// As long as no stray access was noted each live copy of a file that wasn't changed since holds it; and its file is known, whatever was
+/// noted. Nothing is done.
 pub(crate) fn tell_copies(parts: &Parts)
-    ensures { has_stray parts.now.kept.notes ≡ false → HoldsFiles parts.now.kept }
+    ensures hold { has_stray parts.now.kept.notes ≡ false → HoldsFiles parts.now.kept }
+    ensures known { KnowsFiles parts.now.kept }
 {
     // Whatever is read opens the parts, whose invariant says so.
     let _live = parts.kept.procs.live();

@@ -11,13 +11,15 @@ use Rattle.flat_machine.specs.declared.run.End.{End as Told}
 use Rattle.flat_machine.specs.declared.run.End.TheVariants as told
 use Rattle.syscall_layer.specs.Copies.{HoldsFiles}
 use Rattle.flat_machine.specs.LeavesIn.{is_stray}
-use Rattle.flat_machine.specs.RunsIn.{ends_astray}
+use Rattle.flat_machine.specs.RunsIn.{ends_astray, IsHalting}
 use Rattle.flat_machine.specs.State.{State, about_of, world, one_memory}
 use Rattle.flat_machine.specs.Inside.{state_of}
 use Rattle.flat_machine.specs.Runs.{repeated, Ends}
 use Rattle.flat_machine.proofs.Rounds.{time_fits, one_more_time, time_on, time_ends, time_fails, machine_ends, runs_fail, run_keeps_stays}
 use Rattle.flat_machine.proofs.RoundsIn.{first_quiet, time_on_in, time_ends_in, time_fails_in, time_first, time_first_ends, all_comes_in, all_first, runs_fail_in, goes_on_fails}
 use Rattle.flat_machine.proofs.Waiting.{run_keeps_waits, run_waits_where_stuck}
+use Rattle.syscall_layer.proofs.NotedStrays.{none_halted}
+use Rattle.flat_machine.proofs.machine.Machine.run_repeated.Given.{Over}
 use Rattle.flat_machine.proofs.machine.Machine.run_repeated.Goals as goal
 
 pub loop-time-init : goal.loop-time-init
@@ -26,7 +28,7 @@ loop-time-init g c = record {
   kind = refl;
   mode = refl;
   halts = λ halting. halting;
-  copies = λ halting. subst (λ (s : State). HoldsFiles s.kept) c.self.view_is (c.tell_copies.ensures (subst (λ (s : State). has_stray s.kept.notes ≡ false) (sym c.self.view_is) halting.quiet));
+  copies = λ halting. subst (λ (s : State). HoldsFiles s.kept) c.self.view_is (c.tell_copies.ensures.hold (subst (λ (s : State). has_stray s.kept.notes ≡ false) (sym c.self.view_is) halting.quiet));
   comes = λ halting. comes_none (world c.args.self.now);
   memory = λ go. comes_in_none (one_memory c.args.self.now);
   first = λ go quiet. first_quiet [] (world c.args.self.now) (world c.args.self.now) (Ok None) quiet (comes_none (world c.args.self.now));
@@ -54,27 +56,27 @@ pub returns-in_err-end-clause-first : goal.returns-in_err-end-clause-first
 returns-in_err-end-clause-first g c go quiet =
     goes_on_fails (repeated c.args.count c.args.quanta.now) c.args.self.now c.round.new.self c.from_residual.result c.from_residual.ensures.0
 
-pub returns-in-Some-clause-turns : goal.returns-in-Some-clause-turns
-returns-in-Some-clause-turns g c halting =
-    let leaves = rw c.in-Some.is at (c.in_ok-end.ensures.leaves (c.loop-time.invariant.halts halting)) in
-    time_ends c.args.quanta.now c.loop-time._time c.args.count c.loop-time-test.true (world c.args.self.now) (world c.loop-time.self) (world c.round.new.self) (c.loop-time.invariant.comes halting) c.in-Some.end leaves
+pub returns-in-Some-2-clause-turns : goal.returns-in-Some-2-clause-turns
+returns-in-Some-2-clause-turns g c halting =
+    let leaves = rw c.in-Some-2.is at (c.in_ok-end.ensures.leaves (c.loop-time.invariant.halts halting)) in
+    time_ends c.args.quanta.now c.loop-time._time c.args.count c.loop-time-test.true (world c.args.self.now) (world c.loop-time.self) (world c.round.new.self) (c.loop-time.invariant.comes halting) c.in-Some-2.end leaves
 
-pub returns-in-Some-clause-memory : goal.returns-in-Some-clause-memory
-returns-in-Some-clause-memory g c go =
-    let memory = rw c.in-Some.is at (c.in_ok-end.ensures.memory (c.loop-time.invariant.mode ∙ go)) in
-    time_ends_in c.args.quanta.now c.loop-time._time c.args.count c.loop-time-test.true (one_memory c.args.self.now) (one_memory c.loop-time.self) (one_memory c.round.new.self) (c.loop-time.invariant.memory go) c.in-Some.end memory
+pub returns-in-Some-2-clause-memory : goal.returns-in-Some-2-clause-memory
+returns-in-Some-2-clause-memory g c go =
+    let memory = rw c.in-Some-2.is at (c.in_ok-end.ensures.memory (c.loop-time.invariant.mode ∙ go)) in
+    time_ends_in c.args.quanta.now c.loop-time._time c.args.count c.loop-time-test.true (one_memory c.args.self.now) (one_memory c.loop-time.self) (one_memory c.round.new.self) (c.loop-time.invariant.memory go) c.in-Some-2.end memory
 
-pub returns-in-Some-clause-first : goal.returns-in-Some-clause-first
-returns-in-Some-clause-first g c go quiet =
-    let memory = rw c.in-Some.is at (c.in_ok-end.ensures.memory (c.loop-time.invariant.mode ∙ go)) in
-    let first = rw c.in-Some.is at (c.in_ok-end.ensures.first (c.loop-time.invariant.mode ∙ go)) in
-    time_first_ends c.args.quanta.now c.loop-time._time c.args.count c.loop-time-test.true c.args.self.now c.loop-time.self c.round.new.self (c.loop-time.invariant.first go quiet) c.in-Some.end memory first
+pub returns-in-Some-2-clause-first : goal.returns-in-Some-2-clause-first
+returns-in-Some-2-clause-first g c go quiet =
+    let memory = rw c.in-Some-2.is at (c.in_ok-end.ensures.memory (c.loop-time.invariant.mode ∙ go)) in
+    let first = rw c.in-Some-2.is at (c.in_ok-end.ensures.first (c.loop-time.invariant.mode ∙ go)) in
+    time_first_ends c.args.quanta.now c.loop-time._time c.args.count c.loop-time-test.true c.args.self.now c.loop-time.self c.round.new.self (c.loop-time.invariant.first go quiet) c.in-Some-2.end memory first
 
 pub loop-time-preserved : goal.loop-time-preserved
 loop-time-preserved g c =
-    let leaves = rw c.in_default.is at c.in_ok-end.ensures.leaves in
-    let memory = rw c.in_default.is at c.in_ok-end.ensures.memory in
-    let first = rw c.in_default.is at c.in_ok-end.ensures.first in
+    let leaves = rw c.in_default-2.is at c.in_ok-end.ensures.leaves in
+    let memory = rw c.in_default-2.is at c.in_ok-end.ensures.memory in
+    let first = rw c.in_default-2.is at c.in_ok-end.ensures.first in
     let sum : ℕ = sum_by (λ (q : Quantum). q.count) c.args.quanta.now in
     let more = one_more_time c.loop-time._time sum in
     let events = c.loop-time.invariant.events in
@@ -82,7 +84,7 @@ loop-time-preserved g c =
     record {
       kind = c.in_ok-end.ensures.kind ∙ c.loop-time.invariant.kind;
       mode = c.in_ok-end.ensures.mode ∙ c.loop-time.invariant.mode;
-      halts = λ halting. c.in_ok-end.ensures.quiet (c.loop-time.invariant.halts halting) (ap (λ (end : Option Told). is_stray (Ok end)) c.in_default.is);
+      halts = λ halting. c.in_ok-end.ensures.quiet (c.loop-time.invariant.halts halting) (ap (λ (end : Option Told). is_stray (Ok end)) c.in_default-2.is);
       copies = λ halting. c.in_ok-end.ensures.copies (c.loop-time.invariant.halts halting) (c.loop-time.invariant.copies halting);
       comes = λ halting. time_on c.args.quanta.now c.loop-time._time c.args.count c.loop-time-test.true (world c.args.self.now) (world c.loop-time.self) (world c.round.new.self) (c.loop-time.invariant.comes halting) (leaves (c.loop-time.invariant.halts halting));
       memory = λ go. time_on_in c.args.quanta.now c.loop-time._time c.args.count c.loop-time-test.true (one_memory c.args.self.now) (one_memory c.loop-time.self) (one_memory c.round.new.self) (c.loop-time.invariant.memory go) (memory (c.loop-time.invariant.mode ∙ go));
@@ -110,17 +112,17 @@ returns-clause-first g c go quiet =
     subst (λ (s : State). Ends (turns [] (world s)).end c.last_end.result) c.self-2.view_is (c.last_end.ensures (about_of (state_of c.self-2.inside))) in
     all_first (repeated c.args.count c.args.quanta.now) c.args.self.now c.loop-time.self c.last_end.result last (rw all at (c.loop-time.invariant.first go quiet))
 
-pub returns-in-Some-clause-alone : goal.returns-in-Some-clause-alone
-returns-in-Some-clause-alone g c halting =
-    run_keeps_stays (repeated c.args.count c.args.quanta.now) c.args.self.now c.round.new.self (Ok c.in-Some.end) (c.kind-kind.ensures.order halting.quiet).sound (returns-in-Some-clause-turns g c halting)
+pub returns-in-Some-2-clause-alone : goal.returns-in-Some-2-clause-alone
+returns-in-Some-2-clause-alone g c halting =
+    run_keeps_stays (repeated c.args.count c.args.quanta.now) c.args.self.now c.round.new.self (Ok c.in-Some-2.end) (c.kind-kind.ensures.order halting.quiet).sound (returns-in-Some-2-clause-turns g c halting)
 
-pub returns-in-Some-clause-waits : goal.returns-in-Some-clause-waits
-returns-in-Some-clause-waits g c halting =
-    run_keeps_waits (repeated c.args.count c.args.quanta.now) c.args.self.now c.round.new.self (Ok c.in-Some.end) (c.kind-kind.ensures.order halting.quiet) (returns-in-Some-clause-turns g c halting)
+pub returns-in-Some-2-clause-waits : goal.returns-in-Some-2-clause-waits
+returns-in-Some-2-clause-waits g c halting =
+    run_keeps_waits (repeated c.args.count c.args.quanta.now) c.args.self.now c.round.new.self (Ok c.in-Some-2.end) (c.kind-kind.ensures.order halting.quiet) (returns-in-Some-2-clause-turns g c halting)
 
-pub returns-in-Some-clause-stuck : goal.returns-in-Some-clause-stuck
-returns-in-Some-clause-stuck g c halting =
-    run_waits_where_stuck (repeated c.args.count c.args.quanta.now) c.args.self.now c.round.new.self (Ok c.in-Some.end) (c.kind-kind.ensures.order halting.quiet) (returns-in-Some-clause-turns g c halting)
+pub returns-in-Some-2-clause-stuck : goal.returns-in-Some-2-clause-stuck
+returns-in-Some-2-clause-stuck g c halting =
+    run_waits_where_stuck (repeated c.args.count c.args.quanta.now) c.args.self.now c.round.new.self (Ok c.in-Some-2.end) (c.kind-kind.ensures.order halting.quiet) (returns-in-Some-2-clause-turns g c halting)
 
 pub returns-clause-alone : goal.returns-clause-alone
 returns-clause-alone g c halting =
@@ -154,16 +156,33 @@ stray_same told.LogFull = refl
 pub returns-in_err-end-clause-quiet : goal.returns-in_err-end-clause-quiet
 returns-in_err-end-clause-quiet g c halting is = c.in_err-end.ensures.quiet (c.loop-time.invariant.halts halting) refl
 
-pub returns-in-Some-clause-quiet : goal.returns-in-Some-clause-quiet
-returns-in-Some-clause-quiet g c halting is = (rw c.in-Some.is at c.in_ok-end.ensures.quiet) (c.loop-time.invariant.halts halting) (stray_same c.in-Some.end ∙ is)
+pub returns-in-Some-2-clause-quiet : goal.returns-in-Some-2-clause-quiet
+returns-in-Some-2-clause-quiet g c halting is = (rw c.in-Some-2.is at c.in_ok-end.ensures.quiet) (c.loop-time.invariant.halts halting) (stray_same c.in-Some-2.end ∙ is)
 
 -- ---- live copies
 
 pub returns-in_err-end-clause-copies : goal.returns-in_err-end-clause-copies
 returns-in_err-end-clause-copies g c halting = c.in_err-end.ensures.copies (c.loop-time.invariant.halts halting) (c.loop-time.invariant.copies halting)
 
-pub returns-in-Some-clause-copies : goal.returns-in-Some-clause-copies
-returns-in-Some-clause-copies g c halting = c.in_ok-end.ensures.copies (c.loop-time.invariant.halts halting) (c.loop-time.invariant.copies halting)
+pub returns-in-Some-2-clause-copies : goal.returns-in-Some-2-clause-copies
+returns-in-Some-2-clause-copies g c halting = c.in_ok-end.ensures.copies (c.loop-time.invariant.halts halting) (c.loop-time.invariant.copies halting)
 
 pub returns-clause-copies : goal.returns-clause-copies
 returns-clause-copies g c halting = c.loop-time.invariant.copies halting
+
+-- ---- behind a stray access: there one was noted
+
+never : (g : Over) (c : goal.In-Some g) → IsHalting c.args.self.now → ⊥
+unfolding world_of
+never g c halting =
+    none_halted c.self.inside.parts.mode c.self.inside.parts.kept.notes c.halted_at.result c.in-Some.access c.halted_at.ensures c.in-Some.is
+    (subst (λ (s : State). has_stray s.kept.notes ≡ false) (sym c.self.view_is) halting.quiet)
+
+pub returns-in-Some-clause-turns : goal.returns-in-Some-clause-turns
+returns-in-Some-clause-turns g c halting = absurd (never g c halting)
+
+pub returns-in-Some-clause-copies : goal.returns-in-Some-clause-copies
+returns-in-Some-clause-copies g c halting = absurd (never g c halting)
+
+pub returns-in-Some-clause-alone : goal.returns-in-Some-clause-alone
+returns-in-Some-clause-alone g c halting = absurd (never g c halting)
