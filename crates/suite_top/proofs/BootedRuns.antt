@@ -1,5 +1,5 @@
 -- What is said of a run from its opening world on, of `run` and of `demo` alike. What the lines bring in has pages as the manifest says,
--- no file that was changed, and nothing is open yet: so the laws of boots hold.
+-- a tree of names in which each node is named and none is held, no file that was changed, and nothing is open yet: so the laws of boots hold.
 use Rattle.std.proofs.Common.{◌≡◌, ℕ, ◌≤◌, List, length, map, refl, arith}
 use Rattle.std.proofs.lemmas.List.{length-map}
 use Rattle.page_runs.specs.declared.place.Kind.{Kind}
@@ -8,9 +8,12 @@ use Rattle.manifest_text.specs.Values.{Manifest}
 use Rattle.manifest_text.specs.Laws.{Reasonable}
 use Rattle.run_setup.specs.Brought.{nothing_brought}
 use Rattle.fd_tables.specs.Files.{nothing_open}
-use Rattle.run_setup.proofs.Unchanged.{opening_unchanged, lines_unchanged}
+use Rattle.run_setup.proofs.Unchanged.{opening_unchanged, lines_unchanged, lines_tree, lines_closed}
 use Rattle.machine_world.specs.World.{Rest}
 use Rattle.machine_world.specs.Boot.{StartLine, empty_world}
+use Rattle.machine_world.specs.Order.{IsInOrder, IsFresh}
+use Rattle.machine_world.proofs.OrderBegins.{boots_begin_in_order}
+use Rattle.machine_world.proofs.OrderKept.{runs_keep_order}
 use Rattle.stays_laws.specs.Laws.{CanBoot}
 use Rattle.stays_laws.specs.Sound.{IsSound}
 use Rattle.stays_laws.specs.Stays.{Stay, AreRight, first_stays}
@@ -24,7 +27,7 @@ use Rattle.waits_laws.proofs.Stuck.{stuck_runs_wait}
 use Rattle.refusal_laws.proofs.Runs.{boots_are_regular, runs_keep_regular}
 use Rattle.flat_machine.specs.Runs.{repeated}
 use Rattle.suite_top.specs.Run.{start_line, opening}
-use Rattle.suite_top.specs.Run.Booted.{Booted, DoesAsAlone, EndsAsAlone, WaitsToTheEnd, HasRegularWorlds}
+use Rattle.suite_top.specs.Run.Booted.{Booted, DoesAsAlone, EndsAsAlone, WaitsToTheEnd, HasWorldsInOrder, HasRegularWorlds}
 
 module _ {kind : Kind} {m : Manifest} {files : List (List ℕ)} (is : Reasonable m) (b : Booted kind m files) where
   abbrev rest : Rest
@@ -67,6 +70,17 @@ module _ {kind : Kind} {m : Manifest} {files : List (List ℕ)} (is : Reasonable
 
   pub ends_as_alone : EndsAsAlone b
   ends_as_alone = runs_end_as_alone begun quanta b.world sound right (λ i pid how there. absurd (boots_end_none rest starts b.world b.boots i pid how there))
+
+  -- ---- the tree of names, and what is open
+
+  fresh : IsFresh rest
+  fresh = record { tree = lines_tree m.items files b.brought b.brings; closed = lines_closed m.items files b.brought b.brings; files = closed }
+
+  pub begins_in_order : IsInOrder b.world
+  begins_in_order = boots_begin_in_order rest starts b.world fresh (omega (arith, few_starts)) b.boots
+
+  pub has_worlds_in_order : HasWorldsInOrder b
+  has_worlds_in_order some_quanta = runs_keep_order some_quanta b.world begins_in_order
 
   -- ---- those that wait, and refused calls
 

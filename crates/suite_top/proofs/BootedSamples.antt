@@ -55,8 +55,8 @@ use Rattle.stays_laws.specs.Stays.{Stay, change_at, collect_all, first_stays}
 use Rattle.end_laws.specs.Laws.{EndsInAStay, EndsAreTold}
 use Rattle.run_setup.specs.Brought.{Brought, all_brought}
 use Rattle.suite_top.specs.Run.{start_line, opening}
-use Rattle.suite_top.specs.Run.Booted.{Booted, booted_turns, last_world, booted_stays, DoesAsAlone, EndsAsAlone, WaitsToTheEnd, HasRegularWorlds}
-use Rattle.suite_top.proofs.BootedRuns.{does_as_alone, waits_to_the_end, has_regular_worlds}
+use Rattle.suite_top.specs.Run.Booted.{Booted, booted_turns, last_world, booted_stays, DoesAsAlone, EndsAsAlone, WaitsToTheEnd, HasWorldsInOrder, HasRegularWorlds}
+use Rattle.suite_top.proofs.BootedRuns.{does_as_alone, waits_to_the_end, has_worlds_in_order, has_regular_worlds}
 
 -- ---- a flat file with a text of eight words, and a manifest that starts it
 
@@ -205,6 +205,9 @@ exiting_does = does_as_alone reasonable exiting
 
 exiting_waits : WaitsToTheEnd exiting
 exiting_waits = waits_to_the_end reasonable exiting
+
+exiting_is_in_order : HasWorldsInOrder exiting
+exiting_is_in_order = has_worlds_in_order reasonable exiting
 
 exiting_is_regular : HasRegularWorlds exiting
 exiting_is_regular = has_regular_worlds reasonable exiting

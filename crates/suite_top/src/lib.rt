@@ -29,7 +29,9 @@ pub use demo_run::laws::{demo_law, demo_turns_law};
 pub use laws::{host_law, status_law};
 pub use list::laws::list_law;
 pub use placements::Placements;
-pub use run::laws::{alone_law, go_on_law, originals_law, regular_worlds_law, run_law, waits_law};
+pub use run::laws::{
+    alone_law, counts_law, go_on_law, originals_law, regular_worlds_law, run_law, waits_law,
+};
 pub use status::Status;
 pub use texts::MEMORY_LINE;
 pub use top::suite;

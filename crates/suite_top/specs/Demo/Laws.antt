@@ -10,7 +10,7 @@ use Rattle.suite_top.specs.Ending.{Ending, done_ending}
 use Rattle.suite_top.specs.Arguments.{demo, least_programs, most_programs, programs_of, command_of}
 use Rattle.suite_top.specs.Telling.{demo_text}
 use Rattle.suite_top.specs.Run.{walked_ending}
-use Rattle.suite_top.specs.Run.Booted.{Booted, booted_turns, last_world, DoesAsAlone, EndsAsAlone, WaitsToTheEnd, HasRegularWorlds}
+use Rattle.suite_top.specs.Run.Booted.{Booted, booted_turns, last_world, DoesAsAlone, EndsAsAlone, WaitsToTheEnd, HasWorldsInOrder, HasRegularWorlds}
 use Rattle.suite_top.specs.Run.Laws.{IsStop}
 use Rattle.suite_top.specs.Demo.{each_of, demo_manifest, demo_ending}
 use Rattle.suite_top.specs.Call.{Call, MeetsOutcome}
@@ -70,6 +70,9 @@ DemoEndsAreAsAlone = (n : ℕ) → n ≤ most_programs → (o : DemoOpens n) →
 
 abbrev pub DemosWaitWell : Type 0
 DemosWaitWell = (n : ℕ) → n ≤ most_programs → (o : DemoOpens n) → WaitsToTheEnd o
+
+abbrev pub DemoWorldsAreInOrder : Type 0
+DemoWorldsAreInOrder = (n : ℕ) → n ≤ most_programs → (o : DemoOpens n) → HasWorldsInOrder o
 
 abbrev pub DemoWorldsAreRegular : Type 0
 DemoWorldsAreRegular = (n : ℕ) → n ≤ most_programs → (o : DemoOpens n) → HasRegularWorlds o

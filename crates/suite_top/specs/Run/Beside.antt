@@ -8,6 +8,7 @@ use Rattle.manifest_text.specs.declared.manifest.Dump.{Dump}
 use Rattle.vfork_exec.specs.Keyed.{find}
 use Rattle.machine_world.specs.World.{Process, World, pid_of}
 use Rattle.machine_world.specs.Turns.{Walk, stray_at}
+use Rattle.machine_world.specs.Order.{IsInOrder}
 use Rattle.physical_turns.specs.Physical.{Physical, Walk as PhysicalWalk, physical_turns, opening as memory_opening}
 use Rattle.go_on_laws.specs.Laws.{GoesPast}
 use Rattle.memory_refusals.specs.Regular.{IsRegularIn}
@@ -46,9 +47,17 @@ pub record GoesOnWell (private : Walk) (one : PhysicalWalk) : Type 0 where
 abbrev pub RunsGoOnWell : Type 0
 RunsGoOnWell = (t : Files) (name : List ℕ) (kind : Kind) (o : Opens t name kind) → GoesOnWell (halting o) (going_on o)
 
--- the one memory is regular all along, behind the first stray access too: the laws of refused calls speak of it
+-- the one memory of such a run behind some quanta, before the first stray access and behind it
+abbrev pub memory_behind : {t : Files} {name : List ℕ} {kind : Kind} → Opens t name kind → List Quantum → Physical
+memory_behind o quanta = (physical_turns quanta (memory_opening o.booted.brought.headers o.booted.world)).now
+
+-- its nodes are a tree of names, and all counts of what is open are exact
+abbrev pub MemoryIsInOrder : Type 0
+MemoryIsInOrder = (t : Files) (name : List ℕ) (kind : Kind) (o : Opens t name kind) (quanta : List Quantum) → IsInOrder (memory_behind o quanta).world
+
+-- and it is regular: the laws of refused calls speak of it
 abbrev pub MemoryIsRegular : Type 0
-MemoryIsRegular = (t : Files) (name : List ℕ) (kind : Kind) (o : Opens t name kind) (quanta : List Quantum) → IsRegularIn (physical_turns quanta (memory_opening o.booted.brought.headers o.booted.world)).now
+MemoryIsRegular = (t : Files) (name : List ℕ) (kind : Kind) (o : Opens t name kind) (quanta : List Quantum) → IsRegularIn (memory_behind o quanta)
 
 -- ---- the status and the texts
 

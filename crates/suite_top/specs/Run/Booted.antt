@@ -6,6 +6,7 @@ use Rattle.manifest_text.specs.Values.{Manifest}
 use Rattle.machine_world.specs.World.{Process, World, pid_of}
 use Rattle.machine_world.specs.Boot.{boot, empty_world}
 use Rattle.machine_world.specs.Turns.{stuck, Walk, turns}
+use Rattle.machine_world.specs.Order.{IsInOrder}
 use Rattle.vfork_exec.specs.Keyed.{find}
 use Rattle.waits_laws.specs.Waits.{WaitsWell}
 use Rattle.waits_laws.specs.Laws.{WaitsOrLent}
@@ -54,8 +55,12 @@ pub record WaitsToTheEnd {kind : Kind} {m : Manifest} {files : List (List ℕ)} 
   pub waits : WaitsWell (last_world b)
   pub when_stuck : (booted_turns b).end ≡ Some stuck → (pid : ℕ) (p : Process) → find pid_of pid (last_world b).procs ≡ Some p → WaitsOrLent (last_world b) p p.state
 
--- ---- refused calls, and where they begin
+-- ---- files, and refused calls
 
--- every world of its turns, up to the first stray access, is one of which the laws of refusals, of ENOMEM and of waiting speak
+-- in every world of its turns, up to the first stray access, the nodes are a tree of names, and all counts of what is open are exact
+abbrev pub HasWorldsInOrder : {kind : Kind} {m : Manifest} {files : List (List ℕ)} → Booted kind m files → Type 0
+HasWorldsInOrder b = (quanta : List Quantum) → IsInOrder (turns quanta b.world).world
+
+-- and every such world is one of which the laws of refusals, of ENOMEM and of waiting speak
 abbrev pub HasRegularWorlds : {kind : Kind} {m : Manifest} {files : List (List ℕ)} → Booted kind m files → Type 0
 HasRegularWorlds b = (quanta : List Quantum) → IsRegular (turns quanta b.world).world

@@ -14,7 +14,7 @@ use Rattle.suite_top.specs.Ending.{Ending}
 use Rattle.suite_top.specs.Outcome.{load, Outcome, Inputs}
 use Rattle.suite_top.specs.HostCourse.{inputs_in}
 use Rattle.suite_top.specs.Run.{manifest_limit, load_limit, files_limit, has_file, mode_ending, run_outcome}
-use Rattle.suite_top.specs.Run.Booted.{Booted, DoesAsAlone, EndsAsAlone, WaitsToTheEnd, HasRegularWorlds}
+use Rattle.suite_top.specs.Run.Booted.{Booted, DoesAsAlone, EndsAsAlone, WaitsToTheEnd, HasWorldsInOrder, HasRegularWorlds}
 
 -- the file of a line that has one is there, and isn't longer than the limit of its load
 abbrev pub IsThere : Files → (left : ℕ) → Item → List ℕ → Bool → Type 0
@@ -82,6 +82,9 @@ EndsAreAsAlone = (t : Files) (name : List ℕ) (kind : Kind) (o : Opens t name k
 
 abbrev pub RunsWaitWell : Type 0
 RunsWaitWell = (t : Files) (name : List ℕ) (kind : Kind) (o : Opens t name kind) → WaitsToTheEnd o.booted
+
+abbrev pub WorldsAreInOrder : Type 0
+WorldsAreInOrder = (t : Files) (name : List ℕ) (kind : Kind) (o : Opens t name kind) → HasWorldsInOrder o.booted
 
 abbrev pub WorldsAreRegular : Type 0
 WorldsAreRegular = (t : Files) (name : List ℕ) (kind : Kind) (o : Opens t name kind) → HasRegularWorlds o.booted

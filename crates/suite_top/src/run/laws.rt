@@ -1,6 +1,6 @@
 //! Laws over every run. No code runs.
-ghost use Rattle.suite_top.specs.Run.Beside.{MemoryIsRegular, RunsEndEarlyAlike, RunsGoOnWell, RunsOnNeverStray, RunsTellWell};
-ghost use Rattle.suite_top.specs.Run.Laws.{RunsWhereItOpens, OpensWhereItStops, RunsStopOrEndEarly, RunsAreAsAlone, EndsAreAsAlone, RunsWaitWell, WorldsAreRegular};
+ghost use Rattle.suite_top.specs.Run.Beside.{MemoryIsInOrder, MemoryIsRegular, RunsEndEarlyAlike, RunsGoOnWell, RunsOnNeverStray, RunsTellWell};
+ghost use Rattle.suite_top.specs.Run.Laws.{RunsWhereItOpens, OpensWhereItStops, RunsStopOrEndEarly, RunsAreAsAlone, EndsAreAsAlone, RunsWaitWell, WorldsAreInOrder, WorldsAreRegular};
 ghost use Rattle.run_setup.specs.Originals.{OriginalsAreSame};
 
 /// A run reaches its machine exactly where all files are there and nothing has a fault.
@@ -27,6 +27,13 @@ pub fn alone_law()
 /// that lives waits so, or stands still for its vfork child.
 pub fn waits_law()
     ensures { RunsWaitWell }
+{}
+
+/// In every world of a run, up to its first stray access, the nodes are a tree of names and all counts are exact: an open file counts the
+/// descriptors that share it, and a node the open files that hold it. Of the one memory of a run that goes on it is so all along.
+pub fn counts_law()
+    ensures worlds { WorldsAreInOrder }
+    ensures memory { MemoryIsInOrder }
 {}
 
 /// Every world of a run, up to its first stray access, is regular: the laws of `refusal_laws` speak of it. So each reply that is an errno

@@ -1,5 +1,5 @@
 -- By what is said of each run.
-use Rattle.suite_top.proofs.BootedRuns.{does_as_alone, ends_as_alone, waits_to_the_end, has_regular_worlds}
+use Rattle.suite_top.proofs.BootedRuns.{does_as_alone, ends_as_alone, waits_to_the_end, has_worlds_in_order, has_regular_worlds}
 use Rattle.suite_top.proofs.Demos.{reasonable}
 use Rattle.suite_top.proofs.demo_run.laws.demo_turns_law.Goals as goal
 
@@ -8,5 +8,6 @@ returns c = record {
   lives = λ n few o. does_as_alone (reasonable n few) o;
   ends = λ n few o. ends_as_alone (reasonable n few) o;
   waits = λ n few o. waits_to_the_end (reasonable n few) o;
+  counts = λ n few o. has_worlds_in_order (reasonable n few) o;
   worlds = λ n few o. has_regular_worlds (reasonable n few) o;
 }
