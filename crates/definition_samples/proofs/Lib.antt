@@ -18,6 +18,7 @@
 -- NameSamples   calls on folders and names
 -- PieceSamples  calls that move pieces, and calls that change little or nothing
 -- EndSamples    a process that dies
+-- HaltedSamples where a run has ended that ends at its first stray access
 -- FamilySamples  waitid and execve as whole events
 -- LineSamples   the lines of notes
 -- PartsSamples  the world that the parts of a machine stand for
@@ -52,6 +53,7 @@ pub mod CallSamples
 mod NameSamples
 mod PieceSamples
 pub mod EndSamples
+mod HaltedSamples
 mod FamilySamples
 mod LineSamples
 pub mod PartsSamples

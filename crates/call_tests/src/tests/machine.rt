@@ -1,4 +1,4 @@
-//! A machine runs up to the end of its quanta, and then to that of its program.
+//! A machine runs up to the end of its quanta, and then to that of its program; and one that has ended at a stray access stays there.
 
 ghost use Rattle.manifest_text.specs.Values.{manifest_value};
 ghost use Rattle.manifest_text.specs.Laws.{Reasonable};
@@ -9,6 +9,7 @@ use page_runs::{Chooser, Kind, Run, first_fit};
 use quantum_sched::Quantum;
 use region_watch::Mode;
 use run_setup::bring;
+use rv32im_step::{Access, AccessKind};
 use std::process::Abort;
 use std::test::*;
 
@@ -28,11 +29,11 @@ const GREETING: [u8; 128] = [
 /// The address of what it writes.
 const WRITTEN: u32 = 0x8000_0060;
 
-/// A machine that has started the one program of a manifest.
-fn booted(rt: HostRuntime, manifest: Manifest) -> Result<Machine, Fail>
+/// A machine that has started the one program of a manifest, which is this file's.
+fn booted(rt: HostRuntime, manifest: Manifest, file: &[u8]) -> Result<Machine, Fail>
     requires { Reasonable (manifest_value manifest) }
 {
-    let files = vec![in rt.alloc(); Vec::from_slice(rt.alloc(), &GREETING)?]?;
+    let files = vec![in rt.alloc(); Vec::from_slice(rt.alloc(), file)?]?;
     if files.len() != manifest.items.len() {
         return Err(Fail::from("not one file"));
     }
@@ -80,15 +81,15 @@ fn run(machine: &mut Machine, counts: [u32; 2]) -> Result<(End, u64, usize), Fai
     Ok((end, machine.events(), machine.notes().len()))
 }
 
-/// The machine of a manifest whose one program is the greeting.
-fn greeting(rt: HostRuntime) -> Result<Machine, Fail> {
+/// The machine of a manifest whose one program is this file's.
+fn machine_of(rt: HostRuntime, file: &[u8]) -> Result<Machine, Fail> {
     let Ok(manifest) = read(
         rt.alloc(),
         b"memory 4\nflat /a a.flt\nstart /a\nquanta 0:1\n",
     ) else {
         return Err(Fail::from("not read"));
     };
-    booted(rt, manifest)
+    booted(rt, manifest, file)
 }
 
 /// Whether the own bytes of process 1 at what it writes are these; None where they aren't its own.
@@ -112,6 +113,28 @@ fn runs_twice(rt: &impl Abort, machine: &mut Machine) -> Result<(), Fail> {
 
 #[test]
 fn a_machine_runs_twice(rt: HostRuntime) -> Result<(), Fail> {
-    let mut machine = greeting(rt)?;
+    let mut machine = machine_of(rt, &GREETING)?;
     runs_twice(&rt, &mut machine)
+}
+
+/// It writes two bytes of the page behind its block by its sixth instruction, which strays, and nothing more comes of it.
+fn stays_where_it_strayed(rt: &impl Abort, machine: &mut Machine) -> Result<(), Fail> {
+    let access = Access {
+        pc: 0x8000_0054,
+        addr: 0x8000_2060,
+        len: 2,
+        kind: AccessKind::Call,
+    };
+    assert_eq!(rt; run(machine, [9, 9])?, (End::Stray(access), 5, 2));
+    assert_eq!(rt; run(machine, [9, 9])?, (End::Stray(access), 5, 2));
+    Ok(())
+}
+
+#[test]
+fn a_machine_stays_where_it_strayed(rt: HostRuntime) -> Result<(), Fail> {
+    let mut file = GREETING;
+    // auipc, which adds 0x2000 to the address.
+    file[69] = 0x25;
+    let mut machine = machine_of(rt, &file)?;
+    stays_where_it_strayed(&rt, &mut machine)
 }
