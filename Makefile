@@ -1,4 +1,5 @@
-# make            the proved program, at build/flatc
+# make            the proved program, at build/flatc; what the checks say is in build/check.log
+# make try        a first look: runs the program's demo without any proof ('proved=no'); it isn't kept, and isn't for use
 # make demo       the main job: converts the shipped ELF file and shows the bytes of the flat file, and runs two programs in one memory
 # make check      the gate: every proof, must-fail edit, test and program, and the repository's papers
 # make papers     the papers alone: names, links, paths and exit statuses agree
@@ -12,12 +13,14 @@ PREFIX ?= /usr/local
 SOURCES := crates.txt $(shell find crates -path '*/out' -prune -o -type f \( -name '*.rt' -o -name '*.antt' \) -print)
 
 build/flatc: $(SOURCES)
-	@echo 'flatc is proved before it is built: about half an hour on four cores the first time, and later only what changed.'
-	cd crates/flatc && rt run -- --version
-	mkdir -p build
-	cp crates/flatc/out/flatc build/flatc
+	@echo 'flatc is proved before it is built: some twenty minutes on four cores the first time, and later only what changed.'
+	@tools/build
 
-.PHONY: demo check papers kit sdk real install
+.PHONY: try demo check papers kit sdk real install
+
+try:
+	@echo 'Nothing is proved here: this is the program as it stands in the sources, for a first look.'
+	cd crates/flatc && rt try -- demo 3
 
 demo: build/flatc
 	cp crates/flatc/data/a.elf build/a.elf
