@@ -6,7 +6,7 @@
 # make kit        compares the toolchain with the one that the proofs were checked with
 # make sdk        builds newlib and the kit for C programs in build/sdk, if the Debian packages that it names are installed
 # make real       builds the example programs with the GNU tools for RISC-V, if they are installed, and checks, converts and runs them
-# make install    copies the program to $(PREFIX)/bin, and its man page to $(PREFIX)/share/man/man1
+# make install    copies the program and flatc-where to $(PREFIX)/bin, and the man page to $(PREFIX)/share/man/man1
 
 PREFIX ?= /usr/local
 
@@ -52,7 +52,9 @@ real: build/flatc sdk
 	examples/c/real
 	examples/refused/real
 	examples/makedoc/real
+	examples/where/real
 
 install: build/flatc
 	install -D -m 755 build/flatc $(DESTDIR)$(PREFIX)/bin/flatc
+	install -D -m 755 tools/flatc-where $(DESTDIR)$(PREFIX)/bin/flatc-where
 	install -D -m 644 flatc.1 $(DESTDIR)$(PREFIX)/share/man/man1/flatc.1
