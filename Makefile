@@ -1,6 +1,7 @@
 # make            the proved program, at build/flatc
 # make demo       the main job: converts the shipped ELF file and shows the bytes of the flat file, and runs two programs in one memory
-# make check      the gate: every proof, must-fail edit, test and program, and the repository's papers
+# make check      the gate: every proof, must-fail edit, test, program and case, and the repository's papers
+# make cases      tries the cases with the built program
 # make papers     the papers alone: names, links, paths and exit statuses agree
 # make kit        compares the toolchain with the one that the proofs were checked with
 # make sdk        builds newlib and the kit for C programs in build/sdk, if the Debian packages that it names are installed
@@ -17,7 +18,7 @@ build/flatc: $(SOURCES)
 	mkdir -p build
 	cp crates/flatc/out/flatc build/flatc
 
-.PHONY: demo check papers kit sdk real install
+.PHONY: demo check cases papers kit sdk real install
 
 demo: build/flatc
 	cp crates/flatc/data/a.elf build/a.elf
@@ -27,6 +28,10 @@ demo: build/flatc
 
 check:
 	.ci/run
+
+cases: build/flatc
+	tools/make-caller --check
+	tools/run-cases
 
 papers:
 	tools/check-papers
