@@ -235,20 +235,15 @@ const STRAY: Access = Access {
 /// The first stray access of a run that goes on: an own one isn't told, and a later one doesn't replace it.
 fn goes_on(rt: &impl Abort, watch: &mut Watch<'_>) {
     for (stores, value, pc, addr, len, done, strayed) in GOING_ON {
-        if len != 1 && len != 4 {
-            return;
+        if len == 1 || len == 4 {
+            let given = if stores {
+                watch.store(pc, addr, len, value).is_ok().then_some(value)
+            } else {
+                watch.load(pc, addr, len).ok()
+            };
+            let want = (done.then_some(value), strayed.then_some(STRAY));
+            assert_eq!(rt; (given, watch.first()), want, "{pc}");
         }
-        let given = if stores {
-            watch.store(pc, addr, len, value).is_ok().then_some(value)
-        } else {
-            watch.load(pc, addr, len).ok()
-        };
-        let want = done.then_some(value);
-        assert_eq!(rt;
-            (given, watch.first()),
-            (want, strayed.then_some(STRAY)),
-            "{pc}"
-        );
     }
 }
 

@@ -14,24 +14,24 @@ const ANONYMOUS: u32 = 0x22;
 
 const FILE: FileSide = FileSide::File { id: 2, change: 0 };
 
-/// The address, the length, the flags, the first page and the file of a call, and why it is refused.
-const REFUSALS: [(u32, u32, u32, u32, FileSide, Errno); 10] = [
-    (0, 0, ANONYMOUS, 0, FILE, Errno::Einval),
-    (0, 4096, 0x32, 0, FILE, Errno::Einval),
-    (4096, 4096, ANONYMOUS, 0, FILE, Errno::Einval),
-    (0, 4096, 0x23, 0, FILE, Errno::Einval),
-    (0, 4096, PRIVATE, 0, FileSide::Closed, Errno::Ebadf),
-    (0, 4096, 0x1, 0, FILE, Errno::Enodev),
-    (0, 4096, PRIVATE, 0, FileSide::NotFile, Errno::Enodev),
-    (0, 4096, PRIVATE, 0, FileSide::NoRead, Errno::Eacces),
-    (0, 0, PRIVATE, 0, FileSide::Closed, Errno::Einval),
-    (0, 8192, PRIVATE, 0xffff_ffff, FILE, Errno::Eoverflow),
+/// The address, the length, the protection, the flags, the first page and the file of a call, and why it is refused.
+const REFUSALS: [(u32, u32, u32, u32, u32, FileSide, Errno); 10] = [
+    (0, 0, 3, ANONYMOUS, 0, FILE, Errno::Einval),
+    (0, 4096, 3, 0x32, 0, FILE, Errno::Einval),
+    (4096, 4096, 3, ANONYMOUS, 0, FILE, Errno::Einval),
+    (0, 4096, 3, 0x23, 0, FILE, Errno::Einval),
+    (0, 4096, 3, PRIVATE, 0, FileSide::Closed, Errno::Ebadf),
+    (0, 4096, 3, 0x1, 0, FILE, Errno::Enodev),
+    (0, 4096, 3, PRIVATE, 0, FileSide::NotFile, Errno::Enodev),
+    (0, 4096, 3, PRIVATE, 0, FileSide::NoRead, Errno::Eacces),
+    (0, 0, 3, PRIVATE, 0, FileSide::Closed, Errno::Einval),
+    (0, 8192, 1, PRIVATE, 0xffff_ffff, FILE, Errno::Eoverflow),
 ];
 
 #[test]
 fn refusals(rt: HostRuntime) {
-    for (addr, len, flags, first, side, errno) in REFUSALS {
-        let got = check_mmap2(addr, len, 3, flags, first, side);
+    for (addr, len, prot, flags, first, side, errno) in REFUSALS {
+        let got = check_mmap2(addr, len, prot, flags, first, side);
         assert_eq!(rt; got, Err(errno), "{addr} {len} {flags:#x}");
     }
 }
