@@ -91,42 +91,50 @@ fn ranges(rt: HostRuntime) -> Result<(), Fail> {
     Ok(())
 }
 
-const NOP: Option<Instr> = Some(Instr::Addi {
-    rd: 0,
-    rs1: 0,
-    imm: 0,
-});
-
-const ECALL: Option<Instr> = Some(Instr::Ecall);
+/// An instruction, as far as it is asked here.
+fn word_of(instr: Option<Instr>) -> &'static str {
+    match instr {
+        None => "none",
+        Some(
+            Instr::Addi {
+                rd: 0,
+                rs1: 0,
+                imm: 0,
+            },
+        ) => "nop",
+        Some(Instr::Ecall) => "ecall",
+        Some(_) => "another",
+    }
+}
 
 /// A place behind all that is written.
 const BEHIND: u32 = BASE + 2000;
 
 /// Changes, and the instruction at an address then: behind a write over its word or the end of it, a copy and a clear, and at no
 /// multiple of 4.
-const CHANGES: [(Step, u32, Option<Instr>); 15] = [
-    (Step::Nothing, BASE, None),
-    (Step::Set32(BASE, 0x0000_0013), BEHIND, None),
-    (Step::Set32(BASE + 4, 0x0000_0073), BASE, NOP),
-    (Step::Nothing, BASE + 4, ECALL),
-    (Step::Set32(BASE + 2, 0x0073_0000), BASE, NOP),
-    (Step::Nothing, BASE + 4, ECALL),
-    (Step::Set32(BASE + 2, 0x0013_0000), BASE + 4, NOP),
-    (Step::Set8(BASE + 4, 0x73), BASE + 4, ECALL),
-    (Step::CopyIn(BASE + 3, &[0, 0x13]), BASE + 4, NOP),
-    (Step::Nothing, BASE + 1, None),
-    (Step::Set32(BASE + 1, 0x0000_0073), BASE + 1, ECALL),
-    (Step::Set8(BASE + 4, 0x13), BEHIND, None),
-    (Step::Clear(BASE + 7, 4089), BASE + 4, NOP),
-    (Step::Clear(BASE, 4096), BASE + 4, None),
-    (Step::Nothing, BASE, None),
+const CHANGES: [(Step, u32, &'static str); 15] = [
+    (Step::Nothing, BASE, "none"),
+    (Step::Set32(BASE, 0x0000_0013), BEHIND, "none"),
+    (Step::Set32(BASE + 4, 0x0000_0073), BASE, "nop"),
+    (Step::Nothing, BASE + 4, "ecall"),
+    (Step::Set32(BASE + 2, 0x0073_0000), BASE, "nop"),
+    (Step::Nothing, BASE + 4, "ecall"),
+    (Step::Set32(BASE + 2, 0x0013_0000), BASE + 4, "nop"),
+    (Step::Set8(BASE + 4, 0x73), BASE + 4, "ecall"),
+    (Step::CopyIn(BASE + 3, &[0, 0x13]), BASE + 4, "nop"),
+    (Step::Nothing, BASE + 1, "none"),
+    (Step::Set32(BASE + 1, 0x0000_0073), BASE + 1, "ecall"),
+    (Step::Set8(BASE + 4, 0x13), BEHIND, "none"),
+    (Step::Clear(BASE + 7, 4089), BASE + 4, "nop"),
+    (Step::Clear(BASE, 4096), BASE + 4, "none"),
+    (Step::Nothing, BASE, "none"),
 ];
 
 fn has_instructions(rt: &impl Abort, memory: &mut PhysMem) {
     for (step, at, want) in CHANGES {
         change(memory, step);
         if memory.holds(at, 4) {
-            assert_eq!(rt; memory.instr(at), want, "{at:#x}");
+            assert_eq!(rt; word_of(memory.instr(at)), want, "{at:#x}");
         }
     }
 }

@@ -1,6 +1,6 @@
 use Rattle.std.proofs.Common.{sym, ◌∙◌}
 use Rattle.bflt_format.proofs.Spelled.{ram_values_are, ram_fault, ram_back}
-use Rattle.bflt_format.proofs.tests.made_anew.Goals as goal
+use Rattle.format_tests.proofs.flat_tests.made_anew.Goals as goal
 
 pub of-requires-clause-no_fault : goal.of-requires-clause-no_fault
 of-requires-clause-no_fault c =

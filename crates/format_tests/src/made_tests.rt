@@ -1,11 +1,14 @@
+//! Tests of `elf_maker`.
+
 ghost use Rattle.std.specs.Prelude.{◌≡◌, ◌<◌, ◌==◌, length, IfOk, IfSome};
 ghost use Rattle.std.specs.List.{list_any};
 ghost use Rattle.elf32_reader.specs.Symbols.{is_symtab};
 ghost use Rattle.elf_maker.specs.Given.{IsPart, HasPlainName};
 
-use super::*;
-use elf32_reader::{Elf, Rela, Symbol};
+use elf_maker::*;
+use elf32_reader::Elf;
 use std::alloc::{AllocError, Global};
+use std::process::Abort;
 use std::test::*;
 
 /// A part with content, PROGBITS.
@@ -80,19 +83,10 @@ fn rela(part: u32, offset: u32, symbol: u32, kind: u8, addend: i32) -> MakeRela
     }
 }
 
-/// A symbol as it is read.
-fn symbol_of(name: u32, value: u32, info: u8, shndx: u16) -> Symbol {
-    Symbol {
-        name,
-        value,
-        size: 0,
-        info,
-        other: 0,
-        shndx,
-    }
-}
+/// A section's kind, flags, address, size, link, info and size of an entry.
+type Header = [u32; 7];
 
-fn section_in(elf: &Elf<'_>, index: u32) -> Option<[u32; 7]> {
+fn section_in(elf: &Elf<'_>, index: u32) -> Option<Header> {
     if index >= elf.sections() {
         return None;
     }
@@ -114,25 +108,67 @@ fn is_table(elf: &Elf<'_>, table: u32) -> bool
     table < elf.sections() && elf.section(table).kind == 2
 }
 
-fn symbol_in<'a>(elf: &'a Elf<'_>, table: u32, index: u32) -> Option<(Symbol, &'a [u8])> {
+/// A symbol's value, size, info, other and section, and its name.
+type Named<'a> = ((u32, u32, u8, u8, u16), &'a [u8]);
+
+fn symbol_in<'a>(elf: &'a Elf<'_>, table: u32, index: u32) -> Option<Named<'a>> {
     if !is_table(elf, table) || index >= elf.symbols(table) {
         return None;
     }
-    Some((elf.symbol(table, index), elf.name(table, index)))
+    let s = elf.symbol(table, index);
+    Some((
+        (s.value, s.size, s.info, s.other, s.shndx),
+        elf.name(table, index),
+    ))
 }
 
-fn rela_in(elf: &Elf<'_>, index: u32, entry: u32) -> Option<Rela> {
+/// An entry's offset, symbol, type and addend.
+type Entry = (u32, u32, u8, i32);
+
+fn rela_in(elf: &Elf<'_>, index: u32, entry: u32) -> Option<Entry> {
     if index >= elf.sections() || !elf.kept(index) || entry >= elf.relas(index) {
         return None;
     }
-    Some(elf.rela(index, entry))
+    let r = elf.rela(index, entry);
+    Some((r.offset, r.symbol, r.kind, r.addend))
+}
+
+/// What a file says: its entry, the number of its sections, these from 1 on, the content of one, the symbols
+/// of one from 0 on, and entries by section and index.
+struct Expected {
+    entry: u32,
+    sections: u32,
+    headers: &'static [(u32, Header)],
+    content: (u32, Option<&'static [u8]>),
+    symbols: &'static [(u32, u32, Option<Named<'static>>)],
+    entries: &'static [(u32, u32, Option<Entry>)],
+}
+
+fn expect_file(rt: &impl Abort, file: &[u8], want: &Expected) {
+    let elf = Elf::read(file).expect(rt, "it is read");
+    let (index, content) = want.content;
+    assert_eq!(rt;
+        (elf.entry(), elf.sections(), content_in(&elf, index)),
+        (want.entry, want.sections, content)
+    );
+    for (index, header) in want.headers {
+        assert_eq!(rt; section_in(&elf, *index), Some(*header), "section {index}");
+    }
+    for (table, index, named) in want.symbols {
+        assert_eq!(rt; symbol_in(&elf, *table, *index), *named, "symbol {index}");
+    }
+    for (section, index, entry) in want.entries {
+        assert_eq!(rt;
+            rela_in(&elf, *section, *index),
+            *entry,
+            "entry {index} of {section}"
+        );
+    }
 }
 
 /// Relocations of two parts, mixed, with a part without content between them; weak, absolute and
 /// nameless symbols.
-#[test]
-fn three_parts(rt: HostRuntime) -> Result<(), Fail> {
-    let alloc = rt.alloc();
+fn three_parts(alloc: Global) -> Result<Vec<u8>, Fail> {
     let text = progbits(alloc, 6, 0x20000, &[1, 2, 3, 4, 5, 6, 7, 8])?;
     let bss = nobits(alloc, 0x20008, 0x4000_0000);
     let data = progbits(alloc, 3, 0x6002_0008, &[9, 10, 11, 12])?;
@@ -146,11 +182,13 @@ fn three_parts(rt: HostRuntime) -> Result<(), Fail> {
         rela(0, 0x20000, 1, 255, -0x8000_0000),
     ];
     let symbols = [weak, absolute, nameless];
-    let file = make(alloc, &[text, bss, data], &symbols, &relas, 0xffff_fffc)?;
-    let elf = Elf::read(&file).expect(&rt, "it is read");
-    assert_eq!(rt; elf.entry(), 0xffff_fffc);
-    assert_eq!(rt; elf.sections(), 8);
-    let cases = [
+    Ok(make(alloc, &[text, bss, data], &symbols, &relas, 0xffff_fffc)?)
+}
+
+static THREE_PARTS: Expected = Expected {
+    entry: 0xffff_fffc,
+    sections: 8,
+    headers: &[
         (1, [1, 6, 0x20000, 8, 0, 0, 0]),
         (2, [8, 3, 0x20008, 0x4000_0000, 0, 0, 0]),
         (3, [1, 3, 0x6002_0008, 4, 0, 0, 0]),
@@ -158,77 +196,71 @@ fn three_parts(rt: HostRuntime) -> Result<(), Fail> {
         (5, [3, 0, 0, 25, 0, 0, 0]),
         (6, [4, 0, 0, 24, 4, 1, 12]),
         (7, [4, 0, 0, 24, 4, 3, 12]),
-    ];
-    for (index, want) in cases {
-        assert_eq!(rt; section_in(&elf, index), Some(want), "section {index}");
-    }
-    assert_eq!(rt;
-        content_in(&elf, 3).expect(&rt, ".data"),
-        [9, 10, 11, 12].as_slice()
-    );
-    let names = [
-        (0, 0, 0, 0, b"".as_slice()),
-        (1, 0, 0x20, 0, b"weak".as_slice()),
-        (2, 0x20800, 0x10, 0xfff1, b"__global_pointer$".as_slice()),
-        (3, 0xffff_ffff, 3, 3, b"".as_slice()),
-    ];
-    for (index, value, info, shndx, want) in names {
-        let (symbol, name) = symbol_in(&elf, 4, index).expect(&rt, "a symbol");
-        assert_eq!(rt;
-            symbol,
-            symbol_of(symbol.name, value, info, shndx),
-            "symbol {index}"
-        );
-        assert_eq!(rt; name, want, "symbol {index}");
-    }
-    let entries = [
-        (6, 0, 0x20004, 2, 23, 0x7fff_ffff),
-        (6, 1, 0x20000, 1, 255, -0x8000_0000),
-        (7, 0, 0x6002_0008, 3, 1, -4),
-        (7, 1, 0x6002_000a, 0, 51, 0),
-    ];
-    for (section, entry, offset, symbol, kind, addend) in entries {
-        assert_eq!(rt;
-            rela_in(&elf, section, entry),
-            Some(Rela {
-                offset,
-                symbol,
-                kind,
-                addend
-            }),
-            "entry {entry} of {section}"
-        );
-    }
+    ],
+    content: (3, Some(&[9, 10, 11, 12])),
+    symbols: &[
+        (4, 0, Some(((0, 0, 0, 0, 0), b""))),
+        (4, 1, Some(((0, 0, 0x20, 0, 0), b"weak"))),
+        (
+            4,
+            2,
+            Some(((0x20800, 0, 0x10, 0, 0xfff1), b"__global_pointer$")),
+        ),
+        (4, 3, Some(((0xffff_ffff, 0, 3, 0, 3), b""))),
+    ],
+    entries: &[
+        (6, 0, Some((0x20004, 2, 23, 0x7fff_ffff))),
+        (6, 1, Some((0x20000, 1, 255, -0x8000_0000))),
+        (7, 0, Some((0x6002_0008, 3, 1, -4))),
+        (7, 1, Some((0x6002_000a, 0, 51, 0))),
+    ],
+};
+
+#[test]
+fn three_parts_are_made(rt: HostRuntime) -> Result<(), Fail> {
+    let file = three_parts(rt.alloc())?;
+    expect_file(&rt, &file, &THREE_PARTS);
     Ok(())
 }
 
 /// A file of nothing has the three sections that each file has.
+static NOTHING: Expected = Expected {
+    entry: 0,
+    sections: 3,
+    headers: &[(1, [2, 0, 0, 16, 2, 1, 16]), (2, [3, 0, 0, 1, 0, 0, 0])],
+    content: (2, Some(&[0])),
+    symbols: &[(1, 0, Some(((0, 0, 0, 0, 0), b""))), (1, 1, None)],
+    entries: &[],
+};
+
 #[test]
-fn nothing(rt: HostRuntime) -> Result<(), Fail> {
+fn nothing_is_made(rt: HostRuntime) -> Result<(), Fail> {
     let file = make(rt.alloc(), &[], &[], &[], 0)?;
-    let elf = Elf::read(&file).expect(&rt, "it is read");
-    assert_eq!(rt; elf.sections(), 3);
-    assert_eq!(rt; section_in(&elf, 1), Some([2, 0, 0, 16, 2, 1, 16]));
-    assert_eq!(rt; section_in(&elf, 2), Some([3, 0, 0, 1, 0, 0, 0]));
+    expect_file(&rt, &file, &NOTHING);
     Ok(())
 }
 
 /// The last program of the demo: its sections, its pointer, and the relocations of its code.
+static LAST_PROGRAM: Expected = Expected {
+    entry: 0x10000,
+    sections: 7,
+    headers: &[
+        (1, [1, 6, 0x10000, 48, 0, 0, 0]),
+        (2, [1, 3, 0x10040, 8, 0, 0, 0]),
+    ],
+    content: (2, Some(b"l\n\0\0\x40\x00\x01\x00")),
+    symbols: &[],
+    entries: &[
+        (5, 0, Some((0x10004, 1, 23, 4))),
+        (5, 1, Some((0x10008, 2, 24, 0))),
+        (5, 2, Some((0x10020, 3, 16, 0))),
+        (6, 0, Some((0x10044, 1, 1, 0))),
+    ],
+};
+
 #[test]
-fn last_program(rt: HostRuntime) -> Result<(), Fail> {
+fn the_last_program_is_made(rt: HostRuntime) -> Result<(), Fail> {
     let file = demo(rt.alloc(), 64)?;
-    let elf = Elf::read(&file).expect(&rt, "it is read");
-    assert_eq!(rt; (elf.entry(), elf.sections()), (0x10000, 7));
-    assert_eq!(rt; section_in(&elf, 1), Some([1, 6, 0x10000, 48, 0, 0, 0]));
-    assert_eq!(rt; section_in(&elf, 2), Some([1, 3, 0x10040, 8, 0, 0, 0]));
-    assert_eq!(rt;
-        content_in(&elf, 2).expect(&rt, ".data"),
-        b"l\n\0\0\x40\x00\x01\x00".as_slice()
-    );
-    let kinds = [(5, 0, 23), (5, 1, 24), (5, 2, 16), (6, 0, 1)];
-    for (section, entry, kind) in kinds {
-        let rela = rela_in(&elf, section, entry).expect(&rt, "an entry");
-        assert_eq!(rt; rela.kind, kind, "entry {entry} of {section}");
-    }
+    expect_file(&rt, &file, &LAST_PROGRAM);
     Ok(())
 }
