@@ -49,6 +49,7 @@ real: build/flatc sdk
 	examples/c/real
 	examples/refused/real
 	examples/makedoc/real
+	examples/programs/real
 
 install: build/flatc
 	install -D -m 755 build/flatc $(DESTDIR)$(PREFIX)/bin/flatc

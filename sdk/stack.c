@@ -7,8 +7,8 @@ extern char _end[];
 
 enum { MARK = 0x6b636173, LARGEST = 0x200000 };
 
-/* The stack's first word and the start's environment, which stands above all that is pushed; equal where the stack doesn't stand behind the program. A stack has
-   1 MiB at most, and between it and the program lies less than a page. */
+/* The first word of the stack's area, and the start's environment, which stands above all that is pushed. Both are 0 where the
+   stack stands far off the program: a stack has 1 MiB at most, and what lies below it is taken to be less than another. */
 static unsigned long *lowest, *top;
 
 __attribute__((noinline, noclone)) static void fill(void)

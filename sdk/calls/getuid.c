@@ -1,6 +1,7 @@
 /* 174 getuid(), 175 geteuid(), 176 getgid(), 177 getegid(), 158 getgroups(count, groups), 146 setuid(user), 144 setgid(group).
    The machine of flatc has none of them. It has one user, who is 0 in what waitid tells of a child; so where the kernel answers
    ENOSYS, user and group are 0. They can't be set. */
+#include <errno.h>
 #include <unistd.h>
 #include "kernel.h"
 
@@ -28,6 +29,18 @@ gid_t getgid(void)
 gid_t getegid(void)
 {
     return one(177);
+}
+
+int issetugid(void)
+{
+    return getuid() != geteuid() || getgid() != getegid();
+}
+
+/* No file tells who is at work. */
+char *getlogin(void)
+{
+    errno = ENOSYS;
+    return 0;
 }
 
 int getgroups(int count, gid_t *groups)
