@@ -58,6 +58,7 @@ real: build/flatc sdk
 	examples/refused/real
 	examples/makedoc/real
 	examples/where/real
+	examples/programs/real
 
 install: build/flatc
 	install -D -m 755 build/flatc $(DESTDIR)$(PREFIX)/bin/flatc
