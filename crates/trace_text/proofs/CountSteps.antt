@@ -1,7 +1,7 @@
 -- The counts of calls by number, and what one more call makes of them.
-use Rattle.std.proofs.Common.{◌≡◌, ℕ, ◌+◌, ◌<◌, inl, inr, Bool, true, false, ◌==◌, List, [], ◌∷◌, ◌++◌, map, length, refl, ap, sym, ◌∙◌, arith}
+use Rattle.std.proofs.Common.{◌≡◌, ℕ, ◌+◌, ◌<◌, inl, inr, Bool, true, false, ◌||◌, ◌==◌, List, [], ◌∷◌, ◌++◌, map, length, refl, ap, sym, ◌∙◌, arith}
 use Rattle.std.specs.Prelude.{sum_by, fold, if◌then◌else◌}
-use Rattle.std.specs.List.{AllByRecursion}
+use Rattle.std.specs.List.{AllByRecursion, list_any}
 use Rattle.std.specs.Ordering.{nat_cmp}
 use Rattle.std.specs.Option.{unwrap_or}
 use Rattle.std.specs.Map.{lookup}
@@ -13,6 +13,7 @@ use Rattle.std.proofs.lemmas.List.Sums.{fold_push, sum_by_push}
 use Rattle.call_log.specs.Notes.{CallEntry}
 use Rattle.trace_text.specs.declared.counting.Count.{Count}
 use Rattle.trace_text.specs.Errors.{is_error}
+use Rattle.trace_text.specs.Laws.{Ascends, is_among, NumbersAscend}
 use Rattle.trace_text.specs.Counts.{kept, got_len, calls_of, count_of, count_with, with_number, numbers_of, tally, counts_of}
 
 -- ---- one more call of a number
@@ -35,10 +36,6 @@ calls_more : (n : ℕ) (es : List CallEntry) (e : CallEntry) (same : Bool) → (
 calls_more n es e same is = filter-append (λ (e : CallEntry). e.call == n) es (e ∷ []) ∙ ap (λ (b : Bool). calls_of n es ++ (if b then e ∷ [] else [])) is
 
 -- ---- ascending numbers
-
-abbrev Ascends : List ℕ → Type 0
-Ascends [] = Unit {0}
-Ascends (n ∷ ns) = AllByRecursion (λ m. n < m) ns × Ascends ns
 
 above_below : (k n : ℕ) (ns : List ℕ) → k < n + 1 → AllByRecursion (λ m. n < m) ns → AllByRecursion (λ m. k < m) ns
 above_below k n [] le above = tt
@@ -70,6 +67,52 @@ numbers_behind ns es = fold (λ (numbers : List ℕ) (e : CallEntry). with_numbe
 ascends_behind : (es : List CallEntry) (ns : List ℕ) → Ascends ns → Ascends (numbers_behind ns es)
 ascends_behind [] ns up = up
 ascends_behind (e ∷ es) ns up = ascends_behind es (with_number ns e.call) (ascends_with ns e.call up)
+
+-- ---- which numbers there are
+
+or_again : (a b : Bool) → (a || b) ≡ (a || (a || b))
+or_again true b = refl
+or_again false b = refl
+
+or_swap : (a b c : Bool) → (a || (b || c)) ≡ (b || (a || c))
+or_swap true true c = refl
+or_swap true false c = refl
+or_swap false true c = refl
+or_swap false false c = refl
+
+or_last : (a b c : Bool) → ((a || b) || c) ≡ (b || (a || c))
+or_last true true c = refl
+or_last true false c = refl
+or_last false true c = refl
+or_last false false c = refl
+
+among_with : (ns : List ℕ) (c k : ℕ) → is_among k (with_number ns c) ≡ ((c == k) || is_among k ns)
+among_with [] c k = refl
+among_with (m ∷ ms) c k = elim (cases_order c m) [
+  | inl same ↦ rw (le-ltb c m (omega arith), eq-eqb c m same) (or_again (m == k) (is_among k ms) ∙ ap (λ (n : ℕ). (n == k) || ((m == k) || is_among k ms)) (sym same))
+  | inr other ↦ elim other [
+    | inl below ↦ rw (lt-ltb c m below) refl
+    | inr beyond ↦
+        let rest = ap (λ (b : Bool). (m == k) || b) (among_with ms c k) ∙ or_swap (m == k) (c == k) (is_among k ms) in
+        rw (le-ltb c m (omega arith), ne_eqb c m (λ (e : c ≡ m). omega (arith, e, beyond))) rest
+  ]
+]
+
+abbrev calls_number : ℕ → List CallEntry → Bool
+calls_number k es = list_any (λ e. e.call == k) es
+
+among_behind : (es : List CallEntry) (ns : List ℕ) (k : ℕ) → is_among k (numbers_behind ns es) ≡ (is_among k ns || calls_number k es)
+among_behind [] ns k = or_none (is_among k ns)
+  where
+    or_none : (a : Bool) → a ≡ (a || false)
+    or_none true = refl
+    or_none false = refl
+among_behind (e ∷ es) ns k =
+    among_behind es (with_number ns e.call) k ∙ ap (λ (b : Bool). b || calls_number k es) (among_with ns e.call k)
+    ∙ or_last (e.call == k) (is_among k ns) (calls_number k es)
+
+pub numbers_ascend : NumbersAscend
+numbers_ascend es = record { ascends = ascends_behind es [] tt; numbers = λ k. among_behind es [] k }
 
 -- ---- a number without calls
 

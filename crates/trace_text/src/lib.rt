@@ -14,6 +14,6 @@ mod texts;
 pub use call::Call;
 pub use counting::{Count, count_line, counts};
 pub use form::Form;
-pub use laws::lines_law;
+pub use laws::{lines_law, numbers_law};
 pub use lines::line;
 pub use texts::trace_texts;
