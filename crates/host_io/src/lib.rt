@@ -7,6 +7,7 @@
 mod calls;
 mod folder_host;
 mod host;
+mod kinds;
 mod mem_host;
 mod mem_sink;
 mod reading;
