@@ -93,7 +93,9 @@ fn is_own_stream<R: Files>(files: &R, seen: &Metadata) -> bool {
 }
 
 /// Whether this is a pipe that no path leads to, as `|` of a shell makes it: the name is that of a descriptor
-/// that is open already, and an open of it waits for nobody.
+/// that is open already, and an open of it waits for nobody. It stays a function of its own, since it takes
+/// much of the stack.
+#[inline(never)]
 fn is_unnamed_pipe<R: Files>(
     alloc: Global,
     files: &R,

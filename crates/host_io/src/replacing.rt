@@ -90,14 +90,27 @@ fn replace<R: Files>(
     };
     let (beside, file) = make_beside(alloc, files, names, name, mode)?;
     let done = match fill(file, permissions, bytes) {
-        Ok(()) => fs::rename(files, beside.as_str(), name),
+        Ok(()) => rename(files, beside.as_str(), name),
         Err(error) => Err(error),
     };
     if done.is_err() {
-        let _ = fs::remove_file(files, beside.as_str());
+        remove(files, beside.as_str());
         return Err(HostError::Failed);
     }
     flush_names(&folder)
+}
+
+/// Stays a function of its own, as `remove` does: std keeps copies of 4096 bytes of both names on the stack,
+/// which would stand below every other call of a store.
+#[inline(never)]
+fn rename<R: Files>(files: &R, from: &str, to: &str) -> io::Result<()> {
+    fs::rename(files, from, to)
+}
+
+/// Removes a new file, if the system lets it.
+#[inline(never)]
+fn remove<R: Files>(files: &R, name: &str) {
+    let _ = fs::remove_file(files, name);
 }
 
 /// The folder of this name, open to be flushed. One that may not be read is `Failed`, before anything changes.
