@@ -1,23 +1,27 @@
-# make            the proved program, at build/flatc
+# make            the proved program, at build/flatc; what the checks say is in build/check.log
+# make try        a first look: runs the program's demo without any proof ('proved=no'); it isn't kept, and isn't for use
 # make demo       the main job: converts the shipped ELF file and shows the bytes of the flat file, and runs two programs in one memory
-# make check      the gate: every proof, must-fail edit, test and program, and the repository's papers
+# make check      the gate: every proof, must-fail edit, test, program and case, and the repository's papers
+# make cases      tries the cases with the built program
 # make papers     the papers alone: names, links, paths and exit statuses agree
 # make kit        compares the toolchain with the one that the proofs were checked with
 # make sdk        builds newlib and the kit for C programs in build/sdk, if the Debian packages that it names are installed
 # make real       builds the example programs with the GNU tools for RISC-V, if they are installed, and checks, converts and runs them
-# make install    copies the program to $(PREFIX)/bin, and its man page to $(PREFIX)/share/man/man1
+# make install    copies the program and flatc-where to $(PREFIX)/bin, and the man page to $(PREFIX)/share/man/man1
 
 PREFIX ?= /usr/local
 
 SOURCES := crates.txt $(shell find crates -path '*/out' -prune -o -type f \( -name '*.rt' -o -name '*.antt' \) -print)
 
 build/flatc: $(SOURCES)
-	@echo 'flatc is proved before it is built: about half an hour on four cores the first time, and later only what changed.'
-	cd crates/flatc && rt run -- --version
-	mkdir -p build
-	cp crates/flatc/out/flatc build/flatc
+	@echo 'flatc is proved before it is built: some twenty minutes on four cores the first time, and later only what changed.'
+	@tools/build
 
-.PHONY: demo check papers kit sdk real install
+.PHONY: try demo check cases papers kit sdk real install
+
+try:
+	@echo 'Nothing is proved here: this is the program as it stands in the sources, for a first look.'
+	cd crates/flatc && rt try -- demo 3
 
 demo: build/flatc
 	cp crates/flatc/data/a.elf build/a.elf
@@ -27,6 +31,10 @@ demo: build/flatc
 
 check:
 	.ci/run
+
+cases: build/flatc
+	tools/make-caller --check
+	tools/run-cases
 
 papers:
 	tools/check-papers
@@ -49,7 +57,9 @@ real: build/flatc sdk
 	examples/c/real
 	examples/refused/real
 	examples/makedoc/real
+	examples/where/real
 
 install: build/flatc
 	install -D -m 755 build/flatc $(DESTDIR)$(PREFIX)/bin/flatc
+	install -D -m 755 tools/flatc-where $(DESTDIR)$(PREFIX)/bin/flatc-where
 	install -D -m 644 flatc.1 $(DESTDIR)$(PREFIX)/share/man/man1/flatc.1

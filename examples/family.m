@@ -1,3 +1,4 @@
+# The files are made by examples/real.
 # A program that starts three children, as a shell does, and lists a folder.
 memory 256
 elf /sh family-pic.elf 4096

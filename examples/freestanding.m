@@ -1,3 +1,4 @@
+# The files are made by examples/real.
 # The accepted programs of examples/real that end, one after the other.
 elf /hi hi-0.elf
 elf /hello hello-medany.elf

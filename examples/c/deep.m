@@ -1,3 +1,4 @@
+# The files are made by examples/c/real: each .elf of the .c or .cc of its name. It puts the addresses of the dumps in, too.
 # The dumps show the lowest bytes of the two stacks, right above the data: zeros where the stack never came that far.
 elf /enough deep.elf 16384
 elf /short deep.elf 4096

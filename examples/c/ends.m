@@ -1,3 +1,4 @@
+# The files are made by examples/c/real: each .elf of the .c or .cc of its name.
 elf /ends ends.elf 8192
 start /ends illegal
 start /ends break

@@ -1,3 +1,4 @@
+# The files are made by examples/c/real: each .elf of the .c or .cc of its name.
 # A program that writes into a pipe that nobody reads any more: EPIPE, and no signal.
 memory 256
 elf /shell shell.elf 8192

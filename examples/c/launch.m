@@ -1,3 +1,4 @@
+# The files are made by examples/c/real: each .elf of the .c or .cc of its name.
 # A small shell starts other programs, one after the other; each runs in memory that the one before gave back.
 memory 256
 elf /launch launch.elf 8192

@@ -1,3 +1,4 @@
+# The files are made by examples/c/real: each .elf of the .c or .cc of its name.
 # Four programs share the memory by turns. What one writes at once stands together; the order comes of the turns alone.
 memory 512
 file /poem.txt poem.txt

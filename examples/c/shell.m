@@ -1,3 +1,4 @@
+# The files are made by examples/c/real: each .elf of the .c or .cc of its name.
 # A shell joins programs by pipes. What `lines 900 80` writes is 77,400 bytes, more than a pipe holds.
 memory 256
 elf /shell shell.elf 8192

@@ -1,3 +1,4 @@
+# The files are made by examples/c/real: each .elf of the .c or .cc of its name.
 # A program starts others, with pipes between them, and says how they end.
 memory 256
 elf /spawn spawn.elf 8192

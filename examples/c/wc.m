@@ -1,3 +1,4 @@
+# The files are made by examples/c/real: each .elf of the .c or .cc of its name.
 # Two processes: one counts files, of which one isn't there, the other the console's input.
 file /poem.txt poem.txt
 file /short.txt short.txt

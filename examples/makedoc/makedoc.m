@@ -1,3 +1,4 @@
+# The files are made by examples/makedoc/real.
 # Newlib's makedoc makes a page of the manual from the comments of a source file.
 file /doc.str doc.str
 stdin qsort.c

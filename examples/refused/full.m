@@ -7,3 +7,4 @@ file /e large.bin
 elf /plain plain.elf
 start /plain
 quanta 0:1
+# The files are made by examples/refused/real.

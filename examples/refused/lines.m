@@ -66,3 +66,4 @@ start /plain
 start /plain
 start /plain
 quanta 0:1
+# The files are made by examples/refused/real.

@@ -3,3 +3,4 @@ memory 1
 elf /plain plain.elf
 start /plain
 quanta 0:1
+# The files are made by examples/refused/real.

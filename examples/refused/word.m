@@ -1,2 +1,3 @@
 # A word that begins no line.
 program /plain plain.elf
+# The files are made by examples/refused/real.

@@ -1,2 +1,3 @@
 # A word too many.
 memory 16 17
+# The files are made by examples/refused/real.

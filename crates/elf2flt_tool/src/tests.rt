@@ -1,4 +1,4 @@
-//! What needs no ELF file. Files are converted in `converter_tests`.
+//! What needs no ELF file. Files are converted by `cases/convert`.
 
 use super::*;
 use elf32_reader::ElfFault;
