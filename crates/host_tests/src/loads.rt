@@ -1,18 +1,11 @@
-//! The memory forms, and the forms over real files and streams.
+//! Loads in turn, of any host.
 
-use crate::host::{Host, HostError, Loaded};
+use host_io::{Host, HostError, Loaded};
 use std::alloc::{AllocError, Global};
 use std::process::Abort;
 
-mod broken_files;
-mod folder;
-mod memory;
-mod names;
-mod reading;
-mod streams;
-
 /// Loads names in turn, and compares each answer and what is in the buffer then.
-fn check_loads<H: Host>(
+pub(crate) fn check_loads<H: Host>(
     rt: &impl Abort,
     alloc: Global,
     host: &mut H,

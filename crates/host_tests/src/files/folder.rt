@@ -1,36 +1,14 @@
-//! The host over real files, in a folder of the test's own.
+//! What a folder holds behind loads and stores.
 
-use super::broken_files::{BrokenFiles, Step};
-use super::check_loads;
-use crate::FolderHost;
-use crate::host::{Host, HostError, Loaded};
+use super::broken_files::{BrokenFiles, Step, bits_of};
+use super::{count_names, make_folder};
+use crate::loads::check_loads;
+use host_io::{FolderHost, Host, HostError, Loaded};
+use std::fs;
 use std::os::unix::fs::{PermissionsExt, symlink};
 use std::process::Abort;
 use std::rt::Files;
 use std::test::Fail;
-use std::{env, fs, io, process};
-
-/// A new folder of this name, for this process alone.
-fn make_folder(rt: &HostRuntime, name: &str) -> io::Result<String> {
-    let temporary = env::temp_dir(rt)?;
-    let number = process::id(rt.process());
-    let folder = format!(in rt.alloc();
-        "{}/host_io-{name}-{number}",
-        temporary.as_path().display()
-    )?;
-    fs::create_dir(rt, folder.as_str())?;
-    Ok(folder)
-}
-
-/// How many names stand in a folder.
-fn count_names<R: Files + AllocGlobal + Clone + Drop>(rt: &R, folder: &str) -> io::Result<usize> {
-    let mut count = 0usize;
-    for entry in fs::read_dir(rt, folder)? {
-        entry?;
-        count = count.saturating_add(1);
-    }
-    Ok(count)
-}
 
 #[test]
 fn folder_host_loads(rt: HostRuntime) -> Result<(), Fail> {
@@ -101,12 +79,6 @@ fn folder_host_stores(rt: HostRuntime) -> Result<(), Fail> {
     check_folder(&rt, folder.as_str())?;
     fs::remove_dir_all(&rt, folder.as_str())?;
     Ok(())
-}
-
-/// The bits of a file's mode.
-fn bits_of<R: Files>(rt: &R, name: &str) -> io::Result<u32> {
-    let about = fs::metadata(rt, name)?;
-    Ok(about.permissions().mode() & 0o7777)
 }
 
 // Nothing is written over the files with bits, since the system itself takes a setuid bit off where
@@ -189,6 +161,11 @@ fn a_failed_store_leaves_the_old_file_alone(rt: HostRuntime) -> Result<(), Fail>
     let missing = format!(in alloc; "{folder}/missing")?;
     fs::write(&rt, file.as_str(), b"old")?;
     let rows = [
+        (Step::Look, file.as_str()),
+        (Step::Look, missing.as_str()),
+        (Step::Look, "/dev/null"),
+        (Step::Folder, file.as_str()),
+        (Step::Folder, missing.as_str()),
         (Step::Access, file.as_str()),
         (Step::Write, file.as_str()),
         (Step::Write, missing.as_str()),

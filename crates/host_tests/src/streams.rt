@@ -1,7 +1,6 @@
 //! The sinks over streams.
 
-use crate::sink::{Sink, SinkError, write_whole};
-use crate::{ErrSink, OutSink, StreamSink};
+use host_io::{ErrSink, OutSink, Sink, SinkError, StreamSink, write_whole};
 use std::io::{ErrorKind, Write};
 use std::test::Fail;
 use std::{fs, io};

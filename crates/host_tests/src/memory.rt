@@ -1,9 +1,7 @@
 //! The memory forms, each call once with ample memory.
 
-use super::check_loads;
-use crate::host::{Host, HostError, Loaded};
-use crate::sink::{Sink, SinkError, write_whole};
-use crate::{MemHost, MemSink};
+use crate::loads::check_loads;
+use host_io::{Host, HostError, Loaded, MemHost, MemSink, Sink, SinkError, write_whole};
 use std::alloc::{AllocError, Global};
 use std::process::Abort;
 use std::test::Fail;
