@@ -1,7 +1,7 @@
 -- The one at a number can run.
 use Rattle.std.proofs.Common.{Some, ap, ◌∙◌}
 use Rattle.vfork_exec.proofs.Ready.{ready_can_run}
-use Rattle.vfork_exec.proofs.tests.can_run.Goals as goal
+use Rattle.list_tests.proofs.tests.families.can_run.Goals as goal
 
 pub returns-then-runnable_at-pid : goal.returns-then-runnable_at-pid
 returns-then-runnable_at-pid c so =

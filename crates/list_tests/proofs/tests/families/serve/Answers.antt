@@ -2,7 +2,7 @@
 use Rattle.std.proofs.Common.{sym, ap, ◌∙◌, arith}
 use Rattle.vfork_exec.specs.Procs.{Listed, pid_of}
 use Rattle.vfork_exec.proofs.Places.{found}
-use Rattle.vfork_exec.proofs.tests.serve.Goals as goal
+use Rattle.list_tests.proofs.tests.families.serve.Goals as goal
 
 pub returns-in-End : goal.returns-in-End
 returns-in-End c =
