@@ -1,17 +1,18 @@
-//! Each kind of line, and a fault of each kind.
+//! What the lines of a manifest bring into a run: each kind of line, and a fault of each kind.
 
 ghost use Rattle.std.specs.Prelude.{IfOk};
 ghost use Rattle.manifest_text.specs.Values.{item_value};
 ghost use Rattle.manifest_text.specs.Laws.{HasStack, IsItem};
 
-use crate::{FaultAt, LineFault, bring};
 use bflt_format::FlatFault;
 use call_log::Errno;
 use elf2flt_tool::Refusal;
 use manifest_text::{Item, ItemKind};
-use mem_files::Node;
+use mem_files::{Node, Tree};
+use run_setup::{FaultAt, LineFault, RunFiles, bring};
 use std::alloc::{AllocError, Global};
-use std::test::Fail;
+use std::process::Abort;
+use std::test::*;
 
 /// An ELF file: .text at 0x10000 with two instructions, .data at 0x10008 with the word 0x00010000, which
 /// one R_RISCV_32 relocation fills, and the entry 0x10000.
@@ -79,9 +80,19 @@ fn line(
     })
 }
 
-#[test]
-fn each_kind_is_brought_in(rt: HostRuntime) -> Result<(), Fail> {
-    let alloc = rt.alloc();
+fn files_of(alloc: Global, texts: &[&[u8]]) -> Result<Vec<Vec<u8>>, AllocError> {
+    let mut files = Vec::new(alloc);
+    for text in texts {
+        files.push(Vec::from_slice(alloc, text)?)?;
+    }
+    Ok(files)
+}
+
+/// The files of a folder, a flat file, a plain file, an ELF file, and the console's input.
+const FILES: [&[u8]; 5] = [b"", &FLT, b"text", &ELF, b"in"];
+
+/// What a line of each kind brings in.
+fn each_kind(alloc: Global) -> Result<RunFiles, Fail> {
     let items = [
         line(alloc, 2, ItemKind::Dir, "/d", 0)?,
         line(alloc, 3, ItemKind::Flat, "/d/x", 0)?,
@@ -89,71 +100,130 @@ fn each_kind_is_brought_in(rt: HostRuntime) -> Result<(), Fail> {
         line(alloc, 5, ItemKind::Elf, "/e", 4096)?,
         line(alloc, 6, ItemKind::Stdin, "", 0)?,
     ];
-    let mut files = Vec::new(alloc);
-    files.push(Vec::new(alloc))?;
-    files.push(FLT.to_vec(alloc)?)?;
-    files.push(b"text".to_vec(alloc)?)?;
-    files.push(ELF.to_vec(alloc)?)?;
-    files.push(b"in".to_vec(alloc)?)?;
-    let run = bring(alloc, &items, files)?;
-    let tree = &run.tree;
-    assert_eq!(rt;
-        (
-            tree.lookup(b"/d"),
-            tree.lookup(b"/d/x"),
-            tree.lookup(b"/d/f")
-        ),
-        (Ok(Some(2)), Ok(Some(3)), Ok(Some(4)))
-    );
-    assert_eq!(rt; tree.lookup(b"/e"), Ok(Some(5)));
-    assert_eq!(rt; tree.kind(2), Node::Dir);
-    assert_eq!(rt;
-        (tree.program(3), tree.program(4), tree.program(5)),
-        (Some(0), None, Some(1))
-    );
-    assert_eq!(rt; tree.bytes(3), FLT.as_slice());
-    assert_eq!(rt; tree.bytes(4), b"text".as_slice());
-    assert_eq!(rt; tree.bytes(5), FLT.as_slice());
+    let files = files_of(alloc, &FILES)?;
+    if files.len() != items.len() {
+        return Err(Fail::from("not a file for each line"));
+    }
+    Ok(bring(alloc, &items, files)?)
+}
+
+/// Paths with their nodes: the kind, the number of its program, and the bytes.
+const NODES: [(&[u8], u32, Node, Option<u32>, &[u8]); 4] = [
+    (b"/d", 2, Node::Dir, None, b""),
+    (b"/d/x", 3, Node::File, Some(0), &FLT),
+    (b"/d/f", 4, Node::File, None, b"text"),
+    (b"/e", 5, Node::File, Some(1), &FLT),
+];
+
+fn has_nodes(rt: &impl Abort, tree: &Tree) {
+    for (path, id, kind, program, bytes) in NODES {
+        assert_eq!(rt;
+            (tree.lookup(path), tree.kind(id), tree.program(id)),
+            (Ok(Some(id)), kind, program)
+        );
+        assert_eq!(rt; tree.bytes(id), bytes);
+    }
+}
+
+/// The path of each program.
+const PATHS: [&[u8]; 2] = [b"/d/x", b"/e"];
+
+fn has_programs(rt: &impl Abort, run: &RunFiles) {
     assert_eq!(rt; (run.paths.len(), run.flats.len()), (2, 2));
-    assert_eq!(rt; run.paths[0].as_slice(), b"/d/x".as_slice());
-    assert_eq!(rt; run.paths[1].as_slice(), b"/e".as_slice());
-    assert_eq!(rt; (run.flats[0].entry(), run.flats[1].entry()), (128, 128));
+    for (path, want) in run.paths.iter().zip(&PATHS) {
+        assert_eq!(rt; path.as_slice(), *want);
+    }
+    for flat in &run.flats {
+        assert_eq!(rt; flat.entry(), 128);
+    }
+}
+
+#[test]
+fn each_kind_is_brought_in(rt: HostRuntime) -> Result<(), Fail> {
+    let run = each_kind(rt.alloc())?;
+    has_nodes(&rt, &run.tree);
+    has_programs(&rt, &run);
     assert_eq!(rt; run.stdin.as_slice(), b"in".as_slice());
     Ok(())
 }
 
-/// The fault of a line 7 with an empty file, behind a line 5 that brings in the file /f.
-fn fault_behind(
-    alloc: Global,
-    kind: ItemKind,
-    path: &str,
-    stack: u32,
-) -> Result<Option<FaultAt>, AllocError>
-    requires { HasStack kind stack }
+/// A line 7 of this kind; that of an ELF file asks for 16 bytes of stack.
+fn last_line(alloc: Global, kind: ItemKind, path: &str) -> Result<Item, AllocError>
+    ensures { IfOk result (λ i. IsItem (item_value i)) }
 {
+    match kind {
+        ItemKind::Elf => line(alloc, 7, ItemKind::Elf, path, 16),
+        ItemKind::Flat => line(alloc, 7, ItemKind::Flat, path, 0),
+        ItemKind::File => line(alloc, 7, ItemKind::File, path, 0),
+        ItemKind::Dir => line(alloc, 7, ItemKind::Dir, path, 0),
+        ItemKind::Stdin => line(alloc, 7, ItemKind::Stdin, path, 0),
+    }
+}
+
+/// What a line with an empty file gives, behind a line 5 that brings in the file /f.
+fn behind(alloc: Global, kind: ItemKind, path: &str) -> Result<Result<RunFiles, FaultAt>, Fail> {
     let items = [
         line(alloc, 5, ItemKind::File, "/f", 0)?,
-        line(alloc, 7, kind, path, stack)?,
+        last_line(alloc, kind, path)?,
     ];
-    let mut files = Vec::new(alloc);
-    files.push(b"text".to_vec(alloc)?)?;
-    files.push(Vec::new(alloc))?;
-    Ok(bring(alloc, &items, files).err())
+    let files = files_of(alloc, &[b"text", b""])?;
+    if files.len() != items.len() {
+        return Err(Fail::from("not a file for each line"));
+    }
+    Ok(bring(alloc, &items, files))
 }
+
+/// The faults that are told apart here.
+#[derive(Clone, Copy, Debug, PartialEq, Eq)]
+enum Told {
+    /// It isn't an ELF file.
+    Elf,
+    /// The file ends in its header.
+    Short,
+    Place(Errno),
+    Other,
+}
+
+fn name_of(fault: &LineFault) -> Told {
+    match fault {
+        LineFault::Elf(Refusal::Elf(_)) => Told::Elf,
+        LineFault::Flat(FlatFault::Short) => Told::Short,
+        LineFault::Place(errno) => Told::Place(*errno),
+        _ => Told::Other,
+    }
+}
+
+/// The line of the fault, and the fault.
+fn fault_behind(alloc: Global, kind: ItemKind, path: &str) -> Result<Option<(u32, Told)>, Fail> {
+    match behind(alloc, kind, path)? {
+        Ok(_) => Ok(None),
+        Err(at) => Ok(Some((at.line, name_of(&at.fault)))),
+    }
+}
+
+/// Kinds and paths of a line 7, and its fault.
+const FAULTS: [(ItemKind, &str, Option<(u32, Told)>); 6] = [
+    (ItemKind::Elf, "/e", Some((7, Told::Elf))),
+    (ItemKind::Flat, "/x", Some((7, Told::Short))),
+    (ItemKind::File, "f", Some((7, Told::Place(Errno::Eexist)))),
+    (
+        ItemKind::File,
+        "/d/f",
+        Some((7, Told::Place(Errno::Enoent))),
+    ),
+    (
+        ItemKind::Dir,
+        "/f/d",
+        Some((7, Told::Place(Errno::Enotdir))),
+    ),
+    (ItemKind::Stdin, "", None),
+];
 
 #[test]
 fn first_fault_is_told(rt: HostRuntime) -> Result<(), Fail> {
-    let alloc = rt.alloc();
-    let at = fault_behind(alloc, ItemKind::Elf, "/e", 16)?.ok_or("elf")?;
-    assert!(rt; at.line == 7 && matches!(at.fault, LineFault::Elf(Refusal::Elf(_))));
-    let at = fault_behind(alloc, ItemKind::Flat, "/x", 0)?.ok_or("flat")?;
-    assert!(rt; at.line == 7 && matches!(at.fault, LineFault::Flat(FlatFault::Short)));
-    let at = fault_behind(alloc, ItemKind::File, "f", 0)?.ok_or("file")?;
-    assert!(rt; at.line == 7 && matches!(at.fault, LineFault::Place(Errno::Eexist)));
-    let at = fault_behind(alloc, ItemKind::File, "/d/f", 0)?.ok_or("file")?;
-    assert!(rt; at.line == 7 && matches!(at.fault, LineFault::Place(Errno::Enoent)));
-    let at = fault_behind(alloc, ItemKind::Dir, "/f/d", 0)?.ok_or("dir")?;
-    assert!(rt; at.line == 7 && matches!(at.fault, LineFault::Place(Errno::Enotdir)));
-    assert!(rt; fault_behind(alloc, ItemKind::Stdin, "", 0)?.is_none());
+    for (kind, path, want) in FAULTS {
+        let found = fault_behind(rt.alloc(), kind, path)?;
+        assert_eq!(rt; found, want, "{path}");
+    }
     Ok(())
 }
