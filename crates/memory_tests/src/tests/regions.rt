@@ -1,6 +1,6 @@
 //! Regions as they come, are used, are cut and go.
 
-ghost use Rattle.std.specs.Prelude.{◌≡◌, ◌×◌, ◌<◌, Some, IfOk, IfSome};
+ghost use Rattle.std.specs.Prelude.{◌≡◌, ◌<◌, Some, IfOk, IfSome};
 ghost use Rattle.nommu_regions.specs.Ids.{Lives};
 
 use nommu_regions::{Regions, Source};
