@@ -1,7 +1,8 @@
 # make            the proved program, at build/flatc; what the checks say is in build/check.log
 # make try        a first look: runs the program's demo without any proof ('proved=no'); it isn't kept, and isn't for use
 # make demo       the main job: converts the shipped ELF file and shows the bytes of the flat file, and runs two programs in one memory
-# make check      the gate: every proof, must-fail edit, test and program, and the repository's papers
+# make check      the gate: every proof, must-fail edit, test, program and case, and the repository's papers
+# make cases      tries the cases with the built program
 # make papers     the papers alone: names, links, paths and exit statuses agree
 # make kit        compares the toolchain with the one that the proofs were checked with
 # make sdk        builds newlib and the kit for C programs in build/sdk, if the Debian packages that it names are installed
@@ -18,7 +19,7 @@ build/flatc: $(SOURCES)
 	@echo 'flatc is proved before it is built: some twenty minutes on four cores the first time, and later only what changed.'
 	@tools/build
 
-.PHONY: try demo check papers kit sdk kernel real install
+.PHONY: try demo check cases papers kit sdk kernel real install
 
 try:
 	@echo 'Nothing is proved here: this is the program as it stands in the sources, for a first look.'
@@ -32,6 +33,10 @@ demo: build/flatc
 
 check:
 	.ci/run
+
+cases: build/flatc
+	tools/make-caller --check
+	tools/run-cases
 
 papers:
 	tools/check-papers
@@ -58,6 +63,7 @@ real: build/flatc sdk
 	examples/refused/real
 	examples/makedoc/real
 	examples/where/real
+	examples/programs/real
 
 install: build/flatc
 	install -D -m 755 build/flatc $(DESTDIR)$(PREFIX)/bin/flatc

@@ -1,6 +1,7 @@
-/* Calls that the machine doesn't serve fail, and say so: none of them pretends to succeed. Linux serves most of them, so under
-   qemu-riscv32 this program says something else. */
+/* Calls that the machine doesn't serve, and that nothing it serves stands for, fail and say so: none of them pretends to succeed.
+   Linux serves most of them, so under qemu-riscv32 this program says something else. */
 #include <errno.h>
+#include <fcntl.h>
 #include <signal.h>
 #include <stdio.h>
 #include <string.h>
@@ -8,6 +9,7 @@
 #include <sys/time.h>
 #include <time.h>
 #include <unistd.h>
+#include <utime.h>
 
 static void say(const char *call, long reply)
 {
@@ -16,16 +18,21 @@ static void say(const char *call, long reply)
 
 int main(void)
 {
-    struct stat stat_of;
     struct timeval time_of;
-    char path[64];
-    say("stat", stat("absent", &stat_of));
+    sigset_t none = 0;
     say("fork", fork());
-    say("getcwd", getcwd(path, sizeof path) ? 0 : -1);
     say("chdir", chdir("/"));
-    say("access", access("absent", 0));
     say("rename", rename("absent", "present"));
+    say("link", link("absent", "present"));
+    say("symlink", symlink("absent", "present"));
+    say("truncate", truncate("absent", 0));
+    say("chmod", chmod("absent", 0600));
+    say("chown", chown("absent", 0, 0));
+    say("utime", utime("absent", 0));
+    say("setuid", setuid(1));
+    say("F_SETFL", fcntl(1, F_SETFL, O_NONBLOCK));
     say("kill", kill(getpid(), 0));
+    say("sigsuspend", sigsuspend(&none));
     say("gettimeofday", gettimeofday(&time_of, 0));
     say("usleep", usleep(1));
     say("clock", (long)clock());

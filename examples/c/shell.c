@@ -1,7 +1,7 @@
 /* A small shell with pipes: a line is programs with their words, joined by |, the first of them with < FILE, the last one with
    > FILE, each sign with spaces around it. It starts them all, waits for all, and then says of each that didn't end with 0 how it
-   ended. The names of programs and files are relative: in the machine they begin at the root, under Linux where the shell
-   stands. */
+   ended. With -c LINE it runs that line alone, and ends as the last program of it did. The names of programs and files are
+   relative: in the machine they begin at the root, under Linux where the shell stands. */
 #include <errno.h>
 #include <fcntl.h>
 #include <stdio.h>
@@ -73,7 +73,8 @@ static int redirected(char **words, const char *sign, int flags, int otherwise)
     return fd;
 }
 
-static void run(char **words)
+/* Runs a line, and gives the status of its last program; `telling` says whether the shell tells how they ended. */
+static int run(char **words, int telling)
 {
     char **first[PROGRAMS + 1];
     pid_t children[PROGRAMS];
@@ -83,7 +84,7 @@ static void run(char **words)
     if (out == -1) {
         if (in > 0)
             close(in);
-        return;
+        return 1 << 8;
     }
     first[count++] = words;
     for (; *words; words++)
@@ -103,22 +104,31 @@ static void run(char **words)
     for (int i = 0; i < count; i++)
         if (children[i] != -1 && waitpid(children[i], &status[i], 0) != children[i])
             complain(first[i][0], strerror(errno));
-    for (int i = 0; i < count; i++)
+    for (int i = 0; telling && i < count; i++)
         tell(first[i][0], status[i]);
+    return status[count - 1];
 }
 
-int main(void)
+static int words_of(char *line, char **words)
 {
-    char line[128];
+    int count = 0;
+    for (char *word = strtok(line, " \n"); word && count < WORDS; word = strtok(0, " \n"))
+        words[count++] = word;
+    words[count] = 0;
+    return count;
+}
+
+int main(int argc, char **argv)
+{
+    char line[128], *words[WORDS + 1];
+    if (argc == 3 && !strcmp(argv[1], "-c")) {
+        int status = words_of(argv[2], words) ? run(words, 0) : 0;
+        return WIFSIGNALED(status) ? 128 + WTERMSIG(status) : WEXITSTATUS(status);
+    }
     while (fgets(line, sizeof line, stdin)) {
-        char *words[WORDS + 1];
-        int count = 0;
         printf("$ %s", line);
-        for (char *word = strtok(line, " \n"); word && count < WORDS; word = strtok(0, " \n"))
-            words[count++] = word;
-        words[count] = 0;
-        if (count)
-            run(words);
+        if (words_of(line, words))
+            run(words, 1);
     }
     printf("no child is left: %d\n", waitpid(-1, 0, 0) == -1 && errno == ECHILD);
     return 0;

@@ -3,5 +3,5 @@
 
 int dup(int fd)
 {
-    return __flat_answer(kernel3(23, fd, 0, 0));
+    return __flat_opened(kernel3(23, fd, 0, 0), 0);
 }

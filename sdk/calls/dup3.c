@@ -13,15 +13,15 @@ int dup3(int old, int new, int flags)
         errno = EINVAL;
         return -1;
     }
-    return __flat_answer(kernel3(24, old, new, __flat_flags(flags)));
+    return __flat_opened(kernel3(24, old, new, __flat_flags(flags)), flags & O_CLOEXEC);
 }
 
 int dup2(int old, int new)
 {
     if (old != new)
-        return __flat_answer(kernel3(24, old, new, 0));
+        return __flat_opened(kernel3(24, old, new, 0), 0);
     long long position;
-    if (kernel6(62, old, 0, 0, (long)&position, SEEK_CUR, 0) == -9) {
+    if (kernel6(62, old, 0, 0, (long)&position, SEEK_CUR, 0) == -LINUX_EBADF) {
         errno = EBADF;
         return -1;
     }

@@ -20,7 +20,7 @@ DIR *fdopendir(int fd)
 {
     /* One byte has room for no record: a folder that has one left answers EINVAL, and a file ENOTDIR. */
     char byte;
-    if (kernel3(61, fd, (long)&byte, 1) == -20) {
+    if (kernel3(61, fd, (long)&byte, 1) == -LINUX_ENOTDIR) {
         errno = ENOTDIR;
         return 0;
     }

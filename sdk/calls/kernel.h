@@ -27,5 +27,15 @@ long __flat_answer(long reply);
 long __flat_flags(int flags);
 long __flat_folder(int fd);
 
+/* The reply to opening a path to be written, which is closed again (faccessat.c). */
+long __flat_writing(int folder, const char *path);
+
+/* Which descriptors close at an execve, a bit each: the machine has no call that tells (fcntl.c). */
+extern unsigned __flat_closing;
+
+/* As __flat_answer, of a new descriptor, which closes at an execve or doesn't. */
+long __flat_opened(long fd, int closes);
+
 enum { LINUX_AT_FDCWD = -100, LINUX_O_CLOEXEC = 0x80000 };
+enum { LINUX_EBADF = 9, LINUX_EACCES = 13, LINUX_ENOTDIR = 20, LINUX_EISDIR = 21, LINUX_ESPIPE = 29, LINUX_ENOSYS = 38 };
 #endif

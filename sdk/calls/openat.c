@@ -24,7 +24,8 @@ long __flat_folder(int fd)
 
 static int opened(int folder, const char *path, int flags, int mode)
 {
-    return __flat_answer(kernel6(56, __flat_folder(folder), (long)path, __flat_flags(flags), mode, 0, 0));
+    long fd = kernel6(56, __flat_folder(folder), (long)path, __flat_flags(flags), mode, 0, 0);
+    return __flat_opened(fd, flags & O_CLOEXEC);
 }
 
 int _open(const char *path, int flags, int mode)

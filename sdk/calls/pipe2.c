@@ -12,10 +12,15 @@ int pipe2(int fds[2], int flags)
         errno = EINVAL;
         return -1;
     }
-    return __flat_answer(kernel3(59, (long)fds, __flat_flags(flags), 0));
+    long reply = kernel3(59, (long)fds, __flat_flags(flags), 0);
+    if (reply == 0) {
+        __flat_opened(fds[0], flags & O_CLOEXEC);
+        __flat_opened(fds[1], flags & O_CLOEXEC);
+    }
+    return __flat_answer(reply);
 }
 
 int pipe(int fds[2])
 {
-    return __flat_answer(kernel3(59, (long)fds, 0, 0));
+    return pipe2(fds, 0);
 }

@@ -14,6 +14,3 @@ mod writing;
 pub use fault::FlatFault;
 pub use flat::Flat;
 pub use laws::{spells_come_back, texts_come_back};
-
-#[cfg(test)]
-mod tests;

@@ -8,6 +8,3 @@
 mod numbers;
 
 pub use numbers::{big_word, byte, half, word};
-
-#[cfg(test)]
-mod tests;

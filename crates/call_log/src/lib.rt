@@ -18,6 +18,3 @@ pub use laws::refusals_are_words;
 pub use lines::line;
 pub use log::{Log, LogFault};
 pub use note::{Entry, Got, Note};
-
-#[cfg(test)]
-mod tests;

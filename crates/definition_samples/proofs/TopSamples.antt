@@ -24,15 +24,15 @@ use Rattle.elf2flt_tool.specs.Fault.{fault}
 use Rattle.elf2flt_tool.proofs.Samples.{one_word, one_word_flat, flat-one_word, fault-one_word}
 use Rattle.machine_world.specs.Turns.{all_ended, stuck, out_of_quanta, stray_at, log_full}
 use Rattle.rv32im_step.specs.declared.access.AccessKind.TheVariants.{Load}
-use Rattle.suite_top.specs.declared.status.Status.{Status}
-use Rattle.suite_top.specs.declared.status.Status.TheVariants as status
-use Rattle.suite_top.specs.Status.{code_of}
-use Rattle.suite_top.specs.Sizes.{Sizes, sizes}
-use Rattle.suite_top.specs.Texts.{convert_line, check_line}
-use Rattle.suite_top.specs.Ending.{done_ending}
-use Rattle.suite_top.specs.Outcome.{Request, load, store, Outcome, Inputs, after}
-use Rattle.suite_top.specs.Load.{at_once}
-use Rattle.suite_top.specs.Convert.{stored_outcome}
+use Rattle.file_commands.specs.declared.status.Status.{Status}
+use Rattle.file_commands.specs.declared.status.Status.TheVariants as status
+use Rattle.file_commands.specs.Status.{code_of}
+use Rattle.file_commands.specs.Sizes.{Sizes, sizes}
+use Rattle.file_commands.specs.Texts.{convert_line, check_line}
+use Rattle.file_commands.specs.Ending.{done_ending}
+use Rattle.file_commands.specs.Outcome.{Request, load, store, Outcome, Inputs, after}
+use Rattle.file_commands.specs.Load.{at_once}
+use Rattle.file_commands.specs.Convert.{stored_outcome}
 use Rattle.suite_top.specs.Report.{stop_word, stop_line, report_text, status_of_end}
 use Rattle.suite_top.specs.Result.{result_of}
 use Rattle.definition_samples.proofs.Exits.{running, over}

@@ -13,8 +13,6 @@ mod overlap;
 mod places;
 mod refusal;
 mod target;
-#[cfg(test)]
-mod tests;
 mod word;
 
 pub use conversion::{convert, flat_file};

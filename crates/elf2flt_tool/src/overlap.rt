@@ -8,7 +8,7 @@ ghost use Rattle.elf2flt_tool.specs.Cover.{own_cover, is_shared, begins_near, is
 use crate::cover::Cover;
 
 /// A recorded word, by numbers of the image.
-#[derive(Clone, Copy, Debug, PartialEq, Eq)]
+#[derive(Clone, Copy)]
 pub struct Recorded {
     /// The number of its first byte.
     pub place: u32,

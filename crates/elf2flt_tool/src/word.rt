@@ -1,7 +1,7 @@
 //! Recorded words.
 
 /// A word that a flat file records, by numbers of the image.
-#[derive(Clone, Copy, Debug, PartialEq, Eq)]
+#[derive(Clone, Copy)]
 pub struct Word {
     /// The number of its first byte.
     pub place: u32,

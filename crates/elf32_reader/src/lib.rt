@@ -18,8 +18,3 @@ pub use fault::ElfFault;
 pub use rela::Rela;
 pub use section::Section;
 pub use symbol::Symbol;
-
-#[cfg(test)]
-mod sample;
-#[cfg(test)]
-mod tests;

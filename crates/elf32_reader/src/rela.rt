@@ -20,7 +20,7 @@ const SHT_REL: u32 = 9;
 const RELA_LEN: u32 = 12;
 
 /// An entry of a relocation section with addends, Elf32_Rela.
-#[derive(Clone, Copy, Debug, PartialEq, Eq)]
+#[derive(Clone, Copy)]
 pub struct Rela {
     /// r_offset: the linked address of its field.
     pub offset: u32,

@@ -17,7 +17,7 @@ const SHT_NOBITS: u32 = 8;
 const SHF_ALLOC: u32 = 2;
 
 /// A section header. Its fields are those of Elf32_Shdr, without the prefix `sh_`.
-#[derive(Clone, Copy, Debug, PartialEq, Eq)]
+#[derive(Clone, Copy)]
 pub struct Section {
     /// The index of its name in the table of section names.
     pub name: u32,

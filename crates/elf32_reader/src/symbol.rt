@@ -20,7 +20,7 @@ const SHT_STRTAB: u32 = 3;
 const SYMBOL_LEN: u32 = 16;
 
 /// A symbol. Its fields are those of Elf32_Sym, without the prefix `st_`.
-#[derive(Clone, Copy, Debug, PartialEq, Eq)]
+#[derive(Clone, Copy)]
 pub struct Symbol {
     /// The index of its name in the string table.
     pub name: u32,

@@ -1,7 +1,7 @@
 //! What a file is made of.
 
 /// A section with content, or one without where its type is NOBITS (8).
-#[derive(Debug, Drop)]
+#[derive(Drop)]
 pub struct Part {
     /// sh_type.
     pub kind: u32,
@@ -16,7 +16,7 @@ pub struct Part {
 }
 
 /// A symbol.
-#[derive(Debug, Drop)]
+#[derive(Drop)]
 pub struct MakeSymbol {
     /// Without the zero that ends it.
     pub name: Vec<u8>,
@@ -28,7 +28,7 @@ pub struct MakeSymbol {
 }
 
 /// A relocation with an addend.
-#[derive(Clone, Copy, Debug, PartialEq, Eq)]
+#[derive(Clone, Copy)]
 pub struct MakeRela {
     /// The index of its part. The part's section is the one after it.
     pub part: u32,

@@ -14,6 +14,3 @@ mod writer;
 pub use given::{MakeRela, MakeSymbol, Part};
 pub use making::make;
 pub use programs::demo;
-
-#[cfg(test)]
-mod tests;

@@ -24,6 +24,3 @@ pub use files::Files;
 pub use laws::counts_law;
 pub use pipe_view::{Ends, PipeView};
 pub use view::{Target, View, Way};
-
-#[cfg(test)]
-mod tests;

@@ -25,6 +25,3 @@ pub use changes::change;
 pub use outcome::{Outcome, Then};
 pub use outputs::output;
 pub use waiting::wait_of;
-
-#[cfg(test)]
-mod change_tests;

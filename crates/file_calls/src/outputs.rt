@@ -32,6 +32,3 @@ pub fn output(alloc: Global, tree: &Tree, files: &Files, call: &Call) -> Result<
         _ => readv(alloc, tree, files, call),
     }
 }
-
-#[cfg(test)]
-mod tests;

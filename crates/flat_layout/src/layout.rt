@@ -14,7 +14,7 @@ const TEXT_ALIGNMENT: u64 = 32;
 const RAISED_BY: u64 = 64;
 
 /// The layout of an image. Its bytes have the numbers from 0 up; text, data and bss follow each other.
-#[derive(Clone, Copy, Debug, PartialEq, Eq)]
+#[derive(Clone, Copy)]
 pub struct Layout {
     /// V0, the linked address of the byte with number 0, modulo 2^32. It is the greatest multiple of 64 strictly
     /// below all sections, so that no byte of a section has the number 0.

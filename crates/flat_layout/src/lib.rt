@@ -12,6 +12,3 @@ mod numbering;
 pub use fault::LayoutFault;
 pub use layout::Layout;
 pub use numbering::has_bytes;
-
-#[cfg(test)]
-mod tests;

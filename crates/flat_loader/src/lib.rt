@@ -17,6 +17,3 @@ pub use block::{block_len, block_pages, stack_len};
 pub use frame::{frame_fits, frame_len};
 pub use laws::programs_begin;
 pub use loading::{LoadRefusal, Loaded, load, load_at};
-
-#[cfg(test)]
-mod tests;

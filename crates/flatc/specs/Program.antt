@@ -1,11 +1,11 @@
 -- What the program does with its arguments: a page of its own, or else the top call.
 use Rattle.std.specs.Prelude.{◌≡◌, ◌⊎◌, ℕ, List, [], Option, Some, None}
 use Rattle.host_io.specs.Host.{Told}
-use Rattle.suite_top.specs.declared.status.Status.{Status}
-use Rattle.suite_top.specs.Status.{code_of}
-use Rattle.suite_top.specs.Ending.{done_ending, memory_ending}
-use Rattle.suite_top.specs.Observed.{Observed, ObservedSink}
-use Rattle.suite_top.specs.Delivery.{Delivers}
+use Rattle.file_commands.specs.declared.status.Status.{Status}
+use Rattle.file_commands.specs.Status.{code_of}
+use Rattle.file_commands.specs.Ending.{done_ending, memory_ending}
+use Rattle.file_commands.specs.Observed.{Observed, ObservedSink}
+use Rattle.file_commands.specs.Delivery.{Delivers}
 use Rattle.suite_top.specs.Call.{MeetsResult}
 
 -- a page goes to `out`, and the host isn't asked; the host and the two sinks before and after

@@ -5,7 +5,7 @@ ghost use Rattle.std.specs.Result.{result_ok};
 ghost use Rattle.std.specs.Vec.Iter.{into_iter_items};
 ghost use Rattle.flatc.specs.Pages.{page_of};
 ghost use Rattle.flatc.specs.Program.{Ends, Exits};
-ghost use Rattle.suite_top.specs.Observed.{observed, observed_sink};
+ghost use Rattle.file_commands.specs.Observed.{observed, observed_sink};
 ghost use Rattle.suite_top.specs.Placements.{ArePlacements};
 
 use crate::pages::{HELP, VERSION, page_of};

@@ -3,21 +3,27 @@ ghost use Rattle.std.specs.Prelude.{◌≡◌, ◌≤◌, ℕ, [], length, None,
 ghost use Rattle.host_io.specs.declared.host.Loaded.{Loaded};
 
 use crate::host::{Host, HostError, Loaded};
+use crate::kinds::open_to_read;
 use crate::reading::read_at_most;
 use crate::replacing::{NewNames, write_file};
 use std::alloc::Global;
-use std::fs;
 use std::marker::Model;
 use std::rt::Files;
 
 /// Files by their paths, from the current folder of the process on.
 ///
-/// A store writes a new file in the folder of its target, flushes it to the disk and renames it over
-/// the target. So after `Failed` the old file is as it was; the new one is removed, if the system
-/// lets it. The new file has the access bits of the old one, or those of any new file. A target that
-/// may not be written is `Failed`, and so is a symbolic link to a plain file, or to none, since a
-/// store changes the file of one name alone. A hard link's other names keep the old file. A target
-/// that is no plain file, such as a device or a pipe, is written straight, and keeps what it took.
+/// A store writes a new file in the folder of its target, flushes it to the disk, renames it over the
+/// target, and flushes the folder. So after `Failed` the old file is as it was, and the new one is removed,
+/// if the system lets it; but where that last flush fails, the new file stands, and may not outlast a power
+/// cut. The new file has the access bits of the old one, or those of any new file, and until it has them
+/// nobody else may open it. A target that may not be written is `Failed`, and so is a symbolic link to a
+/// plain file, or to none, since a store changes the file of one name alone. A hard link's other names keep
+/// the old file.
+///
+/// Of what is no plain file a load reads, and a store writes straight, only what keeps nobody waiting for a
+/// partner: the devices null, zero and full, and a pipe without a path, which is open already; a store also
+/// the device to which standard output or standard error goes. What such a target took it keeps. A pipe with
+/// a path, and every other device, is `Failed`, and isn't opened.
 #[derive(Drop)]
 pub struct FolderHost<R: Files> {
     files: R,
@@ -55,13 +61,13 @@ impl<R: Files> Host for FolderHost<R> {
 
     fn load(
         &mut self,
-        _alloc: Global,
+        alloc: Global,
         name: &str,
         limit: u32,
         into: &mut Vec<u8>,
     ) -> Result<Loaded, HostError> {
         into.clear();
-        let outcome = load_file(&self.files, name, limit, into);
+        let outcome = load_file(alloc, &self.files, name, limit, into);
         if let Err(HostError::Failed) = outcome {
             self.faults = self.faults.saturating_add(1);
         }
@@ -79,6 +85,7 @@ impl<R: Files> Host for FolderHost<R> {
 
 /// Reads the file of this name into an empty buffer.
 fn load_file<R: Files>(
+    alloc: Global,
     files: &R,
     name: &str,
     limit: u32,
@@ -89,8 +96,5 @@ fn load_file<R: Files>(
     ensures too_long { result ≡ Ok Loaded.TooLong → into.new.items ≡ [] }
     ensures err { OnErr result (into.new.items ≡ []) }
 {
-    match fs::open(files, name) {
-        Ok(file) => read_at_most(file, limit, into),
-        Err(_) => Err(HostError::Failed),
-    }
+    read_at_most(open_to_read(alloc, files, name)?, limit, into)
 }

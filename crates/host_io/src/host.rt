@@ -62,7 +62,7 @@ pub trait Host {
         ensures err { OnErr result (into.new.items ≡ []) }
         ensures cause { HasCause answer.Failed (faults self.old) (faults self.new) result };
 
-    /// Makes the file of this name hold exactly these bytes. After an error all files are as before.
+    /// Makes the file of this name hold exactly these bytes. After an error all files that the host tells are as before.
     fn store(&mut self, alloc: Global, name: &str, bytes: &[u8]) -> Result<(), HostError>
         ensures told { StoreTold (told self.old) (told self.new) name.now bytes.now result }
         ensures cause { HasCause answer.Failed (faults self.old) (faults self.new) result };

@@ -7,6 +7,7 @@
 mod calls;
 mod folder_host;
 mod host;
+mod kinds;
 mod mem_host;
 mod mem_sink;
 mod reading;
@@ -20,6 +21,3 @@ pub use mem_host::MemHost;
 pub use mem_sink::MemSink;
 pub use sink::{Sink, SinkError, write_whole};
 pub use stream_sink::{ErrSink, OutSink, StreamSink};
-
-#[cfg(test)]
-mod tests;

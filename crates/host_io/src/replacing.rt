@@ -1,15 +1,22 @@
 //! Replacing a file by a new one that is made beside it.
 
 use crate::host::HostError;
+use crate::kinds::open_to_write;
 use std::alloc::{AllocError, Global};
 use std::fs::{OpenFile, OpenOptions, Permissions};
 use std::io::{ErrorKind, Write};
-use std::os::unix::fs::PermissionsExt;
+use std::os::unix::fs::{OpenOptionsExt, PermissionsExt};
 use std::rt::Files;
 use std::{fs, io};
 
 /// The bits of a file's mode that say who may read, write and run it.
 const ACCESS: u32 = 0o777;
+
+/// Those of a new file whose own access bits come later.
+const PRIVATE: u32 = 0o600;
+
+/// Those of any new file, of which the process's mask takes some off.
+const ANY_NEW: u32 = 0o666;
 
 /// What the new files are called: `.PROGRAM-N.tmp`, with N from `first` on.
 #[derive(Clone, Copy)]
@@ -18,7 +25,7 @@ pub(crate) struct NewNames {
     pub(crate) first: u32,
 }
 
-/// Writes a plain file by way of a new one beside it, and anything else straight.
+/// Writes a plain file by way of a new one beside it, and anything else straight, if that is done at all.
 pub(crate) fn write_file<R: Files>(
     alloc: Global,
     files: &R,
@@ -26,49 +33,47 @@ pub(crate) fn write_file<R: Files>(
     name: &str,
     bytes: &[u8],
 ) -> Result<(), HostError> {
-    let mut how = OpenOptions::new();
-    how.write(true);
-    match how.open(files, name) {
-        Ok(target) => write_over(alloc, files, names, name, target, bytes),
-        Err(error) if error.kind() == ErrorKind::NotFound && !is_link(files, name) => {
+    match fs::symlink_metadata(files, name) {
+        Ok(about) if about.is_file() => {
+            let access = access_of(files, name)?;
+            replace(alloc, files, names, name, Some(access), bytes)
+        }
+        Ok(_) => write_straight(alloc, files, name, bytes),
+        Err(error) if error.kind() == ErrorKind::NotFound => {
             replace(alloc, files, names, name, None, bytes)
         }
         Err(_) => Err(HostError::Failed),
     }
 }
 
-/// Whether a symbolic link stands at the name.
-fn is_link<R: Files>(files: &R, name: &str) -> bool {
-    match fs::symlink_metadata(files, name) {
-        Ok(about) => about.is_symlink(),
-        Err(_) => false,
+/// The access bits of the plain file at the name, if it may be written.
+fn access_of<R: Files>(files: &R, name: &str) -> Result<Permissions, HostError> {
+    let mut how = OpenOptions::new();
+    how.write(true);
+    let Ok(target) = how.open(files, name) else {
+        return Err(HostError::Failed);
+    };
+    match target.metadata() {
+        Ok(about) if about.is_file() => {
+            Ok(Permissions::from_mode(about.permissions().mode() & ACCESS))
+        }
+        Ok(_) | Err(_) => Err(HostError::Failed),
     }
 }
 
-/// Writes over what stands at the name, which is open for writing and was not touched yet.
-fn write_over<R: Files>(
+/// Writes into what is no plain file.
+fn write_straight<R: Files>(
     alloc: Global,
     files: &R,
-    names: NewNames,
     name: &str,
-    mut target: R::File,
     bytes: &[u8],
 ) -> Result<(), HostError> {
-    let Ok(about) = target.metadata() else {
-        return Err(HostError::Failed);
-    };
-    if about.is_file() {
-        if is_link(files, name) {
-            return Err(HostError::Failed);
-        }
-        let access = Permissions::from_mode(about.permissions().mode() & ACCESS);
-        return replace(alloc, files, names, name, Some(access), bytes);
-    }
+    let mut target = open_to_write(alloc, files, name)?;
     target.write_all(bytes).map_err(|_| HostError::Failed)
 }
 
-/// Makes a new file beside the name, and renames it over the name. Where a step fails, the new file
-/// is removed.
+/// Makes a new file beside the name, renames it over the name, and waits until the disk has the name. Where
+/// a step up to the rename fails, the new file is removed.
 fn replace<R: Files>(
     alloc: Global,
     files: &R,
@@ -77,16 +82,55 @@ fn replace<R: Files>(
     permissions: Option<Permissions>,
     bytes: &[u8],
 ) -> Result<(), HostError> {
-    let (beside, file) = make_beside(alloc, files, names, name)?;
+    let folder = open_folder(files, name)?;
+    let mode = if permissions.is_some() {
+        PRIVATE
+    } else {
+        ANY_NEW
+    };
+    let (beside, file) = make_beside(alloc, files, names, name, mode)?;
     let done = match fill(file, permissions, bytes) {
-        Ok(()) => fs::rename(files, beside.as_str(), name),
+        Ok(()) => rename(files, beside.as_str(), name),
         Err(error) => Err(error),
     };
     if done.is_err() {
-        let _ = fs::remove_file(files, beside.as_str());
+        remove(files, beside.as_str());
         return Err(HostError::Failed);
     }
-    Ok(())
+    flush_names(&folder)
+}
+
+/// Stays a function of its own, as `remove` does: std keeps copies of 4096 bytes of both names on the stack,
+/// which would stand below every other call of a store.
+#[inline(never)]
+fn rename<R: Files>(files: &R, from: &str, to: &str) -> io::Result<()> {
+    fs::rename(files, from, to)
+}
+
+/// Removes a new file, if the system lets it.
+#[inline(never)]
+fn remove<R: Files>(files: &R, name: &str) {
+    let _ = fs::remove_file(files, name);
+}
+
+/// The folder of this name, open to be flushed. One that may not be read is `Failed`, before anything changes.
+fn open_folder<R: Files>(files: &R, name: &str) -> Result<R::File, HostError> {
+    let path = match name.rsplit_once('/') {
+        Some(("", _)) => "/",
+        Some((folder, _)) => folder,
+        None => ".",
+    };
+    fs::open(files, path).map_err(|_| HostError::Failed)
+}
+
+/// Waits until the disk has a folder's names. A file system without such a flush says so, and there is
+/// nothing to wait for.
+fn flush_names<F: OpenFile>(folder: &F) -> Result<(), HostError> {
+    match folder.sync_all() {
+        Ok(()) => Ok(()),
+        Err(error) if error.kind() == ErrorKind::InvalidInput => Ok(()),
+        Err(_) => Err(HostError::Failed),
+    }
 }
 
 /// A new file in the folder of this name, open for writing, with its own name. A file that stands
@@ -96,9 +140,10 @@ fn make_beside<R: Files>(
     files: &R,
     names: NewNames,
     name: &str,
+    mode: u32,
 ) -> Result<(String, R::File), HostError> {
     let mut how = OpenOptions::new();
-    how.write(true).create_new(true);
+    how.write(true).create_new(true).mode(mode);
     for number in u64::from(names.first)..u64::MAX {
         let beside = name_beside(alloc, names.program, name, number)?;
         match how.open(files, beside.as_str()) {
@@ -123,15 +168,15 @@ pub(crate) fn name_beside(
     }
 }
 
-/// Gives a new file its permissions and its bytes, and waits until the disk has them.
+/// Gives a new file its bytes and then its permissions, and waits until the disk has them.
 fn fill<F: Write + OpenFile + Drop>(
     mut file: F,
     permissions: Option<Permissions>,
     bytes: &[u8],
 ) -> io::Result<()> {
+    file.write_all(bytes)?;
     if let Some(permissions) = permissions {
         file.set_permissions(permissions)?;
     }
-    file.write_all(bytes)?;
     file.sync_all()
 }

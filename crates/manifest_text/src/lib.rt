@@ -17,6 +17,3 @@ pub use fault::{ManifestFault, ManifestRefusal};
 pub use laws::reasonable_law;
 pub use manifest::{Dump, Item, ItemKind, Manifest, Start};
 pub use reading::read;
-
-#[cfg(test)]
-mod tests;

@@ -19,6 +19,3 @@ pub use laws::names_law;
 pub use node::Node;
 pub use paths::is_too_long;
 pub use tree::{ROOT, Tree};
-
-#[cfg(test)]
-mod tests;

@@ -19,10 +19,3 @@ pub use owners::{Owners, PageOwner};
 pub use space::{Space, SpaceRoom};
 pub use steps::Steps;
 pub use want::{FileSide, Want, check_mmap2, pages_for};
-
-#[cfg(test)]
-mod map_tests;
-#[cfg(test)]
-mod tests;
-#[cfg(test)]
-mod unmap_tests;

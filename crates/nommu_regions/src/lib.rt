@@ -10,6 +10,3 @@ mod regions;
 
 pub use region::{Region, Source};
 pub use regions::Regions;
-
-#[cfg(test)]
-mod tests;

@@ -17,6 +17,3 @@ pub use laws::{free_runs_law, place_law};
 pub use place::{Kind, best_fit, first_fit, last_fit};
 pub use run::Run;
 pub use runs::Runs;
-
-#[cfg(test)]
-mod tests;

@@ -10,6 +10,3 @@ mod slots;
 mod words;
 
 pub use memory::{BASE, PAGE, PhysMem};
-
-#[cfg(test)]
-mod tests;

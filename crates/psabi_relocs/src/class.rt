@@ -19,7 +19,7 @@ const GLOBAL_POINTER: &[u8] = b"__global_pointer$";
 const NAME_LIMIT: usize = 18;
 
 /// What a symbol's value does when the image moves.
-#[derive(Clone, Copy, Debug, PartialEq, Eq)]
+#[derive(Clone, Copy)]
 pub enum Class {
     /// It moves with the sections.
     Moves,

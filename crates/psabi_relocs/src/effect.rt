@@ -7,7 +7,7 @@ use crate::judged::JudgedEntry;
 use crate::row::Row;
 
 /// What a loader has to do for a relocation when the image moves. Addresses are the linked ones.
-#[derive(Clone, Copy, Debug, PartialEq, Eq)]
+#[derive(Clone, Copy)]
 pub enum Effect {
     /// Nothing: its bytes are right at every base.
     Still,

@@ -10,14 +10,14 @@ ghost use Rattle.psabi_relocs.specs.Sums.{no_sums, sum_of};
 use crate::row::{Step, Width};
 
 /// How many moving symbols a group adds and subtracts.
-#[derive(Clone, Copy, Debug, PartialEq, Eq)]
+#[derive(Clone, Copy)]
 pub struct Sum {
     pub plus: u32,
     pub minus: u32,
 }
 
 /// The sums of the groups at one place, one for each width.
-#[derive(Clone, Copy, Debug, PartialEq, Eq)]
+#[derive(Clone, Copy)]
 pub struct Sums {
     pub bits8: Sum,
     pub bits16: Sum,

@@ -17,7 +17,7 @@ use crate::stored::StoredSections;
 use elf32_reader::Elf;
 
 /// An accepted relocation.
-#[derive(Clone, Copy, Debug, PartialEq, Eq)]
+#[derive(Clone, Copy)]
 pub struct Checked {
     /// What a loader has to do for it.
     pub effect: Effect,

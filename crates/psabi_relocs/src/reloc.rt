@@ -10,7 +10,7 @@ use crate::row::Row;
 use elf32_reader::Elf;
 
 /// An entry of a kept section, with its symbol.
-#[derive(Clone, Copy, Debug, PartialEq, Eq)]
+#[derive(Clone, Copy)]
 pub struct Reloc {
     /// The row of its type.
     pub row: Row,

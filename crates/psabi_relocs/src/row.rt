@@ -6,7 +6,7 @@ ghost use Rattle.psabi_relocs.specs.Row.{row_of, width_len, field_len};
 use crate::types::*;
 
 /// How an instruction or a word has a value.
-#[derive(Clone, Copy, Debug, PartialEq, Eq)]
+#[derive(Clone, Copy)]
 pub enum Shape {
     /// A word of four bytes.
     Word,
@@ -23,7 +23,7 @@ pub enum Shape {
 }
 
 /// Which number the entries of a group change.
-#[derive(Clone, Copy, Debug, PartialEq, Eq)]
+#[derive(Clone, Copy)]
 pub enum Width {
     Bits8,
     Bits16,
@@ -35,7 +35,7 @@ pub enum Width {
 }
 
 /// What an entry of a group does to its number.
-#[derive(Clone, Copy, Debug, PartialEq, Eq)]
+#[derive(Clone, Copy)]
 pub enum Step {
     Add,
     Sub,
@@ -43,7 +43,7 @@ pub enum Step {
 }
 
 /// A row of the table of relocation types: what is computed of S, A and P, and where it stands.
-#[derive(Clone, Copy, Debug, PartialEq, Eq)]
+#[derive(Clone, Copy)]
 pub enum Row {
     /// The type isn't in the table.
     Unknown,

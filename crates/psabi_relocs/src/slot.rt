@@ -11,7 +11,7 @@ use elf32_reader::Elf;
 use rv32im_table::{imm_i, imm_s, imm_u};
 
 /// The slot of a GOT_HI20.
-#[derive(Clone, Copy, Debug, PartialEq, Eq)]
+#[derive(Clone, Copy)]
 pub struct Slot {
     /// G: its address.
     pub address: u32,

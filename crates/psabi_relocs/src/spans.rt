@@ -9,7 +9,7 @@ use crate::reloc::Reloc;
 use crate::row::Row;
 
 /// Bytes of the linked file, from the address `place` on.
-#[derive(Clone, Copy, Debug, PartialEq, Eq)]
+#[derive(Clone, Copy)]
 pub struct Span {
     pub place: u32,
     pub len: u32,
@@ -18,7 +18,7 @@ pub struct Span {
 }
 
 /// The bytes that one relocation has.
-#[derive(Clone, Copy, Debug, PartialEq, Eq)]
+#[derive(Clone, Copy)]
 pub struct Spans {
     /// Those of its field. A mark has none, so their number is 0.
     pub own: Span,

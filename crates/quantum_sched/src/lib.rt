@@ -28,6 +28,3 @@ pub fn pick<P>(procs: &Procs<P>, q: Quantum) -> Option<u32>
     }
     Some(procs.runnable_at(q.pick % count))
 }
-
-#[cfg(test)]
-mod tests;

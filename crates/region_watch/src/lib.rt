@@ -15,6 +15,3 @@ pub use instructions::{Progress, run_steps};
 pub use laws::{others_law, passed_law};
 pub use mode::Mode;
 pub use watch::{Watch, Window};
-
-#[cfg(test)]
-mod tests;

@@ -10,6 +10,3 @@ mod program;
 
 pub use bringing::{RunFiles, bring};
 pub use fault::{FaultAt, LineFault};
-
-#[cfg(test)]
-mod tests;

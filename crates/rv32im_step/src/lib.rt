@@ -23,6 +23,3 @@ pub use hart::step;
 pub use laws::bytes_law;
 pub use regs::Regs;
 pub use stop::Stop;
-
-#[cfg(test)]
-mod tests;

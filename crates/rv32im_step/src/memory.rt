@@ -13,7 +13,7 @@ use crate::regs::Regs;
 use crate::stop::Stop;
 
 /// A byte, its sign extended.
-#[inline]
+#[inline(always)]
 fn extended_byte(n: u32) -> u32
     requires { n < 2 ^ 8 }
     ensures { result ≡ sign_extended 8 n }
@@ -22,7 +22,7 @@ fn extended_byte(n: u32) -> u32
 }
 
 /// A half-word, its sign extended.
-#[inline]
+#[inline(always)]
 fn extended_half(n: u32) -> u32
     requires { n < 2 ^ 16 }
     ensures { result ≡ sign_extended 16 n }
@@ -31,7 +31,7 @@ fn extended_half(n: u32) -> u32
 }
 
 /// LB.
-#[inline]
+#[inline(always)]
 pub fn load_byte<B: Bus>(regs: &mut Regs, bus: &mut B, rd: u8, rs1: u8, offset: u32) -> Stop
     requires rd { rd < 32 }
     requires rs1 { rs1 < 32 }
@@ -47,7 +47,7 @@ pub fn load_byte<B: Bus>(regs: &mut Regs, bus: &mut B, rd: u8, rs1: u8, offset: 
 }
 
 /// LH.
-#[inline]
+#[inline(always)]
 pub fn load_half<B: Bus>(regs: &mut Regs, bus: &mut B, rd: u8, rs1: u8, offset: u32) -> Stop
     requires rd { rd < 32 }
     requires rs1 { rs1 < 32 }
@@ -63,7 +63,7 @@ pub fn load_half<B: Bus>(regs: &mut Regs, bus: &mut B, rd: u8, rs1: u8, offset: 
 }
 
 /// LW, LBU and LHU, which load `len` bytes.
-#[inline]
+#[inline(always)]
 pub fn load<B: Bus>(regs: &mut Regs, bus: &mut B, rd: u8, rs1: u8, offset: u32, len: u32) -> Stop
     requires rd { rd < 32 }
     requires rs1 { rs1 < 32 }
@@ -80,7 +80,7 @@ pub fn load<B: Bus>(regs: &mut Regs, bus: &mut B, rd: u8, rs1: u8, offset: u32, 
 }
 
 /// SB, SH and SW, which store the lowest `len` bytes of `rs2`.
-#[inline]
+#[inline(always)]
 pub fn store<B: Bus>(regs: &mut Regs, bus: &mut B, rs1: u8, rs2: u8, offset: u32, len: u32) -> Stop
     requires rs1 { rs1 < 32 }
     requires rs2 { rs2 < 32 }

@@ -5,7 +5,7 @@
 /// `decode` gives, register numbers and amounts are 0 to 31. RISC-V unprivileged ISA, "RV32I Base
 /// Integer Instruction Set", '"M" Extension for Integer Multiplication and Division' and '"Zifencei"
 /// Extension for Instruction-Fetch Fence'.
-#[derive(Clone, Copy, Debug, PartialEq, Eq)]
+#[derive(Clone, Copy)]
 pub enum Instr {
     Lui { rd: u8, imm: u32 },
     Auipc { rd: u8, imm: u32 },

@@ -12,6 +12,3 @@ mod table;
 pub use immediate::{imm_b, imm_i, imm_j, imm_s, imm_u, set_b, set_i, set_j, set_s, set_u};
 pub use instr::Instr;
 pub use table::decode;
-
-#[cfg(test)]
-mod tests;

@@ -22,7 +22,7 @@ use Rattle.region_watch.specs.declared.mode.Mode.TheVariants.{Halt, GoOn}
 use Rattle.flat_machine.specs.State.{State, world, one_memory, lines_of}
 use Rattle.flat_machine.specs.Boots.{Boots}
 use Rattle.suite_top.specs.declared.telling.Telling.{Telling}
-use Rattle.suite_top.specs.Ending.{Ending, memory_ending, OrMemory}
+use Rattle.file_commands.specs.Ending.{Ending, memory_ending, OrMemory}
 use Rattle.run_setup.specs.Faults.{IsMemory}
 use Rattle.suite_top.specs.Refusing.{told_fault}
 use Rattle.suite_top.specs.Run.{start_line, boot_fault, fault_ending, world_ending, memory_run_ending, mode_ending, booted_ending}

@@ -3,14 +3,14 @@ use Rattle.std.proofs.Common.{◌≡◌, ℕ, List, Option, Some, None, inl, inr
 use Rattle.std.specs.Prelude.{◌⊎◌}
 use Rattle.host_io.specs.Faults.{Rose}
 use Rattle.host_io.specs.Host.{Told}
-use Rattle.suite_top.specs.declared.status.Status.{Status}
-use Rattle.suite_top.specs.declared.status.Status.TheVariants.{SinkWrite, HostWrite}
-use Rattle.suite_top.specs.Ending.{Ending}
-use Rattle.suite_top.specs.Outcome.{Inputs}
-use Rattle.suite_top.specs.Observed.{Observed, ObservedSink}
+use Rattle.file_commands.specs.declared.status.Status.{Status}
+use Rattle.file_commands.specs.declared.status.Status.TheVariants.{SinkWrite, HostWrite}
+use Rattle.file_commands.specs.Ending.{Ending}
+use Rattle.file_commands.specs.Outcome.{Inputs}
+use Rattle.file_commands.specs.Observed.{Observed, ObservedSink}
 use Rattle.suite_top.specs.Result.{result_of}
-use Rattle.suite_top.specs.HostCourse.{Performs, inputs_in, PerformsOver, PerformsCommand}
-use Rattle.suite_top.specs.Delivery.{Delivers}
+use Rattle.file_commands.specs.HostCourse.{Performs, inputs_in, PerformsOver, PerformsCommand}
+use Rattle.file_commands.specs.Delivery.{Delivers}
 use Rattle.suite_top.specs.Call.{Call}
 use Rattle.suite_top.proofs.StatusLaws.{writes_fail, sinks_fail}
 

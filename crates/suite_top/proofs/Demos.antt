@@ -9,7 +9,7 @@ use Rattle.manifest_text.specs.Laws.{IsItem, HasArgument, Reasonable}
 use Rattle.elf_maker.specs.Demo.{demo_file}
 use Rattle.region_watch.specs.declared.mode.Mode.TheVariants.{Halt}
 use Rattle.suite_top.specs.declared.telling.Telling.TheVariants.{Demo}
-use Rattle.suite_top.specs.Ending.{Ending, OrMemory}
+use Rattle.file_commands.specs.Ending.{Ending, OrMemory}
 use Rattle.suite_top.specs.Run.{files_ending}
 use Rattle.suite_top.specs.Demo.{each_of, demo_item, demo_start, demo_manifest, demo_ending}
 

@@ -3,10 +3,10 @@ use Rattle.std.proofs.Common.{◌≡◌, ℕ, List, [], ◌∷◌, ◌++◌, map
 use Rattle.std.specs.Prelude.{option_map}
 use Rattle.std.proofs.lemmas.List.{append-nil}
 use Rattle.host_io.specs.Host.{Told}
-use Rattle.suite_top.specs.Outcome.{Request, load, store, Inputs, name_of}
-use Rattle.suite_top.specs.Arguments.{Invocation, convert, list, check, run, demo, command_of}
+use Rattle.file_commands.specs.Outcome.{Request, load, store, Inputs, name_of}
+use Rattle.file_commands.specs.Arguments.{Invocation, convert, list, check, run, demo, command_of}
 use Rattle.suite_top.specs.Result.{command_outcome}
-use Rattle.suite_top.specs.HostCourse.{HostCourse, complete, failed, out_of_memory, AreLoads, IsCourseOf, FaultsAfter, after_answer, after_answers, told_after}
+use Rattle.file_commands.specs.HostCourse.{HostCourse, complete, failed, out_of_memory, AreLoads, IsCourseOf, FaultsAfter, after_answer, after_answers, told_after}
 use Rattle.suite_top.specs.Call.{outcome_of}
 use Rattle.suite_top.specs.HostLaws.{NamesAreAPrefix, NothingIsAsked, OthersChangeNoFile}
 use Rattle.suite_top.proofs.Outcomes.{usage_is_exact, list_requests, check_requests, run_requests}

@@ -1,12 +1,12 @@
 -- No status but Memory comes always: without arguments a call ends as Usage, if no sink fails, and `list` with a name never does.
 use Rattle.std.proofs.Common.{◌≡◌, ◌≢◌, ℕ, List, [], ◌∷◌, ◌++◌, Some, None, refl, sym, ap, subst, ◌∙◌, inl, inr}
 use Rattle.std.specs.Prelude.{codes}
-use Rattle.suite_top.specs.declared.status.Status.{Status}
-use Rattle.suite_top.specs.declared.status.Status.TheVariants.{Done, Usage, HostRead, Refused, Stray, OutOfQuanta, LogFull, SinkWrite, Memory, HostWrite, Stuck}
-use Rattle.suite_top.specs.Outcome.{Request, load, store}
-use Rattle.suite_top.specs.Arguments.{list, command_of}
+use Rattle.file_commands.specs.declared.status.Status.{Status}
+use Rattle.file_commands.specs.declared.status.Status.TheVariants.{Done, Usage, HostRead, Refused, Stray, OutOfQuanta, LogFull, SinkWrite, Memory, HostWrite, Stuck}
+use Rattle.file_commands.specs.Outcome.{Request, load, store}
+use Rattle.file_commands.specs.Arguments.{list, command_of}
 use Rattle.suite_top.specs.Result.{result_of}
-use Rattle.suite_top.specs.Delivery.{sink_failed}
+use Rattle.file_commands.specs.Delivery.{sink_failed}
 use Rattle.suite_top.specs.Call.{Call, outcome_of, MeetsOutcome}
 use Rattle.suite_top.specs.StatusLaws.{IsAnswer, FailsAt, IsCut, IsNeverOf, NoStatusIsAlways}
 use Rattle.suite_top.proofs.Outcomes.{usage_is_exact}

@@ -6,19 +6,19 @@ use Rattle.bflt_format.specs.declared.fault.FlatFault.{FlatFault}
 use Rattle.bflt_format.specs.Fault.{flat_fault}
 use Rattle.elf2flt_tool.specs.Fault.{fault}
 use Rattle.elf2flt_tool.specs.Converted.{flat}
-use Rattle.suite_top.specs.declared.status.Status.{Status}
-use Rattle.suite_top.specs.declared.status.Status.TheVariants.{Done, Usage, HostRead, Refused, Stray, OutOfQuanta, LogFull, Stuck}
-use Rattle.suite_top.specs.Sizes.{sizes}
-use Rattle.suite_top.specs.Texts.{refusal_tail, convert_line, check_line, too_long_tail}
-use Rattle.suite_top.specs.Texts.Listing.{listing, flat_tail}
+use Rattle.file_commands.specs.declared.status.Status.{Status}
+use Rattle.file_commands.specs.declared.status.Status.TheVariants.{Done, Usage, HostRead, Refused, Stray, OutOfQuanta, LogFull, Stuck}
+use Rattle.file_commands.specs.Sizes.{sizes}
+use Rattle.file_commands.specs.Texts.{refusal_tail, convert_line, check_line, too_long_tail}
+use Rattle.file_commands.specs.Texts.Listing.{listing, flat_tail}
 use Rattle.bflt_format.specs.Header.{flat_values}
-use Rattle.suite_top.specs.Ending.{Ending, done_ending, usage_ending, refused_ending}
-use Rattle.suite_top.specs.Outcome.{Request, load, store, failure_ending, Outcome, Inputs, after}
-use Rattle.suite_top.specs.Arguments.{Invocation, convert, list, check, run, demo, IsNoRun, default_stack, command_of}
-use Rattle.suite_top.specs.OneFile.{file_limit, with_found, with_file}
-use Rattle.suite_top.specs.Convert.{judged_outcome, converted_outcome}
-use Rattle.suite_top.specs.Check.{verdict, checked_outcome, check_outcome}
-use Rattle.suite_top.specs.List.{judged_ending, listed_outcome, list_outcome}
+use Rattle.file_commands.specs.Ending.{Ending, done_ending, usage_ending, refused_ending}
+use Rattle.file_commands.specs.Outcome.{Request, load, store, failure_ending, Outcome, Inputs, after}
+use Rattle.file_commands.specs.Arguments.{Invocation, convert, list, check, run, demo, IsNoRun, default_stack, command_of}
+use Rattle.file_commands.specs.OneFile.{file_limit, with_found, with_file}
+use Rattle.file_commands.specs.Convert.{judged_outcome, converted_outcome}
+use Rattle.file_commands.specs.Check.{verdict, checked_outcome, check_outcome}
+use Rattle.file_commands.specs.List.{judged_ending, listed_outcome, list_outcome}
 use Rattle.page_runs.specs.declared.place.Kind.{Kind}
 use Rattle.machine_world.specs.World.{World}
 use Rattle.machine_world.specs.Turns.{End}
@@ -28,7 +28,7 @@ use Rattle.suite_top.specs.Telling.{told_ending}
 use Rattle.suite_top.specs.Run.{run_outcome}
 use Rattle.suite_top.specs.Result.{command_outcome, result_of}
 use Rattle.suite_top.specs.StatusLaws.{IsOneText, TextsAreApart, UsageIsExact}
-use Rattle.suite_top.specs.HostCourse.{AreLoads}
+use Rattle.file_commands.specs.HostCourse.{AreLoads}
 use Rattle.suite_top.proofs.RunOutcomes.{run_by, demo_by, told_status}
 
 -- what holds of a refusal and of `rest` holds of what was found

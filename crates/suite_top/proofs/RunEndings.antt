@@ -12,19 +12,19 @@ use Rattle.machine_world.specs.Boot.{BootFault, boot}
 use Rattle.region_watch.specs.declared.mode.Mode.{Mode}
 use Rattle.region_watch.specs.declared.mode.Mode.TheVariants.{Halt, GoOn}
 use Rattle.flat_machine.specs.Runs.{repeated}
-use Rattle.suite_top.specs.declared.status.Status.TheVariants as status
-use Rattle.suite_top.specs.Ending.{Ending, refused_ending, memory_ending, OrMemory}
-use Rattle.suite_top.specs.Texts.Refusals.{manifest_tail}
-use Rattle.suite_top.specs.Observed.{Observed}
-use Rattle.suite_top.specs.HostCourse.{PerformsCommand}
+use Rattle.file_commands.specs.declared.status.Status.TheVariants as status
+use Rattle.file_commands.specs.Ending.{Ending, refused_ending, memory_ending, OrMemory}
+use Rattle.file_commands.specs.Texts.Refusals.{manifest_tail}
+use Rattle.file_commands.specs.Observed.{Observed}
+use Rattle.file_commands.specs.HostCourse.{PerformsCommand}
 use Rattle.suite_top.specs.declared.telling.Telling.{Telling}
 use Rattle.suite_top.specs.declared.telling.Telling.TheVariants.{Report}
 use Rattle.run_setup.specs.Brought.{Brought, FaultAt, nothing_brought, all_brought}
 use Rattle.run_setup.specs.Faults.{IsMemory}
-use Rattle.suite_top.specs.ItemLoads.{GaveFiles}
-use Rattle.suite_top.specs.Load.{at_once}
+use Rattle.file_commands.specs.ItemLoads.{GaveFiles}
+use Rattle.file_commands.specs.Load.{at_once}
 use Rattle.suite_top.specs.Run.{fault_ending, mode_ending, booted_ending, brought_ending, files_ending, items_outcome, manifest_outcome, start_line, opening}
-use Rattle.suite_top.proofs.HostSteps.{asks_nothing}
+use Rattle.file_commands.proofs.HostSteps.{asks_nothing}
 use Rattle.suite_top.proofs.RunOutcomes.{told_status}
 
 -- no end is that of a failed load

@@ -12,12 +12,12 @@ use Rattle.physical_turns.specs.Physical.{physical_turns, opening as memory_open
 use Rattle.region_watch.specs.declared.mode.Mode.{Mode}
 use Rattle.region_watch.specs.declared.mode.Mode.TheVariants.{Halt, GoOn}
 use Rattle.flat_machine.specs.Runs.{repeated}
-use Rattle.suite_top.specs.declared.status.Status.{Status}
-use Rattle.suite_top.specs.declared.status.Status.TheVariants.{Done, Stray, OutOfQuanta, LogFull, Stuck}
-use Rattle.suite_top.specs.Texts.Refusals.{manifest_tail, line_tail, too_long_at}
-use Rattle.suite_top.specs.Ending.{refused_ending}
-use Rattle.suite_top.specs.Outcome.{load, failure_ending, Outcome, Inputs, after}
-use Rattle.suite_top.specs.Load.{at_once, behind, with_limited, with_load}
+use Rattle.file_commands.specs.declared.status.Status.{Status}
+use Rattle.file_commands.specs.declared.status.Status.TheVariants.{Done, Stray, OutOfQuanta, LogFull, Stuck}
+use Rattle.file_commands.specs.Texts.Refusals.{manifest_tail, line_tail, too_long_at}
+use Rattle.file_commands.specs.Ending.{refused_ending}
+use Rattle.file_commands.specs.Outcome.{load, failure_ending, Outcome, Inputs, after}
+use Rattle.file_commands.specs.Load.{at_once, behind, with_limited, with_load}
 use Rattle.run_setup.specs.Brought.{Brought, FaultAt, nothing_brought, all_brought}
 use Rattle.suite_top.specs.Report.{status_of_end, own_dumps, memory_dumps}
 use Rattle.suite_top.specs.declared.telling.Telling.{Telling}
@@ -26,7 +26,8 @@ use Rattle.suite_top.specs.Telling.{told_ending}
 use Rattle.page_runs.specs.declared.place.Kind.TheVariants.{First}
 use Rattle.elf_maker.specs.Demo.{demo_file}
 use Rattle.suite_top.specs.Demo.{each_of, demo_manifest, demo_ending}
-use Rattle.suite_top.specs.Run.{manifest_limit, files_limit, load_limit, has_file, with_item, with_items, start_line, opening, boot_fault, mode_ending, booted_ending, brought_ending, files_ending, manifest_outcome, run_outcome}
+use Rattle.file_commands.specs.Items.{files_limit, load_limit, has_file, with_item, with_items}
+use Rattle.suite_top.specs.Run.{manifest_limit, start_line, opening, boot_fault, mode_ending, booted_ending, brought_ending, files_ending, manifest_outcome, run_outcome}
 
 -- what holds of each end, and of a load in front of an outcome of which it holds
 module _ (P : Outcome → Type 0) (step : (name : List ℕ) (o : Outcome) → P o → P (after (load name) o)) (read : (name : List ℕ) → P (at_once (failure_ending (load name)))) (refused : (tail : List ℕ) → P (at_once (refused_ending tail))) (told : (telling : Telling) (dumped : List ℕ) (w : World) (end : Option End) → P (at_once (told_ending telling dumped w end))) where

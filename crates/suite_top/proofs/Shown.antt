@@ -14,7 +14,7 @@ use Rattle.flat_machine.specs.Runs.{Runs}
 use Rattle.flat_machine.specs.RunsIn.{IsHalting, RunsIn}
 use Rattle.flat_machine.specs.OwnBytes.{own_bytes, memory_bytes}
 use Rattle.suite_top.specs.declared.telling.Telling.{Telling}
-use Rattle.suite_top.specs.Ending.{Ending, OrMemory}
+use Rattle.file_commands.specs.Ending.{Ending, OrMemory}
 use Rattle.suite_top.specs.Report.{own_dumps, memory_dumps, shown_of, dumps_of}
 use Rattle.suite_top.specs.Telling.{told_ending, IsTold}
 use Rattle.suite_top.specs.Run.{world_ending, memory_run_ending}

@@ -4,13 +4,13 @@ use Rattle.std.specs.Prelude.{◌⊎◌, option_map}
 use Rattle.host_io.specs.Faults.{Rose}
 use Rattle.host_io.specs.Host.{Told}
 use Rattle.host_io.specs.Sink.{TakesPrefix}
-use Rattle.suite_top.specs.declared.status.Status.{Status}
-use Rattle.suite_top.specs.declared.status.Status.TheVariants.{HostRead, SinkWrite, Memory, HostWrite}
-use Rattle.suite_top.specs.Ending.{Ending, memory_ending, OrMemory}
-use Rattle.suite_top.specs.Observed.{ObservedSink}
-use Rattle.suite_top.specs.Outcome.{Request, load, store, failure_ending}
-use Rattle.suite_top.specs.HostCourse.{HostCourse, complete, failed, out_of_memory, AreLoads, IsCourseOf, after_answers, told_after, FaultsAfter, EndsAfter, Performs}
-use Rattle.suite_top.specs.Delivery.{SinkStop, sink_failed, sink_memory, status_at, TookAll, CutShort, Delivery, whole, stopped_at_out, stopped_at_report, Delivered}
+use Rattle.file_commands.specs.declared.status.Status.{Status}
+use Rattle.file_commands.specs.declared.status.Status.TheVariants.{HostRead, SinkWrite, Memory, HostWrite}
+use Rattle.file_commands.specs.Ending.{Ending, memory_ending, OrMemory}
+use Rattle.file_commands.specs.Observed.{ObservedSink}
+use Rattle.file_commands.specs.Outcome.{Request, load, store, failure_ending}
+use Rattle.file_commands.specs.HostCourse.{HostCourse, complete, failed, out_of_memory, AreLoads, IsCourseOf, after_answers, told_after, FaultsAfter, EndsAfter, Performs}
+use Rattle.file_commands.specs.Delivery.{SinkStop, sink_failed, sink_memory, status_at, TookAll, CutShort, Delivery, whole, stopped_at_out, stopped_at_report, Delivered}
 use Rattle.suite_top.specs.Call.{Call, outcome_of}
 use Rattle.suite_top.specs.StatusLaws.{IsAnswer, IsWhole, AnswersAreWhole, Completes, FailsAt, ReadsFail, WritesFail, CutAtOut, CutAtReport, FilesStay, CutAtFailure, CutAtMemory, IsCut, SinksFail, IsMemoryTold, MemoryIsTold, IsSupplied, MemoryIsOneLine, HasShortage, ShortagesStop}
 use Rattle.suite_top.proofs.Outcomes.{never}

@@ -1,13 +1,13 @@
 -- A call of `suite`: what is observed of it, and what it may do.
 use Rattle.std.specs.Prelude.{◌≡◌, ℕ, List, Option, Some, None}
 use Rattle.host_io.specs.Host.{Told}
-use Rattle.suite_top.specs.declared.status.Status.{Status}
-use Rattle.suite_top.specs.Ending.{Ending}
-use Rattle.suite_top.specs.Outcome.{Outcome, Inputs}
+use Rattle.file_commands.specs.declared.status.Status.{Status}
+use Rattle.file_commands.specs.Ending.{Ending}
+use Rattle.file_commands.specs.Outcome.{Outcome, Inputs}
 use Rattle.suite_top.specs.Result.{result_of}
-use Rattle.suite_top.specs.Observed.{Observed, ObservedSink}
-use Rattle.suite_top.specs.HostCourse.{Performs, inputs_in}
-use Rattle.suite_top.specs.Delivery.{Delivers}
+use Rattle.file_commands.specs.Observed.{Observed, ObservedSink}
+use Rattle.file_commands.specs.HostCourse.{Performs, inputs_in}
+use Rattle.file_commands.specs.Delivery.{Delivers}
 
 -- its arguments and the files that its loads give, the host and the two sinks before and after it, and the status that it ended with
 pub record Call : Type 0 where

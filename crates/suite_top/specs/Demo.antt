@@ -1,6 +1,4 @@
 -- The command `demo N`: the programs 1 to N of the demo run by turns in one memory, of which each takes two pages.
--- Laws: what a call of it does, and that the programs have no fault.
-pub mod Laws
 use Rattle.std.specs.Prelude.{ℕ, zero, suc, List, [], ◌∷◌, ◌++◌, codes, decimal}
 use Rattle.page_runs.specs.declared.place.Kind.TheVariants.{First}
 use Rattle.quantum_sched.specs.declared.Quantum.{Quantum}
@@ -8,10 +6,10 @@ use Rattle.manifest_text.specs.declared.manifest.ItemKind.TheVariants.{Elf}
 use Rattle.manifest_text.specs.Values.{Item, Start, Manifest}
 use Rattle.elf_maker.specs.Demo.{demo_file}
 use Rattle.suite_top.specs.declared.telling.Telling.TheVariants.{Demo}
-use Rattle.suite_top.specs.Arguments.{default_stack}
-use Rattle.suite_top.specs.Ending.{Ending}
-use Rattle.suite_top.specs.Outcome.{Outcome, Inputs}
-use Rattle.suite_top.specs.Load.{at_once}
+use Rattle.file_commands.specs.Arguments.{default_stack}
+use Rattle.file_commands.specs.Ending.{Ending}
+use Rattle.file_commands.specs.Outcome.{Outcome, Inputs}
+use Rattle.file_commands.specs.Load.{at_once}
 use Rattle.region_watch.specs.declared.mode.Mode.TheVariants.{Halt}
 use Rattle.suite_top.specs.Run.{files_ending}
 

@@ -1,8 +1,8 @@
 -- What the host was asked, and which files changed: laws over every call.
 use Rattle.std.specs.Prelude.{◌≡◌, ◌++◌, ℕ, List, map, Some, None}
 use Rattle.host_io.specs.Host.{Told}
-use Rattle.suite_top.specs.Outcome.{name_of}
-use Rattle.suite_top.specs.Arguments.{convert, command_of}
+use Rattle.file_commands.specs.Outcome.{name_of}
+use Rattle.file_commands.specs.Arguments.{convert, command_of}
 use Rattle.suite_top.specs.Call.{Call, outcome_of, MeetsOutcome}
 
 -- the names asked are a prefix of those of the outcome

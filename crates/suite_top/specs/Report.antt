@@ -14,9 +14,9 @@ use Rattle.region_watch.specs.declared.mode.Mode.TheVariants.{Halt, GoOn}
 use Rattle.flat_machine.specs.State.{State, world, one_memory}
 use Rattle.flat_machine.specs.OwnBytes.{own_bytes, memory_bytes}
 use Rattle.physical_turns.specs.Physical.{Physical}
-use Rattle.suite_top.specs.declared.status.Status.{Status}
-use Rattle.suite_top.specs.declared.status.Status.TheVariants as status
-use Rattle.suite_top.specs.Texts.{joined, address_words}
+use Rattle.file_commands.specs.declared.status.Status.{Status}
+use Rattle.file_commands.specs.declared.status.Status.TheVariants as status
+use Rattle.file_commands.specs.Texts.{joined, address_words}
 
 -- calls are told only with `--log`, and all other notes always
 abbrev pub is_told : Bool → Note → Bool

@@ -1,11 +1,11 @@
 -- What each command line gives: what it requests of the host, and what it ends with. Each command's part stands in its own file.
 use Rattle.std.specs.Prelude.{ℕ, List, [], Option, Some, None}
-use Rattle.suite_top.specs.Outcome.{Outcome, Inputs}
-use Rattle.suite_top.specs.Ending.{usage_ending}
-use Rattle.suite_top.specs.Arguments.{Invocation, convert, list, check, run, demo, command_of}
-use Rattle.suite_top.specs.Convert.{convert_outcome}
-use Rattle.suite_top.specs.List.{list_outcome}
-use Rattle.suite_top.specs.Check.{check_outcome}
+use Rattle.file_commands.specs.Outcome.{Outcome, Inputs}
+use Rattle.file_commands.specs.Ending.{usage_ending}
+use Rattle.file_commands.specs.Arguments.{Invocation, convert, list, check, run, demo, command_of}
+use Rattle.file_commands.specs.Convert.{convert_outcome}
+use Rattle.file_commands.specs.List.{list_outcome}
+use Rattle.file_commands.specs.Check.{check_outcome}
 use Rattle.suite_top.specs.Run.{run_outcome}
 use Rattle.suite_top.specs.Demo.{demo_outcome}
 

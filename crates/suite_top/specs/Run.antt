@@ -1,17 +1,9 @@
 -- The command `run MANIFEST`: the programs of a manifest run by turns in one memory.
--- Booted: its machine before the first turn, and what is said of a run from there on.
--- Laws: when a run reaches its machine.
--- Beside: a run with `--go-on` beside the same run without it.
-pub mod Booted
-pub mod Laws
-pub mod Beside
-use Rattle.std.specs.Prelude.{ℕ, ◌-◌, min, Bool, true, false, if◌then◌else◌, List, [], ◌∷◌, map, length, Option, Some, None, Result, Ok, Err}
+use Rattle.std.specs.Prelude.{ℕ, Bool, List, [], map, None, Result, Ok, Err}
 use Rattle.page_runs.specs.declared.place.Kind.{Kind}
 use Rattle.quantum_sched.specs.declared.Quantum.{Quantum}
-use Rattle.manifest_text.specs.declared.manifest.ItemKind.{ItemKind}
-use Rattle.manifest_text.specs.declared.manifest.ItemKind.TheVariants.{Elf, Flat, File, Dir, Stdin}
 use Rattle.manifest_text.specs.declared.manifest.Dump.{Dump}
-use Rattle.manifest_text.specs.Values.{Item, Start, Manifest}
+use Rattle.manifest_text.specs.Values.{Start, Manifest}
 use Rattle.manifest_text.specs.Manifest.{Fault, manifest_of}
 use Rattle.machine_world.specs.World.{Rest, World}
 use Rattle.machine_world.specs.Boot.{StartLine, BootFault, bad_start, args_too_big, no_run, boot}
@@ -23,53 +15,19 @@ use Rattle.flat_machine.specs.Runs.{repeated}
 use Rattle.fd_tables.specs.Files.{nothing_open}
 use Rattle.run_setup.specs.declared.fault.LineFault.TheVariants as line
 use Rattle.run_setup.specs.Brought.{Brought, FaultAt, nothing_brought, all_brought}
-use Rattle.suite_top.specs.Texts.Refusals.{manifest_tail, line_tail}
-use Rattle.suite_top.specs.Ending.{Ending, refused_ending}
-use Rattle.suite_top.specs.Outcome.{Outcome, Inputs}
-use Rattle.suite_top.specs.Load.{at_once, with_load}
+use Rattle.file_commands.specs.Texts.Refusals.{manifest_tail, line_tail}
+use Rattle.file_commands.specs.Ending.{Ending, refused_ending}
+use Rattle.file_commands.specs.Outcome.{Outcome, Inputs}
+use Rattle.file_commands.specs.Load.{at_once, with_load}
+use Rattle.file_commands.specs.Items.{files_limit, with_items}
 use Rattle.suite_top.specs.declared.telling.Telling.{Telling}
 use Rattle.suite_top.specs.declared.telling.Telling.TheVariants.{Report}
 use Rattle.suite_top.specs.Report.{own_dumps, memory_dumps}
 use Rattle.suite_top.specs.Telling.{told_ending}
 
--- ---- the loads
-
--- the most bytes of a manifest, of an ELF file, of any other file, and of all files together
+-- the most bytes of a manifest
 abbrev pub manifest_limit : ℕ
 manifest_limit = 1048576
-
-abbrev pub kind_limit : ItemKind → ℕ
-kind_limit Elf = 67108864
-kind_limit Flat = 16777216
-kind_limit File = 16777216
-kind_limit Dir = 0
-kind_limit Stdin = 16777216
-
-abbrev pub files_limit : ℕ
-files_limit = 268435456
-
--- of one load, where so many bytes are left of those of all files
-abbrev pub load_limit : ItemKind → ℕ → ℕ
-load_limit kind left = min (kind_limit kind) left
-
--- the line of a folder brings in no file of the host
-abbrev pub has_file : ItemKind → Bool
-has_file Elf = true
-has_file Flat = true
-has_file File = true
-has_file Dir = false
-has_file Stdin = true
-
--- the file of a line is loaded, if it has one, and then `rest` goes on with it
-abbrev pub with_item : (left : ℕ) → Item → (List ℕ → Inputs → Outcome) → Inputs → Outcome
-with_item left item rest inputs =
-    if has_file item.kind then with_load (load_limit item.kind left) (Some item.line) item.name rest inputs else rest [] inputs
-
--- the files of the item lines are loaded in order, and then `rest` goes on with all of them
-unfoldable pub with_items : (left : ℕ) → List Item → (List (List ℕ) → Outcome) → Inputs → Outcome
-with_items left [] rest inputs = rest []
-with_items left (item ∷ items) rest inputs =
-    with_item left item (λ bytes. with_items (left - length bytes) items (λ files. rest (bytes ∷ files))) inputs
 
 -- ---- the machine
 

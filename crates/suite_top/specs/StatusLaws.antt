@@ -2,15 +2,15 @@
 use Rattle.std.specs.Prelude.{◌≡◌, ◌≢◌, ◌⊎◌, ◌++◌, ◌↔◌, ℕ, ◌≤◌, List, [], ◌∷◌, decimal, Some, None, option_map}
 use Rattle.host_io.specs.Faults.{Rose}
 use Rattle.host_io.specs.Host.{Told}
-use Rattle.suite_top.specs.declared.status.Status.{Status}
-use Rattle.suite_top.specs.declared.status.Status.TheVariants.{Done, Usage, HostRead, Refused, Stray, OutOfQuanta, LogFull, SinkWrite, Memory, HostWrite, Stuck}
-use Rattle.suite_top.specs.Texts.{memory_line}
-use Rattle.suite_top.specs.Ending.{Ending, memory_ending}
-use Rattle.suite_top.specs.Outcome.{Request, load, store, failure_ending, Inputs}
-use Rattle.suite_top.specs.Arguments.{IsNoRun, least_stack, most_stack, stack_of, command_of}
+use Rattle.file_commands.specs.declared.status.Status.{Status}
+use Rattle.file_commands.specs.declared.status.Status.TheVariants.{Done, Usage, HostRead, Refused, Stray, OutOfQuanta, LogFull, SinkWrite, Memory, HostWrite, Stuck}
+use Rattle.file_commands.specs.Texts.{memory_line}
+use Rattle.file_commands.specs.Ending.{Ending, memory_ending}
+use Rattle.file_commands.specs.Outcome.{Request, load, store, failure_ending, Inputs}
+use Rattle.file_commands.specs.Arguments.{IsNoRun, least_stack, most_stack, stack_of, command_of}
 use Rattle.suite_top.specs.Result.{result_of}
-use Rattle.suite_top.specs.HostCourse.{after_failure, after_answers, Performs}
-use Rattle.suite_top.specs.Delivery.{SinkStop, sink_failed, sink_memory, TookAll, CutShort}
+use Rattle.file_commands.specs.HostCourse.{after_failure, after_answers, Performs}
+use Rattle.file_commands.specs.Delivery.{SinkStop, sink_failed, sink_memory, TookAll, CutShort}
 use Rattle.suite_top.specs.Call.{Call, outcome_of, MeetsOutcome}
 
 -- the statuses that come of the input alone

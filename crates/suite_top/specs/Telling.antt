@@ -9,8 +9,8 @@ use Rattle.flat_machine.specs.declared.run.End.{End as Told}
 use Rattle.flat_machine.specs.Runs.{Ends}
 use Rattle.suite_top.specs.declared.telling.Telling.{Telling}
 use Rattle.suite_top.specs.declared.telling.Telling.TheVariants as telling
-use Rattle.suite_top.specs.Texts.{demo_line}
-use Rattle.suite_top.specs.Ending.{Ending, done_ending, OrMemory}
+use Rattle.file_commands.specs.Texts.{demo_line}
+use Rattle.file_commands.specs.Ending.{Ending, done_ending, OrMemory}
 use Rattle.flat_machine.specs.State.{State, world}
 use Rattle.suite_top.specs.Report.{status_of_end, report_text, dumps_of}
 

@@ -5,23 +5,20 @@ ghost use Rattle.page_runs.specs.Choosers.{IsChooser, kind_of};
 ghost use Rattle.quantum_sched.specs.declared.Quantum.{Quantum};
 ghost use Rattle.manifest_text.specs.Values.{item_value, start_value, manifest_value, vec_texts};
 ghost use Rattle.elf_maker.specs.Demo.{demo_file};
-ghost use Rattle.suite_top.specs.Ending.{OrMemory};
-ghost use Rattle.suite_top.specs.Answer.{ending_of};
-ghost use Rattle.suite_top.specs.Arguments.{least_programs, most_programs};
+ghost use Rattle.file_commands.specs.Ending.{OrMemory};
+ghost use Rattle.file_commands.specs.Answer.{ending_of};
+ghost use Rattle.file_commands.specs.Arguments.{least_programs, most_programs};
 ghost use Rattle.suite_top.specs.Demo.{each_of, demo_path, demo_item, demo_start, demo_quanta, demo_manifest, demo_ending};
 
-use crate::answer::Answer;
-use crate::arguments::DEFAULT_STACK;
 use crate::run::run_files;
 use crate::telling::Telling;
 use elf_maker::demo;
+use file_commands::{Answer, DEFAULT_STACK};
 use manifest_text::{Item, ItemKind, Manifest, Start};
 use page_runs::{Chooser, Run};
 use quantum_sched::Quantum;
 use region_watch::Mode;
 use std::alloc::{AllocError, Global};
-
-pub mod laws;
 
 /// The pages of memory: two for each of the most programs.
 const PAGES: u32 = 128;

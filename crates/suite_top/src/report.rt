@@ -7,9 +7,9 @@ ghost use Rattle.machine_world.specs.Programs.{AreLoaded};
 ghost use Rattle.flat_machine.specs.State.{world};
 ghost use Rattle.suite_top.specs.Report.{is_told, note_text, bytes_text, dump_line, shown_of, dumps_of, stop_line, IsStopWord, IsReport, IsStatus};
 
-use crate::status::Status;
-use crate::texts::address_words;
 use call_log::{Note, line};
+use file_commands::Status;
+use file_commands::texts::address_words;
 use flat_machine::{End, Machine};
 use manifest_text::Dump;
 use std::alloc::{AllocError, Global};

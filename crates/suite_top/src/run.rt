@@ -9,21 +9,18 @@ ghost use Rattle.physical_turns.specs.Physical.{has_stray};
 ghost use Rattle.region_watch.specs.declared.mode.Mode.TheVariants.{Halt, GoOn};
 ghost use Rattle.flat_machine.specs.State.{world, one_memory};
 ghost use Rattle.flat_machine.specs.Runs.{repeated};
-ghost use Rattle.suite_top.specs.Ending.{memory_ending, OrMemory};
-ghost use Rattle.suite_top.specs.Observed.{observed};
-ghost use Rattle.suite_top.specs.Answer.{ending_of};
+ghost use Rattle.file_commands.specs.Ending.{memory_ending, OrMemory};
+ghost use Rattle.file_commands.specs.Observed.{observed};
+ghost use Rattle.file_commands.specs.Answer.{ending_of};
 ghost use Rattle.run_setup.specs.Faults.{IsMemory};
 ghost use Rattle.run_setup.specs.Making.{fault_value, HasPaths, brought_value};
 ghost use Rattle.suite_top.specs.Refusing.{told_fault};
 ghost use Rattle.suite_top.specs.Run.{fault_ending, world_ending, memory_run_ending, brought_ending, files_ending, items_outcome, manifest_outcome, run_outcome};
-ghost use Rattle.suite_top.specs.HostCourse.{PerformsCommand};
+ghost use Rattle.file_commands.specs.HostCourse.{PerformsCommand};
 
-use crate::answer::Answer;
-use crate::file_load::{FileLoad, load_limited};
-use crate::items::{ItemsLoad, load_items};
-use crate::status::Status;
 use crate::telling::{Telling, told};
-use crate::texts::refusals::{refused_line, refused_manifest};
+use file_commands::texts::refusals::{refused_line, refused_manifest};
+use file_commands::{Answer, FileLoad, ItemsLoad, Status, load_items, load_limited};
 use flat_machine::{BootRefusal, Machine, Setup};
 use host_io::Host;
 use manifest_text::{Dump, Manifest, ManifestRefusal};
@@ -32,8 +29,6 @@ use quantum_sched::Quantum;
 use region_watch::Mode;
 use run_setup::{FaultAt, LineFault, RunFiles, bring};
 use std::alloc::{AllocError, Global};
-
-pub mod laws;
 
 /// The most bytes of a manifest.
 const MANIFEST_LIMIT: u32 = 1_048_576;
@@ -151,9 +146,9 @@ fn run_brought<F: Fn(&[Run], u32) -> Option<usize>>(
         mode,
     };
     match Machine::boot(alloc, setup, chooser) {
-        Ok(machine) => run_machine(
+        Ok(mut machine) => run_machine(
             alloc,
-            machine,
+            &mut machine,
             &manifest.quanta,
             manifest.repeat,
             &manifest.dumps,
@@ -191,7 +186,7 @@ fn boot_fault(refusal: BootRefusal) -> FaultAt
 /// Runs the machine, and tells of it.
 fn run_machine<F: Fn(&[Run], u32) -> Option<usize>>(
     alloc: Global,
-    mut machine: Machine,
+    machine: &mut Machine,
     quanta: &[Quantum],
     repeat: u32,
     dumps: &[Dump],
@@ -199,14 +194,14 @@ fn run_machine<F: Fn(&[Run], u32) -> Option<usize>>(
     chooser: &Chooser<F>,
 ) -> Result<Answer, AllocError>
     requires chooser { IsChooser F.pre F.post chooser.now }
-    requires kind { kind_of chooser.now ≡ machine.kind }
-    requires events { machine.events + repeat * sum_by (λ q. q.count) quanta.now < 2 ^ 64 }
-    requires quiet { has_stray (world machine).notes ≡ false }
-    ensures halt { machine.mode ≡ Halt → OrMemory (world_ending telling (repeated repeat quanta.now) dumps.now (world machine)) (ending_of result) }
-    ensures go_on { machine.mode ≡ GoOn → OrMemory (memory_run_ending telling (repeated repeat quanta.now) dumps.now (one_memory machine)) (ending_of result) }
+    requires kind { kind_of chooser.now ≡ machine.old.kind }
+    requires events { machine.old.events + repeat * sum_by (λ q. q.count) quanta.now < 2 ^ 64 }
+    requires quiet { has_stray (world machine.old).notes ≡ false }
+    ensures halt { machine.old.mode ≡ Halt → OrMemory (world_ending telling (repeated repeat quanta.now) dumps.now (world machine.old)) (ending_of result) }
+    ensures go_on { machine.old.mode ≡ GoOn → OrMemory (memory_run_ending telling (repeated repeat quanta.now) dumps.now (one_memory machine.old)) (ending_of result) }
 {
     let end = machine.run_repeated(quanta, repeat, chooser)?;
-    told(alloc, &machine, telling, dumps, end)
+    told(alloc, machine, telling, dumps, end)
 }
 
 /// The answer for a line with a fault.

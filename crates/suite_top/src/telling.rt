@@ -2,15 +2,13 @@
 ghost use Rattle.std.specs.Prelude.{◌≡◌, map, sum_by};
 ghost use Rattle.call_log.specs.Values.{note_value};
 ghost use Rattle.flat_machine.specs.State.{world};
-ghost use Rattle.suite_top.specs.Ending.{done_ending, OrMemory};
-ghost use Rattle.suite_top.specs.Answer.{ending_of};
+ghost use Rattle.file_commands.specs.Ending.{done_ending, OrMemory};
+ghost use Rattle.file_commands.specs.Answer.{ending_of};
 ghost use Rattle.suite_top.specs.Telling.{exit_code, demo_text, IsReported, IsTold};
 
-use crate::answer::Answer;
 use crate::report::{report, status_of};
-use crate::status::Status;
-use crate::texts;
 use call_log::{How, Note};
+use file_commands::{Answer, Status, texts};
 use flat_machine::{End, Machine};
 use manifest_text::Dump;
 use std::alloc::{AllocError, Global};

@@ -2,24 +2,19 @@
 ghost use Rattle.std.specs.Prelude.{◌≡◌, ◌⊎◌, map, string_bytes};
 ghost use Rattle.host_io.specs.Faults.{Rose};
 ghost use Rattle.suite_top.specs.Placements.{ArePlacements};
-ghost use Rattle.suite_top.specs.Observed.{observed, observed_sink};
-ghost use Rattle.suite_top.specs.Answer.{ending_of};
+ghost use Rattle.file_commands.specs.Observed.{observed, observed_sink};
+ghost use Rattle.file_commands.specs.Answer.{ending_of};
 ghost use Rattle.suite_top.specs.Result.{result_of};
 ghost use Rattle.suite_top.specs.Run.{run_outcome};
-ghost use Rattle.suite_top.specs.HostCourse.{PerformsCommand};
+ghost use Rattle.file_commands.specs.HostCourse.{PerformsCommand};
 ghost use Rattle.suite_top.specs.Call.{MeetsResult};
 
-use crate::answer::Answer;
-use crate::arguments::{Command, read_arguments};
-use crate::check::check_file;
-use crate::convert::convert_file;
-use crate::delivery::deliver;
 use crate::demo_run::run_demo;
-use crate::list::list_file;
 use crate::placements::Placements;
 use crate::run::run_file;
-use crate::status::Status;
-use crate::texts;
+use file_commands::{
+    Answer, Command, Status, check_file, convert_file, deliver, list_file, read_arguments, texts,
+};
 use host_io::{Host, Sink};
 use page_runs::{Kind, Run};
 use region_watch::Mode;

@@ -11,6 +11,3 @@ mod procs;
 
 pub use family::{Ended, State, Waited, Who};
 pub use procs::Procs;
-
-#[cfg(test)]
-mod tests;

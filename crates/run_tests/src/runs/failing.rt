@@ -1,5 +1,4 @@
 //! A run in which each call of the host and each write of a sink fails in turn.
-use super::examples::HI_WITH_LOG;
 use super::*;
 
 /// A write that no run comes to.
@@ -15,10 +14,10 @@ fn slow_sink(alloc: Global, fails_at: usize) -> Result<MemSink, AllocError> {
 
 /// The example over such sinks.
 fn run_slowly(alloc: Global, out_fails: usize, report_fails: usize) -> Result<Ran, AllocError> {
-    let mut host = host_of(alloc, HI_WITH_LOG.files, HI_WITH_LOG.manifest)?;
+    let mut host = host_of(alloc, MANIFEST)?;
     let out = slow_sink(alloc, out_fails)?;
     let report = slow_sink(alloc, report_fails)?;
-    run_to(alloc, &mut host, HI_WITH_LOG.options, out, report)
+    run_to(alloc, &mut host, out, report)
 }
 
 /// Whether a sink has so many first bytes of a text, and no others.
@@ -28,17 +27,15 @@ fn has_first(sink: &MemSink, text: &str, count: usize) -> bool {
 
 /// Whether a run ended so, with so many bytes of each text.
 fn is_cut(ran: &Ran, status: Status, out: usize, report: usize) -> bool {
-    ran.status == status
-        && has_first(&ran.out, HI_WITH_LOG.out, out)
-        && has_first(&ran.report, HI_WITH_LOG.report, report)
+    ran.status == status && has_first(&ran.out, OUT, out) && has_first(&ran.report, REPORT, report)
 }
 
 /// Where `out` fails, `report` takes nothing. At write 2 it is the example `one-byte-sink`.
 #[test]
 fn one_byte_sinks_take_all_before_the_write_that_fails(rt: HostRuntime) -> Result<(), Fail> {
     let alloc = rt.alloc();
-    let out = HI_WITH_LOG.out.len();
-    let report = HI_WITH_LOG.report.len();
+    let out = OUT.len();
+    let report = REPORT.len();
     for at in 0..out {
         let ran = run_slowly(alloc, at, NEVER)?;
         assert!(rt; is_cut(&ran, Status::SinkWrite, at, 0), "out fails at {at}");
@@ -59,13 +56,13 @@ fn one_byte_sinks_take_all_before_the_write_that_fails(rt: HostRuntime) -> Resul
 #[test]
 fn a_sink_that_fails_stops_the_texts(rt: HostRuntime) -> Result<(), Fail> {
     let alloc = rt.alloc();
-    for (out_fails, report_fails, taken) in [(0, 1, 0), (1, 0, HI_WITH_LOG.out.len())] {
-        let mut host = host_of(alloc, HI_WITH_LOG.files, HI_WITH_LOG.manifest)?;
+    for (out_fails, report_fails, taken) in [(0, 1, 0), (1, 0, OUT.len())] {
+        let mut host = host_of(alloc, MANIFEST)?;
         let mut out = MemSink::new(alloc)?;
         let mut report = MemSink::new(alloc)?;
         out.fail_at(out_fails)?;
         report.fail_at(report_fails)?;
-        let ran = run_to(alloc, &mut host, HI_WITH_LOG.options, out, report)?;
+        let ran = run_to(alloc, &mut host, out, report)?;
         assert!(rt;
             is_cut(&ran, Status::SinkWrite, taken, 0),
             "out fails at {out_fails}"
@@ -78,26 +75,20 @@ fn a_sink_that_fails_stops_the_texts(rt: HostRuntime) -> Result<(), Fail> {
 #[test]
 fn each_load_of_a_run_fails_in_turn(rt: HostRuntime) -> Result<(), Fail> {
     let alloc = rt.alloc();
-    for (at, status, report) in [
-        (0, Status::HostRead, "host: cannot read m\n"),
-        (1, Status::HostRead, "host: cannot read hi.elf\n"),
-        (2, Status::Done, HI_WITH_LOG.report),
+    for (at, status, out, report) in [
+        (0, Status::HostRead, "", "host: cannot read m\n"),
+        (1, Status::HostRead, "", "host: cannot read hi.elf\n"),
+        (2, Status::Done, OUT, REPORT),
     ] {
-        let mut host = host_of(alloc, HI_WITH_LOG.files, HI_WITH_LOG.manifest)?;
+        let mut host = host_of(alloc, MANIFEST)?;
         host.fail_at(at)?;
-        let ran = run_of(alloc, &mut host, HI_WITH_LOG.options)?;
-        let out = if status == Status::Done {
-            HI_WITH_LOG.out
-        } else {
-            ""
-        };
-        let want = Case {
-            status,
-            out,
-            report,
-            ..HI_WITH_LOG
-        };
-        assert!(rt; is_as(&want, &ran), "load {at} fails");
+        let ran = run_to(alloc, &mut host, MemSink::new(alloc)?, MemSink::new(alloc)?)?;
+        assert!(rt;
+            ran.status == status
+                && ran.out.bytes() == out.as_bytes()
+                && ran.report.bytes() == report.as_bytes(),
+            "load {at} fails"
+        );
     }
     Ok(())
 }
@@ -108,11 +99,11 @@ fn the_line_of_a_load_that_fails_is_cut(rt: HostRuntime) -> Result<(), Fail> {
     let alloc = rt.alloc();
     let line = "host: cannot read hi.elf\n";
     for at in 0..line.len() {
-        let mut host = host_of(alloc, HI_WITH_LOG.files, HI_WITH_LOG.manifest)?;
+        let mut host = host_of(alloc, MANIFEST)?;
         host.fail_at(1)?;
         let out = MemSink::new(alloc)?;
         let report = slow_sink(alloc, at)?;
-        let ran = run_to(alloc, &mut host, HI_WITH_LOG.options, out, report)?;
+        let ran = run_to(alloc, &mut host, out, report)?;
         assert!(rt;
             ran.status == Status::SinkWrite
                 && ran.out.bytes().is_empty()

@@ -3,7 +3,7 @@ use Rattle.std.proofs.Common.{None}
 use Rattle.page_runs.specs.Choosers.{kind_of}
 use Rattle.manifest_text.specs.Manifest.{manifest_of}
 use Rattle.suite_top.specs.Run.{manifest_limit, manifest_outcome, run_outcome}
-use Rattle.suite_top.proofs.HostSteps.{performs_rest}
+use Rattle.file_commands.proofs.HostSteps.{performs_rest}
 use Rattle.suite_top.proofs.run.run_file.Goals as goal
 
 pub returns-in-Whole : goal.returns-in-Whole

@@ -1,10 +1,10 @@
 -- The manifest is read, or has a fault.
-use Rattle.suite_top.specs.declared.status.Status.TheVariants as status
-use Rattle.suite_top.specs.Texts.{refused_line}
-use Rattle.suite_top.specs.Texts.Refusals.{manifest_tail}
+use Rattle.file_commands.specs.declared.status.Status.TheVariants as status
+use Rattle.file_commands.specs.Texts.{refused_line}
+use Rattle.file_commands.specs.Texts.Refusals.{manifest_tail}
 use Rattle.manifest_text.proofs.Bounds.{manifests_are_reasonable}
-use Rattle.suite_top.proofs.Lines.{ends_with_line}
-use Rattle.suite_top.proofs.HostSteps.{memory_now}
+use Rattle.file_commands.proofs.Lines.{ends_with_line}
+use Rattle.file_commands.proofs.HostSteps.{memory_now}
 use Rattle.suite_top.proofs.RunEndings.{refuses_manifest}
 use Rattle.suite_top.proofs.run.run_manifest.Goals as goal
 

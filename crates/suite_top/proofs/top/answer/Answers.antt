@@ -1,10 +1,9 @@
 -- Arguments that are no command: the usage line. A demo asks nothing of the host.
 use Rattle.std.proofs.Common.{map, string_bytes}
-use Rattle.suite_top.specs.declared.status.Status.TheVariants as status
-use Rattle.suite_top.specs.Texts.{usage_line}
-use Rattle.suite_top.proofs.Lines.{ends_with_line}
-use Rattle.suite_top.proofs.Usage.{ends_with_usage}
-use Rattle.suite_top.proofs.DemoLaws.{performs_demo}
+use Rattle.file_commands.specs.declared.status.Status.TheVariants as status
+use Rattle.file_commands.specs.Texts.{usage_line}
+use Rattle.file_commands.proofs.Lines.{ends_with_line}
+use Rattle.suite_top.proofs.Usage.{ends_with_usage, performs_demo}
 use Rattle.suite_top.proofs.top.answer.Goals as goal
 
 pub returns-in-None : goal.returns-in-None

@@ -1,6 +1,6 @@
 -- The counts that rose, by the laws of the statuses.
 use Rattle.std.proofs.Common.{map, string_bytes}
-use Rattle.suite_top.specs.Observed.{observed, observed_sink}
+use Rattle.file_commands.specs.Observed.{observed, observed_sink}
 use Rattle.suite_top.proofs.Causes.{host_rose, sink_rose}
 use Rattle.suite_top.proofs.top.suite.Goals as goal
 

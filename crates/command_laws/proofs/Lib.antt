@@ -1,0 +1,24 @@
+-- OneFileLaws, ConvertLaws, CheckLaws, ListLaws: the laws of the commands of one file.
+-- RunLaws: when a run reaches its machine.
+-- BootedRuns: what is said of a run from its opening world on, by the laws of boots, turns and runs.
+-- Headers, GoOn, GoOnTexts, SamePrograms, BothModes: a run that goes on, beside the same run without it.
+-- DemoFaults, DemoLaws: the programs of a demo, and the laws of the command.
+-- DemoSamples, RunSamples: the definitions on two programs of a demo, and on small manifests.
+-- BootedSamples, WaitingSamples: what is said of a run from its opening world on, computed on one whose program exits and on one whose program waits.
+mod OneFileLaws
+mod ConvertLaws
+mod CheckLaws
+mod ListLaws
+mod RunLaws
+mod BootedRuns
+mod Headers
+mod GoOn
+mod GoOnTexts
+mod SamePrograms
+mod BothModes
+mod DemoFaults
+mod DemoLaws
+mod DemoSamples
+mod RunSamples
+mod BootedSamples
+mod WaitingSamples

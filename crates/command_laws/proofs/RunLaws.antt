@@ -1,0 +1,149 @@
+-- When a run reaches its machine.
+use Rattle.std.proofs.Common.{◌≡◌, ℕ, ◌-◌, ◌≤◌, Bool, true, false, cond, List, [], ◌∷◌, ◌++◌, map, length, nat_lt, Option, Some, None, Result, Ok, Err, ◌⊎◌, inl, inr, refl, sym, ap, ◌∙◌, arith, filter}
+use Rattle.std.specs.FinMap.{get}
+use Rattle.std.proofs.lemmas.Bool.Decides.{nat_tests}
+use Rattle.std.proofs.lemmas.List.{append-nil}
+use Rattle.host_io.specs.Host.{Files}
+use Rattle.page_runs.specs.declared.place.Kind.{Kind}
+use Rattle.manifest_text.specs.Values.{Item, Manifest}
+use Rattle.manifest_text.specs.Manifest.{Fault, manifest_of}
+use Rattle.manifest_text.specs.Laws.{Reasonable}
+use Rattle.manifest_text.proofs.Bounds.{manifests_are_reasonable}
+use Rattle.machine_world.specs.World.{World}
+use Rattle.machine_world.specs.Boot.{BootFault, boot}
+use Rattle.region_watch.specs.declared.mode.Mode.{Mode}
+use Rattle.flat_machine.specs.Runs.{repeated}
+use Rattle.file_commands.specs.Texts.Refusals.{too_long_at}
+use Rattle.suite_top.specs.declared.telling.Telling.{Telling}
+use Rattle.suite_top.specs.declared.telling.Telling.TheVariants.{Report}
+use Rattle.file_commands.specs.Ending.{Ending, refused_ending}
+use Rattle.file_commands.specs.Outcome.{Request, load, Outcome, Inputs, after}
+use Rattle.file_commands.specs.HostCourse.{inputs_in}
+use Rattle.file_commands.specs.Load.{at_once, with_limited, with_load}
+use Rattle.run_setup.specs.Brought.{Brought, FaultAt, nothing_brought, all_brought}
+use Rattle.file_commands.specs.Items.{load_limit, files_limit, has_file, with_item, with_items}
+use Rattle.suite_top.specs.Run.{manifest_limit, start_line, opening, mode_ending, booted_ending, brought_ending, files_ending, items_outcome, manifest_outcome, run_outcome}
+use Rattle.command_laws.specs.Booted.{Booted}
+use Rattle.command_laws.specs.RunLaws.{Opens, IsThere, AreThere, opened_outcome, IsStop, IsEarly, RunsWhereItOpens, OpensWhereItStops, RunsStopOrEndEarly}
+use Rattle.suite_top.proofs.RunOutcomes.{run_by, told_status}
+
+-- a manifest that is read has no number past its bound
+pub reasonable : {t : Files} {name : List ℕ} {kind : Kind} (o : Opens t name kind) → Reasonable o.manifest
+reasonable o = manifests_are_reasonable o.text o.manifest o.reads
+
+-- ---- from what is there to the outcome
+
+is_within : (limit : ℕ) (line : Option ℕ) (name : List ℕ) (o : Option (List ℕ)) (bytes : List ℕ) (rest : List ℕ → Outcome) → o ≡ Some bytes → length bytes ≤ limit → with_limited limit line name o rest ≡ rest bytes
+is_within limit line name o bytes rest found short =
+    let fits : nat_lt limit (length bytes) ≡ false = grind (arith, nat_tests) in
+    ap (λ (x : Option (List ℕ)). with_limited limit line name x rest) found
+    ∙ ap (λ (b : Bool). cond b (at_once (refused_ending (too_long_at line))) (rest bytes)) fits
+
+abbrev loads_of : List Item → List Request
+loads_of items = map (λ i. load i.name) (filter (λ i. has_file i.kind) items)
+
+-- behind all loads
+abbrev behind_all : List Item → Outcome → Outcome
+behind_all items x = record { requests = loads_of items ++ x.requests; ending = x.ending }
+
+items_there : (t : Files) (left : ℕ) (items : List Item) (files : List (List ℕ)) (rest : List (List ℕ) → Outcome) → AreThere t left items files → with_items left items rest (inputs_in t) ≡ behind_all items (rest files)
+unfolding with_items
+items_there t left [] [] rest there = refl
+items_there t left [] (file ∷ files) rest there = absurd there
+items_there t left (item ∷ items) [] rest there = absurd there
+items_there t left (item ∷ items) (file ∷ files) rest there =
+    by_kind (has_file item.kind) there.0 (items_there t (left - length file) items files (λ more. rest (file ∷ more)) there.1)
+  where
+    next : List ℕ → Inputs → Outcome
+    next bytes = with_items (left - length bytes) items (λ more. rest (bytes ∷ more))
+
+    by_kind : (b : Bool) → IsThere t left item file b → next file (inputs_in t) ≡ behind_all items (rest (file ∷ files))
+        → cond b (with_load (load_limit item.kind left) (Some item.line) item.name next (inputs_in t)) (next [] (inputs_in t))
+        ≡ record { requests = map (λ i. load i.name) (cond b (item ∷ filter (λ i. has_file i.kind) items) (filter (λ i. has_file i.kind) items)) ++ (rest (file ∷ files)).requests; ending = (rest (file ∷ files)).ending }
+    by_kind true is more =
+        ap (after (load item.name))
+        (is_within (load_limit item.kind left) (Some item.line) item.name (get t item.name) file (λ bytes. next bytes (inputs_in t)) is.0 is.1 ∙ more)
+    by_kind false is more = ap (λ bytes. next bytes (inputs_in t)) (sym is) ∙ more
+
+-- of a run and of a demo
+pub runs_where_booted : (telling : Telling) (mode : Mode) (kind : Kind) (m : Manifest) (files : List (List ℕ)) (b : Booted kind m files)
+    → files_ending telling mode kind m files ≡ mode_ending telling mode (repeated m.repeat m.quanta) m.dumps b.brought.headers b.world
+unfolding files_ending
+runs_where_booted telling mode kind m files b =
+    ap (brought_ending telling mode kind m) b.brings ∙ ap (booted_ending telling mode m b.brought.headers) b.boots
+
+pub runs_where_it_opens : RunsWhereItOpens
+unfolding run_outcome
+runs_where_it_opens t name log mode kind o =
+    ap (after (load name))
+    (is_within manifest_limit None name (get t name) o.text (λ bytes. manifest_outcome log mode kind (manifest_of bytes) (inputs_in t)) o.found o.fits
+    ∙ ap (λ (r : Result Manifest Fault). manifest_outcome log mode kind r (inputs_in t)) o.reads
+    ∙ items_there t files_limit o.manifest.items o.files (λ files. at_once (files_ending (Report log) mode kind o.manifest files)) o.there
+    ∙ ap (λ (e : Ending). behind_all o.manifest.items (at_once e)) (runs_where_booted (Report log) mode kind o.manifest o.files o.booted)
+    ∙ ap (λ (rs : List Request). record { requests = rs; ending = (opened_outcome log mode o).ending }) (append-nil (loads_of o.manifest.items)))
+
+-- ---- from the status to what is there
+
+within : (limit : ℕ) (line : Option ℕ) (name : List ℕ) (o : Option (List ℕ)) (rest : List ℕ → Outcome) → IsStop (with_limited limit line name o rest).ending.status
+    → (bytes : List ℕ) × (o ≡ Some bytes) × (length bytes ≤ limit) × IsStop (rest bytes).ending.status
+within limit line name None rest stop = absurd stop
+within limit line name (Some bytes) rest stop = by_test (nat_lt limit (length bytes)) refl stop
+  where
+    by_test : (b : Bool) → nat_lt limit (length bytes) ≡ b → IsStop (cond b (at_once (refused_ending (too_long_at line))) (rest bytes)).ending.status
+        → (e : List ℕ) × (◌≡◌ {A = Option (List ℕ)} (Some bytes) (Some e)) × (length e ≤ limit) × IsStop (rest e).ending.status
+    by_test true is stops = absurd stops
+    by_test false is stops = (bytes, refl, grind (arith, nat_tests), stops)
+
+item_within : (t : Files) (left : ℕ) (item : Item) (rest : List ℕ → Inputs → Outcome) → IsStop (with_item left item rest (inputs_in t)).ending.status
+    → (file : List ℕ) × IsThere t left item file (has_file item.kind) × IsStop (rest file (inputs_in t)).ending.status
+item_within t left item rest stop = by_kind (has_file item.kind) stop
+  where
+    by_kind : (b : Bool) → IsStop (cond b (with_load (load_limit item.kind left) (Some item.line) item.name rest (inputs_in t)) (rest [] (inputs_in t))).ending.status
+        → (file : List ℕ) × IsThere t left item file b × IsStop (rest file (inputs_in t)).ending.status
+    by_kind true stops =
+        let (file, found, fits, more) = within (load_limit item.kind left) (Some item.line) item.name (get t item.name) (λ bytes. rest bytes (inputs_in t)) stops in
+        (file, (found, fits), more)
+    by_kind false stops = ([], refl, stops)
+
+items_within : (t : Files) (left : ℕ) (items : List Item) (rest : List (List ℕ) → Outcome) → IsStop (with_items left items rest (inputs_in t)).ending.status
+    → (files : List (List ℕ)) × AreThere t left items files × IsStop (rest files).ending.status
+unfolding with_items
+items_within t left [] rest stop = ([], tt, stop)
+items_within t left (item ∷ items) rest stop =
+    let (file, is, more) = item_within t left item (λ bytes. with_items (left - length bytes) items (λ files. rest (bytes ∷ files))) stop in
+    let (files, there, last) = items_within t (left - length file) items (λ files. rest (file ∷ files)) more in
+    (file ∷ files, (is, there), last)
+
+ok_manifest : (t : Files) (log : Bool) (mode : Mode) (kind : Kind) (r : Result Manifest Fault) → IsStop (manifest_outcome log mode kind r (inputs_in t)).ending.status → (m : Manifest) × (r ≡ Ok m) × IsStop (items_outcome log mode kind m (inputs_in t)).ending.status
+ok_manifest t log mode kind (Err fault) stop = absurd stop
+ok_manifest t log mode kind (Ok m) stop = (m, refl, stop)
+
+ok_brought : (telling : Telling) (mode : Mode) (kind : Kind) (m : Manifest) (r : Result Brought FaultAt) → IsStop (brought_ending telling mode kind m r).status
+    → (b : Brought) × (r ≡ Ok b) × IsStop (booted_ending telling mode m b.headers (boot (opening kind m b) (map start_line m.starts))).status
+ok_brought telling mode kind m (Err at) stop = absurd stop
+ok_brought telling mode kind m (Ok b) stop = (b, refl, stop)
+
+ok_world : (telling : Telling) (mode : Mode) (m : Manifest) (headers : List (List ℕ)) (r : Result World BootFault) → IsStop (booted_ending telling mode m headers r).status → (w : World) × (r ≡ Ok w)
+ok_world telling mode m headers (Err fault) stop = absurd stop
+ok_world telling mode m headers (Ok w) stop = (w, refl)
+
+pub booted_where_it_stops : (telling : Telling) (mode : Mode) (kind : Kind) (m : Manifest) (files : List (List ℕ)) → IsStop (files_ending telling mode kind m files).status → Booted kind m files
+unfolding files_ending
+booted_where_it_stops telling mode kind m files stop =
+    let (brought, brings, boots_on) = ok_brought telling mode kind m (all_brought m.items files nothing_brought) stop in
+    let (world, boots) = ok_world telling mode m brought.headers (boot (opening kind m brought) (map start_line m.starts)) boots_on in
+    record { brought = brought; brings = brings; world = world; boots = boots }
+
+pub opens_where_it_stops : OpensWhereItStops
+unfolding run_outcome
+opens_where_it_stops t name log mode kind stop =
+    let (text, found, fits, reads_on) = within manifest_limit None name (get t name) (λ bytes. manifest_outcome log mode kind (manifest_of bytes) (inputs_in t)) stop in
+    let (m, reads, loads_on) = ok_manifest t log mode kind (manifest_of text) reads_on in
+    let (files, there, makes_on) = items_within t files_limit m.items (λ fs. at_once (files_ending (Report log) mode kind m fs)) loads_on in
+    let booted = booted_where_it_stops (Report log) mode kind m files makes_on in
+    record { text = text; found = found; fits = fits; manifest = m; reads = reads; files = files; there = there; booted = booted }
+
+pub runs_stop_or_end_early : RunsStopOrEndEarly
+runs_stop_or_end_early =
+    run_by (λ (o : Outcome). IsStop o.ending.status ⊎ IsEarly o.ending) (λ name o p. p) (λ name. inr (refl, inl refl)) (λ tail. inr (refl, inr refl))
+    (λ telling dumped w end. inl (told_status IsStop tt tt tt tt tt telling dumped w end))

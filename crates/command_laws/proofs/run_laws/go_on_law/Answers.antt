@@ -1,0 +1,70 @@
+-- By the law that a run which goes on is that of private spaces up to its first stray access.
+use Rattle.std.proofs.Common.{◌≡◌, ℕ, List, map, refl, sym, ap, ◌∙◌}
+use Rattle.host_io.specs.Host.{Files}
+use Rattle.page_runs.specs.declared.place.Kind.{Kind}
+use Rattle.physical_turns.specs.Physical.{opening as memory_opening}
+use Rattle.physical_turns.proofs.Growth.{runs_leave_programs}
+use Rattle.go_on_laws.specs.Laws.{GoesAlike}
+use Rattle.go_on_laws.proofs.Boots.{boots_go_on, boots_note_no_stray}
+use Rattle.go_on_laws.proofs.Walks.{runs_go_on}
+use Rattle.flat_machine.specs.Runs.{repeated}
+use Rattle.suite_top.specs.Report.{own_dumps, memory_dumps, status_of_end}
+use Rattle.suite_top.specs.Run.{start_line, opening}
+use Rattle.command_laws.specs.RunLaws.{Opens}
+use Rattle.command_laws.specs.Beside.{halting, going_on}
+use Rattle.command_laws.proofs.GoOn.{ends_alike, goes_past, goes_on_well}
+use Rattle.command_laws.proofs.GoOnTexts.{reports_alike, report_begins, begins_later}
+use Rattle.command_laws.proofs.SamePrograms.{programs_stay}
+use Rattle.command_laws.proofs.BothModes.{runs_end_early_alike, runs_on_never_stray}
+use Rattle.command_laws.proofs.Headers.{headers_short}
+use Rattle.command_laws.proofs.BootedRuns.{can_boot, few_starts, sound}
+use Rattle.command_laws.proofs.RunLaws.{reasonable}
+use Rattle.command_laws.proofs.run_laws.go_on_law.Goals as goal
+
+module _ {t : Files} {name : List ℕ} {kind : Kind} (o : Opens t name kind) where
+  goes_alike : GoesAlike (halting o).world (going_on o) (halting o).end
+  goes_alike =
+      let is = reasonable o in
+      let b = o.booted in
+      let rest = opening kind o.manifest b.brought in
+      let starts = map start_line o.manifest.starts in
+      let short = headers_short o.manifest.items o.files b.brought b.brings in
+      let stands = boots_go_on rest starts b.world b.brought.headers (can_boot is b) (few_starts is b) short b.boots in
+      runs_go_on (repeated o.manifest.repeat o.manifest.quanta) b.world (memory_opening b.brought.headers b.world) (sound is b) stands (boots_note_no_stray rest starts b.world b.boots)
+
+  same_programs : (going_on o).now.world.rest.programs ≡ (halting o).world.rest.programs
+  unfolding memory_opening
+  same_programs =
+      let quanta = repeated o.manifest.repeat o.manifest.quanta in
+      let b = o.booted in
+      (runs_leave_programs quanta (memory_opening b.brought.headers b.world)).programs ∙ sym (programs_stay b.world.rest.programs quanta b.world refl)
+
+pub returns-clause-worlds : goal.returns-clause-worlds
+returns-clause-worlds c t name kind o = goes_on_well (halting o) (going_on o) (goes_alike o)
+
+pub returns-clause-texts : goal.returns-clause-texts
+returns-clause-texts c t name kind log o = record {
+  alike = λ never.
+      let ends = ends_alike (halting o) (going_on o) (goes_alike o) never in
+      record {
+        status = ap status_of_end ends.ends;
+        out = ap (λ w. w.rest.console) ends.stands.world;
+        report = reports_alike log o.manifest.dumps (halting o) (going_on o) ends;
+      };
+  past = λ pid access is.
+      let past = goes_past (halting o) (going_on o) (goes_alike o) pid access is in
+      let added = past.adds in
+      record {
+        out = added.1;
+        halts = report_begins log (own_dumps (halting o).world o.manifest.dumps) (halting o).world (halting o).end;
+        goes_on =
+            begins_later log (halting o).world (going_on o).now.world (same_programs o) added.0.0 added.0.1 _
+            (report_begins log (memory_dumps (going_on o).now o.manifest.dumps) (going_on o).now.world (going_on o).end);
+      };
+}
+
+pub returns-clause-early : goal.returns-clause-early
+returns-clause-early c = runs_end_early_alike
+
+pub returns-clause-never : goal.returns-clause-never
+returns-clause-never c = runs_on_never_stray

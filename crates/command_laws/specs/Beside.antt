@@ -1,0 +1,121 @@
+-- A run with `--go-on` beside the same run without it.
+use Rattle.std.specs.Prelude.{◌≡◌, ◌≢◌, ◌⊎◌, ℕ, Bool, List, ◌++◌, Some, None}
+use Rattle.rv32im_step.specs.declared.access.Access.{Access}
+use Rattle.host_io.specs.Host.{Files}
+use Rattle.page_runs.specs.declared.place.Kind.{Kind}
+use Rattle.quantum_sched.specs.declared.Quantum.{Quantum}
+use Rattle.manifest_text.specs.declared.manifest.Dump.{Dump}
+use Rattle.vfork_exec.specs.Keyed.{find}
+use Rattle.machine_world.specs.World.{Process, World, pid_of}
+use Rattle.machine_world.specs.Turns.{Walk, stray_at}
+use Rattle.machine_world.specs.Order.{IsInOrder}
+use Rattle.physical_turns.specs.Physical.{Physical, Walk as PhysicalWalk, physical_turns, opening as memory_opening}
+use Rattle.go_on_laws.specs.Laws.{GoesPast}
+use Rattle.memory_refusals.specs.Regular.{IsRegularIn}
+use Rattle.region_watch.specs.declared.mode.Mode.TheVariants.{Halt, GoOn}
+use Rattle.flat_machine.specs.Runs.{repeated}
+use Rattle.flat_machine.specs.OwnBytes.{own_bytes, memory_bytes}
+use Rattle.file_commands.specs.declared.status.Status.TheVariants.{Stray}
+use Rattle.file_commands.specs.Ending.{Ending}
+use Rattle.suite_top.specs.Report.{own_dumps, memory_dumps, notes_text}
+use Rattle.file_commands.specs.Outcome.{Inputs}
+use Rattle.suite_top.specs.Run.{run_outcome}
+use Rattle.command_laws.specs.Booted.{booted_turns}
+use Rattle.command_laws.specs.RunLaws.{Opens, opened_outcome, IsStop}
+
+-- the turns without it, and those with it
+abbrev pub halting : {t : Files} {name : List ℕ} {kind : Kind} → Opens t name kind → Walk
+halting o = booted_turns o.booted
+
+abbrev pub going_on : {t : Files} {name : List ℕ} {kind : Kind} → Opens t name kind → PhysicalWalk
+going_on o = physical_turns (repeated o.manifest.repeat o.manifest.quanta) (memory_opening o.booted.brought.headers o.booted.world)
+
+-- ---- the worlds
+
+-- where nothing strays the world and the end are the same; bytes that are all own are shown by both
+pub record RunsAlike (private : Walk) (one : PhysicalWalk) : Type 0 where
+  pub world : one.now.world ≡ private.world
+  pub end : one.end ≡ private.end
+  pub shown : (d : Dump) (bytes : List ℕ) → own_bytes private.world d.pid d.addr d.len ≡ Some bytes → memory_bytes one.now d.pid d.addr d.len ≡ Some bytes
+
+-- and where they end with a stray access, that is the first one that is noted, and all notes up to it, and all that was written to the
+-- console, stand before what came later
+pub record GoesOnWell (private : Walk) (one : PhysicalWalk) : Type 0 where
+  pub alike : ((pid : ℕ) (access : Access) → private.end ≢ Some (stray_at pid access)) → RunsAlike private one
+  pub past : (pid : ℕ) (access : Access) → private.end ≡ Some (stray_at pid access) → GoesPast private.world one pid access
+
+abbrev pub RunsGoOnWell : Type 0
+RunsGoOnWell = (t : Files) (name : List ℕ) (kind : Kind) (o : Opens t name kind) → GoesOnWell (halting o) (going_on o)
+
+-- the one memory of such a run behind some quanta, before the first stray access and behind it
+abbrev pub memory_behind : {t : Files} {name : List ℕ} {kind : Kind} → Opens t name kind → List Quantum → Physical
+memory_behind o quanta = (physical_turns quanta (memory_opening o.booted.brought.headers o.booted.world)).now
+
+-- its nodes are a tree of names, and all counts of what is open are exact
+abbrev pub MemoryIsInOrder : Type 0
+MemoryIsInOrder = (t : Files) (name : List ℕ) (kind : Kind) (o : Opens t name kind) (quanta : List Quantum) → IsInOrder (memory_behind o quanta).world
+
+-- and it is regular: the laws of refused calls speak of it
+abbrev pub MemoryIsRegular : Type 0
+MemoryIsRegular = (t : Files) (name : List ℕ) (kind : Kind) (o : Opens t name kind) (quanta : List Quantum) → IsRegularIn (memory_behind o quanta)
+
+-- ---- the status and the texts
+
+abbrev pub halting_ending : {t : Files} {name : List ℕ} {kind : Kind} → (log : Bool) → Opens t name kind → Ending
+halting_ending log o = (opened_outcome log Halt o).ending
+
+abbrev pub going_on_ending : {t : Files} {name : List ℕ} {kind : Kind} → (log : Bool) → Opens t name kind → Ending
+going_on_ending log o = (opened_outcome log GoOn o).ending
+
+-- a dump of a process that lives, of bytes that lie in memory and aren't all own
+pub record ShowsMore (private : World) (one : Physical) (d : Dump) : Type 0 where
+  pub process : Process
+  pub lives : find pid_of d.pid private.procs ≡ Some process
+  pub unowned : own_bytes private d.pid d.addr d.len ≡ None
+  pub bytes : List ℕ
+  pub there : memory_bytes one d.pid d.addr d.len ≡ Some bytes
+
+-- each other dump shows the same, bytes or none
+abbrev pub DumpsAlike : World → Physical → Dump → Type 0
+DumpsAlike private one d = (memory_bytes one d.pid d.addr d.len ≡ own_bytes private d.pid d.addr d.len) ⊎ ShowsMore private one d
+
+-- two reports have the same notes before their dump lines, and the same line behind them
+pub record ReportsAlike (private : World) (one : Physical) (dumps : List Dump) (without_it with_it : List ℕ) : Type 0 where
+  pub notes : List ℕ
+  pub stop : List ℕ
+  pub halts : without_it ≡ notes ++ own_dumps private dumps ++ stop
+  pub goes_on : with_it ≡ notes ++ memory_dumps one dumps ++ stop
+  pub shown : (d : Dump) → DumpsAlike private one d
+
+-- where nothing strays the status and the console are the same, and the reports but for such dumps
+pub record TellsAlike {t : Files} {name : List ℕ} {kind : Kind} (log : Bool) (o : Opens t name kind) : Type 0 where
+  pub status : (going_on_ending log o).status ≡ (halting_ending log o).status
+  pub out : (going_on_ending log o).out ≡ (halting_ending log o).out
+  pub report : ReportsAlike (halting o).world (going_on o).now o.manifest.dumps (halting_ending log o).report (going_on_ending log o).report
+
+-- a text has more behind its start
+abbrev pub Begins : (start text : List ℕ) → Type 0
+Begins start text = (more : List ℕ) × (text ≡ start ++ more)
+
+-- where they end with a stray access, the console goes on behind what it has there, and both reports begin with the notes up to that
+-- access, its own among them
+pub record TellsPast {t : Files} {name : List ℕ} {kind : Kind} (log : Bool) (o : Opens t name kind) : Type 0 where
+  pub out : Begins (halting_ending log o).out (going_on_ending log o).out
+  pub halts : Begins (notes_text log (halting o).world) (halting_ending log o).report
+  pub goes_on : Begins (notes_text log (halting o).world) (going_on_ending log o).report
+
+pub record TellsWell {t : Files} {name : List ℕ} {kind : Kind} (log : Bool) (o : Opens t name kind) : Type 0 where
+  pub alike : ((pid : ℕ) (access : Access) → (halting o).end ≢ Some (stray_at pid access)) → TellsAlike log o
+  pub past : (pid : ℕ) (access : Access) → (halting o).end ≡ Some (stray_at pid access) → TellsPast log o
+
+abbrev pub RunsTellWell : Type 0
+RunsTellWell = (t : Files) (name : List ℕ) (kind : Kind) (log : Bool) (o : Opens t name kind) → TellsWell log o
+
+-- a run that doesn't reach its machine is the same with it and without it
+abbrev pub RunsEndEarlyAlike : Type 0
+RunsEndEarlyAlike = (name : List ℕ) (log : Bool) (kind : Kind) (inputs : Inputs)
+    → IsStop (run_outcome name log Halt kind inputs).ending.status ⊎ (run_outcome name log GoOn kind inputs ≡ run_outcome name log Halt kind inputs)
+
+-- and with it no run ends at a stray access
+abbrev pub RunsOnNeverStray : Type 0
+RunsOnNeverStray = (name : List ℕ) (log : Bool) (kind : Kind) (inputs : Inputs) → (run_outcome name log GoOn kind inputs).ending.status ≢ Stray

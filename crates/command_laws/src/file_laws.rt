@@ -1,0 +1,30 @@
+//! Laws over every call of the commands of one file. No code runs.
+ghost use Rattle.file_commands.specs.Sizes.{HeaderHasSizes};
+ghost use Rattle.command_laws.specs.ConvertLaws.{ConvertChangesOneFile, ConvertIsDone, ConvertIsRefused, ConvertCompletes};
+ghost use Rattle.command_laws.specs.CheckLaws.{CheckAsksOneLoad, CheckIsDone, CheckIsRefused, CheckCompletes};
+ghost use Rattle.command_laws.specs.ListLaws.{ListAsksOneLoad, ListIsDone, ListIsRefused, ListCompletes};
+
+/// Which file changes, when each answer comes, and whose numbers stand in the line.
+pub fn convert_law()
+    ensures files { ConvertChangesOneFile }
+    ensures done { ConvertIsDone }
+    ensures refused { ConvertIsRefused }
+    ensures complete { ConvertCompletes }
+    ensures header { HeaderHasSizes }
+{}
+
+/// When each answer comes, and that its ELF file alone is asked for.
+pub fn check_law()
+    ensures one_load { CheckAsksOneLoad }
+    ensures done { CheckIsDone }
+    ensures refused { CheckIsRefused }
+    ensures complete { CheckCompletes }
+{}
+
+/// When each answer comes, and that its flat file alone is asked for.
+pub fn list_law()
+    ensures one_load { ListAsksOneLoad }
+    ensures done { ListIsDone }
+    ensures refused { ListIsRefused }
+    ensures complete { ListCompletes }
+{}

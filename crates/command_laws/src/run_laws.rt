@@ -1,0 +1,56 @@
+//! Laws over every run. No code runs.
+ghost use Rattle.command_laws.specs.Beside.{MemoryIsInOrder, MemoryIsRegular, RunsEndEarlyAlike, RunsGoOnWell, RunsOnNeverStray, RunsTellWell};
+ghost use Rattle.command_laws.specs.RunLaws.{RunsWhereItOpens, OpensWhereItStops, RunsStopOrEndEarly, RunsAreAsAlone, EndsAreAsAlone, RunsWaitWell, WorldsAreInOrder, WorldsAreRegular};
+ghost use Rattle.run_setup.specs.Originals.{OriginalsAreSame};
+
+/// A run reaches its machine exactly where all files are there and nothing has a fault.
+pub fn run_law()
+    ensures opens { RunsWhereItOpens }
+    ensures stops { OpensWhereItStops }
+    ensures early { RunsStopOrEndEarly }
+{}
+
+/// The program of an ELF file, relocated by the psABI, is that of the flat file to which it is converted.
+pub fn originals_law()
+    ensures { OriginalsAreSame }
+{}
+
+/// Each process of a run does what its own program does alone, loaded at its place, under the replies that it had: its calls are
+/// those that were kept, and its registers, own ranges and own bytes are those of its space. An ELF file's program is the file
+/// itself, relocated by the psABI. And a process ends as its program does alone, by the same exit or signal.
+pub fn alone_law()
+    ensures lives { RunsAreAsAlone }
+    ensures ends { EndsAreAsAlone }
+{}
+
+/// Each process that waits at the end of a run would wait again, for just what it waits for. Where the run is stuck, each process
+/// that lives waits so, or stands still for its vfork child.
+pub fn waits_law()
+    ensures { RunsWaitWell }
+{}
+
+/// In every world of a run, up to its first stray access, the nodes are a tree of names and all counts are exact: an open file counts the
+/// descriptors that share it, and a node the open files that hold it. Of the one memory of a run that goes on it is so all along.
+pub fn counts_law()
+    ensures worlds { WorldsAreInOrder }
+    ensures memory { MemoryIsInOrder }
+{}
+
+/// Every world of a run, up to its first stray access, is regular: the laws of `refusal_laws` speak of it. So each reply that is an errno
+/// is a refusal there, and ENOMEM comes exactly for want of a run of pages. The one memory of a run that goes on is regular all along, and
+/// a reply that is an errno is a refusal there too.
+pub fn regular_worlds_law()
+    ensures worlds { WorldsAreRegular }
+    ensures memory { MemoryIsRegular }
+{}
+
+/// With `--go-on` a run whose private spaces reach no stray access ends with the same status and texts, but for dump lines of a process
+/// that lives, whose bytes lie in memory and aren't all own; and one whose spaces reach one first tells what they noted, with the stray
+/// access, and what they wrote. A run that doesn't reach its machine is the same with it, and none ends
+/// with the status Stray.
+pub fn go_on_law()
+    ensures worlds { RunsGoOnWell }
+    ensures texts { RunsTellWell }
+    ensures early { RunsEndEarlyAlike }
+    ensures never { RunsOnNeverStray }
+{}

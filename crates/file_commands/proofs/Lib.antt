@@ -1,0 +1,20 @@
+-- HostCourses, HostSteps, Stops: a course of the host, step by step.
+-- Lines, SpelledNumbers, Addresses: the ends and texts of private functions.
+-- OneFileSteps: a command that goes on with one file.
+-- Conversions, Listed: what the commands do behind their load.
+-- SizesLaw: the numbers of an ELF file in the header of its flat file.
+-- LoadedItems: the loads of a manifest's lines.
+-- Samples, ListSamples: the definitions on the worked example.
+pub mod HostCourses
+pub mod HostSteps
+pub mod OneFileSteps
+pub mod Stops
+pub mod Lines
+pub mod SpelledNumbers
+pub mod Addresses
+pub mod Conversions
+pub mod Listed
+pub mod SizesLaw
+pub mod LoadedItems
+pub mod Samples
+pub mod ListSamples

@@ -1,0 +1,110 @@
+-- The definitions on the worked example: an ELF file of two instructions and one relocated word.
+use Rattle.std.proofs.Common.{◌≡◌, ℕ, true, false, List, [], ◌∷◌, Some, None, refl}
+use Rattle.std.specs.Prelude.{codes}
+use Rattle.std.specs.Fmt.{digits}
+use Rattle.file_commands.specs.Sizes.{Sizes, header_sizes}
+use Rattle.file_commands.specs.Texts.{refusal_tail, convert_line, check_line, demo_line}
+use Rattle.file_commands.specs.Arguments.{convert, check, run, demo, command_of}
+use Rattle.elf2flt_tool.specs.declared.refusal.Refusal.TheVariants as refusal
+use Rattle.page_runs.specs.declared.place.Kind.TheVariants.{First, Best, Last}
+use Rattle.region_watch.specs.declared.mode.Mode.TheVariants.{Halt, GoOn}
+use Rattle.psabi_relocs.specs.declared.fault.RelocFault.TheVariants.{AbsoluteCode}
+use Rattle.byte_words.specs.Numbers.{number_at}
+
+-- the header of its flat file, and its numbers
+abbrev header : List ℕ
+header =
+    98 ∷ 70 ∷ 76 ∷ 84 ∷ 0 ∷ 0 ∷ 0 ∷ 4 ∷ 0 ∷ 0 ∷ 0 ∷ 128 ∷ 0 ∷ 0 ∷ 0 ∷ 128 ∷ 0 ∷ 0 ∷ 0 ∷ 140 ∷ 0 ∷ 0 ∷ 0 ∷ 140 ∷ 0 ∷ 0 ∷ 16 ∷ 0 ∷ 0 ∷ 0 ∷ 0 ∷ 140 ∷ 0 ∷ 0 ∷ 0 ∷ 1 ∷ 0 ∷ 0 ∷ 0 ∷ 1 ∷ 0 ∷ 0 ∷ 0 ∷ 0 ∷ 0 ∷ 0 ∷ 0 ∷ 0 ∷ 0 ∷ 0 ∷ 0 ∷ 0 ∷ 0 ∷ 0 ∷ 0 ∷ 0 ∷ 0 ∷ 0 ∷ 0 ∷ 0 ∷ 0 ∷ 0 ∷ 0 ∷ 0 ∷ []
+
+abbrev numbers : Sizes
+numbers = record { text = 64; data_len = 12; bss = 0; stack = 4096; records = 1; entry = 128 }
+
+header_is_read : header_sizes header ≡ numbers
+unfolding number_at
+header_is_read = refl
+
+line_is_told : convert_line numbers ≡ codes "text 64 data 12 bss 0 stack 4096 records 1 entry 128\n"
+unfolding digits
+line_is_told = refl
+
+-- the arguments of the command, and some that are none
+arguments_are_read : command_of (codes "convert" ∷ codes "a.elf" ∷ codes "a.flt" ∷ []) ≡ Some (convert (codes "a.elf") (codes "a.flt") 4096)
+arguments_are_read = refl
+
+one_argument_less : command_of (codes "convert" ∷ codes "a.elf" ∷ []) ≡ None
+one_argument_less = refl
+
+one_argument_more : command_of (codes "convert" ∷ codes "a" ∷ codes "b" ∷ codes "--stack" ∷ []) ≡ None
+one_argument_more = refl
+
+stack_is_read : command_of (codes "convert" ∷ codes "a" ∷ codes "b" ∷ codes "--stack" ∷ codes "17" ∷ []) ≡ Some (convert (codes "a") (codes "b") 17)
+unfolding digits
+stack_is_read = refl
+
+small_stack : command_of (codes "convert" ∷ codes "a" ∷ codes "b" ∷ codes "--stack" ∷ codes "8" ∷ []) ≡ None
+unfolding digits
+small_stack = refl
+
+large_stack : command_of (codes "convert" ∷ codes "a" ∷ codes "b" ∷ codes "--stack" ∷ codes "1048577" ∷ []) ≡ None
+unfolding digits
+large_stack = refl
+
+zero_in_front : command_of (codes "convert" ∷ codes "a" ∷ codes "b" ∷ codes "--stack" ∷ codes "017" ∷ []) ≡ None
+unfolding digits
+zero_in_front = refl
+
+check_is_read : command_of (codes "check" ∷ codes "a.elf" ∷ []) ≡ Some (check (codes "a.elf"))
+check_is_read = refl
+
+run_is_read : command_of (codes "run" ∷ codes "a" ∷ []) ≡ Some (run (codes "a") false Halt First)
+run_is_read = refl
+
+log_is_read : command_of (codes "run" ∷ codes "a" ∷ codes "--log" ∷ []) ≡ Some (run (codes "a") true Halt First)
+log_is_read = refl
+
+placement_is_read : command_of (codes "run" ∷ codes "a" ∷ codes "--place" ∷ codes "best" ∷ []) ≡ Some (run (codes "a") false Halt Best)
+placement_is_read = refl
+
+both_are_read : command_of (codes "run" ∷ codes "a" ∷ codes "--log" ∷ codes "--place" ∷ codes "last" ∷ []) ≡ Some (run (codes "a") true Halt Last)
+both_are_read = refl
+
+placement_in_front : command_of (codes "run" ∷ codes "a" ∷ codes "--place" ∷ codes "best" ∷ codes "--log" ∷ []) ≡ None
+placement_in_front = refl
+
+go_on_is_read : command_of (codes "run" ∷ codes "a" ∷ codes "--go-on" ∷ []) ≡ Some (run (codes "a") false GoOn First)
+go_on_is_read = refl
+
+all_are_read : command_of (codes "run" ∷ codes "a" ∷ codes "--log" ∷ codes "--go-on" ∷ codes "--place" ∷ codes "last" ∷ []) ≡ Some (run (codes "a") true GoOn Last)
+all_are_read = refl
+
+go_on_in_front : command_of (codes "run" ∷ codes "a" ∷ codes "--go-on" ∷ codes "--log" ∷ []) ≡ None
+go_on_in_front = refl
+
+unknown_placement : command_of (codes "run" ∷ codes "a" ∷ codes "--place" ∷ codes "worst" ∷ []) ≡ None
+unknown_placement = refl
+
+-- the line of `check`, and the tails of refused relocations and places
+check_is_told : check_line numbers ≡ codes "accepted text 64 data 12 bss 0 records 1\n"
+unfolding digits
+check_is_told = refl
+
+entry_is_told : refusal_tail (refusal.Reloc 5 2 AbsoluteCode) ≡ codes "reloc section 5 entry 2 5 AbsoluteCode"
+unfolding digits
+entry_is_told = refl
+
+place_is_told : refusal_tail (refusal.TargetOutside 65544) ≡ codes "target 0x00010008"
+unfolding digits
+place_is_told = refl
+
+-- the argument of a demo is one of 1 to 64
+demo_is_read : command_of (codes "demo" ∷ codes "64" ∷ []) ≡ Some (demo 64)
+unfolding digits
+demo_is_read = refl
+
+no_demo : (command_of (codes "demo" ∷ codes "65" ∷ []) ∷ command_of (codes "demo" ∷ codes "0" ∷ []) ∷ command_of (codes "demo" ∷ codes "01" ∷ []) ∷ []) ≡ (None ∷ None ∷ None ∷ [])
+unfolding digits
+no_demo = refl
+
+demo_is_told : demo_line 2 552 180 3 ≡ codes "demo 2 events 552 console 180 exits 3\n"
+unfolding digits
+demo_is_told = refl

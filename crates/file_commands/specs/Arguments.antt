@@ -1,0 +1,130 @@
+-- The table of commands. The arguments are those after the program's name; a name is any text.
+use Rattle.std.specs.Prelude.{ℕ, Bool, true, false, ◌&&◌, nat_le, List, [], ◌∷◌, codes, slice_index, bytes_eq, decimal, Option, Some, None, option_map, if◌then◌else◌}
+use Rattle.std.specs.Int.{IsInRange}
+use Rattle.std.specs.Str.Parse.{digits_value}
+use Rattle.page_runs.specs.declared.place.Kind.{Kind}
+use Rattle.page_runs.specs.declared.place.Kind.TheVariants.{First, Best, Last}
+use Rattle.region_watch.specs.declared.mode.Mode.{Mode}
+use Rattle.region_watch.specs.declared.mode.Mode.TheVariants.{Halt, GoOn}
+use Rattle.file_commands.specs.declared.arguments.Command.{Command}
+use Rattle.file_commands.specs.declared.arguments.Command.TheVariants as command
+
+-- a command with its arguments
+pub data Invocation : Type 0 where
+  convert : (elf flt : List ℕ) (stack : ℕ) → Invocation
+  list : (flt : List ℕ) → Invocation
+  check : (elf : List ℕ) → Invocation
+  run : (manifest : List ℕ) (log : Bool) (mode : Mode) (kind : Kind) → Invocation
+  demo : (programs : ℕ) → Invocation
+
+-- the bytes of stack that a program gets where no argument says it
+abbrev pub default_stack : ℕ
+default_stack = 4096
+
+-- the fewest and the most bytes of stack that an argument may say
+abbrev pub least_stack : ℕ
+least_stack = 16
+
+abbrev pub most_stack : ℕ
+most_stack = 1048576
+
+-- the fewest and the most programs of a demo
+abbrev pub least_programs : ℕ
+least_programs = 1
+
+abbrev pub most_programs : ℕ
+most_programs = 64
+
+abbrev pub is_between : (least most n : ℕ) → Bool
+is_between least most n = nat_le least n && nat_le n most
+
+-- the text is the decimal spelling of n: its digits, without a sign and without a zero in front
+abbrev pub is_spelling : List ℕ → ℕ → Bool
+is_spelling text n = bytes_eq text (decimal n)
+
+abbrev pub spelled_number : (least most : ℕ) → List ℕ → ℕ → Option ℕ
+spelled_number least most text n = if is_spelling text n && is_between least most n then Some n else None
+
+-- the number of a range that a text spells: no number but that of its digits can be spelled so
+abbrev pub number_of : (least most : ℕ) → List ℕ → Option ℕ
+number_of least most text = spelled_number least most text (digits_value 10 text)
+
+-- the stack that a text spells, and the number of programs
+abbrev pub stack_of : List ℕ → Option ℕ
+stack_of text = number_of least_stack most_stack text
+
+abbrev pub programs_of : List ℕ → Option ℕ
+programs_of text = number_of least_programs most_programs text
+
+-- the first byte is a digit from 1 to 9
+abbrev pub StartsWell : List ℕ → Type 0
+StartsWell text = IsInRange 49 57 (slice_index text 0)
+
+-- the placement that a word names
+abbrev pub kind_of_word : List ℕ → Option Kind
+kind_of_word word =
+    if bytes_eq word (codes "first") then Some First
+    else if bytes_eq word (codes "best") then Some Best
+    else if bytes_eq word (codes "last") then Some Last
+    else None
+
+-- the one word, if there is just one
+abbrev pub only : List (List ℕ) → Option (List ℕ)
+only (word ∷ []) = Some word
+only words = None
+
+-- `ELF FLT` and `ELF FLT --stack N`
+abbrev pub convert_of : List (List ℕ) → Option Invocation
+convert_of (elf ∷ flt ∷ []) = Some (convert elf flt default_stack)
+convert_of (elf ∷ flt ∷ option ∷ number ∷ []) = if bytes_eq option (codes "--stack") then option_map (convert elf flt) (stack_of number) else None
+convert_of words = None
+
+-- `--place K`, or nothing for the first fit
+abbrev pub placement_of : List (List ℕ) → Option Kind
+placement_of [] = Some First
+placement_of (option ∷ word ∷ []) = if bytes_eq option (codes "--place") then kind_of_word word else None
+placement_of words = None
+
+-- `--go-on` or not, and then a placement or not
+abbrev pub mode_of : (manifest : List ℕ) (log : Bool) → List (List ℕ) → Option Invocation
+mode_of manifest log [] = Some (run manifest log Halt First)
+mode_of manifest log (option ∷ words) =
+    if bytes_eq option (codes "--go-on") then option_map (run manifest log GoOn) (placement_of words)
+    else option_map (run manifest log Halt) (placement_of (option ∷ words))
+
+-- `MANIFEST`, with `--log` behind it or not
+abbrev pub run_of : List (List ℕ) → Option Invocation
+run_of [] = None
+run_of (manifest ∷ []) = mode_of manifest false []
+run_of (manifest ∷ option ∷ words) =
+    if bytes_eq option (codes "--log") then mode_of manifest true words else mode_of manifest false (option ∷ words)
+
+-- `N`
+abbrev pub demo_of : List (List ℕ) → Option Invocation
+demo_of (number ∷ []) = option_map demo (programs_of number)
+demo_of words = None
+
+-- `convert` with its words, `list FLT`, `check ELF`, `run` with its words, and `demo N`; any other arguments are no command
+abbrev pub command_of : List (List ℕ) → Option Invocation
+command_of [] = None
+command_of (first ∷ words) =
+    if bytes_eq first (codes "convert") then convert_of words
+    else if bytes_eq first (codes "list") then option_map list (only words)
+    else if bytes_eq first (codes "check") then option_map check (only words)
+    else if bytes_eq first (codes "run") then run_of words
+    else if bytes_eq first (codes "demo") then demo_of words
+    else None
+
+-- no command, or one that runs no program
+abbrev pub IsNoRun : Option Invocation → Type 0
+IsNoRun (Some (run manifest log mode kind)) = ⊥
+IsNoRun (Some (demo programs)) = ⊥
+IsNoRun other = Unit {0}
+
+-- the command that the program read
+abbrev pub invocation : Command → Invocation
+invocation (command.Convert elf flt stack) = convert elf.now flt.now stack
+invocation (command.List flt) = list flt.now
+invocation (command.Check elf) = check elf.now
+invocation (command.Run manifest log mode kind) = run manifest.now log mode kind
+invocation (command.Demo programs) = demo programs

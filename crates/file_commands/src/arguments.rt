@@ -1,0 +1,189 @@
+//! The table of commands.
+ghost use Rattle.std.specs.Prelude.{◌≡◌, ◌≤◌, ◌↔◌, IsTrue, map, option_map, string_bytes};
+ghost use Rattle.file_commands.specs.Arguments.{is_between, StartsWell, number_of, kind_of_word, only, convert_of, placement_of, mode_of, run_of, demo_of, command_of, invocation};
+
+use page_runs::Kind;
+use region_watch::Mode;
+
+/// The bytes of stack that a program gets where no argument says it.
+pub const DEFAULT_STACK: u32 = 4096;
+
+/// The fewest bytes of stack that an argument may say.
+const LEAST_STACK: u32 = 16;
+
+/// The most.
+const MOST_STACK: u32 = 1_048_576;
+
+/// The fewest programs of a demo, and the most.
+const LEAST_PROGRAMS: u32 = 1;
+
+const MOST_PROGRAMS: u32 = 64;
+
+/// A command with its arguments.
+#[derive(Clone, Copy, Debug, PartialEq, Eq)]
+pub enum Command<'a> {
+    /// `convert ELF FLT`, and with `--stack N` another stack than the default one.
+    Convert {
+        elf: &'a str,
+        flt: &'a str,
+        stack: u32,
+    },
+    /// `list FLT`.
+    List {
+        flt: &'a str,
+    },
+    /// `check ELF`.
+    Check {
+        elf: &'a str,
+    },
+    /// `run MANIFEST`; with `--log` the calls are told too, with `--go-on` the run goes on behind its first
+    /// stray access, and with `--place K` another placement than the first fit.
+    Run {
+        manifest: &'a str,
+        log: bool,
+        mode: Mode,
+        kind: Kind,
+    },
+    /// `demo N`.
+    Demo {
+        programs: u32,
+    },
+}
+
+fn is_between(least: u32, most: u32, number: u32) -> bool
+    ensures { result ≡ is_between least most number }
+{
+    (least..=most).contains(&number)
+}
+
+/// Whether a text starts with a digit other than 0.
+fn starts_well(text: &str) -> bool
+    ensures { IsTrue result ↔ StartsWell text.now }
+{
+    matches!(text.as_bytes(), [b'1'..=b'9', ..])
+}
+
+/// The number that a text spells, if it is one of the range. `parse` alone would take a sign and zeros in
+/// front.
+fn read_number(text: &str, least: u32, most: u32) -> Option<u32>
+    requires { 1 ≤ least }
+    ensures { result ≡ number_of least most text.now }
+{
+    if !starts_well(text) {
+        return None;
+    }
+    match text.parse() {
+        Ok(number) if is_between(least, most, number) => Some(number),
+        Ok(_) => None,
+        Err(_) => None,
+    }
+}
+
+/// The placement that a word names, if it names one.
+fn read_kind(word: &str) -> Option<Kind>
+    ensures { result ≡ kind_of_word word.now }
+{
+    match word {
+        "first" => Some(Kind::First),
+        "best" => Some(Kind::Best),
+        "last" => Some(Kind::Last),
+        _ => None,
+    }
+}
+
+/// The one word, if there is just one.
+fn only(words: &[String]) -> Option<&str>
+    ensures { option_map (λ word. word.now) result ≡ only (map string_bytes words.now) }
+{
+    match words {
+        [word] => Some(word),
+        _ => None,
+    }
+}
+
+/// The words behind `convert`.
+fn read_convert(words: &[String]) -> Option<Command<'_>>
+    ensures { option_map invocation result ≡ convert_of (map string_bytes words.now) }
+{
+    match words {
+        [elf, flt] => Some(Command::Convert {
+            elf,
+            flt,
+            stack: DEFAULT_STACK,
+        }),
+        [elf, flt, option, number] if option.as_str() == "--stack" => {
+            let stack = read_number(number, LEAST_STACK, MOST_STACK)?;
+            Some(Command::Convert { elf, flt, stack })
+        }
+        _ => None,
+    }
+}
+
+/// The placement that the last words of `run` say.
+fn read_placement(words: &[String]) -> Option<Kind>
+    ensures { result ≡ placement_of (map string_bytes words.now) }
+{
+    match words {
+        [] => Some(Kind::First),
+        [option, word] if option.as_str() == "--place" => read_kind(word),
+        _ => None,
+    }
+}
+
+/// The words behind `run MANIFEST`, and behind `--log`.
+fn read_mode<'a>(manifest: &'a str, log: bool, words: &[String]) -> Option<Command<'a>>
+    ensures { option_map invocation result ≡ mode_of manifest.now log (map string_bytes words.now) }
+{
+    let (mode, last) = match words {
+        [go_on, last @ ..] if go_on.as_str() == "--go-on" => (Mode::GoOn, last),
+        _ => (Mode::Halt, words),
+    };
+    let kind = read_placement(last)?;
+    Some(Command::Run {
+        manifest,
+        log,
+        mode,
+        kind,
+    })
+}
+
+/// The words behind `run`.
+fn read_run(words: &[String]) -> Option<Command<'_>>
+    ensures { option_map invocation result ≡ run_of (map string_bytes words.now) }
+{
+    let (manifest, options) = words.split_first()?;
+    match options {
+        [log, last @ ..] if log.as_str() == "--log" => read_mode(manifest, true, last),
+        _ => read_mode(manifest, false, options),
+    }
+}
+
+/// The words behind `demo`.
+fn read_demo(words: &[String]) -> Option<Command<'_>>
+    ensures { option_map invocation result ≡ demo_of (map string_bytes words.now) }
+{
+    let number = only(words)?;
+    let programs = read_number(number, LEAST_PROGRAMS, MOST_PROGRAMS)?;
+    Some(Command::Demo { programs })
+}
+
+/// The command that these arguments are, or none. They are those after the program's name.
+pub fn read_arguments(arguments: &[String]) -> Option<Command<'_>>
+    ensures { option_map invocation result ≡ command_of (map string_bytes arguments.now) }
+{
+    let (first, words) = arguments.split_first()?;
+    match first.as_str() {
+        "convert" => read_convert(words),
+        "list" => {
+            let flt = only(words)?;
+            Some(Command::List { flt })
+        }
+        "check" => {
+            let elf = only(words)?;
+            Some(Command::Check { elf })
+        }
+        "run" => read_run(words),
+        "demo" => read_demo(words),
+        _ => None,
+    }
+}

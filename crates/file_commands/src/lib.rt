@@ -1,0 +1,27 @@
+//! The words of a command line as a command, the commands of one file, the load of a file, the texts that users
+//! see, and their delivery to the two sinks.
+//!
+//! What may stand here: what needs no machine. What may not: the run of programs, the table of what each command gives, and
+//! the reading of a format, which is the task of the crates below.
+#![tactic(auto)]
+
+mod answer;
+mod arguments;
+mod check;
+mod convert;
+mod delivery;
+mod file_load;
+mod items;
+mod list;
+mod status;
+pub mod texts;
+
+pub use answer::Answer;
+pub use arguments::{Command, DEFAULT_STACK, read_arguments};
+pub use check::check_file;
+pub use convert::convert_file;
+pub use delivery::deliver;
+pub use file_load::{FileLoad, load_limited};
+pub use items::{ItemsLoad, load_items};
+pub use list::list_file;
+pub use status::Status;

@@ -1,0 +1,341 @@
+//! Tests of `elf32_reader`.
+
+ghost use Rattle.std.specs.Prelude.{◌≡◌};
+ghost use Rattle.elf32_reader.specs.Symbols.{is_symtab};
+
+use crate::sample::ONE_WORD_ELF;
+use elf32_reader::*;
+use std::alloc::{AllocError, Global};
+use std::process::Abort;
+use std::test::*;
+
+/// The offsets of the section headers of `ONE_WORD_ELF`, after that of section 0.
+const TEXT: usize = 156;
+
+const DATA: usize = 196;
+
+const SYMTAB: usize = 236;
+
+const STRTAB: usize = 276;
+
+const RELA: usize = 316;
+
+/// Offsets in a section header.
+const KIND: usize = 4;
+
+const FLAGS: usize = 8;
+
+const OFFSET: usize = 16;
+
+const SIZE: usize = 20;
+
+const LINK: usize = 24;
+
+const INFO: usize = 28;
+
+const ENTSIZE: usize = 36;
+
+fn fault_of(bytes: &[u8]) -> Option<ElfFault> {
+    match Elf::read(bytes) {
+        Ok(_) => None,
+        Err(fault) => Some(fault),
+    }
+}
+
+/// `ONE_WORD_ELF` with some bytes replaced, each given by its offset.
+fn edited(alloc: Global, edits: &[(usize, u8)]) -> Result<Vec<u8>, AllocError> {
+    let mut file = Vec::from_slice(alloc, &ONE_WORD_ELF)?;
+    for (offset, byte) in edits {
+        if *offset < file.len() {
+            file[*offset] = *byte;
+        }
+    }
+    Ok(file)
+}
+
+/// The fault of the file that is edited so.
+fn fault_with(alloc: Global, edits: &[(usize, u8)]) -> Result<Option<ElfFault>, AllocError> {
+    let file = edited(alloc, edits)?;
+    Ok(fault_of(&file))
+}
+
+/// The section header table begins at 116 and ends with the file, so no shorter file is read.
+#[test]
+fn a_cut_file_is_refused(rt: HostRuntime) {
+    for n in 0..ONE_WORD_ELF.len() {
+        let want = if n < 52 {
+            ElfFault::Short
+        } else {
+            ElfFault::SectionTable
+        };
+        assert_eq!(rt; fault_of(&ONE_WORD_ELF[..n]), Some(want), "cut to {n}");
+    }
+}
+
+/// Bytes that replace those of `ONE_WORD_ELF`, and the fault that the file then has.
+type Case = (&'static [(usize, u8)], Option<ElfFault>);
+
+/// A file with two faults has the first.
+static FAULTS: [Case; 42] = [
+    (&[], None),
+    // of the header
+    (&[(0, 0x7e), (4, 2)], Some(ElfFault::Magic)),
+    (&[(4, 2), (5, 2)], Some(ElfFault::Class)),
+    (&[(5, 2), (6, 0)], Some(ElfFault::Order)),
+    (&[(6, 0), (16, 3)], Some(ElfFault::Version)),
+    (&[(23, 1)], Some(ElfFault::Version)),
+    (&[(16, 3), (18, 62)], Some(ElfFault::FileType)),
+    (&[(18, 62), (36, 1)], Some(ElfFault::Machine)),
+    (&[(36, 1), (46, 41)], Some(ElfFault::Flags)),
+    (&[(36, 6)], Some(ElfFault::Flags)),
+    (&[(36, 8)], Some(ElfFault::Flags)),
+    (&[(36, 16), (37, 255)], None),
+    (
+        &[(46, 41), (TEXT + SIZE + 3, 1)],
+        Some(ElfFault::SectionTable),
+    ),
+    (&[(48, 0)], Some(ElfFault::SectionTable)),
+    (&[(48, 7)], Some(ElfFault::SectionTable)),
+    (&[(32, 117)], Some(ElfFault::SectionTable)),
+    // of sections: the file ends at 356, which is 0x164; an empty content may stand there, and not behind it
+    (
+        &[(TEXT + SIZE + 3, 1), (80, 7)],
+        Some(ElfFault::SectionRange),
+    ),
+    (&[(TEXT + OFFSET, 0x5c), (TEXT + OFFSET + 1, 1)], None),
+    (
+        &[(TEXT + OFFSET, 0x5d), (TEXT + OFFSET + 1, 1)],
+        Some(ElfFault::SectionRange),
+    ),
+    (&[(TEXT + SIZE + 3, 1), (TEXT + KIND, 8)], None),
+    (&[(TEXT + SIZE + 3, 1), (TEXT + KIND, 0)], None),
+    (
+        &[
+            (TEXT + SIZE, 0),
+            (TEXT + OFFSET, 0x64),
+            (TEXT + OFFSET + 1, 1),
+        ],
+        None,
+    ),
+    (
+        &[
+            (TEXT + SIZE, 0),
+            (TEXT + OFFSET, 0x65),
+            (TEXT + OFFSET + 1, 1),
+        ],
+        Some(ElfFault::SectionRange),
+    ),
+    // of symbol tables
+    (&[(80, 7), (109, 2)], Some(ElfFault::SymbolRange)),
+    (&[(80, 6)], None),
+    (&[(SYMTAB + ENTSIZE, 17)], Some(ElfFault::SymbolRange)),
+    (&[(SYMTAB + SIZE, 33)], Some(ElfFault::SymbolRange)),
+    (&[(SYMTAB + LINK, 2)], Some(ElfFault::SymbolRange)),
+    (&[(SYMTAB + LINK, 6)], Some(ElfFault::SymbolRange)),
+    (&[(STRTAB + SIZE, 1)], Some(ElfFault::SymbolRange)),
+    (&[(STRTAB + SIZE, 1), (80, 0)], None),
+    // of relocations: section 5 is kept, unless it is allocated or its info names a section that isn't
+    (&[(109, 2)], Some(ElfFault::RelaShape)),
+    (&[(RELA + KIND, 9)], Some(ElfFault::RelaShape)),
+    (&[(RELA + ENTSIZE, 8)], Some(ElfFault::RelaShape)),
+    (&[(RELA + SIZE, 11)], Some(ElfFault::RelaShape)),
+    (&[(RELA + LINK, 4)], Some(ElfFault::RelaShape)),
+    (&[(RELA + LINK, 6)], Some(ElfFault::RelaShape)),
+    (&[(RELA + INFO, 6)], Some(ElfFault::RelaShape)),
+    (&[(RELA + INFO, 6), (RELA + FLAGS, 2)], None),
+    (&[(RELA + INFO, 3), (RELA + ENTSIZE, 8)], None),
+    (&[(RELA + INFO, 0), (RELA + KIND, 9)], None),
+    (&[(DATA + FLAGS, 1), (109, 2)], None),
+];
+
+#[test]
+fn faults(rt: HostRuntime) -> Result<(), Fail> {
+    for (edits, want) in &FAULTS {
+        assert_eq!(rt; fault_with(rt.alloc(), edits)?, *want, "{edits:?}");
+    }
+    Ok(())
+}
+
+/// A section's header field by field, whether it is allocated, stored and kept, and its content.
+type Seen<'a> = ([u32; 10], [bool; 3], Option<&'a [u8]>);
+
+fn section_in<'a>(elf: &'a Elf<'_>, index: u32) -> Option<Seen<'a>> {
+    if index >= elf.sections() {
+        return None;
+    }
+    let s = elf.section(index);
+    let fields = [
+        s.name,
+        s.kind,
+        s.flags,
+        s.addr,
+        s.offset,
+        s.size,
+        s.link,
+        s.info,
+        s.addralign,
+        s.entsize,
+    ];
+    let content = if s.has_content() {
+        Some(elf.content(index))
+    } else {
+        None
+    };
+    Some((
+        fields,
+        [s.is_allocated(), s.is_stored(), elf.kept(index)],
+        content,
+    ))
+}
+
+static SECTIONS: [(u32, Option<Seen<'static>>); 7] = [
+    (
+        0,
+        Some(([0, 0, 0, 0, 0, 0, 0, 0, 0, 0], [false, true, false], None)),
+    ),
+    (
+        1,
+        Some((
+            [0, 1, 6, 0x10000, 52, 8, 0, 0, 4, 0],
+            [true, true, false],
+            Some(&[0x13, 0, 0, 0, 0x13, 0, 0, 0]),
+        )),
+    ),
+    (
+        2,
+        Some((
+            [0, 1, 3, 0x10008, 60, 4, 0, 0, 4, 0],
+            [true, true, false],
+            Some(&[0, 0, 1, 0]),
+        )),
+    ),
+    (
+        3,
+        Some((
+            [0, 2, 0, 0, 64, 32, 4, 1, 4, 16],
+            [false, true, false],
+            Some(&[
+                0, 0, 0, 0, 0, 0, 0, 0, 0, 0, 0, 0, 0, 0, 0, 0, 1, 0, 0, 0, 0, 0, 1, 0, 0, 0, 0, 0,
+                16, 0, 1, 0,
+            ]),
+        )),
+    ),
+    (
+        4,
+        Some((
+            [0, 3, 0, 0, 96, 7, 0, 0, 1, 0],
+            [false, true, false],
+            Some(b"\0start\0"),
+        )),
+    ),
+    (
+        5,
+        Some((
+            [0, 4, 0, 0, 104, 12, 3, 2, 4, 12],
+            [false, true, true],
+            Some(&[8, 0, 1, 0, 1, 1, 0, 0, 0, 0, 0, 0]),
+        )),
+    ),
+    (6, None),
+];
+
+#[test]
+fn reads_sections(rt: HostRuntime) {
+    let elf = Elf::read(&ONE_WORD_ELF).expect(&rt, "it is read");
+    assert_eq!(rt; (elf.entry(), elf.sections()), (0x10000, 6));
+    for &(index, want) in &SECTIONS {
+        assert_eq!(rt; section_in(&elf, index), want, "section {index}");
+    }
+}
+
+/// Whether a section is a symbol table.
+#[tactic(auto, unfolding(elf32_reader::specs::Symbols::is_symtab, elf32_reader::specs::Sections::is_of_kind))]
+fn is_table(elf: &Elf<'_>, table: u32) -> bool
+    ensures { result ≡ is_symtab elf.now table }
+{
+    table < elf.sections() && elf.section(table).kind == 2
+}
+
+/// A symbol's name, value, size, info, other and section, its name's bytes, and the first two of these.
+type Named<'a> = ((u32, u32, u32, u8, u8, u16), &'a [u8], &'a [u8]);
+
+fn symbol_in<'a>(elf: &'a Elf<'_>, table: u32, index: u32) -> Option<Named<'a>> {
+    if !is_table(elf, table) || index >= elf.symbols(table) {
+        return None;
+    }
+    let s = elf.symbol(table, index);
+    Some((
+        (s.name, s.value, s.size, s.info, s.other, s.shndx),
+        elf.name(table, index),
+        elf.name_start(table, index, 2),
+    ))
+}
+
+/// An entry's offset, symbol, type and addend.
+type Entry = (u32, u32, u8, i32);
+
+fn rela_in(elf: &Elf<'_>, index: u32, entry: u32) -> Option<Entry> {
+    if index >= elf.sections() || !elf.kept(index) || entry >= elf.relas(index) {
+        return None;
+    }
+    let r = elf.rela(index, entry);
+    Some((r.offset, r.symbol, r.kind, r.addend))
+}
+
+/// A symbol table, the index of a symbol, and what it is; a relocation section, the index of an entry, and
+/// what it is.
+type Row = (
+    (u32, u32, Option<Named<'static>>),
+    (u32, u32, Option<Entry>),
+);
+
+const NO_SYMBOL: Option<Named<'static>> = Some(((0, 0, 0, 0, 0, 0), b"", b""));
+
+/// Those of the file as it is.
+static WHOLE: [Row; 4] = [
+    ((3, 0, NO_SYMBOL), (5, 0, Some((0x10008, 1, 1, 0)))),
+    (
+        (3, 1, Some(((1, 0x10000, 0, 0x10, 0, 1), b"start", b"st"))),
+        (5, 1, None),
+    ),
+    ((3, 2, None), (3, 0, None)),
+    ((4, 0, None), (6, 0, None)),
+];
+
+/// Those of the file with a shorter table of names and a negative addend.
+static CUT: [Row; 4] = [
+    ((3, 0, NO_SYMBOL), (5, 0, Some((0x10008, 1, 1, -4)))),
+    (
+        (3, 1, Some(((1, 0x10000, 0, 0x10, 0, 1), b"sta", b"st"))),
+        (5, 1, None),
+    ),
+    ((3, 2, None), (3, 0, None)),
+    ((4, 0, None), (6, 0, None)),
+];
+
+fn expect_rows(rt: &impl Abort, file: &[u8], rows: &[Row]) {
+    let elf = Elf::read(file).expect(rt, "it is read");
+    for ((table, symbol, named), (section, index, entry)) in rows {
+        let found = (
+            symbol_in(&elf, *table, *symbol),
+            rela_in(&elf, *section, *index),
+        );
+        assert_eq!(rt; found, (*named, *entry), "{symbol} {index}");
+    }
+}
+
+#[test]
+fn reads_symbols_and_relocations(rt: HostRuntime) -> Result<(), Fail> {
+    expect_rows(&rt, &ONE_WORD_ELF, &WHOLE);
+    let cut = edited(rt.alloc(), &CUT_EDITS)?;
+    expect_rows(&rt, &cut, &CUT);
+    Ok(())
+}
+
+static CUT_EDITS: [(usize, u8); 5] = [
+    (STRTAB + SIZE, 4),
+    (112, 0xfc),
+    (113, 0xff),
+    (114, 0xff),
+    (115, 0xff),
+];

@@ -1,0 +1,232 @@
+//! The worked manifests, and a manifest for each row of the table of faults.
+
+use manifest_text::{Dump, Item, ItemKind, Manifest, ManifestFault, ManifestRefusal, Start, read};
+use quantum_sched::Quantum;
+use std::alloc::{AllocError, Global};
+use std::process::Abort;
+use std::test::*;
+
+/// What is refused: its line, and its fault.
+fn fault_of(alloc: Global, text: &[u8]) -> Result<Option<(u32, ManifestFault)>, Fail> {
+    match read(alloc, text) {
+        Ok(_) => Ok(None),
+        Err(ManifestRefusal::At { line, fault }) => Ok(Some((line, fault))),
+        Err(ManifestRefusal::Memory) => Err(Fail::from("no memory")),
+    }
+}
+
+/// So many times the same part, between two others.
+fn many(
+    alloc: Global,
+    front: &str,
+    count: u32,
+    part: &str,
+    back: &str,
+) -> Result<String, AllocError> {
+    let mut text = String::new(alloc);
+    text.push_str(front)?;
+    for _ in 0..count {
+        text.push_str(part)?;
+    }
+    text.push_str(back)?;
+    Ok(text)
+}
+
+const EXAMPLE: &str =
+    "# hi\n\nmemory 4\nelf /hi hi.elf\n  flat  /x x.flt\ndir /d\nfile /d/f f.txt\nstdin in.txt\nstart /hi a 7\nquanta 0:100 4294967295:1\nquanta 1:5\nrepeat 3\ndump 2 0x80002040 1";
+
+/// Its lines that bring something in: number, kind, path, name, and stack.
+const ITEMS: [(u32, ItemKind, &[u8], &[u8], u32); 5] = [
+    (4, ItemKind::Elf, b"/hi", b"hi.elf", 4096),
+    (5, ItemKind::Flat, b"/x", b"x.flt", 0),
+    (6, ItemKind::Dir, b"/d", b"", 0),
+    (7, ItemKind::File, b"/d/f", b"f.txt", 0),
+    (8, ItemKind::Stdin, b"", b"in.txt", 0),
+];
+
+const QUANTA: [Quantum; 3] = [
+    Quantum {
+        pick: 0,
+        count: 100,
+    },
+    Quantum {
+        pick: u32::MAX,
+        count: 1,
+    },
+    Quantum { pick: 1, count: 5 },
+];
+
+const DUMPS: [Dump; 1] = [Dump {
+    pid: 2,
+    addr: 0x8000_2040,
+    len: 1,
+}];
+
+fn brings_in(rt: &impl Abort, items: &[Item]) {
+    assert_eq!(rt; items.len(), ITEMS.len());
+    for (item, (line, kind, path, name, stack)) in items.iter().zip(&ITEMS) {
+        assert_eq!(rt;
+            (
+                item.line,
+                item.kind,
+                item.path.as_slice(),
+                item.name.as_slice(),
+                item.stack
+            ),
+            (*line, *kind, *path, *name, *stack)
+        );
+    }
+}
+
+fn starts(rt: &impl Abort, starts: &[Start]) {
+    assert_eq!(rt; starts.len(), 1);
+    for start in starts {
+        assert_eq!(rt; (start.line, start.args.len()), (9, 3));
+    }
+}
+
+fn runs(rt: &impl Abort, manifest: &Manifest) {
+    assert_eq!(rt; (manifest.pages, manifest.repeat), (4, 3));
+    assert_eq!(rt; manifest.quanta.as_slice(), QUANTA.as_slice());
+    assert_eq!(rt; manifest.dumps.as_slice(), DUMPS.as_slice());
+}
+
+#[test]
+fn example_is_read(rt: HostRuntime) -> Result<(), Fail> {
+    let manifest = read(rt.alloc(), EXAMPLE.as_bytes())?;
+    runs(&rt, &manifest);
+    brings_in(&rt, &manifest.items);
+    starts(&rt, &manifest.starts);
+    Ok(())
+}
+
+#[test]
+fn defaults_are_taken(rt: HostRuntime) -> Result<(), Fail> {
+    let manifest = read(rt.alloc(), b"start /hi\nquanta 0:1\n")?;
+    assert_eq!(rt; (manifest.pages, manifest.repeat), (256, 1));
+    Ok(())
+}
+
+/// Manifests, the line of the fault, and the fault.
+const FAULTS: [(&str, u32, ManifestFault); 40] = [
+    ("quanta 0:1\n\tx", 2, ManifestFault::BadByte),
+    ("files\u{7f}", 1, ManifestFault::BadByte),
+    ("files", 1, ManifestFault::UnknownWord),
+    ("memory", 1, ManifestFault::WordCount),
+    ("elf /a", 1, ManifestFault::WordCount),
+    ("flat /a b 16", 1, ManifestFault::WordCount),
+    ("file a", 1, ManifestFault::WordCount),
+    ("file a b 16", 1, ManifestFault::WordCount),
+    ("dir", 1, ManifestFault::WordCount),
+    ("dir a b", 1, ManifestFault::WordCount),
+    ("stdin", 1, ManifestFault::WordCount),
+    ("stdin a\nstdin /b b", 2, ManifestFault::WordCount),
+    ("start", 1, ManifestFault::WordCount),
+    ("quanta ", 1, ManifestFault::WordCount),
+    ("dump 1 0x0", 1, ManifestFault::WordCount),
+    ("memory 0", 1, ManifestFault::BadNumber),
+    ("memory 16385", 1, ManifestFault::BadNumber),
+    ("memory 04", 1, ManifestFault::BadNumber),
+    ("elf /a b 15", 1, ManifestFault::BadNumber),
+    ("elf a b 1048577", 1, ManifestFault::BadNumber),
+    ("quanta 0:1 1:0", 1, ManifestFault::BadNumber),
+    ("quanta 4294967296:1", 1, ManifestFault::BadNumber),
+    ("quanta 0:1:1", 1, ManifestFault::BadNumber),
+    ("repeat 1000001", 1, ManifestFault::BadNumber),
+    ("dump 1 0xABC 1", 1, ManifestFault::BadNumber),
+    ("dump 1 0x123456789 1", 1, ManifestFault::BadNumber),
+    ("dump 1 0x0 4097", 1, ManifestFault::BadNumber),
+    ("elf a b", 1, ManifestFault::BadPath),
+    ("flat / b", 1, ManifestFault::BadPath),
+    ("flat //a b", 1, ManifestFault::BadPath),
+    ("file /a/.. b", 1, ManifestFault::BadPath),
+    ("dir /a/", 1, ManifestFault::BadPath),
+    ("start /a/./b", 1, ManifestFault::BadPath),
+    ("start /..", 1, ManifestFault::BadPath),
+    ("memory 1\n#memory 2\nmemory 3", 3, ManifestFault::Repeated),
+    ("stdin a\ndir /a\nstdin a", 3, ManifestFault::Repeated),
+    ("repeat 1\nrepeat 1", 2, ManifestFault::Repeated),
+    ("start /a", 0, ManifestFault::NoQuanta),
+    ("quanta 0:1", 0, ManifestFault::NoStart),
+    ("", 0, ManifestFault::NoStart),
+];
+
+#[test]
+fn each_fault_has_its_line(rt: HostRuntime) -> Result<(), Fail> {
+    for (text, line, fault) in FAULTS {
+        let found = fault_of(rt.alloc(), text.as_bytes())?;
+        assert_eq!(rt; found, Some((line, fault)), "{text}");
+    }
+    Ok(())
+}
+
+/// A front, how often a part stands behind it, and a back; the line of the fault and the fault, if there is one.
+const LIMITS: [(&str, u32, &str, &str, Option<(u32, ManifestFault)>); 15] = [
+    ("start /", 255, "a", "\nquanta 0:1", None),
+    ("start /", 256, "a", "", Some((1, ManifestFault::BadPath))),
+    ("start ", 2047, "/a", "b\nquanta 0:1", None),
+    ("start ", 2048, "/a", "", Some((1, ManifestFault::BadPath))),
+    ("", 64, "start /a\n", "quanta 0:1", None),
+    ("", 65, "start /a\n", "", Some((65, ManifestFault::TooMany))),
+    ("", 64, "dump 1 0x0 1\n", "start /a\nquanta 0:1", None),
+    (
+        "",
+        65,
+        "dump 1 0x0 1\n",
+        "",
+        Some((65, ManifestFault::TooMany)),
+    ),
+    (
+        "stdin a\n",
+        4095,
+        "flat /a b\n",
+        "start /a\nquanta 0:1",
+        None,
+    ),
+    (
+        "stdin a\n",
+        4095,
+        "file /a b\n",
+        "stdin a",
+        Some((4097, ManifestFault::Repeated)),
+    ),
+    (
+        "stdin a\n",
+        4096,
+        "file /a b\n",
+        "",
+        Some((4097, ManifestFault::TooMany)),
+    ),
+    (
+        "elf /a b\n",
+        4096,
+        "dir /a\n",
+        "",
+        Some((4097, ManifestFault::TooMany)),
+    ),
+    (
+        "",
+        4096,
+        "dir /a\n",
+        "stdin a",
+        Some((4097, ManifestFault::TooMany)),
+    ),
+    ("", 65_536, "quanta 0:1\n", "start /a", None),
+    (
+        "start /a\n",
+        65_536,
+        "quanta 0:1\n",
+        "quanta 0:1",
+        Some((65_538, ManifestFault::TooMany)),
+    ),
+];
+
+#[test]
+fn limits_are_exact(rt: HostRuntime) -> Result<(), Fail> {
+    for (front, count, part, back, want) in LIMITS {
+        let text = many(rt.alloc(), front, count, part, back)?;
+        let found = fault_of(rt.alloc(), text.as_bytes())?;
+        assert_eq!(rt; found, want, "{count} {part}");
+    }
+    Ok(())
+}

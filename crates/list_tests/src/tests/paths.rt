@@ -1,0 +1,64 @@
+//! What paths lead to.
+
+use crate::tests::trees::a_tree;
+use call_log::Errno;
+use mem_files::{FileFault, ROOT, Tree, is_too_long};
+use std::process::Abort;
+use std::test::*;
+
+/// Paths, and the node that each leads to.
+const ANSWERS: [(&[u8], Result<Option<u32>, Errno>); 14] = [
+    (b"/", Ok(Some(ROOT))),
+    (b"..", Ok(Some(ROOT))),
+    (b"/../..", Ok(Some(ROOT))),
+    (b"d/./..", Ok(Some(ROOT))),
+    (b"/d/ab", Ok(Some(3))),
+    (b"./d//ab", Ok(Some(3))),
+    (b"/f/", Ok(Some(4))),
+    (b"/f/.", Err(Errno::Enotdir)),
+    (b"/f/..", Err(Errno::Enotdir)),
+    (b"/f/x", Err(Errno::Enotdir)),
+    (b"/nope", Ok(None)),
+    (b"/nope/..", Err(Errno::Enoent)),
+    (b"/d/ab/x/y", Err(Errno::Enotdir)),
+    (b"", Err(Errno::Enoent)),
+];
+
+fn leads(rt: &impl Abort, tree: &Tree) {
+    for (path, answer) in ANSWERS {
+        assert_eq!(rt; tree.lookup(path), answer);
+    }
+}
+
+#[test]
+fn paths_lead_to_nodes(rt: HostRuntime) -> Result<(), Fail> {
+    let tree = a_tree(rt.alloc())?;
+    leads(&rt, &tree);
+    Ok(())
+}
+
+#[test]
+fn names_are_bounded(rt: HostRuntime) -> Result<(), Fail> {
+    let mut tree = Tree::new(rt.alloc())?;
+    assert_eq!(rt;
+        (tree.mkdir(&[b'n'; 255]), tree.mkdir(&[b'n'; 256])),
+        (Ok(2), Err(FileFault::Errno(Errno::Enametoolong)))
+    );
+    Ok(())
+}
+
+#[test]
+fn paths_are_bounded(rt: HostRuntime) -> Result<(), Fail> {
+    let tree = Tree::new(rt.alloc())?;
+    let path = [b'/'; 4095];
+    assert_eq!(rt;
+        (is_too_long(&path), tree.lookup(&path)),
+        (false, Ok(Some(ROOT)))
+    );
+    let longer = [b'/'; 4096];
+    assert_eq!(rt;
+        (is_too_long(&longer), tree.lookup(&longer)),
+        (true, Err(Errno::Enametoolong))
+    );
+    Ok(())
+}

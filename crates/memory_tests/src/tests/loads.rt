@@ -1,0 +1,306 @@
+//! Programs in their blocks: the worked examples, and what is refused.
+
+use bflt_format::Flat;
+use flat_loader::{
+    LoadRefusal, Loaded, block_len, block_pages, frame_fits, frame_len, load, load_at, stack_len,
+};
+use nommu_regions::Regions;
+use page_runs::{Chooser, Kind, Run, first_fit};
+use phys_mem::PhysMem;
+use rv32im_step::Regs;
+use std::alloc::{AllocError, Global};
+use std::process::Abort;
+use std::test::*;
+
+/// The program `hi` as a flat file: nine words of code, a text of three bytes, and a pointer to it.
+const HI: [u8; 176] = [
+    0x62, 0x46, 0x4c, 0x54, 0x00, 0x00, 0x00, 0x04, 0x00, 0x00, 0x00, 0x80, 0x00, 0x00, 0x00, 0xa0,
+    0x00, 0x00, 0x00, 0xac, 0x00, 0x00, 0x00, 0xac, 0x00, 0x00, 0x10, 0x00, 0x00, 0x00, 0x00, 0xac,
+    0x00, 0x00, 0x00, 0x01, 0x00, 0x00, 0x00, 0x01, 0x00, 0x00, 0x00, 0x00, 0x00, 0x00, 0x00, 0x00,
+    0x00, 0x00, 0x00, 0x00, 0x00, 0x00, 0x00, 0x00, 0x00, 0x00, 0x00, 0x00, 0x00, 0x00, 0x00, 0x00,
+    0x00, 0x00, 0x00, 0x00, 0x00, 0x00, 0x00, 0x00, 0x00, 0x00, 0x00, 0x00, 0x00, 0x00, 0x00, 0x00,
+    0x00, 0x00, 0x00, 0x00, 0x00, 0x00, 0x00, 0x00, 0x00, 0x00, 0x00, 0x00, 0x00, 0x00, 0x00, 0x00,
+    0x00, 0x00, 0x00, 0x00, 0x00, 0x00, 0x00, 0x00, 0x00, 0x00, 0x00, 0x00, 0x00, 0x00, 0x00, 0x00,
+    0x00, 0x00, 0x00, 0x00, 0x00, 0x00, 0x00, 0x00, 0x00, 0x00, 0x00, 0x00, 0x00, 0x00, 0x00, 0x00,
+    0x97, 0x05, 0x00, 0x00, 0x83, 0xa5, 0x85, 0x02, 0x13, 0x05, 0x10, 0x00, 0x13, 0x06, 0x30, 0x00,
+    0x93, 0x08, 0x00, 0x04, 0x73, 0x00, 0x00, 0x00, 0x13, 0x05, 0x70, 0x00, 0x93, 0x08, 0xd0, 0x05,
+    0x73, 0x00, 0x00, 0x00, 0x68, 0x69, 0x0a, 0x00, 0x00, 0x00, 0x00, 0x64, 0x00, 0x00, 0x00, 0x68,
+];
+
+/// The file with some of its big-endian words changed.
+fn changed(alloc: Global, words: &[(u8, u32)]) -> Result<Vec<u8>, AllocError> {
+    let mut file = Vec::from_slice(alloc, &HI)?;
+    for (at, word) in words {
+        let at = usize::from(*at);
+        if at + 4 <= file.len() {
+            file[at..at + 4].copy_from_slice(&word.to_be_bytes());
+        }
+    }
+    Ok(file)
+}
+
+/// The program of the file with such changes.
+fn program(alloc: Global, words: &[(u8, u32)]) -> Result<Flat, Fail> {
+    let file = changed(alloc, words)?;
+    Ok(Flat::read(alloc, &file)?)
+}
+
+fn strings(alloc: Global, texts: &[&str]) -> Result<Vec<Vec<u8>>, AllocError> {
+    let mut strings = Vec::new(alloc);
+    for text in texts {
+        strings.push(Vec::from_slice(alloc, text.as_bytes())?)?;
+    }
+    Ok(strings)
+}
+
+/// Loads where the frame fits and the block lies in memory.
+fn loaded(
+    mem: &mut PhysMem,
+    block: u32,
+    flat: &Flat,
+    args: &[Vec<u8>],
+    env: &[Vec<u8>],
+) -> Option<Regs> {
+    if block % 4096 == 0 && mem.holds(block, block_len(flat)) && frame_fits(flat, args, env) {
+        Some(load_at(mem, block, flat, args, env))
+    } else {
+        None
+    }
+}
+
+/// The same of the file with such changes, and with strings.
+fn load_strings(
+    alloc: Global,
+    mem: &mut PhysMem,
+    block: u32,
+    words: &[(u8, u32)],
+    args: &[&str],
+    env: &[&str],
+) -> Result<Option<Regs>, Fail> {
+    let flat = program(alloc, words)?;
+    let args = strings(alloc, args)?;
+    let env = strings(alloc, env)?;
+    Ok(loaded(mem, block, &flat, &args, &env))
+}
+
+/// The registers of a program that begins: pc and sp, and zeros.
+fn begun(pc: u32, sp: u32) -> Option<Regs> {
+    let mut x = [0; 32];
+    x[2] = sp;
+    Some(Regs { pc, x })
+}
+
+fn word(mem: &PhysMem, at: u32) -> Option<u32> {
+    if mem.holds(at, 4) {
+        Some(mem.get32(at))
+    } else {
+        None
+    }
+}
+
+/// Addresses, and the word at each.
+fn has_words(rt: &impl Abort, mem: &PhysMem, words: &[(u32, u32)]) {
+    for (at, want) in words {
+        assert_eq!(rt; word(mem, *at), Some(*want), "{at:#x}");
+    }
+}
+
+/// Three pages of four that were used before.
+fn used_memory(alloc: Global) -> Result<PhysMem, Fail> {
+    let mut mem = PhysMem::new(alloc, 4)?;
+    if mem.holds(0x8000_0000, 0x2010) {
+        mem.copy_in(0x8000_0000, &[0xff; 0x2010]);
+    }
+    Ok(mem)
+}
+
+/// Behind a load at the start of memory: the bytes that were there go, and those of the next page stay.
+const AT_START: [(u32, u32); 10] = [
+    (0x8000_00a8, 0x8000_00a4),
+    (0x8000_00ac, 0),
+    (0x8000_1fdc, 0),
+    (0x8000_1fe0, 1),
+    (0x8000_1fe4, 0x8000_1ff0),
+    (0x8000_1fe8, 0),
+    (0x8000_1fec, 0),
+    (0x8000_1ff0, 0x0069_682f),
+    (0x8000_1ffc, 0),
+    (0x8000_2000, 0xffff_ffff),
+];
+
+#[test]
+fn program_at_the_start_of_memory(rt: HostRuntime) -> Result<(), Fail> {
+    let mut mem = used_memory(rt.alloc())?;
+    let regs = load_strings(rt.alloc(), &mut mem, 0x8000_0000, &[], &["/hi"], &[])?;
+    assert_eq!(rt; regs, begun(0x8000_0080, 0x8000_1fe0));
+    assert!(rt; mem.as_slice().starts_with(&HI[..168]));
+    has_words(&rt, &mem, &AT_START);
+    Ok(())
+}
+
+/// Behind a load with several strings, in the third page of four.
+const WITH_STRINGS: [(u32, u32); 12] = [
+    (0x8000_20a8, 0x8000_20a4),
+    (0x8000_3fd0, 3),
+    (0x8000_3fd4, 0x8000_3fec),
+    (0x8000_3fd8, 0x8000_3ff0),
+    (0x8000_3fdc, 0x8000_3ff2),
+    (0x8000_3fe0, 0),
+    (0x8000_3fe4, 0x8000_3ff3),
+    (0x8000_3fe8, 0),
+    (0x8000_3fec, 0x0069_682f),
+    (0x8000_3ff0, 0x4200_0061),
+    (0x8000_3ff4, 0x0000_313d),
+    (0x8000_0000, 0),
+];
+
+const ARGS: [&str; 3] = ["/hi", "a", ""];
+
+const ENV: [&str; 1] = ["B=1"];
+
+#[test]
+fn frames_have_a_length(rt: HostRuntime) -> Result<(), Fail> {
+    let args = strings(rt.alloc(), &ARGS)?;
+    let env = strings(rt.alloc(), &ENV)?;
+    assert_eq!(rt; frame_len(&args, &env), 39);
+    Ok(())
+}
+
+#[test]
+fn several_strings(rt: HostRuntime) -> Result<(), Fail> {
+    let mut mem = PhysMem::new(rt.alloc(), 4)?;
+    let regs = load_strings(rt.alloc(), &mut mem, 0x8000_2000, &[], &ARGS, &ENV)?;
+    assert_eq!(rt; regs, begun(0x8000_2080, 0x8000_3fd0));
+    has_words(&rt, &mem, &WITH_STRINGS);
+    Ok(())
+}
+
+/// Words of the file: the bytes of its stack, its flags and its build date, and the word that its record names.
+const HEADER: [(u8, u32); 4] = [(24, 4095), (36, 17), (40, 7), (168, 0)];
+
+/// What is at their places behind a load.
+const LOADED: [(u8, u32); 3] = [(24, 4095), (36, 17), (168, 0)];
+
+/// The header has what the file says, and the fixed words for all else. A word 0 is not linked.
+#[test]
+fn header_and_a_word_0(rt: HostRuntime) -> Result<(), Fail> {
+    let mut mem = PhysMem::new(rt.alloc(), 2)?;
+    let regs = load_strings(rt.alloc(), &mut mem, 0x8000_0000, &HEADER, &["/hi"], &[])?;
+    assert!(rt; regs.is_some());
+    let want = changed(rt.alloc(), &LOADED)?;
+    assert_eq!(rt; mem.as_slice().get(..172), want.get(..172));
+    Ok(())
+}
+
+/// Bytes of a stack that are wanted, the pages of the block, and whether a frame of 20 bytes fits.
+const STACKS: [(u32, u32, bool); 7] = [
+    (0, 1, false),
+    (16, 1, false),
+    (17, 1, true),
+    (3920, 1, true),
+    (3921, 2, true),
+    (4096, 2, true),
+    (0x10_0000, 257, true),
+];
+
+#[test]
+fn sizes_of_stacks(rt: HostRuntime) -> Result<(), Fail> {
+    let args = strings(rt.alloc(), &["/hi"])?;
+    for (stack, pages, fits) in STACKS {
+        let flat = program(rt.alloc(), &[(24, stack)])?;
+        let sizes = (
+            block_pages(&flat),
+            stack_len(&flat) % 16,
+            frame_fits(&flat, &args, &[]),
+        );
+        assert_eq!(rt; sizes, (pages, 0, fits), "{stack}");
+    }
+    Ok(())
+}
+
+/// Loads with the argument /hi into the lowest run that fits.
+fn load_first(
+    alloc: Global,
+    regions: &mut Regions,
+    mem: &mut PhysMem,
+    words: &[(u8, u32)],
+) -> Result<Result<Loaded, LoadRefusal>, Fail> {
+    let flat = program(alloc, words)?;
+    let args = strings(alloc, &["/hi"])?;
+    let chooser = Chooser::new(Kind::First, |runs: &[Run], need: u32| {
+        first_fit(runs, need)
+    });
+    if mem.pages() != regions.pages() {
+        return Err(Fail::from("another number of pages"));
+    }
+    Ok(load(alloc, regions, mem, &flat, &args, &[], &chooser))
+}
+
+/// A block of two pages at the start of memory.
+fn has_first(rt: &impl Abort, loaded: &mut Loaded) {
+    assert_eq!(rt; (loaded.base, loaded.pages), (0x8000_0000, 2));
+    assert_eq!(rt; Some(loaded.regs), begun(0x8000_0080, 0x8000_1fe0));
+    let space = &mut loaded.space;
+    let breaks = (space.brk(0), space.brk(0x8000_1000), space.brk(0x8000_1001));
+    assert_eq!(rt; breaks, (0x8000_00ac, 0x8000_1000, 0x8000_1000));
+    let own = (
+        space.own(0x8000_0040, 0x1fc0, true),
+        space.own(0x8000_003f, 1, false),
+    );
+    assert_eq!(rt; own, (true, false));
+}
+
+/// In 4 pages: a block of 2, and behind the first one no room for a third.
+fn loads_two(
+    rt: &impl Abort,
+    alloc: Global,
+    regions: &mut Regions,
+    mem: &mut PhysMem,
+) -> Result<(), Fail> {
+    let Ok(mut first) = load_first(alloc, regions, mem, &[])? else {
+        return Err(Fail::from("the first one isn't loaded"));
+    };
+    has_first(rt, &mut first);
+    assert_eq!(rt; word(mem, 0x8000_00a8), Some(0x8000_00a4));
+    let Ok(second) = load_first(alloc, regions, mem, &[])? else {
+        return Err(Fail::from("the second one isn't loaded"));
+    };
+    assert_eq!(rt; (second.base, regions.free().len()), (0x8000_2000, 0));
+    let third = load_first(alloc, regions, mem, &[])?;
+    assert_eq!(rt; third.err(), Some(LoadRefusal::NoRun));
+    Ok(())
+}
+
+#[test]
+fn programs_in_the_lowest_run(rt: HostRuntime) -> Result<(), Fail> {
+    let mut mem = PhysMem::new(rt.alloc(), 4)?;
+    let mut regions = Regions::new(rt.alloc(), 4)?;
+    loads_two(&rt, rt.alloc(), &mut regions, &mut mem)
+}
+
+/// A stack of 16 bytes is too small for a frame of 20, and then nothing is taken.
+const REFUSED: [(u32, LoadRefusal); 2] = [(4096, LoadRefusal::NoRun), (16, LoadRefusal::E2big)];
+
+fn refuses(
+    rt: &impl Abort,
+    alloc: Global,
+    regions: &mut Regions,
+    mem: &mut PhysMem,
+) -> Result<(), Fail> {
+    for (stack, refusal) in REFUSED {
+        let loaded = load_first(alloc, regions, mem, &[(24, stack)])?;
+        assert_eq!(rt;
+            (loaded.err(), regions.free().first().copied()),
+            (Some(refusal), Some(Run { first: 0, count: 1 })),
+            "{stack}"
+        );
+    }
+    Ok(())
+}
+
+#[test]
+fn refusals(rt: HostRuntime) -> Result<(), Fail> {
+    let mut mem = PhysMem::new(rt.alloc(), 1)?;
+    let mut regions = Regions::new(rt.alloc(), 1)?;
+    refuses(&rt, rt.alloc(), &mut regions, &mut mem)
+}

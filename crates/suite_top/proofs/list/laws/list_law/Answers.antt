@@ -1,6 +1,0 @@
--- Each law by its proof over plain values.
-use Rattle.suite_top.proofs.ListLaws.{list_asks_one_load, list_is_done, list_is_refused, list_completes}
-use Rattle.suite_top.proofs.list.laws.list_law.Goals as goal
-
-pub returns : goal.returns
-returns c = record { one_load = list_asks_one_load; done = list_is_done; refused = list_is_refused; complete = list_completes }

@@ -1,7 +1,0 @@
--- By what is said of each run.
-use Rattle.suite_top.proofs.BootedRuns.{does_as_alone, ends_as_alone}
-use Rattle.suite_top.proofs.RunLaws.{reasonable}
-use Rattle.suite_top.proofs.run.laws.alone_law.Goals as goal
-
-pub returns : goal.returns
-returns c = record { lives = λ t name kind o. does_as_alone (reasonable o) o.booted; ends = λ t name kind o. ends_as_alone (reasonable o) o.booted }

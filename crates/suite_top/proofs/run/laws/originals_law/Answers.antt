@@ -1,6 +1,0 @@
--- By the image law.
-use Rattle.run_setup.proofs.OriginalsSame.{originals_are_same}
-use Rattle.suite_top.proofs.run.laws.originals_law.Goals as goal
-
-pub returns : goal.returns
-returns c = originals_are_same

@@ -1,0 +1,79 @@
+-- The system calls that are served, by their numbers and names in Linux (include/uapi/asm-generic/unistd.h).
+use Rattle.std.specs.Prelude.{ℕ, ◌==◌, Bool, true, false, List, [], ◌∷◌, find, codes, Option, Some, None}
+use Rattle.trace_text.specs.declared.call.Call.{Call}
+use Rattle.trace_text.specs.declared.call.Call.TheVariants.{Dup, Dup3, Ioctl, Mkdirat, Unlinkat, Openat, Close, Pipe2, Getdents64, Llseek, Read, Write, Readv, Writev, Exit, ExitGroup, Waitid, SetTidAddress, SchedYield, Getpid, Getppid, Gettid, Brk, Munmap, Clone, Execve, Mmap2}
+
+abbrev pub call_number : Call → ℕ
+call_number Dup = 23
+call_number Dup3 = 24
+call_number Ioctl = 29
+call_number Mkdirat = 34
+call_number Unlinkat = 35
+call_number Openat = 56
+call_number Close = 57
+call_number Pipe2 = 59
+call_number Getdents64 = 61
+call_number Llseek = 62
+call_number Read = 63
+call_number Write = 64
+call_number Readv = 65
+call_number Writev = 66
+call_number Exit = 93
+call_number ExitGroup = 94
+call_number Waitid = 95
+call_number SetTidAddress = 96
+call_number SchedYield = 124
+call_number Getpid = 172
+call_number Getppid = 173
+call_number Gettid = 178
+call_number Brk = 214
+call_number Munmap = 215
+call_number Clone = 220
+call_number Execve = 221
+call_number Mmap2 = 222
+
+abbrev pub call_name : Call → List ℕ
+call_name Dup = codes "dup"
+call_name Dup3 = codes "dup3"
+call_name Ioctl = codes "ioctl"
+call_name Mkdirat = codes "mkdirat"
+call_name Unlinkat = codes "unlinkat"
+call_name Openat = codes "openat"
+call_name Close = codes "close"
+call_name Pipe2 = codes "pipe2"
+call_name Getdents64 = codes "getdents64"
+call_name Llseek = codes "llseek"
+call_name Read = codes "read"
+call_name Write = codes "write"
+call_name Readv = codes "readv"
+call_name Writev = codes "writev"
+call_name Exit = codes "exit"
+call_name ExitGroup = codes "exit_group"
+call_name Waitid = codes "waitid"
+call_name SetTidAddress = codes "set_tid_address"
+call_name SchedYield = codes "sched_yield"
+call_name Getpid = codes "getpid"
+call_name Getppid = codes "getppid"
+call_name Gettid = codes "gettid"
+call_name Brk = codes "brk"
+call_name Munmap = codes "munmap"
+call_name Clone = codes "clone"
+call_name Execve = codes "execve"
+call_name Mmap2 = codes "mmap2"
+
+abbrev pub served : List Call
+served =
+    Dup ∷ Dup3 ∷ Ioctl ∷ Mkdirat ∷ Unlinkat ∷ Openat ∷ Close ∷ Pipe2 ∷ Getdents64 ∷ Llseek ∷ Read ∷ Write ∷ Readv ∷ Writev
+    ∷ Exit ∷ ExitGroup ∷ Waitid ∷ SetTidAddress ∷ SchedYield ∷ Getpid ∷ Getppid ∷ Gettid ∷ Brk ∷ Munmap ∷ Clone ∷ Execve ∷ Mmap2
+    ∷ []
+
+-- the call with this number
+unfoldable pub call_of : ℕ → Option Call
+call_of number = find (λ call. call_number call == number) served
+
+-- a call that replies with an address
+abbrev pub replies_address : Option Call → Bool
+replies_address (Some Brk) = true
+replies_address (Some Mmap2) = true
+replies_address (Some call) = false
+replies_address None = false

@@ -1,6 +1,0 @@
--- Each call gives one pid at the most.
-use Rattle.std.proofs.Common.{◌+◌, ◌≤◌}
-use Rattle.vfork_exec.proofs.tests.families.Given as goal
-
-abbrev pub invariant-loop-call : goal.invariant-loop-call
-invariant-loop-call g l = l.procs.next_pid ≤ l.call-index + 1

@@ -1,0 +1,3 @@
+/* Newlib's, behind the types that it takes for granted. */
+#include <sys/types.h>
+#include_next <regex.h>

@@ -1,0 +1,14 @@
+/* Newlib's, and what it declares for other targets only: lstat, and Linux's numbers of utimensat. */
+#include_next <sys/stat.h>
+#ifndef _FLAT_SYS_STAT_H
+#define _FLAT_SYS_STAT_H
+#define UTIME_NOW 0x3fffffff
+#define UTIME_OMIT 0x3ffffffe
+#ifdef __cplusplus
+extern "C" {
+#endif
+int lstat(const char *__restrict path, struct stat *__restrict result);
+#ifdef __cplusplus
+}
+#endif
+#endif
