@@ -97,15 +97,21 @@ fn has_accesses(rt: &impl Abort, watch: &mut Watch<'_>, mode: Mode) {
     }
 }
 
+/// The same over memory and a table of their own, with a window of so many bytes.
+fn try_accesses(rt: &impl Abort, alloc: Global, mode: Mode, size: u32) -> Result<(), Fail> {
+    let owners = table(alloc)?;
+    let mut mem = memory_with(alloc, &STORING)?;
+    let mut watch = Watch::with_window(&mut mem, &owners, mode, window(&owners, size));
+    has_accesses(rt, &mut watch, mode);
+    Ok(())
+}
+
 /// The window changes no answer.
 #[test]
 fn accesses(rt: HostRuntime) -> Result<(), Fail> {
-    let owners = table(rt.alloc())?;
-    let mut mem = memory_with(rt.alloc(), &STORING)?;
     for mode in [Mode::Halt, Mode::GoOn] {
         for size in [0, 4032] {
-            let mut watch = Watch::with_window(&mut mem, &owners, mode, window(&owners, size));
-            has_accesses(&rt, &mut watch, mode);
+            try_accesses(&rt, rt.alloc(), mode, size)?;
         }
     }
     Ok(())
@@ -426,19 +432,20 @@ fn runs(rt: HostRuntime) -> Result<(), Fail> {
     Ok(())
 }
 
-/// `addi a0, a0, 1`, a store in place of the zeros, and both again: `addi a5, a5, -1`, `bne a5, zero, -12`, `ecall`.
-const CHANGING: [u8; 20] = [
-    0x13, 5, 0x15, 0, 0, 0, 0, 0, 0x93, 0x87, 0xf7, 0xff, 0xe3, 0x9a, 7, 0xfe, 0x73, 0, 0, 0,
-];
+/// `addi a0, a0, 1`, this store, and both again: `addi a5, a5, -1`, `bne a5, zero, -12`, `ecall`.
+fn changing(store: u32) -> [u8; 20] {
+    let [s0, s1, s2, s3] = store.to_le_bytes();
+    [
+        0x13, 5, 0x15, 0, s0, s1, s2, s3, 0x93, 0x87, 0xf7, 0xff, 0xe3, 0x9a, 7, 0xfe, 0x73, 0, 0,
+        0,
+    ]
+}
 
 /// Two instructions of the code are carried out twice, with this store of a value at an address: how many were, why it stops, and a0
 /// and a1.
 fn changes(alloc: Global, store: u32, value: u32, at: u32) -> Result<(u32, Stop, u32, u32), Fail> {
     let owners = table(alloc)?;
-    let mut mem = memory_with(alloc, &CHANGING)?;
-    if mem.holds(CODE + 4, 4) {
-        mem.set32(CODE + 4, store);
-    }
+    let mut mem = memory_with(alloc, &changing(store))?;
     let mut x = [0; 32];
     x[13] = value;
     x[14] = at;
