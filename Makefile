@@ -6,7 +6,9 @@
 # make papers     the papers alone: names, links, paths and exit statuses agree
 # make kit        compares the toolchain with the one that the proofs were checked with
 # make sdk        builds newlib and the kit for C programs in build/sdk, if the Debian packages that it names are installed
-# make real       builds the example programs with the GNU tools for RISC-V, if they are installed, and checks, converts and runs them
+# make kernel     builds Linux 6.1 for RV32 without an MMU in build/kernel, if the Debian packages that it names are installed
+# make real       builds the example programs with the GNU tools for RISC-V, if they are installed, and checks, converts and runs
+#                 them; with `make kernel` it runs the flat files on that kernel too
 # make install    copies the program and flatc-where to $(PREFIX)/bin, and the man page to $(PREFIX)/share/man/man1
 
 PREFIX ?= /usr/local
@@ -17,7 +19,7 @@ build/flatc: $(SOURCES)
 	@echo 'flatc is proved before it is built: some twenty minutes on four cores the first time, and later only what changed.'
 	@tools/build
 
-.PHONY: try demo check cases papers kit sdk real install
+.PHONY: try demo check cases papers kit sdk kernel real install
 
 try:
 	@echo 'Nothing is proved here: this is the program as it stands in the sources, for a first look.'
@@ -51,6 +53,9 @@ kit:
 
 sdk:
 	@$(MAKE) --no-print-directory -f sdk/Makefile
+
+kernel:
+	@$(MAKE) --no-print-directory -f tools/kernel/Makefile
 
 real: build/flatc sdk
 	examples/real

@@ -35,6 +35,6 @@ int main(void)
     say("sigsuspend", sigsuspend(&none));
     say("gettimeofday", gettimeofday(&time_of, 0));
     say("usleep", usleep(1));
-    say("clock", (long)clock());
+    say("clock", clock() == (clock_t)-1 ? -1 : 0);
     return 0;
 }
