@@ -12,8 +12,8 @@ use Rattle.flat_loader.specs.Frame.{frame_len, frame, frame_start}
 use Rattle.flat_loader.specs.Begin.{begin_space}
 use Rattle.vfork_exec.specs.Keyed.{find}
 use Rattle.physical_turns.specs.Physical.{Physical}
-use Rattle.syscall_layer.specs.Stands.{world_of}
-use Rattle.syscall_layer.specs.InMemory.{headers_of, physical_of}
+use Rattle.kept_parts.specs.Stands.{world_of}
+use Rattle.kept_parts.specs.InMemory.{headers_of, physical_of}
 use Rattle.flat_machine.specs.OwnBytes.{own_bytes, memory_bytes}
 use Rattle.definition_samples.proofs.Exits.{running, over}
 use Rattle.definition_samples.proofs.PartsSamples.{kept, about}

@@ -8,7 +8,7 @@ use Rattle.call_log.specs.declared.how.SeenKind.TheVariants as seen
 use Rattle.call_log.specs.Notes.{LoadEntry, load_note, end_note, stray_note}
 use Rattle.region_watch.specs.declared.mode.Mode.TheVariants.{Halt, GoOn}
 use Rattle.syscall_layer.specs.Parts.{halted_at}
-use Rattle.syscall_layer.specs.Starts.{in_block_of}
+use Rattle.kept_parts.specs.Starts.{in_block_of}
 use Rattle.flat_machine.specs.declared.run.End.TheVariants as told
 use Rattle.flat_machine.specs.RunsIn.{TellsAccess}
 

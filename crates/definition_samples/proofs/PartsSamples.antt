@@ -14,8 +14,8 @@ use Rattle.region_watch.specs.Private.{only}
 use Rattle.fd_tables.specs.Files.{nothing_open}
 use Rattle.vfork_exec.specs.declared.family.State.TheVariants.{Ready}
 use Rattle.machine_world.specs.World.{LiveSpace, id_of}
-use Rattle.syscall_layer.specs.Kept.{Kept}
-use Rattle.syscall_layer.specs.Stands.{About, private_bytes, live_spaces, world_of}
+use Rattle.kept_parts.specs.Kept.{Kept}
+use Rattle.kept_parts.specs.Stands.{About, private_bytes, live_spaces, world_of}
 
 -- ---- eight bytes of memory, and spaces that own a part of them
 

@@ -21,17 +21,17 @@ use Rattle.machine_world.specs.World.{World, pid_of, id_of}
 use Rattle.machine_world.specs.Courses.{Leads, Halts, moved}
 use Rattle.machine_world.proofs.States.{find_has, change_alike, with_regs, with_own}
 use Rattle.machine_world.proofs.Steps.{RanOn, run_on}
-use Rattle.syscall_layer.specs.declared.task.Task.{Task}
-use Rattle.syscall_layer.specs.Kept.{Kept}
-use Rattle.syscall_layer.specs.declared.reach.Reach.TheVariants.{Own}
-use Rattle.syscall_layer.specs.Reach.{Reaches}
-use Rattle.syscall_layer.specs.Regular.{Regular, HasSpace}
-use Rattle.syscall_layer.specs.Copies.{CopiesHold}
-use Rattle.syscall_layer.specs.Stands.{About, later, private_bytes, private_of, live_spaces, process_of, world_of}
-use Rattle.syscall_layer.proofs.Worlds.{find_space, change_space, find_process, change_process}
-use Rattle.syscall_layer.proofs.Apart.{others_keep}
-use Rattle.syscall_layer.proofs.Stays.{regular_stays, set_kept}
-use Rattle.syscall_layer.proofs.CopiesKept.{copies_frozen}
+use Rattle.kept_parts.specs.declared.task.Task.{Task}
+use Rattle.kept_parts.specs.Kept.{Kept}
+use Rattle.kept_parts.specs.declared.reach.Reach.TheVariants.{Own}
+use Rattle.kept_parts.specs.Reach.{Reaches}
+use Rattle.kept_parts.specs.Regular.{Regular, HasSpace}
+use Rattle.kept_parts.specs.Copies.{CopiesHold}
+use Rattle.kept_parts.specs.Stands.{About, later, private_bytes, private_of, live_spaces, process_of, world_of}
+use Rattle.kept_parts.proofs.Worlds.{find_space, change_space, find_process, change_process}
+use Rattle.kept_parts.proofs.Apart.{others_keep}
+use Rattle.kept_parts.proofs.Stays.{regular_stays, set_kept}
+use Rattle.kept_parts.proofs.CopiesKept.{copies_frozen}
 
 -- a process with what is kept of it
 pub record Entered (s : Listed Task) (pid : ℕ) (task : Task) : Type 0 where

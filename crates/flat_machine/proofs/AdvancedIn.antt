@@ -29,21 +29,21 @@ use Rattle.physical_turns.specs.Wider.{IsWithin, Grows}
 use Rattle.physical_turns.specs.Courses.{LeadsIn, IsShown, StandsIn, HaltsIn}
 use Rattle.physical_turns.proofs.StepsIn.{own_instructions_lead, whole_instructions_lead}
 use Rattle.physical_turns.proofs.Moves.{calls_in, traps_in}
-use Rattle.syscall_layer.specs.declared.task.Task.{Task}
-use Rattle.syscall_layer.specs.declared.reach.Reach.{Reach}
-use Rattle.syscall_layer.specs.declared.reach.Reach.TheVariants.{Own, Whole}
-use Rattle.syscall_layer.specs.Kept.{Kept}
-use Rattle.syscall_layer.specs.Reach.{Reaches, whole_table}
-use Rattle.syscall_layer.specs.Regular.{Regular, HasSpace, IsRegular}
-use Rattle.syscall_layer.specs.Copies.{CopiesHold}
-use Rattle.syscall_layer.specs.Stands.{About, later, private_bytes, private_of, live_spaces, process_of, world_of}
-use Rattle.syscall_layer.specs.InMemory.{physical_of}
-use Rattle.syscall_layer.proofs.Reached.{whole_pages}
-use Rattle.syscall_layer.proofs.Shows.{shown_as, shows}
-use Rattle.syscall_layer.proofs.Worlds.{find_space, find_process}
+use Rattle.kept_parts.specs.declared.task.Task.{Task}
+use Rattle.kept_parts.specs.declared.reach.Reach.{Reach}
+use Rattle.kept_parts.specs.declared.reach.Reach.TheVariants.{Own, Whole}
+use Rattle.kept_parts.specs.Kept.{Kept}
+use Rattle.kept_parts.specs.Reach.{Reaches, whole_table}
+use Rattle.kept_parts.specs.Regular.{Regular, HasSpace, IsRegular}
+use Rattle.kept_parts.specs.Copies.{CopiesHold}
+use Rattle.kept_parts.specs.Stands.{About, later, private_bytes, private_of, live_spaces, process_of, world_of}
+use Rattle.kept_parts.specs.InMemory.{physical_of}
+use Rattle.kept_parts.proofs.Reached.{whole_pages}
+use Rattle.kept_parts.proofs.Shows.{shown_as, shows}
+use Rattle.kept_parts.proofs.Worlds.{find_space, find_process}
 use Rattle.flat_machine.specs.State.{is_whole, mode_within}
 use Rattle.flat_machine.specs.LeavesIn.{HaltsWithin}
-use Rattle.syscall_layer.proofs.Abouts.{some_about}
+use Rattle.kept_parts.proofs.Abouts.{some_about}
 use Rattle.flat_machine.proofs.Within.{writable_own, table_inside}
 use Rattle.flat_machine.proofs.Passed.{as_table, owned_ran, owned_frozen}
 use Rattle.flat_machine.proofs.Advanced.{Ranged, after, entered, home_of, has_space, halts_within, after_regular, after_ready, lives_in, has_in, procs_in, frozen_in, after_copies, left, after_leads, after_halts}

@@ -17,11 +17,11 @@ use Rattle.machine_world.proofs.Marks.{boots_leave_no_mark}
 use Rattle.physical_turns.specs.Physical.{has_stray}
 use Rattle.bflt_format.specs.Values.{Values}
 use Rattle.region_watch.specs.declared.mode.Mode.{Mode}
-use Rattle.syscall_layer.specs.Awake.{with_wakes, awake_in}
-use Rattle.syscall_layer.specs.Kept.{Kept, nothing_yet}
+use Rattle.kept_parts.specs.Awake.{with_wakes, awake_in}
+use Rattle.kept_parts.specs.Kept.{Kept, nothing_yet}
 use Rattle.syscall_layer.specs.Parts.{RunParts}
-use Rattle.syscall_layer.specs.Reach.{is_whole, reach_of}
-use Rattle.syscall_layer.specs.Stands.{About, process_of, live_spaces, world_of}
+use Rattle.kept_parts.specs.Reach.{is_whole, reach_of}
+use Rattle.kept_parts.specs.Stands.{About, process_of, live_spaces, world_of}
 use Rattle.flat_machine.specs.declared.boot.BootRefusal.{BootRefusal}
 use Rattle.flat_machine.specs.declared.boot.BootRefusal.TheVariants as refusal
 use Rattle.flat_machine.specs.State.{State, line_of, lines_of, world}

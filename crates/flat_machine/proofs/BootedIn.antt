@@ -12,11 +12,11 @@ use Rattle.region_watch.specs.Private.{physical}
 use Rattle.mem_files.specs.Inodes.{Inodes}
 use Rattle.fd_tables.specs.Files.{OpenFiles}
 use Rattle.physical_turns.specs.Physical.{Physical, showing, first_memory, opening}
-use Rattle.syscall_layer.specs.Kept.{Kept, nothing_yet}
+use Rattle.kept_parts.specs.Kept.{Kept, nothing_yet}
 use Rattle.region_watch.specs.Private.{in_pages}
-use Rattle.syscall_layer.specs.Stands.{About, live_spaces, world_of}
-use Rattle.syscall_layer.specs.InMemory.{header_of, headers_of, physical_of}
-use Rattle.syscall_layer.proofs.Shows.{showing_of}
+use Rattle.kept_parts.specs.Stands.{About, live_spaces, world_of}
+use Rattle.kept_parts.specs.InMemory.{header_of, headers_of, physical_of}
+use Rattle.kept_parts.proofs.Shows.{showing_of}
 
 -- the header of a program that is there
 pub header_at : (flats : List Values) (i : ℕ) (f : Values) → slice_get flats i ≡ Some f → slice_get (headers_of flats) i ≡ Some (header_of f)

@@ -10,17 +10,17 @@ use Rattle.region_watch.specs.Private.{own_bytes as own_bytes_in}
 use Rattle.call_log.specs.Sent.{Span, read_span}
 use Rattle.vfork_exec.specs.declared.entry.Entry.{Entry}
 use Rattle.vfork_exec.specs.Procs.{process, value_at}
-use Rattle.syscall_layer.specs.declared.task.Task.{Task}
-use Rattle.syscall_layer.specs.Kept.{Kept}
-use Rattle.syscall_layer.specs.declared.reach.Reach.{Reach}
-use Rattle.syscall_layer.specs.declared.reach.Reach.TheVariants.{Own, Whole}
-use Rattle.syscall_layer.specs.Reach.{Reaches, readable, whole_table}
-use Rattle.syscall_layer.specs.Regular.{Regular, HasSpace}
-use Rattle.syscall_layer.specs.Reading.{appended}
-use Rattle.syscall_layer.specs.InMemory.{physical_of}
-use Rattle.syscall_layer.specs.Stands.{About, private_bytes, process_of, world_of}
-use Rattle.syscall_layer.proofs.Worlds.{find_space, find_process}
-use Rattle.syscall_layer.proofs.Reached.{reached_bytes, whole_pages}
+use Rattle.kept_parts.specs.declared.task.Task.{Task}
+use Rattle.kept_parts.specs.Kept.{Kept}
+use Rattle.kept_parts.specs.declared.reach.Reach.{Reach}
+use Rattle.kept_parts.specs.declared.reach.Reach.TheVariants.{Own, Whole}
+use Rattle.kept_parts.specs.Reach.{Reaches, readable, whole_table}
+use Rattle.kept_parts.specs.Regular.{Regular, HasSpace}
+use Rattle.call_bytes.specs.Reading.{appended}
+use Rattle.kept_parts.specs.InMemory.{physical_of}
+use Rattle.kept_parts.specs.Stands.{About, private_bytes, process_of, world_of}
+use Rattle.kept_parts.proofs.Worlds.{find_space, find_process}
+use Rattle.kept_parts.proofs.Reached.{reached_bytes, whole_pages}
 use Rattle.flat_machine.specs.OwnBytes.{read_or_none, bytes_in, bytes_of, own_bytes, bytes_for, memory_bytes}
 use Rattle.flat_machine.proofs.Advanced.{entered, has_space}
 use Rattle.flat_machine.proofs.AdvancedIn.{reach_paged}

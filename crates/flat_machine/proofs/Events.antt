@@ -18,9 +18,9 @@ use Rattle.machine_world.proofs.Runnable.{may_run_still}
 use Rattle.machine_world.proofs.Signals.{trap_small}
 use Rattle.syscall_layer.specs.declared.answer.Served.{Served}
 use Rattle.syscall_layer.specs.declared.answer.Served.TheVariants as served
-use Rattle.syscall_layer.specs.Kept.{Kept}
-use Rattle.syscall_layer.specs.Stands.{About, later, world_of}
-use Rattle.syscall_layer.specs.Serves.{Answered, Died}
+use Rattle.kept_parts.specs.Kept.{Kept}
+use Rattle.kept_parts.specs.Stands.{About, later, world_of}
+use Rattle.kept_parts.specs.Serves.{Answered, Died}
 use Rattle.flat_machine.specs.declared.run.End.TheVariants as told
 use Rattle.flat_machine.specs.declared.turn.After.{After}
 use Rattle.flat_machine.specs.declared.turn.After.TheVariants as after

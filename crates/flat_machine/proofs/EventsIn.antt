@@ -16,16 +16,16 @@ use Rattle.machine_world.proofs.Signals.{trap_small}
 use Rattle.physical_turns.specs.Physical.{Physical, in_memory, After as Outcome_in, after as goes, no_room, nobody, has_stray, first_stray, physical_event, carried_out, called_in, died_in, outside}
 use Rattle.physical_turns.specs.Courses.{StandsIn}
 use Rattle.physical_turns.proofs.Moves.{noted_unstrayed, first_strays, event_in_calm, carried_called, carried_trapped, carried_refused}
-use Rattle.syscall_layer.specs.declared.reach.Reach.{Reach}
-use Rattle.syscall_layer.specs.declared.reach.Reach.TheVariants.{Own, Whole}
+use Rattle.kept_parts.specs.declared.reach.Reach.{Reach}
+use Rattle.kept_parts.specs.declared.reach.Reach.TheVariants.{Own, Whole}
 use Rattle.syscall_layer.specs.declared.answer.Served.{Served}
 use Rattle.syscall_layer.specs.declared.answer.Served.TheVariants as served
-use Rattle.syscall_layer.specs.Kept.{Kept}
-use Rattle.syscall_layer.specs.Copies.{StillHolds}
-use Rattle.syscall_layer.proofs.Holding.{unstrayed_holds}
-use Rattle.syscall_layer.specs.Stands.{About, later, world_of}
-use Rattle.syscall_layer.specs.Serves.{Answered, Died}
-use Rattle.syscall_layer.specs.InMemory.{physical_of, GoesIn, InReach, DiedIn}
+use Rattle.kept_parts.specs.Kept.{Kept}
+use Rattle.kept_parts.specs.Copies.{StillHolds}
+use Rattle.kept_parts.proofs.Holding.{unstrayed_holds}
+use Rattle.kept_parts.specs.Stands.{About, later, world_of}
+use Rattle.kept_parts.specs.Serves.{Answered, Died}
+use Rattle.kept_parts.specs.InMemory.{physical_of, GoesIn, InReach, DiedIn}
 use Rattle.flat_machine.specs.declared.run.End.TheVariants as told
 use Rattle.flat_machine.specs.declared.turn.After.{After}
 use Rattle.flat_machine.specs.declared.turn.After.TheVariants as after

@@ -14,10 +14,10 @@ use Rattle.flat_loader.specs.Frame.{frame_fits}
 use Rattle.machine_world.specs.World.{World, Program, Rest}
 use Rattle.machine_world.specs.Programs.{programs_of}
 use Rattle.machine_world.specs.Boot.{StartLine, BootFault, Found, found, found_node, found_mark, found_program, path_of, fitting, located, started}
-use Rattle.syscall_layer.specs.declared.start.StartRefusal.TheVariants as start
-use Rattle.syscall_layer.specs.Kept.{Kept}
-use Rattle.syscall_layer.specs.Stands.{About, world_of}
-use Rattle.syscall_layer.specs.Starts.{Started}
+use Rattle.kept_parts.specs.declared.start.StartRefusal.TheVariants as start
+use Rattle.kept_parts.specs.Kept.{Kept}
+use Rattle.kept_parts.specs.Stands.{About, world_of}
+use Rattle.kept_parts.specs.Starts.{Started}
 use Rattle.flat_machine.specs.declared.boot.BootRefusal.{BootRefusal}
 use Rattle.flat_machine.specs.declared.boot.BootRefusal.TheVariants as refusal
 use Rattle.flat_machine.specs.Boots.{marked, IsFault, Begins}

@@ -3,15 +3,15 @@ use Rattle.std.proofs.Common.{◌≡◌, ℕ, false, List, Option, Some, None, R
 use Rattle.std.specs.declared.alloc.AllocError.{AllocError}
 use Rattle.rv32im_step.specs.declared.access.Access.{Access}
 use Rattle.physical_turns.specs.Physical.{has_stray}
-use Rattle.syscall_layer.specs.declared.reach.Reach.TheVariants.{Own}
-use Rattle.syscall_layer.specs.Kept.{Kept}
-use Rattle.syscall_layer.specs.Regular.{IsRegular}
-use Rattle.syscall_layer.specs.Stands.{About, world_of}
-use Rattle.syscall_layer.specs.InMemory.{physical_of, without_newest}
+use Rattle.kept_parts.specs.declared.reach.Reach.TheVariants.{Own}
+use Rattle.kept_parts.specs.Kept.{Kept}
+use Rattle.kept_parts.specs.Regular.{IsRegular}
+use Rattle.kept_parts.specs.Stands.{About, world_of}
+use Rattle.kept_parts.specs.InMemory.{physical_of, without_newest}
 use Rattle.flat_machine.specs.declared.run.End.{End as Told}
 use Rattle.flat_machine.specs.declared.run.End.TheVariants as told
 use Rattle.flat_machine.specs.State.{is_whole}
-use Rattle.syscall_layer.specs.Copies.{HoldsFiles}
+use Rattle.kept_parts.specs.Copies.{HoldsFiles}
 use Rattle.flat_machine.specs.LeavesIn.{TurnStraysIn, TurnLeavesIn, reach_behind}
 use Rattle.flat_machine.proofs.TakenBack.{quiet_before}
 

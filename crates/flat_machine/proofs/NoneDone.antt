@@ -20,9 +20,9 @@ use Rattle.vfork_exec.specs.declared.entry.Entry.{Entry}
 use Rattle.vfork_exec.specs.Procs.{Listed, value_at, with_value, with_value_at}
 use Rattle.vfork_exec.specs.Procs.{pid_of as entry_pid}
 use Rattle.machine_world.proofs.States.{change_same}
-use Rattle.syscall_layer.specs.declared.task.Task.{Task}
-use Rattle.syscall_layer.specs.declared.reach.Reach.{Reach}
-use Rattle.syscall_layer.specs.Kept.{Kept}
+use Rattle.kept_parts.specs.declared.task.Task.{Task}
+use Rattle.kept_parts.specs.declared.reach.Reach.{Reach}
+use Rattle.kept_parts.specs.Kept.{Kept}
 use Rattle.flat_machine.specs.State.{mode_within}
 use Rattle.flat_machine.proofs.Passed.{as_table, owned_ran, owned_frozen}
 use Rattle.flat_machine.proofs.Advanced.{after, entered}

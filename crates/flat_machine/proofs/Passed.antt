@@ -9,10 +9,10 @@ use Rattle.mmap_rules.specs.Owners.{owns}
 use Rattle.region_watch.specs.declared.mode.Mode.{Mode}
 use Rattle.region_watch.specs.Private.{only, physical, own_bytes, frozen, in_pages, passes, passed_bytes, kept_bytes}
 use Rattle.region_watch.specs.Instructions.{ran, instructions}
-use Rattle.syscall_layer.specs.declared.reach.Reach.{Reach}
-use Rattle.syscall_layer.specs.declared.reach.Reach.TheVariants.{Own, Whole}
-use Rattle.syscall_layer.specs.Reach.{Reaches, whole_page, whole_table}
-use Rattle.syscall_layer.proofs.Reached.{owns_whole}
+use Rattle.kept_parts.specs.declared.reach.Reach.{Reach}
+use Rattle.kept_parts.specs.declared.reach.Reach.TheVariants.{Own, Whole}
+use Rattle.kept_parts.specs.Reach.{Reaches, whole_page, whole_table}
+use Rattle.kept_parts.proofs.Reached.{owns_whole}
 use Rattle.flat_machine.specs.State.{mode_within}
 
 -- a table of just the bytes within reach, which a watch of this mode over another table lets pass

@@ -14,12 +14,12 @@ use Rattle.machine_world.specs.Families.{state_at as state_in}
 use Rattle.machine_world.specs.Turns.{all_ended, stuck, out_of_quanta, Walk, none_runs, last_end, turns}
 use Rattle.machine_world.proofs.Runnable.{ready_found}
 use Rattle.machine_world.proofs.RunLaws.{none_left}
-use Rattle.syscall_layer.specs.declared.task.Task.{Task}
-use Rattle.syscall_layer.specs.Kept.{Kept}
-use Rattle.syscall_layer.specs.Stands.{About, process_of, world_of}
-use Rattle.syscall_layer.proofs.Families.{ready_is, falls_is}
-use Rattle.syscall_layer.proofs.Worlds.{find_process}
-use Rattle.syscall_layer.proofs.Abouts.{some_about}
+use Rattle.kept_parts.specs.declared.task.Task.{Task}
+use Rattle.kept_parts.specs.Kept.{Kept}
+use Rattle.kept_parts.specs.Stands.{About, process_of, world_of}
+use Rattle.kept_parts.proofs.Families.{ready_is, falls_is}
+use Rattle.kept_parts.proofs.Worlds.{find_process}
+use Rattle.kept_parts.proofs.Abouts.{some_about}
 
 -- ---- who may run
 

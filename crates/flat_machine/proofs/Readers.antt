@@ -2,9 +2,9 @@
 use Rattle.std.proofs.Common.{◌≡◌, ℕ, suc, List, [], ◌∷◌, length, map, refl, sym, ap, subst, arith}
 use Rattle.bflt_format.specs.Values.{Values}
 use Rattle.flat_loader.specs.Original.{Original, flat_original}
-use Rattle.syscall_layer.specs.Flats.{AreFlats}
-use Rattle.syscall_layer.specs.Stands.{About, world_of}
-use Rattle.syscall_layer.specs.Kept.{Kept}
+use Rattle.kept_parts.specs.Flats.{AreFlats}
+use Rattle.kept_parts.specs.Stands.{About, world_of}
+use Rattle.kept_parts.specs.Kept.{Kept}
 use Rattle.machine_world.specs.World.{program_path}
 use Rattle.machine_world.specs.Programs.{AreLoaded, LoadsPrograms}
 use Rattle.flat_machine.specs.State.{State, programs_of, world}

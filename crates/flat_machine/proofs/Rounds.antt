@@ -25,8 +25,8 @@ use Rattle.waits_laws.proofs.Ordered.{turns_keep_ordered}
 use Rattle.stays_laws.proofs.StaysRuns.{runs_keep_stays}
 use Rattle.flat_machine.specs.Runs.{repeated, Ends, Stops, Runs, gone_through, KeepsStays}
 use Rattle.flat_machine.specs.State.{State, world}
-use Rattle.syscall_layer.specs.Kept.{Kept}
-use Rattle.syscall_layer.specs.Stands.{About, world_of}
+use Rattle.kept_parts.specs.Kept.{Kept}
+use Rattle.kept_parts.specs.Stands.{About, world_of}
 use Rattle.flat_machine.specs.Leaves.{TurnLeaves, Leaves}
 use Rattle.flat_machine.proofs.Picks.{may_run}
 use Rattle.flat_machine.proofs.Readers.{loads_programs, loaded_notes}

@@ -20,10 +20,10 @@ use Rattle.physical_turns.specs.Courses.{ComesIn}
 use Rattle.physical_turns.specs.Growth.{Adds}
 use Rattle.physical_turns.proofs.Growth.{runs_add}
 use Rattle.physical_turns.proofs.TurnsIn.{comes_in_on, none_chosen_in, turn_in_stops, turn_in_comes, none_left_in, comes_in_none}
-use Rattle.syscall_layer.specs.Stands.{world_of}
-use Rattle.syscall_layer.specs.InMemory.{physical_of}
-use Rattle.syscall_layer.specs.declared.reach.Reach.{Reach}
-use Rattle.syscall_layer.specs.declared.reach.Reach.TheVariants.{Own, Whole}
+use Rattle.kept_parts.specs.Stands.{world_of}
+use Rattle.kept_parts.specs.InMemory.{physical_of}
+use Rattle.kept_parts.specs.declared.reach.Reach.{Reach}
+use Rattle.kept_parts.specs.declared.reach.Reach.TheVariants.{Own, Whole}
 use Rattle.flat_machine.specs.declared.run.End.{End as Told}
 use Rattle.flat_machine.specs.declared.run.End.TheVariants as told
 use Rattle.flat_machine.specs.State.{State, about_of, world, one_memory, is_whole}

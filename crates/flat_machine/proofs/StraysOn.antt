@@ -19,7 +19,7 @@ use Rattle.physical_turns.specs.Growth.{Adds}
 use Rattle.physical_turns.proofs.Growth.{turns_add}
 use Rattle.physical_turns.proofs.Moves.{noted_unstrayed, event_in_strays, event_in_calm}
 use Rattle.physical_turns.proofs.TurnsIn.{turn_in_next, turn_in_used}
-use Rattle.syscall_layer.specs.declared.reach.Reach.TheVariants.{Whole}
+use Rattle.kept_parts.specs.declared.reach.Reach.TheVariants.{Whole}
 use Rattle.flat_machine.specs.declared.run.End.{End as Told}
 use Rattle.flat_machine.specs.declared.run.End.TheVariants as told
 use Rattle.flat_machine.specs.LeavesIn.{StraysIn, StandsStillIn, TurnStopsIn, TurnStraysIn, TurnLeavesIn, is_undone}

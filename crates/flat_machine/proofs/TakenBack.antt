@@ -13,11 +13,11 @@ use Rattle.machine_world.specs.Order.{most_tables}
 use Rattle.stays_laws.specs.Sound.{most_given, IsSound}
 use Rattle.waits_laws.specs.Laws.{IsOrdered}
 use Rattle.physical_turns.specs.Physical.{Physical, Walk, has_stray}
-use Rattle.syscall_layer.specs.declared.reach.Reach.{Reach}
-use Rattle.syscall_layer.specs.declared.reach.Reach.TheVariants.{Own, Whole}
-use Rattle.syscall_layer.specs.InMemory.{physical_of, without_newest}
+use Rattle.kept_parts.specs.declared.reach.Reach.{Reach}
+use Rattle.kept_parts.specs.declared.reach.Reach.TheVariants.{Own, Whole}
+use Rattle.kept_parts.specs.InMemory.{physical_of, without_newest}
 use Rattle.syscall_layer.specs.Parts.{RunParts}
-use Rattle.syscall_layer.specs.Stands.{world_of}
+use Rattle.kept_parts.specs.Stands.{world_of}
 use Rattle.region_watch.specs.declared.mode.Mode.{Mode}
 use Rattle.region_watch.specs.declared.mode.Mode.TheVariants.{Halt, GoOn}
 use Rattle.flat_machine.specs.declared.run.End.{End as Told}

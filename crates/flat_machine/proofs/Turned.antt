@@ -12,15 +12,15 @@ use Rattle.machine_world.specs.Event.{Outcome, went, strays, full, idle, noted, 
 use Rattle.machine_world.specs.Turns.{stray_at, log_full, Walk, seen_of, stays_at, turn, walked}
 use Rattle.machine_world.specs.Courses.{Leads, StandsAt, Halts}
 use Rattle.machine_world.proofs.TurnLaws.{leads_none, leads_on, leads_event, turn_over, turn_strays, turn_full, turn_used, turn_from}
-use Rattle.syscall_layer.specs.Flats.{AreFlats}
-use Rattle.syscall_layer.specs.Kept.{Kept}
-use Rattle.syscall_layer.specs.Stands.{About, later, world_of}
+use Rattle.kept_parts.specs.Flats.{AreFlats}
+use Rattle.kept_parts.specs.Kept.{Kept}
+use Rattle.kept_parts.specs.Stands.{About, later, world_of}
 use Rattle.flat_machine.specs.declared.run.End.{End as Told}
 use Rattle.flat_machine.specs.declared.run.End.TheVariants as told
 use Rattle.flat_machine.specs.declared.turn.After.TheVariants as after
 use Rattle.flat_machine.specs.Runs.{StandsStill}
 use Rattle.flat_machine.specs.Leaves.{Carried, TurnStops, TurnLeaves}
-use Rattle.syscall_layer.proofs.Abouts.{some_about, about_with, some_are_flats}
+use Rattle.kept_parts.proofs.Abouts.{some_about, about_with, some_are_flats}
 
 -- behind so many events of a process the parts are others
 abbrev pub Reached : Kind → List Values → ℕ → Kept → ℕ → Kept → Type 0

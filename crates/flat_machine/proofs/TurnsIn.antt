@@ -23,19 +23,19 @@ use Rattle.physical_turns.specs.After.{AfterHas}
 use Rattle.physical_turns.specs.Growth.{Adds, LeavesPrograms}
 use Rattle.physical_turns.proofs.Growth.{events_add, events_leave_programs}
 use Rattle.physical_turns.proofs.TurnsIn.{leads_in_none, leads_in_on, leads_in_event, turn_in_over, turn_in_full, turn_in_used, turn_in_from}
-use Rattle.syscall_layer.specs.declared.reach.Reach.{Reach}
-use Rattle.syscall_layer.specs.declared.reach.Reach.TheVariants.{Own, Whole}
-use Rattle.syscall_layer.specs.Flats.{AreFlats}
-use Rattle.syscall_layer.specs.Kept.{Kept}
-use Rattle.syscall_layer.specs.Stands.{About, later, world_of}
-use Rattle.syscall_layer.specs.InMemory.{headers_of, physical_of}
+use Rattle.kept_parts.specs.declared.reach.Reach.{Reach}
+use Rattle.kept_parts.specs.declared.reach.Reach.TheVariants.{Own, Whole}
+use Rattle.kept_parts.specs.Flats.{AreFlats}
+use Rattle.kept_parts.specs.Kept.{Kept}
+use Rattle.kept_parts.specs.Stands.{About, later, world_of}
+use Rattle.kept_parts.specs.InMemory.{headers_of, physical_of}
 use Rattle.flat_machine.specs.declared.run.End.{End as Told}
 use Rattle.flat_machine.specs.declared.run.End.TheVariants as told
 use Rattle.flat_machine.specs.declared.turn.After.TheVariants as after
 use Rattle.flat_machine.specs.State.{is_whole}
 use Rattle.flat_machine.specs.Leaves.{Carried}
 use Rattle.flat_machine.specs.LeavesIn.{CarriedIn, CarriedWithin, StraysIn, StandsWithin, HaltsWithin, TurnEndsIn, step_within, StandsStillIn, TurnStopsIn, TurnLeavesIn, reach_behind}
-use Rattle.syscall_layer.proofs.Abouts.{some_about, about_with, some_are_flats}
+use Rattle.kept_parts.proofs.Abouts.{some_about, about_with, some_are_flats}
 use Rattle.flat_machine.proofs.Picks.{can_run, may_run}
 use Rattle.flat_machine.proofs.NotedIn.{went_quiet, adds_stray}
 use Rattle.flat_machine.proofs.Turned.{Reached, later_none, later_on, event_on}

@@ -8,8 +8,8 @@ use Rattle.flat_machine.specs.declared.boot.BootRefusal.{BootRefusal}
 use Rattle.flat_machine.specs.declared.boot.BootRefusal.TheVariants as refusal
 use Rattle.stays_laws.specs.Stays.{AreRight, first_stays}
 use Rattle.waits_laws.specs.Waits.{WaitsWell}
-use Rattle.syscall_layer.specs.Kept.{Kept}
-use Rattle.syscall_layer.specs.Stands.{About, world_of}
+use Rattle.kept_parts.specs.Kept.{Kept}
+use Rattle.kept_parts.specs.Stands.{About, world_of}
 use Rattle.flat_machine.specs.State.{State, world}
 
 -- the number of the program that a path leads to

@@ -5,7 +5,7 @@ use Rattle.machine_world.specs.Programs.{AreLoaded}
 use Rattle.flat_machine.specs.declared.machine.Machine.TheInside.{Inside}
 use Rattle.waits_laws.specs.Laws.{IsOrdered}
 use Rattle.physical_turns.specs.Physical.{has_stray}
-use Rattle.syscall_layer.specs.Reach.{reach_of}
+use Rattle.kept_parts.specs.Reach.{reach_of}
 use Rattle.flat_machine.specs.State.{State, is_whole, world}
 
 abbrev pub state_of : Inside → State

@@ -18,11 +18,11 @@ use Rattle.machine_world.specs.Turns.{End, Walk, stray_at, log_full, turns}
 use Rattle.physical_turns.specs.Physical.{Physical, After as Outcome, after as goes, no_room, has_stray, next_meaning, first_stray, with_stray, physical_event, physical_turn, physical_turns}
 use Rattle.physical_turns.specs.Courses.{LeadsIn, ComesIn, StandsIn}
 use Rattle.physical_turns.specs.Growth.{Adds}
-use Rattle.syscall_layer.specs.declared.reach.Reach.{Reach}
-use Rattle.syscall_layer.specs.declared.reach.Reach.TheVariants.{Own, Whole}
-use Rattle.syscall_layer.specs.Kept.{Kept}
-use Rattle.syscall_layer.specs.Stands.{About, later}
-use Rattle.syscall_layer.specs.InMemory.{physical_of}
+use Rattle.kept_parts.specs.declared.reach.Reach.{Reach}
+use Rattle.kept_parts.specs.declared.reach.Reach.TheVariants.{Own, Whole}
+use Rattle.kept_parts.specs.Kept.{Kept}
+use Rattle.kept_parts.specs.Stands.{About, later}
+use Rattle.kept_parts.specs.InMemory.{physical_of}
 use Rattle.region_watch.specs.declared.mode.Mode.{Mode}
 use Rattle.region_watch.specs.declared.mode.Mode.TheVariants.{Halt, GoOn}
 use Rattle.flat_machine.specs.declared.run.End.{End as Told}

@@ -6,16 +6,16 @@ ghost use Rattle.vfork_exec.specs.Procs.{CanRun};
 ghost use Rattle.machine_world.specs.Courses.{Leads, Halts};
 ghost use Rattle.physical_turns.specs.Physical.{has_stray};
 ghost use Rattle.physical_turns.specs.Courses.{LeadsIn};
-ghost use Rattle.syscall_layer.specs.declared.reach.Reach.TheVariants.{Own};
-ghost use Rattle.syscall_layer.specs.InMemory.{physical_of};
-ghost use Rattle.syscall_layer.specs.Stands.{About, later, world_of};
+ghost use Rattle.kept_parts.specs.declared.reach.Reach.TheVariants.{Own};
+ghost use Rattle.kept_parts.specs.InMemory.{physical_of};
+ghost use Rattle.kept_parts.specs.Stands.{About, later, world_of};
 ghost use Rattle.flat_machine.specs.State.{is_whole, mode_within};
 ghost use Rattle.flat_machine.specs.LeavesIn.{HaltsWithin};
 
 use mmap_rules::Space;
 use region_watch::{Mode, Progress, Watch, Window, run_steps};
 use rv32im_step::Stop;
-use syscall_layer::{KeptParts, Reach};
+use kept_parts::{KeptParts, Reach};
 
 /// The own bytes of the program's block.
 fn window(space: &Space) -> Window

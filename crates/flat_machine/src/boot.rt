@@ -3,14 +3,14 @@
 ghost use Rattle.std.specs.Prelude.{◌≡◌, ◌<◌, ◌≤◌, ℕ, IfOk, false, Some, slice_get, length};
 ghost use Rattle.mem_files.specs.Paths.{lookup};
 ghost use Rattle.vfork_exec.specs.Procs.{count, most_entries};
-ghost use Rattle.syscall_layer.specs.Regular.{most_first};
+ghost use Rattle.kept_parts.specs.Regular.{most_first};
 ghost use Rattle.machine_world.specs.Ages.{AreChanged, most_at_boot};
-ghost use Rattle.syscall_layer.specs.Stands.{world_of};
+ghost use Rattle.kept_parts.specs.Stands.{world_of};
 ghost use Rattle.page_runs.specs.Choosers.{IsChooser, kind_of};
 ghost use Rattle.machine_world.specs.Boot.{boot, started};
 ghost use Rattle.manifest_text.specs.declared.manifest.Start.{Start as StartItem};
 ghost use Rattle.physical_turns.specs.Physical.{has_stray, opening};
-ghost use Rattle.syscall_layer.specs.InMemory.{headers_of, LaysOn};
+ghost use Rattle.kept_parts.specs.InMemory.{headers_of, LaysOn};
 ghost use Rattle.flat_machine.specs.State.{world, one_memory, rest_of, line_of, lines_of, about_boot};
 ghost use Rattle.flat_machine.specs.Boots.{marked, Boots, Begins, BeginsStays, BeginsWaits};
 
@@ -22,7 +22,8 @@ use mem_files::Tree;
 use page_runs::{Chooser, Run};
 use region_watch::Mode;
 use std::alloc::{AllocError, Global};
-use syscall_layer::{KeptParts, Parts, StartRefusal};
+use kept_parts::{KeptParts, StartRefusal};
+use syscall_layer::Parts;
 
 /// What a machine starts with.
 #[derive(Drop)]

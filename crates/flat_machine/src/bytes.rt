@@ -1,10 +1,10 @@
 //! The bytes of a process.
 
 ghost use Rattle.std.specs.Prelude.{◌≡◌, List, ℕ, IfOk, length, option_map};
-ghost use Rattle.syscall_layer.specs.declared.reach.Reach.TheVariants.{Own, Whole};
-ghost use Rattle.syscall_layer.specs.InMemory.{physical_of};
-ghost use Rattle.syscall_layer.specs.Reach.{whole_table};
-ghost use Rattle.syscall_layer.specs.Stands.{About, world_of};
+ghost use Rattle.kept_parts.specs.declared.reach.Reach.TheVariants.{Own, Whole};
+ghost use Rattle.kept_parts.specs.InMemory.{physical_of};
+ghost use Rattle.kept_parts.specs.Reach.{whole_table};
+ghost use Rattle.kept_parts.specs.Stands.{About, world_of};
 ghost use Rattle.region_watch.specs.declared.mode.Mode.TheVariants.{Halt, GoOn};
 ghost use Rattle.flat_machine.specs.State.{world, one_memory};
 ghost use Rattle.flat_machine.specs.OwnBytes.{own_bytes, memory_bytes};
@@ -13,7 +13,8 @@ use crate::machine::Machine;
 use mmap_rules::Owners;
 use region_watch::Mode;
 use std::alloc::AllocError;
-use syscall_layer::{KeptParts, Reach, Unread, read_range, table_of};
+use call_bytes::{Unread, read_range};
+use kept_parts::{KeptParts, Reach, table_of};
 
 /// A copy of the bytes of a process that lives, within this reach.
 fn copied(

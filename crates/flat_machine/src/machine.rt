@@ -7,7 +7,7 @@ ghost use Rattle.machine_world.specs.World.{program_path};
 ghost use Rattle.machine_world.specs.Programs.{AreLoaded};
 ghost use Rattle.physical_turns.specs.Physical.{has_stray};
 ghost use Rattle.waits_laws.specs.Laws.{IsOrdered};
-ghost use Rattle.syscall_layer.specs.Copies.{KnowsFiles};
+ghost use Rattle.kept_parts.specs.Copies.{KnowsFiles};
 ghost use Rattle.flat_machine.specs.State.{world};
 
 use crate::turn::tell_copies;
@@ -42,7 +42,7 @@ impl Model for Machine {
 impl Machine {
     /// How free runs are chosen. Of every machine it is so that its world is in order up to the first stray access, and that the files
     /// of its live copies are known.
-    #[tactic(auto, unfolding(syscall_layer::specs::Stands::world_of))]
+    #[tactic(auto, unfolding(kept_parts::specs::Stands::world_of))]
     pub fn kind(&self) -> Kind
         ensures kind { result ≡ (world self.now).rest.kind }
         ensures order { has_stray (world self.now).notes ≡ false → IsOrdered (world self.now) }
@@ -53,7 +53,7 @@ impl Machine {
     }
 
     /// How many events were carried out.
-    #[tactic(auto, unfolding(syscall_layer::specs::Stands::world_of))]
+    #[tactic(auto, unfolding(kept_parts::specs::Stands::world_of))]
     pub fn events(&self) -> u64
         ensures { result ≡ (world self.now).events }
     {
@@ -61,7 +61,7 @@ impl Machine {
     }
 
     /// All that was written to the console.
-    #[tactic(auto, unfolding(syscall_layer::specs::Stands::world_of))]
+    #[tactic(auto, unfolding(kept_parts::specs::Stands::world_of))]
     pub fn console(&self) -> &[u8]
         ensures { result.now ≡ (world self.now).rest.console }
     {

@@ -13,7 +13,7 @@ use Rattle.manifest_text.specs.Laws.{IsShort, Reasonable}
 use Rattle.flat_loader.specs.Begin.{Loading}
 use Rattle.machine_world.specs.World.{Rest, World}
 use Rattle.machine_world.specs.Boot.{StartLine, BootFault, bad_start, args_too_big, no_run, Found, found, path_of, placed, fitting, located, started, then_started, all_started, empty_world, begun, boot}
-use Rattle.syscall_layer.specs.Stands.{world_of}
+use Rattle.kept_parts.specs.Stands.{world_of}
 use Rattle.physical_turns.specs.Physical.{Physical, opening as memory_opening}
 use Rattle.flat_machine.specs.declared.boot.BootRefusal.{BootRefusal}
 use Rattle.flat_machine.specs.declared.boot.BootRefusal.TheVariants as refusal

@@ -5,7 +5,7 @@ use Rattle.manifest_text.specs.declared.manifest.Dump.{Dump}
 use Rattle.machine_world.specs.World.{World}
 use Rattle.machine_world.specs.Turns.{turns}
 use Rattle.physical_turns.specs.Physical.{Physical, physical_turns, has_stray}
-use Rattle.syscall_layer.specs.InMemory.{physical_of}
+use Rattle.kept_parts.specs.InMemory.{physical_of}
 use Rattle.region_watch.specs.declared.mode.Mode.{Mode}
 use Rattle.region_watch.specs.declared.mode.Mode.TheVariants.{Halt, GoOn}
 use Rattle.flat_machine.specs.declared.run.End.{End as Told}

@@ -9,7 +9,7 @@ use Rattle.machine_world.proofs.States.{is_called}
 use Rattle.physical_turns.specs.Physical.{Physical, has_stray, first_stray, with_stray, physical_event, carried_out, called_in}
 use Rattle.physical_turns.specs.Courses.{StandsIn}
 use Rattle.physical_turns.proofs.Moves.{carried_called}
-use Rattle.syscall_layer.specs.InMemory.{first_range, called_on}
+use Rattle.kept_parts.specs.InMemory.{first_range, called_on}
 use Rattle.syscall_layer.specs.CallEvents.{CallsAreEvents}
 
 module _ (p : Physical) (pid : ℕ) (stands_in : StandsIn p pid Call) (stands : has_stray p.world.notes ≡ false → StandsAt p.world pid Call) where

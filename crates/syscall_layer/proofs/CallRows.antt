@@ -14,10 +14,10 @@ use Rattle.machine_world.specs.Descriptors.{ioctl_row}
 use Rattle.machine_world.specs.Rows.{yield_row, brk_row, asks_pid, row}
 use Rattle.file_calls.specs.declared.call.Call.{Call}
 use Rattle.file_calls.specs.Calls.{MadeBy, is_change, is_output}
-use Rattle.syscall_layer.specs.declared.effect.Effect.TheVariants.{Answer, Yield, Break}
-use Rattle.syscall_layer.specs.Calls.{reply_of}
-use Rattle.syscall_layer.specs.MapsIn.{is_mapping}
-use Rattle.syscall_layer.proofs.Counts.{eqb_is}
+use Rattle.kept_parts.specs.declared.effect.Effect.TheVariants.{Answer, Yield, Break}
+use Rattle.kept_parts.specs.Calls.{reply_of}
+use Rattle.kept_parts.specs.MapsIn.{is_mapping}
+use Rattle.kept_parts.proofs.Counts.{eqb_is}
 
 -- ---- ioctl
 

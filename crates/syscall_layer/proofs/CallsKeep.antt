@@ -16,14 +16,14 @@ use Rattle.physical_turns.specs.Physical.{Physical, After, after, no_room, nobod
 use Rattle.physical_turns.specs.Physical as physical
 use Rattle.physical_turns.specs.After.{AfterHas}
 use Rattle.physical_turns.proofs.ByEventsIn.{Steady, by_effect_in}
-use Rattle.syscall_layer.specs.declared.answer.Served.{Served}
-use Rattle.syscall_layer.specs.declared.answer.Served.TheVariants as served
-use Rattle.syscall_layer.specs.declared.reach.Reach.{Reach}
-use Rattle.syscall_layer.specs.declared.reach.Reach.TheVariants.{Own, Whole}
-use Rattle.syscall_layer.specs.Kept.{Kept}
-use Rattle.syscall_layer.specs.Stands.{About, world_of}
-use Rattle.syscall_layer.specs.Serves.{Answered, Serves}
-use Rattle.syscall_layer.specs.InMemory.{physical_of, GoesIn, InReach}
+use Rattle.kept_parts.specs.declared.served.Served.{Served}
+use Rattle.kept_parts.specs.declared.served.Served.TheVariants as served
+use Rattle.kept_parts.specs.declared.reach.Reach.{Reach}
+use Rattle.kept_parts.specs.declared.reach.Reach.TheVariants.{Own, Whole}
+use Rattle.kept_parts.specs.Kept.{Kept}
+use Rattle.kept_parts.specs.Stands.{About, world_of}
+use Rattle.kept_parts.specs.Serves.{Answered, Serves}
+use Rattle.kept_parts.specs.InMemory.{physical_of, GoesIn, InReach}
 
 -- whether a stray access was noted, and how many pages there are
 abbrev pub Same : Bool → ℕ → World → Type 0

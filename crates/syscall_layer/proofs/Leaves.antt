@@ -17,19 +17,19 @@ use Rattle.vfork_exec.proofs.Places.{found}
 use Rattle.vfork_exec.proofs.Values.{process_wake}
 use Rattle.machine_world.specs.Event.{replied}
 use Rattle.file_calls.specs.declared.call.Call.{Call}
-use Rattle.syscall_layer.specs.declared.task.Task.{Task}
-use Rattle.syscall_layer.specs.declared.effect.Effect.{Effect}
-use Rattle.syscall_layer.specs.declared.effect.Effect.TheVariants.{Answer, Yield, Break}
-use Rattle.syscall_layer.specs.declared.answer.Served.{Served}
-use Rattle.syscall_layer.specs.declared.answer.Served.TheVariants.{TurnEnds, Waits, Stray}
-use Rattle.syscall_layer.specs.Kept.{Kept}
-use Rattle.syscall_layer.specs.Regular.{Regular}
-use Rattle.syscall_layer.specs.Stands.{About}
-use Rattle.syscall_layer.specs.Awake.{with_wakes, awake_in}
-use Rattle.syscall_layer.specs.Serves.{went_by, is_waiting, WaitsAt, Tells}
-use Rattle.syscall_layer.specs.Calls.{child_task, after_fork, after_reply, ask_in, reply_of, served_by}
-use Rattle.syscall_layer.proofs.Families.{can_run_lives, state_ready}
-use Rattle.syscall_layer.proofs.Forks.{parent_there}
+use Rattle.kept_parts.specs.declared.task.Task.{Task}
+use Rattle.kept_parts.specs.declared.effect.Effect.{Effect}
+use Rattle.kept_parts.specs.declared.effect.Effect.TheVariants.{Answer, Yield, Break}
+use Rattle.kept_parts.specs.declared.served.Served.{Served}
+use Rattle.kept_parts.specs.declared.served.Served.TheVariants.{TurnEnds, Waits, Stray}
+use Rattle.kept_parts.specs.Kept.{Kept}
+use Rattle.kept_parts.specs.Regular.{Regular}
+use Rattle.kept_parts.specs.Stands.{About}
+use Rattle.kept_parts.specs.Awake.{with_wakes, awake_in}
+use Rattle.kept_parts.specs.Serves.{went_by, is_waiting, WaitsAt, Tells}
+use Rattle.kept_parts.specs.Calls.{child_task, after_fork, after_reply, ask_in, reply_of, served_by}
+use Rattle.kept_parts.proofs.Families.{can_run_lives, state_ready}
+use Rattle.kept_parts.proofs.Forks.{parent_there}
 
 -- ---- the state of one process
 

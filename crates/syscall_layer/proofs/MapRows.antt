@@ -23,7 +23,7 @@ use Rattle.machine_world.specs.MapCalls.{side_of_content, side_of_node, side_of_
 use Rattle.file_calls.specs.declared.call.Call.{Call}
 use Rattle.file_calls.specs.Calls.{MadeBy}
 use Rattle.mmap_rules.specs.Copies.{IsKnown}
-use Rattle.syscall_layer.proofs.QuietRows.{Quiet}
+use Rattle.kept_parts.proofs.QuietRows.{Quiet}
 
 module _ (call : Call) (a : Ask) (made : MadeBy call a) where
   at_arg : (i : ℕ) → arg a i ≡ slice_index call.args i

@@ -29,8 +29,9 @@ use Rattle.file_calls.specs.declared.outcome.Outcome.{Outcome}
 use Rattle.file_calls.specs.Calls.{MadeBy, IsOutput, is_output, written_of}
 use Rattle.file_calls.specs.Outcomes.{GivesRow}
 use Rattle.file_calls.proofs.Listed.{listing_fits}
-use Rattle.syscall_layer.specs.Puts.{IsRange}
-use Rattle.syscall_layer.proofs.Counts.{decide, eqb_is}
+use Rattle.call_bytes.specs.Puts.{IsRange}
+use Rattle.call_bytes.proofs.Places.{decide}
+use Rattle.kept_parts.proofs.Counts.{eqb_is}
 
 -- every range of a reply, if there is one
 abbrev pub Ranged : Row → Type 0

@@ -45,12 +45,12 @@ use Rattle.machine_world.specs.Event.{ended, stepped, trapped, served, exited, a
 use Rattle.machine_world.specs.Boot.{BootFault, started, all_started, boot}
 use Rattle.physical_turns.specs.Physical.{Physical, After, after, no_room, nobody, laid_behind, waitid_in, answer_in, at_process, called_in, carried_out, physical_event, physical_turn, physical_turns, first_memory, opening}
 use Rattle.physical_turns.proofs.Samples.{caller, still, rest_of, start, q, loaded_at, headers}
-use Rattle.syscall_layer.specs.Kept.{Kept, nothing_yet}
-use Rattle.syscall_layer.specs.Copies.{KnowsFile, HoldsFiles, StillHolds}
+use Rattle.kept_parts.specs.Kept.{Kept, nothing_yet}
+use Rattle.kept_parts.specs.Copies.{KnowsFile, HoldsFiles, StillHolds}
 use Rattle.syscall_layer.specs.Parts.{AreTied}
-use Rattle.syscall_layer.specs.Reach.{whole_table}
-use Rattle.syscall_layer.specs.InMemory.{first_range, called_on}
-use Rattle.syscall_layer.proofs.Holding.{unstrayed_holds}
+use Rattle.kept_parts.specs.Reach.{whole_table}
+use Rattle.kept_parts.specs.InMemory.{first_range, called_on}
+use Rattle.kept_parts.proofs.Holding.{unstrayed_holds}
 
 -- what a call's first range is, whether its turn is over, what it notes, and what it leaves at some addresses of memory
 pub record Saw : Type 0 where

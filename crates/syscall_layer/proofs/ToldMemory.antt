@@ -30,20 +30,20 @@ use Rattle.file_calls.specs.Calls.{written_of}
 use Rattle.flat_loader.specs.Alone.{put_got}
 use Rattle.physical_turns.specs.Physical.{Physical, After, after, no_room, in_memory, laid_behind, behind, carried, outside, killed, put_in, answered_in, full_at, reaped_in, waitid_behind_in, waitid_in}
 use Rattle.physical_turns.proofs.InMemory.{answered_begins, waited_begins}
-use Rattle.syscall_layer.specs.declared.task.Task.{Task}
-use Rattle.syscall_layer.specs.declared.effect.Effect.TheVariants.{Answer}
-use Rattle.syscall_layer.specs.declared.reach.Reach.{Reach}
-use Rattle.syscall_layer.specs.declared.reach.Reach.TheVariants.{Own, Whole}
-use Rattle.syscall_layer.specs.declared.answer.Served.{Served}
-use Rattle.syscall_layer.specs.declared.answer.Served.TheVariants as result
-use Rattle.syscall_layer.specs.Kept.{Kept}
-use Rattle.syscall_layer.specs.Stands.{About, later, process_of, world_of}
-use Rattle.syscall_layer.specs.Families.{info_of}
-use Rattle.syscall_layer.specs.Serves.{Serves}
-use Rattle.syscall_layer.specs.InMemory.{physical_of, Over, GoesIn, ServesIn, UnlessStray, InReach}
-use Rattle.syscall_layer.specs.Calls.{IsCall, ask_in, given, reply_of}
-use Rattle.syscall_layer.proofs.Waits.{IsTold, looked_told, left_of, Behind, given_is, told_world, told_lives, told_is, waits_serve}
-use Rattle.syscall_layer.proofs.PlainMemory.{answered_never, waited_never, mute_carried, plain_in, plain_goes}
+use Rattle.kept_parts.specs.declared.task.Task.{Task}
+use Rattle.kept_parts.specs.declared.effect.Effect.TheVariants.{Answer}
+use Rattle.kept_parts.specs.declared.reach.Reach.{Reach}
+use Rattle.kept_parts.specs.declared.reach.Reach.TheVariants.{Own, Whole}
+use Rattle.kept_parts.specs.declared.served.Served.{Served}
+use Rattle.kept_parts.specs.declared.served.Served.TheVariants as result
+use Rattle.kept_parts.specs.Kept.{Kept}
+use Rattle.kept_parts.specs.Stands.{About, later, process_of, world_of}
+use Rattle.kept_parts.specs.Families.{info_of}
+use Rattle.kept_parts.specs.Serves.{Serves}
+use Rattle.kept_parts.specs.InMemory.{physical_of, Over, GoesIn, ServesIn, UnlessStray, InReach}
+use Rattle.kept_parts.specs.Calls.{IsCall, ask_in, given, reply_of}
+use Rattle.kept_parts.proofs.Waits.{IsTold, looked_told, left_of, Behind, given_is, told_world, told_lives, told_is, waits_serve}
+use Rattle.kept_parts.proofs.PlainMemory.{answered_never, waited_never, mute_carried, plain_in, plain_goes}
 
 -- ---- who dies leaves no children, so a child that it was told of is gone either way
 

@@ -4,7 +4,7 @@ use Rattle.rv32im_step.specs.declared.stop.Stop.TheVariants.{Call}
 use Rattle.machine_world.specs.Courses.{StandsAt}
 use Rattle.physical_turns.specs.Physical.{Physical, has_stray, physical_event}
 use Rattle.physical_turns.specs.Courses.{StandsIn}
-use Rattle.syscall_layer.specs.InMemory.{called_on}
+use Rattle.kept_parts.specs.InMemory.{called_on}
 
 -- where the next instruction of a process is an ECALL, over all of memory and, up to the run's first stray access, over its own bytes
 abbrev pub CallsAreEvents : Type 0

@@ -1,14 +1,15 @@
 -- The parts of a run.
-use Rattle.std.specs.Prelude.{◌≡◌, Bool, List, [], ◌∷◌, length, reverse, Option, Some, None}
+use Rattle.std.specs.Prelude.{◌≡◌, Bool, List, [], length, reverse, Option, None}
 use Rattle.bflt_format.specs.Values.{Values}
 use Rattle.call_log.specs.declared.how.Seen.{Seen}
-use Rattle.call_log.specs.Notes.{Note, call_note, load_note, end_note, stray_note}
+use Rattle.call_log.specs.Notes.{Note}
 use Rattle.mmap_rules.specs.declared.owners.PageOwner.{PageOwner}
 use Rattle.physical_turns.specs.Physical.{has_stray}
 use Rattle.region_watch.specs.declared.mode.Mode.{Mode}
 use Rattle.region_watch.specs.declared.mode.Mode.TheVariants.{Halt, GoOn}
-use Rattle.syscall_layer.specs.Kept.{Kept}
-use Rattle.syscall_layer.specs.Reach.{whole_table}
+use Rattle.kept_parts.specs.Kept.{Kept}
+use Rattle.kept_parts.specs.Noted.{first_noted}
+use Rattle.kept_parts.specs.Reach.{whole_table}
 
 -- what is kept of all programs, the programs that an execve may run, what becomes of the run at its first stray access, and whether one
 -- was noted
@@ -24,14 +25,6 @@ pub record AreTied (marked : Bool) (table : List PageOwner) (k : Kept) : Type 0 
   pub noted : marked ≡ has_stray k.notes
   pub whole : table ≡ whole_table (length k.regions)
   pub unmarked : k.files.changed ≡ []
-
--- the first stray access among notes that stand oldest first
-abbrev pub first_noted : List Note → Option Seen
-first_noted [] = None
-first_noted (call_note entry ∷ notes) = first_noted notes
-first_noted (load_note load ∷ notes) = first_noted notes
-first_noted (end_note pid how ∷ notes) = first_noted notes
-first_noted (stray_note pid seen ∷ notes) = Some seen
 
 -- where a run has ended that ends at its first stray access, by its notes, which stand newest first
 abbrev pub halted_at : Mode → List Note → Option Seen

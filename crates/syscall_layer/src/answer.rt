@@ -16,35 +16,33 @@ ghost use Rattle.machine_world.specs.Event.{called, classed, answered, exited, w
 ghost use Rattle.vfork_exec.specs.declared.family.State.TheVariants.{OnPipe};
 ghost use Rattle.file_calls.specs.Calls.{IsChange, IsOutput, Replies, written_of};
 ghost use Rattle.file_calls.specs.Outcomes.{GivesRow, CanTake, HasEnds};
-ghost use Rattle.syscall_layer.specs.declared.task.Task.{Task};
-ghost use Rattle.syscall_layer.specs.Stands.{About, process_of, world_of};
+ghost use Rattle.kept_parts.specs.declared.task.Task.{Task};
+ghost use Rattle.kept_parts.specs.Stands.{About, process_of, world_of};
 ghost use Rattle.region_watch.specs.Private.{physical};
 ghost use Rattle.physical_turns.specs.Physical.{outside, has_stray, carried, killed, settled_in, answered_in, classed_in, called_in};
 ghost use Rattle.region_watch.specs.declared.mode.Mode.TheVariants.{Halt, GoOn};
-ghost use Rattle.syscall_layer.specs.declared.reach.Reach.TheVariants.{Own, Whole};
-ghost use Rattle.syscall_layer.specs.declared.answer.Served.TheVariants.{Replied, TurnEnds, Waits, Stray};
-ghost use Rattle.syscall_layer.specs.Copies.{HoldsFiles, StillHolds};
-ghost use Rattle.syscall_layer.specs.InMemory.{headers_of, physical_of, ServesIn, InReach, ServesOn, first_range, with_range};
-ghost use Rattle.syscall_layer.specs.Reach.{writable, whole_table};
-ghost use Rattle.syscall_layer.specs.Serves.{Answered, Serves, Tells, WaitsAt, went_by};
+ghost use Rattle.kept_parts.specs.declared.reach.Reach.TheVariants.{Own, Whole};
+ghost use Rattle.kept_parts.specs.declared.served.Served.TheVariants.{Replied, TurnEnds, Waits, Stray};
+ghost use Rattle.kept_parts.specs.Copies.{HoldsFiles, StillHolds};
+ghost use Rattle.kept_parts.specs.InMemory.{headers_of, physical_of, ServesIn, InReach, ServesOn, first_range, with_range};
+ghost use Rattle.kept_parts.specs.Reach.{writable, whole_table};
+ghost use Rattle.kept_parts.specs.Serves.{Answered, Serves, Tells, WaitsAt, went_by};
 ghost use Rattle.mmap_rules.specs.Copies.{IsKnown};
-ghost use Rattle.syscall_layer.specs.Puts.{first_stray, access_at, IsRange};
-ghost use Rattle.syscall_layer.specs.Calls.{RunsIn, IsCall, ask_in, reply_of, given, served_by};
-ghost use Rattle.syscall_layer.specs.Flats.{AreFlats};
+ghost use Rattle.call_bytes.specs.Puts.{first_stray, access_at, IsRange};
+ghost use Rattle.kept_parts.specs.Calls.{RunsIn, IsCall, ask_in, reply_of, given, served_by};
+ghost use Rattle.kept_parts.specs.Flats.{AreFlats};
 
 use crate::call::call_of;
 use crate::classes::{is_change, is_exit, is_output};
-use crate::effect::{Effect, effect_of};
+use crate::effects::effect_of;
 use crate::family::{answer_clone, answer_exec, answer_waitid};
-use crate::kept::KeptParts;
-use crate::maps::want_of;
-use crate::output::{got_len, stray_put};
 use crate::parts::Parts;
-use crate::reach::{Reach, table_of};
-use crate::reading::Unread;
+use crate::want::want_of;
 use bflt_format::Flat;
+use call_bytes::{Unread, got_len, stray_put};
 use call_log::{Got, Log};
 use file_calls::{Call, Outcome, output, wait_of};
+use kept_parts::{Effect, KeptParts, Reach, Served, table_of};
 use mmap_rules::{Owners, Want};
 use page_runs::{Chooser, Run};
 use region_watch::Mode;
@@ -53,23 +51,6 @@ use std::alloc::AllocError;
 
 /// The signal of an access outside memory.
 const SIGSEGV: u8 = 11;
-
-/// What came of a system call.
-#[derive(Clone, Copy, Debug, PartialEq, Eq)]
-pub enum Served {
-    /// It has its reply, and the process goes on.
-    Replied,
-    /// It has its reply, and the turn is over.
-    TurnEnds,
-    /// It has no reply: the process waits, and makes it anew.
-    Waits,
-    /// The process ended.
-    Ended,
-    /// It would read or write what its process's space doesn't own, and nothing was done.
-    Stray(Access),
-    /// The log has no room for it, and nothing was done; but that it strays is noted, where a run goes on that met no stray access yet.
-    LogFull,
-}
 
 /// What came of a call that was carried out.
 fn served_by(effect: Effect) -> Served

@@ -1,21 +1,19 @@
 //! A system call, as a process makes it.
 
-ghost use Rattle.std.specs.Prelude.{◌≡◌, ◌<◌, ◌^◌, IfOk, length, slice_get, slice_index, Some};
+ghost use Rattle.std.specs.Prelude.{◌≡◌, ◌<◌, ◌^◌, IfOk, length, slice_index};
 ghost use Rattle.mmap_rules.specs.Held.{Held};
 ghost use Rattle.vfork_exec.specs.declared.entry.Entry.{Entry};
 ghost use Rattle.vfork_exec.specs.Procs.{Lives};
 ghost use Rattle.machine_world.specs.Event.{args_of};
-ghost use Rattle.syscall_layer.specs.declared.task.Task.{Task};
+ghost use Rattle.kept_parts.specs.declared.task.Task.{Task};
 ghost use Rattle.region_watch.specs.Private.{only, physical};
-ghost use Rattle.syscall_layer.specs.Calls.{RunsIn, Made};
-ghost use Rattle.syscall_layer.specs.Reach.{readable, whole_table};
-ghost use Rattle.syscall_layer.specs.Regular.{HasSpace};
+ghost use Rattle.kept_parts.specs.Calls.{RunsIn, Made};
+ghost use Rattle.kept_parts.specs.Reach.{readable, whole_table};
 
-use crate::kept::KeptParts;
-use crate::reach::{Reach, table_of};
-use crate::reading::{Unread, read_sent};
+use call_bytes::{Unread, read_sent};
 use file_calls::Call;
-use mmap_rules::{Owners, Space};
+use kept_parts::{KeptParts, Reach, table_of};
+use mmap_rules::Owners;
 use rv32im_step::Regs;
 
 /// The arguments of the call at which these registers stand.
@@ -25,17 +23,6 @@ fn args_of(regs: &Regs) -> [u32; 6]
 {
     let x = &regs.x;
     [x[10], x[11], x[12], x[13], x[14], x[15]]
-}
-
-/// The space of a number, which lives.
-pub fn home(spaces: &[Option<Space>], number: u32) -> &Space
-    requires { HasSpace spaces.now number }
-    ensures { slice_get spaces.now number ≡ Some (Some result.now) }
-{
-    match &spaces[number as usize] {
-        Some(space) => space,
-        None => unreachable!(),
-    }
 }
 
 /// The call at which a process stands, with the bytes that it reads within this reach.

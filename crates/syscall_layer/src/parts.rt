@@ -3,15 +3,14 @@
 ghost use Rattle.std.specs.Prelude.{◌≡◌, IfOk, option_map};
 ghost use Rattle.machine_world.specs.Turns.{seen_of};
 ghost use Rattle.physical_turns.specs.Physical.{has_stray};
-ghost use Rattle.syscall_layer.specs.Awake.{awake_in};
-ghost use Rattle.syscall_layer.specs.InMemory.{without_newest};
+ghost use Rattle.kept_parts.specs.Awake.{awake_in};
+ghost use Rattle.kept_parts.specs.InMemory.{without_newest};
 ghost use Rattle.syscall_layer.specs.Parts.{halted_at};
-ghost use Rattle.syscall_layer.specs.Reach.{is_whole, reach_of};
-ghost use Rattle.syscall_layer.specs.Regular.{IsRegular};
+ghost use Rattle.kept_parts.specs.Reach.{is_whole, reach_of};
+ghost use Rattle.kept_parts.specs.Regular.{IsRegular};
 
-use crate::kept::KeptParts;
-use crate::reach::{Reach, first_stray, whole_table};
 use bflt_format::Flat;
+use kept_parts::{KeptParts, Reach, first_stray, whole_table};
 use mmap_rules::Owners;
 use region_watch::Mode;
 use rv32im_step::Access;

@@ -14,7 +14,9 @@ use rv32im_step::{Access, AccessKind};
 use std::alloc::Global;
 use std::process::Abort;
 use std::test::*;
-use syscall_layer::{KeptParts, Parts, Served, program_strings, serve};
+use call_bytes::program_strings;
+use kept_parts::{KeptParts, Served};
+use syscall_layer::{Parts, serve};
 
 /// A flat file with a text of 32 bytes that begins with `hi`, a stack of 4096 bytes, and no records.
 const HI: [u8; 96] = [

@@ -59,7 +59,7 @@ fn booted(rt: HostRuntime, manifest: Manifest, file: &[u8]) -> Result<Machine, F
 }
 
 /// Runs a machine of few events by two quanta of so many: why it stops, its events, and how many notes there are then.
-#[tactic(auto, unfolding(syscall_layer::specs::Stands::world_of))]
+#[tactic(auto, unfolding(kept_parts::specs::Stands::world_of))]
 fn run(machine: &mut Machine, counts: [u32; 2]) -> Result<(End, u64, usize), Fail> {
     let chooser = Chooser::new(Kind::First, |runs: &[Run], need: u32| {
         first_fit(runs, need)

@@ -7,7 +7,7 @@ use fd_tables::Files;
 use mem_files::Tree;
 use page_runs::{Chooser, Kind, Run, first_fit};
 use std::test::*;
-use syscall_layer::{KeptParts, StartRefusal};
+use kept_parts::{KeptParts, StartRefusal};
 
 /// A flat file with a text of 32 bytes, of which the first four are an `ecall`, a stack of 4096 bytes, and no records.
 const SMALL: [u8; 96] = [

@@ -1,7 +1,7 @@
 //! What an execve reads, and the strings in it.
 
 use std::test::*;
-use syscall_layer::program_strings;
+use call_bytes::program_strings;
 
 /// The path "/a", and behind it the pointer 32 with "a", the pointer 40 with "bc", and the zero.
 const BOTH: [u8; 20] = [

@@ -1,8 +1,8 @@
 -- What instructions of the process leave, at the parts.
 use Rattle.std.proofs.Common.{sym, subst, ◌∙◌, arith}
 use Rattle.vfork_exec.specs.Procs.{CanRun}
-use Rattle.syscall_layer.specs.Kept.{Kept}
-use Rattle.syscall_layer.specs.Inside.{kept_of}
+use Rattle.kept_parts.specs.Kept.{Kept}
+use Rattle.kept_parts.specs.Inside.{kept_of}
 use Rattle.flat_machine.proofs.Advanced.{has_space, never_none, below}
 use Rattle.flat_machine.proofs.AdvancedIn.{space_paged, advances}
 use Rattle.flat_machine.proofs.NoneDone.{none_done}

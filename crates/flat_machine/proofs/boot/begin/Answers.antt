@@ -5,11 +5,11 @@ use Rattle.page_runs.specs.Choosers.{kind_of}
 use Rattle.flat_loader.specs.Original.{flat_original}
 use Rattle.machine_world.specs.World.{Rest}
 use Rattle.machine_world.specs.Boot.{found}
-use Rattle.syscall_layer.specs.Kept.{Kept}
-use Rattle.syscall_layer.specs.Stands.{world_of}
+use Rattle.kept_parts.specs.Kept.{Kept}
+use Rattle.kept_parts.specs.Stands.{world_of}
 use Rattle.flat_machine.specs.State.{line_of, about_boot}
 use Rattle.flat_machine.proofs.Found.{rest_tree, rest_programs, program_found, program_past, program_none, path_is, stands_at, none_stands, no_program, program_begins, program_too_big, program_no_run}
-use Rattle.syscall_layer.specs.InMemory.{headers_of}
+use Rattle.kept_parts.specs.InMemory.{headers_of}
 use Rattle.flat_machine.proofs.BootedIn.{header_at}
 use Rattle.flat_machine.proofs.boot.begin.Goals as goal
 

@@ -1,5 +1,5 @@
 -- What is read of a process's space, or of all of memory.
-use Rattle.syscall_layer.specs.Inside.{kept_of}
+use Rattle.kept_parts.specs.Inside.{kept_of}
 use Rattle.flat_machine.proofs.Copies.{none_lives, none_lives_in, copied_paged, copied_own, copied_whole, strays_own, strays_whole}
 use Rattle.flat_machine.proofs.bytes.copied.Goals as goal
 

@@ -1,8 +1,8 @@
 -- Each event, by the step at which the process stands.
 use Rattle.std.proofs.Common.{[], rules}
 use Rattle.physical_turns.specs.Physical.{called_in}
-use Rattle.syscall_layer.specs.InMemory.{headers_of, physical_of}
-use Rattle.syscall_layer.proofs.Abouts.{some_about}
+use Rattle.kept_parts.specs.InMemory.{headers_of, physical_of}
+use Rattle.kept_parts.proofs.Abouts.{some_about}
 use Rattle.flat_machine.proofs.Events.{call_replied, call_turn_ends, call_full, call_strays, trap_ends, refused_strays, nothing_done}
 use Rattle.flat_machine.proofs.EventsIn.{call_replied_in, call_turn_ends_in, call_full_in, call_strays_in, trap_ends_in, trap_fits_in, refused_in, err_within, unchanged_in, holds_own}
 use Rattle.flat_machine.proofs.turn.next_event.Goals as goal

@@ -1,6 +1,6 @@
 -- Out of reach of its own bytes an access strays, and out of memory it ends its process.
 use Rattle.physical_turns.specs.Physical.{died_in, outside}
-use Rattle.syscall_layer.specs.InMemory.{physical_of}
+use Rattle.kept_parts.specs.InMemory.{physical_of}
 use Rattle.flat_machine.proofs.EventsIn.{dies_not}
 use Rattle.flat_machine.proofs.turn.refused.Goals as goal
 

@@ -4,14 +4,14 @@ use Rattle.page_runs.specs.Choosers.{kind_of}
 use Rattle.rv32im_step.specs.declared.stop.Stop.TheVariants.{Next}
 use Rattle.physical_turns.specs.Physical.{has_stray}
 use Rattle.fd_tables.specs.Files.{OpenFiles}
-use Rattle.syscall_layer.specs.Stands.{later}
-use Rattle.syscall_layer.specs.InMemory.{headers_of, physical_of}
-use Rattle.syscall_layer.specs.Kept.{Kept}
-use Rattle.syscall_layer.specs.Reach.{whole_table}
+use Rattle.kept_parts.specs.Stands.{later}
+use Rattle.kept_parts.specs.InMemory.{headers_of, physical_of}
+use Rattle.kept_parts.specs.Kept.{Kept}
+use Rattle.kept_parts.specs.Reach.{whole_table}
 use Rattle.flat_machine.specs.declared.run.End.{End}
 use Rattle.flat_machine.specs.declared.run.End.TheVariants.{Stray}
 use Rattle.flat_machine.specs.declared.turn.After.TheVariants.{RunEnds}
-use Rattle.syscall_layer.proofs.Abouts.{some_about}
+use Rattle.kept_parts.proofs.Abouts.{some_about}
 use Rattle.flat_machine.proofs.Turned.{reached_none, reached_on, halts_stands, turn_all, turn_ends, turn_stops, turn_fails}
 use Rattle.flat_machine.proofs.TurnsIn.{all_within, less_within, standing, reached_in_none, reached_in_on, continues, ends_notes, ends_regions, turn_ends_in, is_stopped, turn_stops_in, fails_same, still_within, turn_fails_in, turn_all_in}
 use Rattle.flat_machine.proofs.turn.turn_within.Goals as goal

@@ -3,7 +3,7 @@ use Rattle.std.proofs.Common.{◌≡◌, ◌-◌, ◌≤◌, [], length}
 use Rattle.page_runs.specs.Choosers.{kind_of}
 use Rattle.vfork_exec.specs.Procs.{CanRun}
 use Rattle.physical_turns.specs.Physical.{has_stray}
-use Rattle.syscall_layer.specs.declared.reach.Reach.TheVariants.{Own}
+use Rattle.kept_parts.specs.declared.reach.Reach.TheVariants.{Own}
 use Rattle.flat_machine.specs.State.{is_whole}
 use Rattle.flat_machine.proofs.Turned.{Reached}
 use Rattle.flat_machine.proofs.TurnsIn.{ReachedIn}

@@ -6,15 +6,15 @@ use Rattle.machine_world.specs.Rows.{row}
 use Rattle.mmap_rules.specs.Held.{Held}
 use Rattle.vfork_exec.specs.declared.entry.Entry.{Entry}
 use Rattle.file_calls.specs.Calls.{WaitsOn, is_change}
-use Rattle.syscall_layer.specs.declared.task.Task.{Task}
-use Rattle.syscall_layer.specs.Kept.{Kept}
-use Rattle.syscall_layer.specs.Stands.{About}
-use Rattle.syscall_layer.specs.Calls.{RunsIn, IsCall, ask_in, reply_of}
-use Rattle.syscall_layer.specs.InMemory.{headers_of}
-use Rattle.syscall_layer.proofs.QuietRows.{mute_row, quiet_mute}
+use Rattle.kept_parts.specs.declared.task.Task.{Task}
+use Rattle.kept_parts.specs.Kept.{Kept}
+use Rattle.kept_parts.specs.Stands.{About}
+use Rattle.kept_parts.specs.Calls.{RunsIn, IsCall, ask_in, reply_of}
+use Rattle.kept_parts.specs.InMemory.{headers_of}
+use Rattle.kept_parts.proofs.QuietRows.{mute_row, quiet_mute}
 use Rattle.syscall_layer.proofs.MapRows.{quiet_munmap, quiet_mmap2}
-use Rattle.syscall_layer.proofs.Outcomes.{IsRow, made_by, files_in, change_row, output_row, number_row, plain_row, exit_classed, row_classed, wait_classed, effect_classed, waitid_classed, clone_classed, exec_classed}
-use Rattle.syscall_layer.proofs.CallsIn.{exit_reach, wait_reach, mute_reach, row_reach, carried_reach, effect_reach, waitid_reach, clone_reach, exec_reach}
+use Rattle.kept_parts.proofs.Outcomes.{IsRow, made_by, files_in, change_row, output_row, number_row, plain_row, exit_classed, row_classed, wait_classed, effect_classed, waitid_classed, clone_classed, exec_classed}
+use Rattle.kept_parts.proofs.CallsIn.{exit_reach, wait_reach, mute_reach, row_reach, carried_reach, effect_reach, waitid_reach, clone_reach, exec_reach}
 use Rattle.syscall_layer.proofs.answer.answer.Given.{Over}
 use Rattle.syscall_layer.proofs.answer.answer.Goals as goal
 

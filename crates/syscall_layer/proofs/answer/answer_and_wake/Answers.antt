@@ -3,11 +3,11 @@ use Rattle.std.proofs.Common.{sym, ◌∙◌}
 use Rattle.std.specs.Prelude.{Ok}
 use Rattle.machine_world.specs.Event.{classed}
 use Rattle.physical_turns.specs.Physical.{classed_in}
-use Rattle.syscall_layer.specs.Stands.{world_of}
-use Rattle.syscall_layer.specs.Calls.{ask_in}
-use Rattle.syscall_layer.specs.InMemory.{headers_of, physical_of}
-use Rattle.syscall_layer.proofs.Wakes.{settled_answers, unsettled_answers}
-use Rattle.syscall_layer.proofs.CallsIn.{settled_reach, unsettled_reach}
+use Rattle.kept_parts.specs.Stands.{world_of}
+use Rattle.kept_parts.specs.Calls.{ask_in}
+use Rattle.kept_parts.specs.InMemory.{headers_of, physical_of}
+use Rattle.kept_parts.proofs.Wakes.{settled_answers, unsettled_answers}
+use Rattle.kept_parts.proofs.CallsIn.{settled_reach, unsettled_reach}
 use Rattle.syscall_layer.proofs.Leaves.{stray_keeps, stray_never, yield_goes, yield_goes_on, wait_goes, wait_goes_on, wait_unnoted, wait_leaves_notes}
 use Rattle.syscall_layer.proofs.answer.answer_and_wake.Goals as goal
 

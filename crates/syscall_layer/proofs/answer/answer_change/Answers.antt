@@ -2,11 +2,11 @@
 use Rattle.std.proofs.Common.{true, false, length, refl, sym, ap, ◌∙◌}
 use Rattle.std.proofs.lemmas.Result.{err_from_is_err_and}
 use Rattle.file_calls.specs.Calls.{is_change}
-use Rattle.syscall_layer.specs.Inside.{kept_of}
-use Rattle.syscall_layer.specs.Calls.{ask_in}
-use Rattle.syscall_layer.proofs.Settled.{room_is}
-use Rattle.syscall_layer.proofs.QuietRows.{quiet_row}
-use Rattle.syscall_layer.proofs.Outcomes.{made_by, files_in, change_serves, quiet_full}
+use Rattle.kept_parts.specs.Inside.{kept_of}
+use Rattle.kept_parts.specs.Calls.{ask_in}
+use Rattle.kept_parts.proofs.Settled.{room_is}
+use Rattle.kept_parts.proofs.QuietRows.{quiet_row}
+use Rattle.kept_parts.proofs.Outcomes.{made_by, files_in, change_serves, quiet_full}
 use Rattle.syscall_layer.proofs.answer.answer_change.Goals as goal
 
 pub returns-then-not-has_room-clause-serves : goal.returns-then-not-has_room-clause-serves

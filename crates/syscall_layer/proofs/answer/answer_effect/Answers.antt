@@ -3,16 +3,16 @@ use Rattle.std.proofs.Common.{true, false, length, sym, subst}
 use Rattle.std.proofs.lemmas.Result.{err_from_is_err_and}
 use Rattle.machine_world.specs.Asks.{replies}
 use Rattle.machine_world.specs.Event.{answered}
-use Rattle.syscall_layer.specs.declared.answer.Served.{Served}
-use Rattle.syscall_layer.specs.Kept.{Kept}
-use Rattle.syscall_layer.specs.Inside.{kept_of}
-use Rattle.syscall_layer.specs.Stands.{world_of}
-use Rattle.syscall_layer.specs.Regular.{IsRegular}
-use Rattle.syscall_layer.specs.Serves.{Answered, Tells}
-use Rattle.syscall_layer.specs.Calls.{ask_in, reply_of, served_by}
-use Rattle.syscall_layer.proofs.Settled.{room_is}
-use Rattle.syscall_layer.proofs.Outcomes.{effect_serves, effect_full}
-use Rattle.syscall_layer.proofs.Runs.{runs_in}
+use Rattle.kept_parts.specs.declared.served.Served.{Served}
+use Rattle.kept_parts.specs.Kept.{Kept}
+use Rattle.kept_parts.specs.Inside.{kept_of}
+use Rattle.kept_parts.specs.Stands.{world_of}
+use Rattle.kept_parts.specs.Regular.{IsRegular}
+use Rattle.kept_parts.specs.Serves.{Answered, Tells}
+use Rattle.kept_parts.specs.Calls.{ask_in, reply_of, served_by}
+use Rattle.kept_parts.proofs.Settled.{room_is}
+use Rattle.kept_parts.proofs.Outcomes.{effect_serves, effect_full}
+use Rattle.kept_parts.proofs.Runs.{runs_in}
 use Rattle.syscall_layer.proofs.Leaves.{effect_leaves}
 use Rattle.syscall_layer.proofs.answer.answer_effect.Goals as goal
 

@@ -1,14 +1,14 @@
 -- An exit, or a log without room.
 use Rattle.std.proofs.Common.{true, false, length, sym, subst}
 use Rattle.machine_world.specs.Event.{exited}
-use Rattle.syscall_layer.specs.declared.answer.Served.TheVariants.{Ended}
-use Rattle.syscall_layer.specs.Kept.{Kept}
-use Rattle.syscall_layer.specs.Inside.{kept_of}
-use Rattle.syscall_layer.specs.Stands.{world_of}
-use Rattle.syscall_layer.specs.Serves.{Answered}
-use Rattle.syscall_layer.specs.Calls.{ask_in}
-use Rattle.syscall_layer.proofs.Settled.{room_is}
-use Rattle.syscall_layer.proofs.Outcomes.{exit_serves, exit_full}
+use Rattle.kept_parts.specs.declared.served.Served.TheVariants.{Ended}
+use Rattle.kept_parts.specs.Kept.{Kept}
+use Rattle.kept_parts.specs.Inside.{kept_of}
+use Rattle.kept_parts.specs.Stands.{world_of}
+use Rattle.kept_parts.specs.Serves.{Answered}
+use Rattle.kept_parts.specs.Calls.{ask_in}
+use Rattle.kept_parts.proofs.Settled.{room_is}
+use Rattle.kept_parts.proofs.Outcomes.{exit_serves, exit_full}
 use Rattle.syscall_layer.proofs.answer.answer_exit.Goals as goal
 
 pub returns-then-not-has_room-clause-serves : goal.returns-then-not-has_room-clause-serves

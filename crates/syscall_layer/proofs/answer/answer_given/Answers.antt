@@ -5,21 +5,21 @@ use Rattle.std.proofs.lemmas.Result.{err_from_is_err_and}
 use Rattle.file_calls.specs.Calls.{written_of}
 use Rattle.machine_world.specs.Asks.{replies}
 use Rattle.physical_turns.specs.Physical.{After, answered_in}
-use Rattle.syscall_layer.specs.declared.reach.Reach.{Reach}
-use Rattle.syscall_layer.specs.declared.reach.Reach.TheVariants.{Own}
-use Rattle.syscall_layer.specs.declared.answer.Served.TheVariants.{Replied, LogFull}
-use Rattle.syscall_layer.specs.Regular.{Regular}
-use Rattle.syscall_layer.specs.Copies.{HoldsFiles}
-use Rattle.syscall_layer.specs.Inside.{kept_of}
-use Rattle.syscall_layer.specs.Reach.{writable}
-use Rattle.syscall_layer.specs.Puts.{first_stray, access_at}
-use Rattle.syscall_layer.specs.InMemory.{physical_of, ServesIn}
-use Rattle.syscall_layer.specs.Calls.{ask_in, given}
-use Rattle.syscall_layer.proofs.Runs.{runs_in}
-use Rattle.syscall_layer.proofs.Families.{can_run_lives}
-use Rattle.syscall_layer.proofs.Outcomes.{output_serves, output_full}
-use Rattle.syscall_layer.proofs.CallsIn.{in_reach}
-use Rattle.syscall_layer.proofs.GivenMemory.{given_serves_in, given_full_in, given_strays_in, beyond, reach_inside, fits_unstrayed, strays_serve, found_by, none_beyond, room_by}
+use Rattle.kept_parts.specs.declared.reach.Reach.{Reach}
+use Rattle.kept_parts.specs.declared.reach.Reach.TheVariants.{Own}
+use Rattle.kept_parts.specs.declared.served.Served.TheVariants.{Replied, LogFull}
+use Rattle.kept_parts.specs.Regular.{Regular}
+use Rattle.kept_parts.specs.Copies.{HoldsFiles}
+use Rattle.kept_parts.specs.Inside.{kept_of}
+use Rattle.kept_parts.specs.Reach.{writable}
+use Rattle.call_bytes.specs.Puts.{first_stray, access_at}
+use Rattle.kept_parts.specs.InMemory.{physical_of, ServesIn}
+use Rattle.kept_parts.specs.Calls.{ask_in, given}
+use Rattle.kept_parts.proofs.Runs.{runs_in}
+use Rattle.kept_parts.proofs.Families.{can_run_lives}
+use Rattle.kept_parts.proofs.Outcomes.{output_serves, output_full}
+use Rattle.kept_parts.proofs.CallsIn.{in_reach}
+use Rattle.kept_parts.proofs.GivenMemory.{given_serves_in, given_full_in, given_strays_in, beyond, reach_inside, fits_unstrayed, strays_serve, found_by, none_beyond, room_by}
 use Rattle.syscall_layer.proofs.answer.answer_given.Goals.{After-give}
 use Rattle.syscall_layer.proofs.answer.answer_given.Goals as goal
 

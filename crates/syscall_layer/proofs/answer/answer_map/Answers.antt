@@ -12,15 +12,15 @@ use Rattle.machine_world.specs.Event.{answered}
 use Rattle.machine_world.specs.Rows.{row}
 use Rattle.physical_turns.specs.Physical.{carried}
 use Rattle.physical_turns.proofs.InMemory.{answered_begins}
-use Rattle.syscall_layer.specs.declared.task.Task.{Task}
-use Rattle.syscall_layer.specs.Kept.{Kept}
-use Rattle.syscall_layer.specs.Stands.{About, world_of}
-use Rattle.syscall_layer.specs.Serves.{Serves}
-use Rattle.syscall_layer.specs.InMemory.{physical_of, ServesIn}
-use Rattle.syscall_layer.specs.Calls.{RunsIn, IsCall, ask_in}
+use Rattle.kept_parts.specs.declared.task.Task.{Task}
+use Rattle.kept_parts.specs.Kept.{Kept}
+use Rattle.kept_parts.specs.Stands.{About, world_of}
+use Rattle.kept_parts.specs.Serves.{Serves}
+use Rattle.kept_parts.specs.InMemory.{physical_of, ServesIn}
+use Rattle.kept_parts.specs.Calls.{RunsIn, IsCall, ask_in}
 use Rattle.syscall_layer.proofs.MapRows.{row_mmap2}
-use Rattle.syscall_layer.proofs.Outcomes.{made_by, tree_in, files_in}
-use Rattle.syscall_layer.proofs.PlainMemory.{answered_never, plain_in}
+use Rattle.kept_parts.proofs.Outcomes.{made_by, tree_in, files_in}
+use Rattle.kept_parts.proofs.PlainMemory.{answered_never, plain_in}
 use Rattle.syscall_layer.proofs.answer.answer_map.Given.{Over}
 use Rattle.syscall_layer.proofs.answer.answer_map.Goals.{After-want_of}
 use Rattle.syscall_layer.proofs.answer.answer_map.Goals as goal

@@ -5,10 +5,10 @@ use Rattle.std.proofs.lemmas.Result.{err_from_is_err_and}
 use Rattle.machine_world.specs.Asks.{Row}
 use Rattle.machine_world.specs.Rows.{row}
 use Rattle.physical_turns.specs.Physical.{answered_in}
-use Rattle.syscall_layer.specs.InMemory.{physical_of, InReach}
-use Rattle.syscall_layer.specs.Calls.{ask_in}
-use Rattle.syscall_layer.proofs.Outcomes.{made_by, files_in, tree_in, output_answers}
-use Rattle.syscall_layer.proofs.CallsIn.{in_reach}
+use Rattle.kept_parts.specs.InMemory.{physical_of, InReach}
+use Rattle.kept_parts.specs.Calls.{ask_in}
+use Rattle.kept_parts.proofs.Outcomes.{made_by, files_in, tree_in, output_answers}
+use Rattle.kept_parts.proofs.CallsIn.{in_reach}
 use Rattle.syscall_layer.proofs.answer.answer_output.Goals as goal
 
 pub returns-in_err-outcome-clause-memory : goal.returns-in_err-outcome-clause-memory

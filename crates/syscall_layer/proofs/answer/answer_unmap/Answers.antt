@@ -5,15 +5,15 @@ use Rattle.std.proofs.lemmas.Result.{err_from_is_err_and}
 use Rattle.mmap_rules.specs.Mappings.{hit}
 use Rattle.machine_world.specs.Asks.{Row}
 use Rattle.machine_world.specs.Event.{answered}
-use Rattle.syscall_layer.specs.declared.answer.Served.TheVariants.{Replied}
-use Rattle.syscall_layer.specs.Inside.{kept_of}
-use Rattle.syscall_layer.specs.Stands.{world_of}
-use Rattle.syscall_layer.specs.Serves.{Answered}
-use Rattle.syscall_layer.specs.Calls.{ask_in}
-use Rattle.syscall_layer.proofs.Settled.{room_is}
-use Rattle.syscall_layer.proofs.QuietRows.{Quiet}
+use Rattle.kept_parts.specs.declared.served.Served.TheVariants.{Replied}
+use Rattle.kept_parts.specs.Inside.{kept_of}
+use Rattle.kept_parts.specs.Stands.{world_of}
+use Rattle.kept_parts.specs.Serves.{Answered}
+use Rattle.kept_parts.specs.Calls.{ask_in}
+use Rattle.kept_parts.proofs.Settled.{room_is}
+use Rattle.kept_parts.proofs.QuietRows.{Quiet}
 use Rattle.syscall_layer.proofs.MapRows.{row_munmap, quiet_unmaps}
-use Rattle.syscall_layer.proofs.Outcomes.{made_by, change_serves, quiet_full}
+use Rattle.kept_parts.proofs.Outcomes.{made_by, change_serves, quiet_full}
 use Rattle.syscall_layer.proofs.answer.answer_unmap.Goals as goal
 
 pub returns-then-not-has_room-clause-serves : goal.returns-then-not-has_room-clause-serves

@@ -3,16 +3,16 @@ use Rattle.std.proofs.Common.{refl, sym, ap, subst, ◌∙◌}
 use Rattle.vfork_exec.specs.declared.family.State.TheVariants.{OnPipe}
 use Rattle.vfork_exec.specs.Procs.{Listed, CanRun, with_wait_on}
 use Rattle.machine_world.specs.Event.{waited}
-use Rattle.syscall_layer.specs.declared.task.Task.{Task}
-use Rattle.syscall_layer.specs.declared.answer.Served.TheVariants.{Waits}
-use Rattle.syscall_layer.specs.Kept.{Kept}
-use Rattle.syscall_layer.specs.Inside.{kept_of}
-use Rattle.syscall_layer.specs.Regular.{Regular}
-use Rattle.syscall_layer.specs.Stands.{process_of, world_of}
-use Rattle.syscall_layer.specs.Serves.{Answered}
-use Rattle.syscall_layer.proofs.Runs.{runs_in}
-use Rattle.syscall_layer.proofs.Families.{can_run_lives}
-use Rattle.syscall_layer.proofs.Waits.{regular_waiting, waits_serve}
+use Rattle.kept_parts.specs.declared.task.Task.{Task}
+use Rattle.kept_parts.specs.declared.served.Served.TheVariants.{Waits}
+use Rattle.kept_parts.specs.Kept.{Kept}
+use Rattle.kept_parts.specs.Inside.{kept_of}
+use Rattle.kept_parts.specs.Regular.{Regular}
+use Rattle.kept_parts.specs.Stands.{process_of, world_of}
+use Rattle.kept_parts.specs.Serves.{Answered}
+use Rattle.kept_parts.proofs.Runs.{runs_in}
+use Rattle.kept_parts.proofs.Families.{can_run_lives}
+use Rattle.kept_parts.proofs.Waits.{regular_waiting, waits_serve}
 use Rattle.syscall_layer.proofs.Leaves.{waits_now}
 use Rattle.syscall_layer.proofs.answer.answer_wait.Goals as goal
 

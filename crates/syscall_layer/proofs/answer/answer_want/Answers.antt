@@ -4,16 +4,16 @@ use Rattle.std.proofs.lemmas.Result.{err_from_is_err_and}
 use Rattle.machine_world.specs.MapCalls.{mapped}
 use Rattle.machine_world.specs.Event.{answered}
 use Rattle.physical_turns.proofs.InMemory.{answered_begins}
-use Rattle.syscall_layer.specs.declared.answer.Served.TheVariants.{LogFull}
-use Rattle.syscall_layer.specs.Inside.{kept_of}
-use Rattle.syscall_layer.specs.Stands.{world_of}
-use Rattle.syscall_layer.specs.Calls.{ask_in}
-use Rattle.syscall_layer.proofs.Settled.{room_is}
-use Rattle.syscall_layer.proofs.QuietRows.{quiet_mute}
+use Rattle.kept_parts.specs.declared.served.Served.TheVariants.{LogFull}
+use Rattle.kept_parts.specs.Inside.{kept_of}
+use Rattle.kept_parts.specs.Stands.{world_of}
+use Rattle.kept_parts.specs.Calls.{ask_in}
+use Rattle.kept_parts.proofs.Settled.{room_is}
+use Rattle.kept_parts.proofs.QuietRows.{quiet_mute}
 use Rattle.syscall_layer.proofs.MapRows.{quiet_mapped}
-use Rattle.syscall_layer.proofs.MapMemory.{changed_goes}
-use Rattle.syscall_layer.proofs.Outcomes.{change_serves, quiet_full}
-use Rattle.syscall_layer.proofs.PlainMemory.{answered_never, plain_goes}
+use Rattle.kept_parts.proofs.MapMemory.{changed_goes}
+use Rattle.kept_parts.proofs.Outcomes.{change_serves, quiet_full}
+use Rattle.kept_parts.proofs.PlainMemory.{answered_never, plain_goes}
 use Rattle.syscall_layer.proofs.answer.answer_want.Goals as goal
 
 pub returns-then-not-has_room-clause-serves : goal.returns-then-not-has_room-clause-serves

@@ -3,7 +3,7 @@ use Rattle.std.proofs.Common.{◌≡◌, ◌+◌, ◌-◌, ◌^◌, min, length,
 use Rattle.call_log.specs.Notes.{has_room}
 use Rattle.call_log.specs.Values.{written_value}
 use Rattle.call_log.proofs.Room.{many_bytes}
-use Rattle.syscall_layer.specs.Puts.{bytes_of}
+use Rattle.call_bytes.specs.Puts.{bytes_of}
 use Rattle.syscall_layer.proofs.answer.has_room_with.Goals as goal
 
 pub returns : goal.returns

@@ -9,7 +9,7 @@ use Rattle.file_calls.specs.declared.call.Call.{Call}
 use Rattle.file_calls.specs.declared.outcome.Outcome.{Outcome}
 use Rattle.file_calls.specs.Calls.{IsOutput, written_of}
 use Rattle.file_calls.specs.Outcomes.{GivesRow}
-use Rattle.syscall_layer.specs.Puts.{IsRange}
+use Rattle.call_bytes.specs.Puts.{IsRange}
 use Rattle.syscall_layer.proofs.OutputRanges.{ranges_of}
 use Rattle.syscall_layer.proofs.answer.outcome_of.Goals as goal
 

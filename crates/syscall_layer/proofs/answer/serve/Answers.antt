@@ -2,10 +2,10 @@
 use Rattle.std.proofs.Common.{◌≡◌, refl, sym, ap, subst, ◌∙◌}
 use Rattle.std.specs.Prelude.{Ok}
 use Rattle.physical_turns.specs.Physical.{called_in}
-use Rattle.syscall_layer.specs.declared.reach.Reach.{Reach}
-use Rattle.syscall_layer.specs.InMemory.{headers_of, physical_of, InReach}
-use Rattle.syscall_layer.specs.Reach.{is_whole, whole_table}
-use Rattle.syscall_layer.proofs.Holding.{unstrayed_holds}
+use Rattle.kept_parts.specs.declared.reach.Reach.{Reach}
+use Rattle.kept_parts.specs.InMemory.{headers_of, physical_of, InReach}
+use Rattle.kept_parts.specs.Reach.{is_whole, whole_table}
+use Rattle.kept_parts.proofs.Holding.{unstrayed_holds}
 use Rattle.syscall_layer.proofs.CallsOn.{serves_unstrayed, notes_unstrayed, strays_by, notes_noted}
 use Rattle.syscall_layer.proofs.answer.serve.Goals as goal
 

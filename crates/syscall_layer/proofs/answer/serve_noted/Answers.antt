@@ -2,8 +2,8 @@
 use Rattle.std.proofs.Common.{◌≡◌, true, [], length, rules, ap, ◌∙◌}
 use Rattle.std.specs.Prelude.{IsOk}
 use Rattle.physical_turns.specs.Physical.{has_stray}
-use Rattle.syscall_layer.specs.InMemory.{headers_of}
-use Rattle.syscall_layer.specs.Kept.{Kept}
+use Rattle.kept_parts.specs.InMemory.{headers_of}
+use Rattle.kept_parts.specs.Kept.{Kept}
 use Rattle.syscall_layer.proofs.CallsOn.{noted_result, on_ok}
 use Rattle.syscall_layer.proofs.answer.serve_noted.Goals as goal
 

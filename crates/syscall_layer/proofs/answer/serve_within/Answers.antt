@@ -5,21 +5,21 @@ use Rattle.std.proofs.lemmas.Result.{err_from_is_err_and}
 use Rattle.page_runs.specs.Choosers.{kind_of}
 use Rattle.vfork_exec.specs.Procs.{value_at}
 use Rattle.physical_turns.specs.Physical.{called_in}
-use Rattle.syscall_layer.specs.declared.reading.Unread.{Unread}
-use Rattle.syscall_layer.specs.declared.reading.Unread.TheVariants.{Stray}
-use Rattle.syscall_layer.specs.Kept.{Kept}
-use Rattle.syscall_layer.specs.Regular.{IsRegular}
-use Rattle.syscall_layer.specs.Serves.{WaitsAt}
-use Rattle.syscall_layer.specs.declared.answer.Served.TheVariants.{Ended}
-use Rattle.syscall_layer.specs.declared.reach.Reach.TheVariants.{Own, Whole}
-use Rattle.syscall_layer.specs.InMemory.{headers_of, physical_of}
-use Rattle.syscall_layer.proofs.Abouts.{some_about, about_with, some_are_flats}
+use Rattle.call_bytes.specs.declared.reading.Unread.{Unread}
+use Rattle.call_bytes.specs.declared.reading.Unread.TheVariants.{Stray}
+use Rattle.kept_parts.specs.Kept.{Kept}
+use Rattle.kept_parts.specs.Regular.{IsRegular}
+use Rattle.kept_parts.specs.Serves.{WaitsAt}
+use Rattle.kept_parts.specs.declared.served.Served.TheVariants.{Ended}
+use Rattle.kept_parts.specs.declared.reach.Reach.TheVariants.{Own, Whole}
+use Rattle.kept_parts.specs.InMemory.{headers_of, physical_of}
+use Rattle.kept_parts.proofs.Abouts.{some_about, about_with, some_are_flats}
 use Rattle.syscall_layer.proofs.CallsKeep.{call_remains, remains_same}
 use Rattle.syscall_layer.proofs.CallsOn.{unchanged_by, on_err}
-use Rattle.syscall_layer.proofs.Families.{can_run_lives}
-use Rattle.syscall_layer.proofs.Holding.{unstrayed_holds}
-use Rattle.syscall_layer.proofs.Outcomes.{serve_call, serve_stray}
-use Rattle.syscall_layer.proofs.CallsIn.{MadeAs, own_made, call_goes, outside_ends, in_reach}
+use Rattle.kept_parts.proofs.Families.{can_run_lives}
+use Rattle.kept_parts.proofs.Holding.{unstrayed_holds}
+use Rattle.kept_parts.proofs.Outcomes.{serve_call, serve_stray}
+use Rattle.kept_parts.proofs.CallsIn.{MadeAs, own_made, call_goes, outside_ends, in_reach}
 use Rattle.syscall_layer.proofs.answer.serve_within.Goals as goal
 
 pub returns-in-Ok-clause-serves : goal.returns-in-Ok-clause-serves

@@ -8,11 +8,11 @@ use Rattle.region_watch.specs.Private.{only, physical, own_bytes}
 use Rattle.vfork_exec.specs.Procs.{Lives}
 use Rattle.machine_world.specs.Event.{number_of, args_of}
 use Rattle.file_calls.specs.declared.call.Call.{Call}
-use Rattle.syscall_layer.specs.Kept.{Kept}
-use Rattle.syscall_layer.specs.Inside.{kept_of}
-use Rattle.syscall_layer.specs.Calls.{RunsIn, IsCall, Made}
-use Rattle.syscall_layer.specs.Reach.{readable, whole_table}
-use Rattle.syscall_layer.proofs.Runs.{has_space, memory_reached, bytes_reached, home_at, sent_is, call_is, unread_is}
+use Rattle.kept_parts.specs.Kept.{Kept}
+use Rattle.kept_parts.specs.Inside.{kept_of}
+use Rattle.kept_parts.specs.Calls.{RunsIn, IsCall, Made}
+use Rattle.kept_parts.specs.Reach.{readable, whole_table}
+use Rattle.kept_parts.proofs.Runs.{has_space, memory_reached, bytes_reached, home_at, sent_is, call_is, unread_is}
 use Rattle.syscall_layer.proofs.call.call_of.Goals as goal
 
 pub read_sent-requires : goal.read_sent-requires

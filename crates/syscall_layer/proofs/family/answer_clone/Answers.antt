@@ -2,13 +2,13 @@
 use Rattle.std.proofs.Common.{true, false, length, sym, ap, subst, ◌∙◌}
 use Rattle.vfork_exec.specs.Procs.{most_entries, count}
 use Rattle.std.specs.Prelude.{nat_le}
-use Rattle.syscall_layer.specs.Kept.{Kept}
-use Rattle.syscall_layer.specs.Inside.{kept_of}
-use Rattle.syscall_layer.specs.Regular.{IsRegular}
-use Rattle.syscall_layer.proofs.Settled.{room_is}
-use Rattle.syscall_layer.proofs.Forks.{flags_serve, full_serves, fork_has_no_room, fork_serves}
-use Rattle.syscall_layer.proofs.Runs.{runs_in}
-use Rattle.syscall_layer.proofs.Families.{can_run_lives}
+use Rattle.kept_parts.specs.Kept.{Kept}
+use Rattle.kept_parts.specs.Inside.{kept_of}
+use Rattle.kept_parts.specs.Regular.{IsRegular}
+use Rattle.kept_parts.proofs.Settled.{room_is}
+use Rattle.kept_parts.proofs.Forks.{flags_serve, full_serves, fork_has_no_room, fork_serves}
+use Rattle.kept_parts.proofs.Runs.{runs_in}
+use Rattle.kept_parts.proofs.Families.{can_run_lives}
 use Rattle.syscall_layer.proofs.Leaves.{fork_leaves}
 use Rattle.syscall_layer.proofs.family.answer_clone.Goals as goal
 

@@ -9,15 +9,15 @@ use Rattle.call_log.specs.declared.errno.Errno.TheVariants.{Eacces, E2big, Ename
 use Rattle.call_log.specs.Sent.{has_zero}
 use Rattle.call_log.specs.Strings.{ProgramStrings, before_zero, program_strings}
 use Rattle.flat_loader.specs.Frame.{texts}
-use Rattle.syscall_layer.specs.declared.answer.Served.{Served}
-use Rattle.syscall_layer.specs.Kept.{Kept}
-use Rattle.syscall_layer.specs.Inside.{kept_of}
-use Rattle.syscall_layer.specs.Serves.{Tells}
-use Rattle.syscall_layer.specs.Families.{mark_at}
-use Rattle.syscall_layer.specs.InMemory.{headers_of}
-use Rattle.syscall_layer.proofs.Settled.{room_is}
-use Rattle.syscall_layer.proofs.ExecCalls.{no_path, no_strings, no_program, no_flat, runs_flat, by_outcome, by_refusal, exec_full}
-use Rattle.syscall_layer.proofs.ExecMemory.{full_in, header_listed, by_outcome_in, by_refusal_in}
+use Rattle.kept_parts.specs.declared.served.Served.{Served}
+use Rattle.kept_parts.specs.Kept.{Kept}
+use Rattle.kept_parts.specs.Inside.{kept_of}
+use Rattle.kept_parts.specs.Serves.{Tells}
+use Rattle.kept_parts.specs.Families.{mark_at}
+use Rattle.kept_parts.specs.InMemory.{headers_of}
+use Rattle.kept_parts.proofs.Settled.{room_is}
+use Rattle.kept_parts.proofs.ExecCalls.{no_path, no_strings, no_program, no_flat, runs_flat, by_outcome, by_refusal, exec_full}
+use Rattle.kept_parts.proofs.ExecMemory.{full_in, header_listed, by_outcome_in, by_refusal_in}
 use Rattle.syscall_layer.proofs.family.answer_exec.Given.{Over}
 use Rattle.syscall_layer.proofs.family.answer_exec.Goals.{After-program_strings, After-program_at}
 use Rattle.syscall_layer.proofs.family.answer_exec.Goals as goal

@@ -5,23 +5,23 @@ use Rattle.std.proofs.lemmas.Result.{err_from_is_err_and}
 use Rattle.vfork_exec.specs.Procs.{Listed, with_wait}
 use Rattle.machine_world.specs.Asks.{replies}
 use Rattle.machine_world.specs.Event.{answered, reaped}
-use Rattle.syscall_layer.specs.declared.task.Task.{Task}
-use Rattle.syscall_layer.specs.declared.answer.Served.{Served}
-use Rattle.syscall_layer.specs.declared.answer.Served.TheVariants.{Replied}
-use Rattle.syscall_layer.specs.Kept.{Kept}
-use Rattle.syscall_layer.specs.Inside.{kept_of}
-use Rattle.syscall_layer.specs.Regular.{Regular}
-use Rattle.syscall_layer.specs.Stands.{world_of}
-use Rattle.syscall_layer.specs.Puts.{IsRange}
+use Rattle.kept_parts.specs.declared.task.Task.{Task}
+use Rattle.kept_parts.specs.declared.served.Served.{Served}
+use Rattle.kept_parts.specs.declared.served.Served.TheVariants.{Replied}
+use Rattle.kept_parts.specs.Kept.{Kept}
+use Rattle.kept_parts.specs.Inside.{kept_of}
+use Rattle.kept_parts.specs.Regular.{Regular}
+use Rattle.kept_parts.specs.Stands.{world_of}
+use Rattle.call_bytes.specs.Puts.{IsRange}
 use Rattle.physical_turns.specs.Physical.{answered_in, reaped_in}
-use Rattle.syscall_layer.specs.InMemory.{physical_of, InReach}
-use Rattle.syscall_layer.specs.Serves.{Answered, Tells}
-use Rattle.syscall_layer.specs.Calls.{ask_in, given}
-use Rattle.syscall_layer.proofs.CallsIn.{in_reach}
-use Rattle.syscall_layer.proofs.Holding.{holds_inside}
-use Rattle.syscall_layer.proofs.GivenMemory.{is_unchanged}
+use Rattle.kept_parts.specs.InMemory.{physical_of, InReach}
+use Rattle.kept_parts.specs.Serves.{Answered, Tells}
+use Rattle.kept_parts.specs.Calls.{ask_in, given}
+use Rattle.kept_parts.proofs.CallsIn.{in_reach}
+use Rattle.kept_parts.proofs.Holding.{holds_inside}
+use Rattle.kept_parts.proofs.GivenMemory.{is_unchanged}
 use Rattle.syscall_layer.proofs.ToldMemory.{reach_goes, told_goes, untold_goes}
-use Rattle.syscall_layer.proofs.Waits.{info_ranges, regular_told, told_serves, untold_serves}
+use Rattle.kept_parts.proofs.Waits.{info_ranges, regular_told, told_serves, untold_serves}
 use Rattle.syscall_layer.proofs.family.answer_told.Goals as goal
 
 pub answer_given-requires-clause-ranges : goal.answer_given-requires-clause-ranges

@@ -6,21 +6,21 @@ use Rattle.vfork_exec.specs.declared.family.State.TheVariants.{Waiting}
 use Rattle.vfork_exec.specs.Procs.{Listed, CanRun, looked, with_wait, with_state_at}
 use Rattle.machine_world.specs.FamilyCalls.{may_wait}
 use Rattle.machine_world.specs.Event.{waitid}
-use Rattle.syscall_layer.specs.declared.task.Task.{Task}
-use Rattle.syscall_layer.specs.declared.answer.Served.TheVariants as served
-use Rattle.syscall_layer.specs.Kept.{Kept}
-use Rattle.syscall_layer.specs.Inside.{kept_of}
-use Rattle.syscall_layer.specs.Regular.{Regular}
-use Rattle.syscall_layer.specs.Stands.{world_of}
+use Rattle.kept_parts.specs.declared.task.Task.{Task}
+use Rattle.kept_parts.specs.declared.served.Served.TheVariants as served
+use Rattle.kept_parts.specs.Kept.{Kept}
+use Rattle.kept_parts.specs.Inside.{kept_of}
+use Rattle.kept_parts.specs.Regular.{Regular}
+use Rattle.kept_parts.specs.Stands.{world_of}
 use Rattle.physical_turns.specs.Physical.{waitid_in}
-use Rattle.syscall_layer.specs.InMemory.{physical_of, InReach}
-use Rattle.syscall_layer.specs.Serves.{Answered}
-use Rattle.syscall_layer.specs.Calls.{ask_in}
-use Rattle.syscall_layer.proofs.Runs.{runs_in}
-use Rattle.syscall_layer.proofs.Families.{can_run_lives}
-use Rattle.syscall_layer.proofs.CallsIn.{in_reach, same_reach}
+use Rattle.kept_parts.specs.InMemory.{physical_of, InReach}
+use Rattle.kept_parts.specs.Serves.{Answered}
+use Rattle.kept_parts.specs.Calls.{ask_in}
+use Rattle.kept_parts.proofs.Runs.{runs_in}
+use Rattle.kept_parts.proofs.Families.{can_run_lives}
+use Rattle.kept_parts.proofs.CallsIn.{in_reach, same_reach}
 use Rattle.syscall_layer.proofs.ToldMemory.{fault_in, looked_in, childless_in, waiting_in}
-use Rattle.syscall_layer.proofs.Waits.{is_told, looked_same, regular_waiting, waits_serve, fault_serves, looked_serves, childless_serves}
+use Rattle.kept_parts.proofs.Waits.{is_told, looked_same, regular_waiting, waits_serve, fault_serves, looked_serves, childless_serves}
 use Rattle.syscall_layer.proofs.Leaves.{waits_now}
 use Rattle.syscall_layer.proofs.family.answer_waitid.Goals as goal
 

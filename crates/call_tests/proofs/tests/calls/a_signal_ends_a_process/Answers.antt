@@ -1,9 +1,9 @@
 -- The first of those that may run can run.
 use Rattle.std.proofs.Common.{subst}
 use Rattle.vfork_exec.specs.Procs.{CanRun}
-use Rattle.syscall_layer.specs.Kept.{Kept}
-use Rattle.syscall_layer.specs.Inside.{kept_of}
-use Rattle.syscall_layer.proofs.Families.{can_run_ready}
+use Rattle.kept_parts.specs.Kept.{Kept}
+use Rattle.kept_parts.specs.Inside.{kept_of}
+use Rattle.kept_parts.proofs.Families.{can_run_ready}
 use Rattle.call_tests.proofs.tests.calls.a_signal_ends_a_process.Goals as goal
 
 pub end_by_signal-requires : goal.end_by_signal-requires

@@ -3,11 +3,11 @@ use Rattle.std.proofs.Common.{Some, arith, refl, sym, subst}
 use Rattle.std.specs.Prelude.{slice_index, slice_set}
 use Rattle.rv32im_step.specs.declared.regs.Regs.{Regs}
 use Rattle.vfork_exec.specs.Procs.{Lives, with_value_at}
-use Rattle.syscall_layer.specs.Kept.{Kept}
-use Rattle.syscall_layer.specs.Inside.{kept_of}
-use Rattle.syscall_layer.proofs.Runs.{has_space}
-use Rattle.syscall_layer.proofs.Stays.{set_kept}
-use Rattle.syscall_layer.proofs.Settled.{regular_replied}
+use Rattle.kept_parts.specs.Kept.{Kept}
+use Rattle.kept_parts.specs.Inside.{kept_of}
+use Rattle.kept_parts.proofs.Runs.{has_space}
+use Rattle.kept_parts.proofs.Stays.{set_kept}
+use Rattle.kept_parts.proofs.Settled.{regular_replied}
 use Rattle.call_tests.proofs.tests.calls.set_call.Goals as goal
 
 pub invariant_of-parts : goal.invariant_of-parts

@@ -1,7 +1,7 @@
 -- The notes are those of the parts.
 use Rattle.std.proofs.Common.{◌∙◌, rules}
 use Rattle.std.proofs.lemmas.List.{length-map}
-use Rattle.syscall_layer.specs.Stands.{world_of}
+use Rattle.kept_parts.specs.Stands.{world_of}
 use Rattle.flat_machine.specs.Inside.{state_of}
 use Rattle.flat_machine.proofs.Readers.{loads_of_world}
 use Rattle.flat_machine.proofs.machine.Machine.notes.Goals as goal

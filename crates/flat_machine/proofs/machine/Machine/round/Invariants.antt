@@ -6,7 +6,7 @@ use Rattle.physical_turns.specs.Physical.{has_stray}
 use Rattle.physical_turns.specs.Courses.{ComesIn}
 use Rattle.region_watch.specs.declared.mode.Mode.TheVariants.{GoOn}
 use Rattle.flat_machine.specs.State.{world, one_memory}
-use Rattle.syscall_layer.specs.Copies.{HoldsFiles}
+use Rattle.kept_parts.specs.Copies.{HoldsFiles}
 use Rattle.flat_machine.specs.RunsIn.{IsHalting}
 use Rattle.flat_machine.specs.LeavesIn.{LeavesFirst}
 use Rattle.flat_machine.proofs.machine.Machine.round.Given as goal

@@ -6,10 +6,10 @@ use Rattle.machine_world.specs.Turns.{turns}
 use Rattle.machine_world.proofs.RunLaws.{comes_none}
 use Rattle.physical_turns.proofs.TurnsIn.{comes_in_none}
 use Rattle.physical_turns.specs.Physical.{has_stray}
-use Rattle.syscall_layer.specs.Stands.{world_of}
+use Rattle.kept_parts.specs.Stands.{world_of}
 use Rattle.flat_machine.specs.declared.run.End.{End as Told}
 use Rattle.flat_machine.specs.declared.run.End.TheVariants as told
-use Rattle.syscall_layer.specs.Copies.{HoldsFiles}
+use Rattle.kept_parts.specs.Copies.{HoldsFiles}
 use Rattle.flat_machine.specs.LeavesIn.{is_stray}
 use Rattle.flat_machine.specs.RunsIn.{ends_astray, IsHalting}
 use Rattle.flat_machine.specs.State.{State, about_of, world, one_memory}
@@ -18,7 +18,7 @@ use Rattle.flat_machine.specs.Runs.{repeated, Ends}
 use Rattle.flat_machine.proofs.Rounds.{time_fits, one_more_time, time_on, time_ends, time_fails, machine_ends, runs_fail, run_keeps_stays}
 use Rattle.flat_machine.proofs.RoundsIn.{first_quiet, time_on_in, time_ends_in, time_fails_in, time_first, time_first_ends, all_comes_in, all_first, runs_fail_in, goes_on_fails}
 use Rattle.flat_machine.proofs.Waiting.{run_keeps_waits, run_waits_where_stuck}
-use Rattle.syscall_layer.proofs.NotedStrays.{none_halted}
+use Rattle.kept_parts.proofs.NotedStrays.{none_halted}
 use Rattle.flat_machine.proofs.machine.Machine.run_repeated.Given.{Over}
 use Rattle.flat_machine.proofs.machine.Machine.run_repeated.Goals as goal
 

@@ -7,7 +7,7 @@ use Rattle.physical_turns.specs.Courses.{ComesIn}
 use Rattle.region_watch.specs.declared.mode.Mode.TheVariants.{GoOn}
 use Rattle.flat_machine.specs.State.{world, one_memory}
 use Rattle.flat_machine.specs.Runs.{repeated}
-use Rattle.syscall_layer.specs.Copies.{HoldsFiles}
+use Rattle.kept_parts.specs.Copies.{HoldsFiles}
 use Rattle.flat_machine.specs.RunsIn.{IsHalting}
 use Rattle.flat_machine.specs.LeavesIn.{LeavesFirst}
 use Rattle.flat_machine.proofs.machine.Machine.run_repeated.Given as goal

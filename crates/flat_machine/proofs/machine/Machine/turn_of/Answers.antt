@@ -2,11 +2,11 @@
 use Rattle.std.proofs.Common.{◌≡◌, length, sym, ap, subst, ◌∙◌}
 use Rattle.std.specs.Prelude.{OnErr}
 use Rattle.std.proofs.lemmas.List.{length-map}
-use Rattle.syscall_layer.specs.declared.reach.Reach.{Reach}
-use Rattle.syscall_layer.specs.declared.reach.Reach.TheVariants.{Own}
-use Rattle.syscall_layer.specs.InMemory.{headers_of, physical_of}
-use Rattle.syscall_layer.specs.Reach.{reach_of}
-use Rattle.syscall_layer.specs.Stands.{later, world_of}
+use Rattle.kept_parts.specs.declared.reach.Reach.{Reach}
+use Rattle.kept_parts.specs.declared.reach.Reach.TheVariants.{Own}
+use Rattle.kept_parts.specs.InMemory.{headers_of, physical_of}
+use Rattle.kept_parts.specs.Reach.{reach_of}
+use Rattle.kept_parts.specs.Stands.{later, world_of}
 use Rattle.flat_machine.specs.State.{State, about_of, is_whole}
 use Rattle.flat_machine.specs.Inside.{state_of}
 use Rattle.flat_machine.specs.LeavesIn.{TurnLeavesIn, reach_behind}

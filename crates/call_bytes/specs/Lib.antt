@@ -1,0 +1,6 @@
+-- Reading  what the reading of a call's bytes answers
+-- StringsOf  the strings that an execve read, as the code gives them
+-- Puts     what a call writes into its caller's memory, range by range
+pub mod Reading
+pub mod StringsOf
+pub mod Puts

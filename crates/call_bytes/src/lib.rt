@@ -1,0 +1,13 @@
+//! What a system call reads of its caller's memory, and what it writes into it.
+//!
+//! What may stand here: the bytes of a call by the table of what its caller owns. What may not: files, processes, and what
+//! the call does.
+#![tactic(auto)]
+
+mod output;
+mod reading;
+mod strings;
+
+pub use output::{got_len, put, stray_put};
+pub use reading::{Unread, read_range, read_sent};
+pub use strings::{ProgramStrings, at_zero, program_strings};

@@ -1,0 +1,501 @@
+-- What comes of a call and of an end, in the world and in the parts.
+use Rattle.std.proofs.Common.{◌≡◌, ◌≢◌, ℕ, ◌+◌, Bool, true, false, List, [], ◌∷◌, length, Option, Some, None, refl, sym, ap, subst, ◌∙◌, add-zero}
+use Rattle.std.specs.Prelude.{if◌then◌else◌, ◌%◌, ◌==◌, option_map, Result, Ok, Err, slice_index}
+use Rattle.std.specs.declared.alloc.AllocError.{AllocError}
+use Rattle.byte_words.specs.ByteMap.{Bytes}
+use Rattle.rv32im_step.specs.declared.access.Access.{Access}
+use Rattle.rv32im_step.specs.declared.access.AccessKind.TheVariants as access_kind
+use Rattle.rv32im_step.specs.Registers.{register}
+use Rattle.call_log.specs.declared.how.How.{How}
+use Rattle.call_log.specs.declared.how.How.TheVariants.{Exit, Signal}
+use Rattle.call_log.specs.Notes.{Written, Note, call_note, end_note, weight_of, has_room}
+use Rattle.call_log.specs.Sent.{Span, sent}
+use Rattle.nommu_regions.specs.declared.region.Region.{Region}
+use Rattle.mmap_rules.specs.Held.{Held}
+use Rattle.mmap_rules.specs.Space.{Space, writable_in}
+use Rattle.mem_files.specs.Inodes.{Inodes}
+use Rattle.fd_tables.specs.Files.{OpenFiles}
+use Rattle.vfork_exec.specs.declared.entry.Entry.{Entry}
+use Rattle.vfork_exec.specs.declared.family.State.TheVariants.{OnPipe}
+use Rattle.vfork_exec.specs.Keyed.{find}
+use Rattle.vfork_exec.specs.Procs.{Lives, value_at}
+use Rattle.machine_world.specs.World.{Process, LiveSpace, World, pid_of, id_of}
+use Rattle.machine_world.specs.Asks.{Ask, Reply, Row, replies, waits}
+use Rattle.machine_world.specs.Rows.{row}
+use Rattle.machine_world.specs.Event.{Trace, Outcome, went, strays, full, with_space, counted, noted, departed, ended, number_of, args_of, entry_of, item_of, call_access, replied, served, put, put_got, waited, answered, exit_code, exited, is_exit, waitid, cloned, exec, classed, answer, asked, trapped, called, settled, at_process, by_process, in_space}
+use Rattle.kept_parts.specs.declared.task.Task.{Task}
+use Rattle.file_calls.specs.declared.call.Call.{Call}
+use Rattle.file_calls.specs.declared.outcome.Outcome.{Outcome as Output}
+use Rattle.file_calls.specs.Calls.{MadeBy, WaitsOn, is_change, is_output, with_all, after, written_of}
+use Rattle.kept_parts.specs.declared.effect.Effect.{Effect}
+use Rattle.kept_parts.specs.declared.effect.Effect.TheVariants.{Answer, Yield, Break}
+use Rattle.kept_parts.specs.declared.served.Served.{Served}
+use Rattle.kept_parts.specs.declared.served.Served.TheVariants.{Replied, Ended, LogFull, Stray}
+use Rattle.kept_parts.specs.Kept.{Kept}
+use Rattle.kept_parts.specs.Regular.{Regular}
+use Rattle.kept_parts.specs.Stands.{About, later, private_bytes, private_of, process_of, world_of, OthersSame}
+use Rattle.call_bytes.specs.Puts.{first_stray, access_at}
+use Rattle.kept_parts.specs.Serves.{Went, Answered, Serves, Died}
+use Rattle.kept_parts.specs.Gone.{gone}
+use Rattle.call_bytes.specs.declared.reading.Unread.TheVariants as unread
+use Rattle.kept_parts.specs.Calls.{RunsIn, IsCall, Made, Changed, given, Gave, reply_of, ask_in, served_by, noted_call, held_as, after_reply, exit_of, after_exit}
+use Rattle.std.proofs.lemmas.Option.{same_Some}
+use Rattle.call_bytes.proofs.Puts.{put_all, put_strays}
+use Rattle.kept_parts.proofs.QuietRows.{Quiet}
+use Rattle.kept_parts.proofs.Worlds.{find_space, find_process}
+use Rattle.kept_parts.proofs.Runs.{pid_found, value_found, runs_in}
+use Rattle.std.proofs.lemmas.Bool.{false≢true}
+use Rattle.vfork_exec.proofs.Keyed.{eqb_other}
+use Rattle.kept_parts.proofs.Gone.{gone_noted}
+use Rattle.kept_parts.proofs.Moves.{moved_world, moved_lives, gone_world, gone_dead}
+
+-- ---- the process and its space in the world
+
+module _ (a : About) (k : Kept) (pid : ℕ) (e : Entry Task) (h : Held) (runs : RunsIn k pid e h) where
+  pub process_there : find pid_of pid (world_of a k).procs ≡ Some (process_of e)
+  unfolding world_of
+  process_there = find_process pid k.procs.entries ∙ ap (option_map process_of) runs.lives
+
+  pub space_there : find id_of e.value.space (world_of a k).spaces ≡ Some (record { id = e.value.space; space = private_of k.mem h })
+  unfolding world_of
+  space_there = find_space k.mem k.spaces e.value.space h runs.home
+
+  pub acts_is : (act : Process → Space → Outcome) → at_process (world_of a k) pid act ≡ act (process_of e) (private_of k.mem h)
+  unfolding at_process
+  acts_is act =
+      ap (λ (o : Option Process). by_process (world_of a k).spaces act o) process_there
+      ∙ ap (λ (o : Option LiveSpace). in_space act (process_of e) o) space_there
+
+  pub called_is : called (world_of a k) pid ≡ settled (answer (world_of a k) (process_of e) (private_of k.mem h))
+  unfolding called
+  called_is = acts_is (λ p s. settled (answer (world_of a k) p s))
+
+-- the bytes that are read
+answer_is : (w : World) (p : Process) (s : Space) (found : Result (List ℕ) Span) → sent (number_of p.regs) (args_of p.regs) s.bytes ≡ found → answer w p s ≡ asked w p s found
+unfolding answer
+answer_is w p s found is = ap (asked w p s) is
+
+-- the call strays
+stray_serves : (a : About) (k : Kept) (pid : ℕ) (e : Entry Task) (h : Held) → RunsIn k pid e h → (span : Span) →
+    sent (number_of e.value.regs) (args_of e.value.regs) (private_bytes k.mem h) ≡ Err span → called (world_of a k) pid ≡ strays (call_access (process_of e) span)
+unfolding settled
+stray_serves a k pid e h runs span is = called_is a k pid e h runs ∙ ap settled (answer_is (world_of a k) (process_of e) (private_of k.mem h) (Err span) is)
+
+-- ---- classes
+
+class_exit : (w : World) (a : Ask) → is_exit a.number ≡ true → classed w a ≡ exited w a
+class_exit w a exits = rw exits refl
+
+-- a number of no class of its own
+pub record IsRow (n : ℕ) : Type 0 where
+  pub exits : is_exit n ≡ false
+  pub n95 : (n == 95) ≡ false
+  pub n220 : (n == 220) ≡ false
+  pub n221 : (n == 221) ≡ false
+
+class_row : (w : World) (a : Ask) (r : Row) → IsRow a.number → row a ≡ r → classed w a ≡ answered w a r
+class_row w a r c is =
+    ap (λ (b : Bool). if b then exited w a else if a.number == 95 then waitid w a else if a.number == 220 then cloned w a else if a.number == 221 then exec w a else answered w a (row a)) c.exits
+    ∙ ap (λ (b : Bool). if b then waitid w a else if a.number == 220 then cloned w a else if a.number == 221 then exec w a else answered w a (row a)) c.n95
+    ∙ ap (λ (b : Bool). if b then cloned w a else if a.number == 221 then exec w a else answered w a (row a)) c.n220
+    ∙ ap (λ (b : Bool). if b then exec w a else answered w a (row a)) c.n221
+    ∙ ap (answered w a) is
+
+class_waitid : (w : World) (a : Ask) → a.number ≡ 95 → classed w a ≡ waitid w a
+class_waitid w a is = rw is refl
+
+class_clone : (w : World) (a : Ask) → a.number ≡ 220 → classed w a ≡ cloned w a
+class_clone w a is = rw is refl
+
+class_exec : (w : World) (a : Ask) → a.number ≡ 221 → classed w a ≡ exec w a
+class_exec w a is = rw is refl
+
+-- a change or an output is a row
+module _ (n : ℕ) (goes : is_exit n ≡ false) where
+  pub plain_row : n ≢ 95 → n ≢ 220 → n ≢ 221 → IsRow n
+  plain_row n95 n220 n221 = record { exits = goes; n95 = eqb_other n 95 n95; n220 = eqb_other n 220 n220; n221 = eqb_other n 221 n221 }
+
+  isnt : (test : ℕ → Bool) (m : ℕ) → test n ≡ true → test m ≡ false → n ≢ m
+  isnt test m holds fails same = false≢true (sym fails ∙ ap test (sym same) ∙ holds)
+
+  pub change_row : is_change n ≡ true → IsRow n
+  change_row is = plain_row (isnt is_change 95 is refl) (isnt is_change 220 is refl) (isnt is_change 221 is refl)
+
+  pub output_row : is_output n ≡ true → IsRow n
+  output_row is = plain_row (isnt is_output 95 is refl) (isnt is_output 220 is refl) (isnt is_output 221 is refl)
+
+  pub number_row : (m : ℕ) → n ≡ m → (m == 95) ≡ false → (m == 220) ≡ false → (m == 221) ≡ false → IsRow n
+  number_row m is n95 n220 n221 = record { exits = goes; n95 = ap (λ x. x == 95) is ∙ n95; n220 = ap (λ x. x == 220) is ∙ n220; n221 = ap (λ x. x == 221) is ∙ n221 }
+
+-- a call that waits on a pipe is one
+pub waits_is : (r : Row) (pipe : ℕ) → WaitsOn r (Some pipe) → r ≡ waits (OnPipe pipe)
+waits_is (replies r) pipe is = absurd is
+waits_is (waits state) pipe is = ap waits is
+
+module _ (a : Ask) (pipe : ℕ) (is : WaitsOn (row a) (Some pipe)) where
+  waits_at : (n : ℕ) → a.number ≡ n → WaitsOn (row (record a { number = n })) (Some pipe)
+  waits_at n same = subst (λ (m : ℕ). WaitsOn (row (record a { number = m })) (Some pipe)) same is
+
+  pub wait_row : is_exit a.number ≡ false → IsRow a.number
+  unfolding row
+  wait_row goes = plain_row a.number goes (λ same. waits_at 95 same) (λ same. waits_at 220 same) (λ same. waits_at 221 same)
+
+-- ---- room in the log
+
+served_when : (w : World) (a : Ask) (r : Reply) (bytes : Bytes) → has_room w.notes (weight_of a.sent r.got) ≡ true →
+    served w a r bytes
+    ≡ went (noted (call_note (entry_of a r.value r.got)) (counted (with_space (record w { rest = r.rest }) a.process (replied a.process.regs r.value) (record r.space { bytes = bytes }))))
+    (record { space = a.process.space; events = 1; items = item_of (entry_of a r.value r.got) bytes ∷ []; begins = None; over = r.over })
+unfolding served
+served_when w a r bytes room = rw room refl
+
+served_full : (w : World) (a : Ask) (r : Reply) (bytes : Bytes) → has_room w.notes (weight_of a.sent r.got) ≡ false → served w a r bytes ≡ full
+unfolding served
+served_full w a r bytes room = rw room refl
+
+exited_when : (w : World) (a : Ask) → has_room w.notes (weight_of a.sent []) ≡ true →
+    exited w a
+    ≡ went (ended (noted (call_note (entry_of a 0 [])) (counted w)) a.process (Exit (exit_code a)))
+    (record { space = a.process.space; events = 1; items = record { entry = entry_of a 0 []; brought = [] } ∷ []; begins = None; over = true })
+unfolding exited
+exited_when w a room = rw room refl
+
+exited_full : (w : World) (a : Ask) → has_room w.notes (weight_of a.sent []) ≡ false → exited w a ≡ full
+unfolding exited
+exited_full w a room = rw room refl
+
+room_in : (a : About) (k : Kept) (bytes : List ℕ) (got : List Written) (b : Bool) → has_room k.notes (weight_of bytes got) ≡ b → has_room (world_of a k).notes (weight_of bytes got) ≡ b
+unfolding world_of
+room_in a k bytes got b room = room
+
+-- ---- what the parts are after it
+
+-- it went, and the parts stand for the world that it gives
+it_went : (a : About) (o : Outcome) (w : World) (t : Trace) (old new : Kept) (pid : ℕ) (s : Served) → o ≡ went w t → world_of (later 1 a) new ≡ w → Went t new pid s → Answered a o old new pid s
+it_went a o w t old new pid s is now done = subst (λ (x : Outcome). Answered a x old new pid s) (sym is) (sym now, done)
+
+went_by : (f : Effect) (ask : Ask) (t : Trace) (new : Kept) (pid : ℕ) → t.over ≡ (reply_of ask f).over → t.events ≡ 1 → Lives new.procs pid → Went t new pid (served_by f)
+went_by (Answer value) ask t new pid over events lives = (over, events, lives)
+went_by Yield ask t new pid over events lives = (over, events, lives)
+went_by (Break to) ask t new pid over events lives = (over, events, lives)
+
+same_entry : (p q n m : ℕ) (xs ys : List ℕ) (bytes : List ℕ) (value : ℕ) (got : List Written) → p ≡ q → n ≡ m → xs ≡ ys →
+    call_note (record { pid = p; call = n; args = xs; sent = bytes; reply = value; got = got }) ≡ call_note (record { pid = q; call = m; args = ys; sent = bytes; reply = value; got = got })
+same_entry p q n m xs ys bytes value got e f g = cc
+
+-- the files of the call are those of the parts
+pub files_in : (a : About) (k : Kept) (e : Entry Task) (h : Held) (call : Call) {files : OpenFiles} → k.files ≡ files → (ask_in a k e h call).rest.files ≡ files
+unfolding world_of
+files_in a k e h call is = is
+
+pub tree_in : (a : About) (k : Kept) (e : Entry Task) (h : Held) (call : Call) {tree : Inodes} → k.tree ≡ tree → (ask_in a k e h call).rest.tree ≡ tree
+unfolding world_of
+tree_in a k e h call is = is
+
+module _ (a : About) (k : Kept) (e : Entry Task) (h : Held) (call : Call) (runs : RunsIn k call.pid e h) (is : IsCall e call) where
+  -- a call without bytes weighs what it sends
+  weighs : (bytes : List ℕ) (b : Bool) → has_room k.notes (length bytes) ≡ b → has_room k.notes (weight_of bytes []) ≡ b
+  weighs bytes b room = ap (has_room k.notes) (add-zero (length bytes)) ∙ room
+
+  note_is : (value : ℕ) (got : List Written) → noted_call call value got ≡ call_note (entry_of (ask_in a k e h call) value got)
+  note_is value got = same_entry call.pid e.pid call.number (number_of e.value.regs) call.args (args_of e.value.regs) call.sent.items value got is.pid is.number is.args
+
+  pub call_answer : sent (number_of e.value.regs) (args_of e.value.regs) (private_bytes k.mem h) ≡ Ok call.sent.items →
+      called (world_of a k) call.pid ≡ settled (classed (world_of a k) (ask_in a k e h call))
+  call_answer reads = called_is a k call.pid e h runs ∙ ap settled (answer_is (world_of a k) (process_of e) (private_of k.mem h) (Ok call.sent.items) reads)
+
+  -- ---- a reply
+
+  abbrev ask : Ask
+  ask = ask_in a k e h call
+
+  -- which changes tree, files and console, and nothing else outside
+  module _ (value : ℕ) (got : List Written) (tree : Inodes) (files : OpenFiles) (console : List ℕ) (space : Space) (over : Bool) where
+    abbrev reply : Reply
+    reply = record { value = value; got = got; rest = with_all ask.rest tree files console; space = space; over = over }
+
+    answered_is : (found : Result Bytes Span) → put_got space.bytes (writable_in space.maps) got ≡ found →
+        answered (world_of a k) ask (replies reply) ≡ put (world_of a k) ask reply found
+    answered_is found = ap (put (world_of a k) ask reply)
+
+    -- and the space: its bytes are those of memory, behind what the call writes
+    module _ (mem : List ℕ) (rs : List Region) (pages : length rs ≡ length k.regions) (starts : List ℕ)
+        (puts : put_got space.bytes (writable_in space.maps) got ≡ Ok (private_bytes mem (held_as h space)))
+        (stays : record space { bytes = private_bytes mem (held_as h space) } ≡ private_of mem (held_as h space)) where
+      abbrev then_space : Space
+      then_space = record space { bytes = private_bytes mem (held_as h space) }
+
+      abbrev then_state : Space → World
+      then_state s = with_space (record (world_of a k) { rest = reply.rest }) (process_of e) (replied e.value.regs value) s
+
+      abbrev then_kept : Kept
+      then_kept = record (after_reply k e h call reply mem) { regions = rs; starts = starts }
+
+      after_world : OthersSame k e.value.space mem → world_of (later 1 a) then_kept ≡ noted (call_note (entry_of ask value got)) (counted (then_state then_space))
+      unfolding world_of
+      after_world others =
+          moved_world k call.pid e h runs (replied e.value.regs value) (held_as h space) mem others rs pages starts a 1 (noted_call call value got ∷ k.notes) tree files console
+          ∙ (λ i. record (then_state (sym stays i)) { notes = note_is value got i ∷ k.notes; events = a.events + 1 })
+
+      pub reply_serves : OthersSame k e.value.space mem → has_room k.notes (weight_of call.sent.items got) ≡ true →
+          (s : Served) → ((t : Trace) (new : Kept) → t.over ≡ over → t.events ≡ 1 → Lives new.procs call.pid → Went t new call.pid s) →
+          Answered a (answered (world_of a k) ask (replies reply)) k then_kept call.pid s
+      reply_serves others room s goes =
+          let t : Trace = record { space = e.value.space; events = 1; items = item_of (entry_of ask value got) then_space.bytes ∷ []; begins = None; over = over } in
+          it_went a (answered (world_of a k) ask (replies reply)) (noted (call_note (entry_of ask value got)) (counted (then_state then_space))) t k then_kept call.pid s
+          (answered_is (Ok then_space.bytes) puts ∙ served_when (world_of a k) ask reply then_space.bytes (room_in a k call.sent.items got true room))
+          (after_world others)
+          (goes t then_kept refl refl (moved_lives k call.pid e h runs (replied e.value.regs value) h k.mem))
+
+    pub reply_full : (bytes : Bytes) → put_got space.bytes (writable_in space.maps) got ≡ Ok bytes → has_room k.notes (weight_of call.sent.items got) ≡ false →
+        Answered a (answered (world_of a k) ask (replies reply)) k k call.pid LogFull
+    reply_full bytes puts room = subst (λ (o : Outcome). Answered a o k k call.pid LogFull)
+        (sym (answered_is (Ok bytes) puts ∙ served_full (world_of a k) ask reply bytes (room_in a k call.sent.items got false room))) refl
+
+    pub reply_strays : (span : Span) → put_got space.bytes (writable_in space.maps) got ≡ Err span →
+        Answered a (answered (world_of a k) ask (replies reply)) k k call.pid (Stray (access_at e.value.regs.pc span))
+    reply_strays span puts = subst (λ (o : Outcome). Answered a o k k call.pid (Stray (access_at e.value.regs.pc span))) (sym (answered_is (Err span) puts)) (refl, refl)
+
+  -- ---- by an effect
+
+  module _ (f : Effect) where
+    abbrev effect_reply : Reply
+    effect_reply = reply_of ask f
+
+    effect_shape : effect_reply ≡ reply effect_reply.value [] k.tree k.files k.console effect_reply.space effect_reply.over
+    unfolding world_of
+    effect_shape = shape f
+      where
+        shape : (g : Effect) → reply_of ask g ≡ reply (reply_of ask g).value [] k.tree k.files k.console (reply_of ask g).space (reply_of ask g).over
+        shape (Answer value) = refl
+        shape Yield = refl
+        shape (Break to) = refl
+
+    bytes_stay : (g : Effect) → ◌≡◌ {A = Result Bytes Span} (Ok (reply_of ask g).space.bytes) (Ok (private_bytes k.mem (held_as h (reply_of ask g).space)))
+    unfolding private_bytes
+    bytes_stay (Answer value) = refl
+    bytes_stay Yield = refl
+    bytes_stay (Break to) = refl
+
+    space_stays : (g : Effect) → record (reply_of ask g).space { bytes = private_bytes k.mem (held_as h (reply_of ask g).space) } ≡ private_of k.mem (held_as h (reply_of ask g).space)
+    space_stays (Answer value) = refl
+    space_stays Yield = refl
+    space_stays (Break to) = refl
+
+    pub effect_serves : has_room k.notes (length call.sent.items) ≡ true →
+        Answered a (answered (world_of a k) ask (replies effect_reply)) k (after_reply k e h call effect_reply k.mem) call.pid (served_by f)
+    effect_serves room =
+        subst (λ (r : Reply). Answered a (answered (world_of a k) ask (replies r)) k (after_reply k e h call r k.mem) call.pid (served_by f)) (sym effect_shape)
+        (reply_serves effect_reply.value [] k.tree k.files k.console effect_reply.space effect_reply.over k.mem k.regions refl k.starts (bytes_stay f) (space_stays f) (λ j o other there. refl)
+        (weighs call.sent.items true room) (served_by f) (λ t n. went_by f ask t n call.pid))
+
+    pub effect_full : has_room k.notes (length call.sent.items) ≡ false → Answered a (answered (world_of a k) ask (replies effect_reply)) k k call.pid LogFull
+    effect_full room =
+        subst (λ (r : Reply). Answered a (answered (world_of a k) ask (replies r)) k k call.pid LogFull) (sym effect_shape)
+        (reply_full effect_reply.value [] k.tree k.files k.console effect_reply.space effect_reply.over effect_reply.space.bytes refl (weighs call.sent.items false room))
+
+  -- ---- by a change of files
+
+  pub change_serves : (rows : Row) (new : Kept) → Changed a k e h call rows new → has_room k.notes (length call.sent.items) ≡ true →
+      Answered a (answered (world_of a k) ask rows) k new call.pid Replied
+  change_serves rows new c room =
+      let r = c.reply in
+      let g : Held = held_as h r.space in
+      let shape : r ≡ reply r.value [] r.rest.tree r.rest.files r.rest.console r.space false =
+      (λ i. record { value = r.value; got = c.got i; rest = c.rest i; space = r.space; over = c.over i }) in
+      let served = reply_serves r.value [] r.rest.tree r.rest.files r.rest.console r.space false new.mem new.regions c.pages new.starts
+      (ap (λ (s : Space). Ok s.bytes) c.space) (ap (λ (s : Space). record s { bytes = private_bytes new.mem g }) c.space) c.others
+      (weighs call.sent.items true room) Replied (λ t n over events lives. (over, events, lives)) in
+      let by_reply = subst (λ (x : Reply). Answered a (answered (world_of a k) ask (replies x)) k (record (after_reply k e h call x new.mem) { regions = new.regions; starts = new.starts }) call.pid Replied) (sym shape) served in
+      let by_new = subst (λ (x : Kept). Answered a (answered (world_of a k) ask (replies r)) k x call.pid Replied) (sym c.after) by_reply in
+      subst (λ (x : Row). Answered a (answered (world_of a k) ask x) k new call.pid Replied) (sym c.replies) by_new
+
+  pub quiet_full : (rows : Row) → Quiet rows → has_room k.notes (length call.sent.items) ≡ false → Answered a (answered (world_of a k) ask rows) k k call.pid LogFull
+  quiet_full rows quiet room = by_row rows quiet
+    where
+      by_row : (x : Row) → Quiet x → Answered a (answered (world_of a k) ask x) k k call.pid LogFull
+      by_row (replies r) got = subst (λ (o : Outcome). Answered a o k k call.pid LogFull) (sym (is_full r got)) refl
+        where
+          is_full : (r : Reply) → r.got ≡ [] → answered (world_of a k) ask (replies r) ≡ full
+          is_full r got =
+              ap (λ (gots : List Written). put (world_of a k) ask r (put_got r.space.bytes (writable_in r.space.maps) gots)) got
+              ∙ served_full (world_of a k) ask r r.space.bytes (ap (λ (gots : List Written). has_room (world_of a k).notes (weight_of call.sent.items gots)) got ∙ room_in a k call.sent.items [] false (weighs call.sent.items false room))
+      by_row (waits who) quiet = absurd quiet
+
+  -- ---- by an output
+
+  module _ (o : Output) where
+    abbrev files_then : OpenFiles
+    files_then = after o.then e.value.table k.files
+
+    given_shape : given ask o ≡ reply o.value (written_of o) k.tree files_then k.console (private_of k.mem h) false
+    unfolding world_of
+    given_shape = refl
+
+    private_is : (mem : List ℕ) → record (private_of k.mem h) { bytes = private_bytes mem h } ≡ private_of mem h
+    private_is mem = refl
+
+    pub output_serves : (new : Kept) → Gave a k e h call o new → has_room k.notes (weight_of call.sent.items (written_of o)) ≡ true →
+        Answered a (answered (world_of a k) ask (replies (given ask o))) k new call.pid Replied
+    output_serves new c room =
+        let served = reply_serves o.value (written_of o) k.tree files_then k.console (private_of k.mem h) false new.mem k.regions refl k.starts c.put (private_is new.mem) c.others room Replied (λ t n over events lives. (over, events, lives)) in
+        let by_reply = subst (λ (x : Reply). Answered a (answered (world_of a k) ask (replies x)) k (after_reply k e h call x new.mem) call.pid Replied) (sym given_shape) served in
+        subst (λ (x : Kept). Answered a (answered (world_of a k) ask (replies (given ask o))) k x call.pid Replied) (sym c.after) by_reply
+
+    pub output_full : first_stray (writable_in h.maps) (written_of o) ≡ None → has_room k.notes (weight_of call.sent.items (written_of o)) ≡ false →
+        Answered a (answered (world_of a k) ask (replies (given ask o))) k k call.pid LogFull
+    output_full fits room =
+        let all = put_all (private_bytes k.mem h) (writable_in h.maps) (written_of o) fits in
+        subst (λ (x : Reply). Answered a (answered (world_of a k) ask (replies x)) k k call.pid LogFull) (sym given_shape)
+        (reply_full o.value (written_of o) k.tree files_then k.console (private_of k.mem h) false all.0 all.1 room)
+
+    pub output_strays : (access : Access) → Some access ≡ option_map (access_at e.value.regs.pc) (first_stray (writable_in h.maps) (written_of o)) →
+        Answered a (answered (world_of a k) ask (replies (given ask o))) k k call.pid (Stray access)
+    output_strays access is = by_span (first_stray (writable_in h.maps) (written_of o)) refl is
+      where
+        by_span : (found : Option Span) → first_stray (writable_in h.maps) (written_of o) ≡ found → Some access ≡ option_map (access_at e.value.regs.pc) found →
+            Answered a (answered (world_of a k) ask (replies (given ask o))) k k call.pid (Stray access)
+        by_span None there is = absurd cc
+        by_span (Some span) there is =
+            let seen : access_at e.value.regs.pc span ≡ access = same_Some _ _ (sym is) in
+            subst (λ (x : Access). Answered a (answered (world_of a k) ask (replies (given ask o))) k k call.pid (Stray x)) seen
+            (subst (λ (x : Reply). Answered a (answered (world_of a k) ask (replies x)) k k call.pid (Stray (access_at e.value.regs.pc span))) (sym given_shape)
+            (reply_strays o.value (written_of o) k.tree files_then k.console (private_of k.mem h) false span (put_strays (private_bytes k.mem h) (writable_in h.maps) (written_of o) span there)))
+
+    -- it is the row of the call
+    pub output_answers : (result : Result Served AllocError) (new : Kept) → row ask ≡ replies (given ask o) →
+        Serves a (answered (world_of a k) ask (replies (given ask o))) k new call.pid result → Serves a (answered (world_of a k) ask (row ask)) k new call.pid result
+    output_answers result new gives = subst (λ (x : Row). Serves a (answered (world_of a k) ask x) k new call.pid result) (sym gives)
+
+  -- ---- an exit
+
+  abbrev exit_how : How
+  exit_how = Exit (slice_index call.args 0 % 256)
+
+  exit_how_is : exit_how ≡ Exit (exit_code (ask_in a k e h call))
+  unfolding register
+  exit_how_is = ap (λ (xs : List ℕ). Exit (slice_index xs 0 % 256)) is.args
+
+  after_exit_world : world_of (later 1 a) (after_exit k e h call)
+      ≡ ended (noted (call_note (entry_of (ask_in a k e h call) 0 [])) (counted (world_of a k))) (process_of e) (Exit (exit_code (ask_in a k e h call)))
+  unfolding world_of ended
+  after_exit_world =
+      gone_world k call.pid e h runs exit_how a 1 (end_note call.pid exit_how ∷ noted_call call 0 [] ∷ k.notes)
+      ∙ ap (λ (note : Note). record (departed (world_of a k) (process_of e) exit_how) { notes = end_note call.pid exit_how ∷ note ∷ k.notes; events = a.events + 1 }) (note_is 0 [])
+      ∙ ap (λ (pid : ℕ). record (departed (world_of a k) (process_of e) exit_how) { notes = end_note pid exit_how ∷ call_note (entry_of (ask_in a k e h call) 0 []) ∷ k.notes; events = a.events + 1 }) is.pid
+      ∙ ap (λ (how : How). record (departed (world_of a k) (process_of e) how) { notes = end_note e.pid how ∷ call_note (entry_of (ask_in a k e h call) 0 []) ∷ k.notes; events = a.events + 1 }) exit_how_is
+
+  pub exit_serves : has_room k.notes (length call.sent.items) ≡ true → Answered a (exited (world_of a k) (ask_in a k e h call)) k (after_exit k e h call) call.pid Ended
+  exit_serves room =
+      it_went a (exited (world_of a k) (ask_in a k e h call)) _
+      (record { space = e.value.space; events = 1; items = record { entry = entry_of (ask_in a k e h call) 0 []; brought = [] } ∷ []; begins = None; over = true })
+      k (after_exit k e h call) call.pid Ended
+      (exited_when (world_of a k) (ask_in a k e h call) (room_in a k call.sent.items [] true (weighs call.sent.items true room)))
+      after_exit_world
+      (refl, refl, gone_dead k call.pid e h runs exit_how)
+
+  pub exit_full : has_room k.notes (length call.sent.items) ≡ false → Answered a (exited (world_of a k) (ask_in a k e h call)) k k call.pid LogFull
+  exit_full room = subst (λ (o : Outcome). Answered a o k k call.pid LogFull) (sym (exited_full (world_of a k) (ask_in a k e h call) (room_in a k call.sent.items [] false (weighs call.sent.items false room)))) refl
+
+  -- ---- either
+
+  pub made_by : MadeBy call (ask_in a k e h call)
+  made_by = record { pid = sym is.pid; parent = sym is.parent; table = sym is.table; number = sym is.number; args = sym is.args; sent = refl }
+
+  module _ (new : Kept) (result : Result Served AllocError) where
+    by_outcome : (o : Outcome) → classed (world_of a k) (ask_in a k e h call) ≡ o → Serves a o k new call.pid result → Serves a (classed (world_of a k) (ask_in a k e h call)) k new call.pid result
+    by_outcome o same serves = subst (λ (x : Outcome). Serves a x k new call.pid result) (sym same) serves
+
+    pub exit_classed : is_exit call.number ≡ true → Serves a (exited (world_of a k) (ask_in a k e h call)) k new call.pid result → Serves a (classed (world_of a k) (ask_in a k e h call)) k new call.pid result
+    exit_classed exits = by_outcome (exited (world_of a k) (ask_in a k e h call)) (class_exit (world_of a k) (ask_in a k e h call) (ap is_exit (sym is.number) ∙ exits))
+
+    pub row_classed : IsRow call.number → Serves a (answered (world_of a k) ask (row ask)) k new call.pid result → Serves a (classed (world_of a k) (ask_in a k e h call)) k new call.pid result
+    row_classed goes = by_outcome (answered (world_of a k) ask (row ask)) (class_row (world_of a k) ask (row ask) (subst IsRow is.number goes) refl)
+
+    pub wait_classed : (pipe : ℕ) → is_exit call.number ≡ false → WaitsOn (row ask) (Some pipe) → Serves a (waited (world_of a k) (process_of e) (OnPipe pipe)) k new call.pid result →
+        Serves a (classed (world_of a k) (ask_in a k e h call)) k new call.pid result
+    wait_classed pipe goes waits_so = by_outcome (waited (world_of a k) (process_of e) (OnPipe pipe))
+        (class_row (world_of a k) ask (waits (OnPipe pipe)) (wait_row ask pipe waits_so (ap is_exit (sym is.number) ∙ goes)) (waits_is (row ask) pipe waits_so))
+
+    pub effect_classed : (f : Effect) → IsRow call.number → row ask ≡ replies (reply_of ask f) →
+        Serves a (answered (world_of a k) (ask_in a k e h call) (replies (reply_of (ask_in a k e h call) f))) k new call.pid result → Serves a (classed (world_of a k) (ask_in a k e h call)) k new call.pid result
+    effect_classed f goes rows = by_outcome (answered (world_of a k) (ask_in a k e h call) (replies (reply_of (ask_in a k e h call) f)))
+        (class_row (world_of a k) (ask_in a k e h call) (replies (reply_of (ask_in a k e h call) f)) (subst IsRow is.number goes) rows)
+
+    pub waitid_classed : call.number ≡ 95 → Serves a (waitid (world_of a k) (ask_in a k e h call)) k new call.pid result → Serves a (classed (world_of a k) (ask_in a k e h call)) k new call.pid result
+    waitid_classed same = by_outcome (waitid (world_of a k) (ask_in a k e h call)) (class_waitid (world_of a k) (ask_in a k e h call) (sym is.number ∙ same))
+
+    pub clone_classed : call.number ≡ 220 → Serves a (cloned (world_of a k) (ask_in a k e h call)) k new call.pid result → Serves a (classed (world_of a k) (ask_in a k e h call)) k new call.pid result
+    clone_classed same = by_outcome (cloned (world_of a k) (ask_in a k e h call)) (class_clone (world_of a k) (ask_in a k e h call) (sym is.number ∙ same))
+
+    pub exec_classed : call.number ≡ 221 → Serves a (exec (world_of a k) (ask_in a k e h call)) k new call.pid result → Serves a (classed (world_of a k) (ask_in a k e h call)) k new call.pid result
+    exec_classed same = by_outcome (exec (world_of a k) (ask_in a k e h call)) (class_exec (world_of a k) (ask_in a k e h call) (sym is.number ∙ same))
+
+-- ---- the whole call
+
+module _ (a : About) (k : Kept) (pid : ℕ) (regular : Regular k) (lives : Lives k.procs pid) where
+  pub serve_call : (call : Call) → call.pid ≡ pid → ((e : Entry Task) → (h : Held) → RunsIn k pid e h → Made (private_bytes k.mem h) e (Ok call)) → (new : Kept) (result : Result Served AllocError) →
+      ((e : Entry Task) → (h : Held) → RunsIn k call.pid e h → IsCall e call → Serves a (settled (classed (world_of a k) (ask_in a k e h call))) k new call.pid result) →
+      Serves a (called (world_of a k) pid) k new pid result
+  serve_call call same made new result serves =
+      let r = runs_in k pid regular lives in
+      let e : Entry Task = r.0 in
+      let h : Held = r.1.0 in
+      let at = made e h r.1.1 in
+      let runs : RunsIn k call.pid e h = subst (λ (p : ℕ). RunsIn k p e h) (sym same) r.1.1 in
+      let done = subst (λ (o : Outcome). Serves a o k new call.pid result) (sym (call_answer a k e h call runs at.0 at.1)) (serves e h runs at.0) in
+      subst (λ (p : ℕ). Serves a (called (world_of a k) p) k new p result) same done
+
+  pub serve_stray : (t : Task) → value_at k.procs pid ≡ Some t → (span : Span) →
+      ((e : Entry Task) → (h : Held) → RunsIn k pid e h → Made (private_bytes k.mem h) e (Err (unread.Stray span.addr span.len))) →
+      Answered a (called (world_of a k) pid) k k pid (Stray (record { pc = t.regs.pc; addr = span.addr; len = span.len; kind = access_kind.Call }))
+  serve_stray t kept span made =
+      let r = runs_in k pid regular lives in
+      let e : Entry Task = r.0 in
+      let h : Held = r.1.0 in
+      let seen : Access = record { pc = t.regs.pc; addr = span.addr; len = span.len; kind = access_kind.Call } in
+      let at : seen ≡ call_access (process_of e) span =
+      ap (λ (x : Task). record { pc = x.regs.pc; addr = span.addr; len = span.len; kind = access_kind.Call }) (value_found k.procs pid e r.1.1.lives t kept) in
+      subst (λ (o : Outcome). Answered a o k k pid (Stray seen)) (sym (stray_serves a k pid e h r.1.1 span (made e h r.1.1))) (at, refl)
+
+-- ---- an end by a signal
+
+module _ (a : About) (k : Kept) (pid : ℕ) (e : Entry Task) (h : Held) (runs : RunsIn k pid e h) (signal : ℕ) where
+  abbrev after_end : Kept
+  after_end = record (gone k e h (Signal signal)) { notes = end_note pid (Signal signal) ∷ k.notes }
+
+  after_end_world : world_of (later 1 a) after_end ≡ counted (ended (world_of a k) (process_of e) (Signal signal))
+  unfolding world_of ended
+  after_end_world =
+      gone_world k pid e h runs (Signal signal) a 1 (end_note pid (Signal signal) ∷ k.notes)
+      ∙ ap (λ (n : ℕ). record (departed (world_of a k) (process_of e) (Signal signal)) { notes = end_note n (Signal signal) ∷ k.notes; events = a.events + 1 }) (pid_found k.procs pid e runs.lives)
+
+  trapped_is : trapped (world_of a k) (process_of e) signal ≡ went (counted (ended (world_of a k) (process_of e) (Signal signal))) (record { space = e.value.space; events = 1; items = []; begins = None; over = true })
+  unfolding trapped
+  trapped_is = refl
+
+  pub end_serves : Died a (at_process (world_of a k) pid (λ p s. trapped (world_of a k) p signal)) after_end pid
+  end_serves = subst (λ (o : Outcome). Died a o after_end pid) (sym (acts_is a k pid e h runs (λ p s. trapped (world_of a k) p signal) ∙ trapped_is)) (sym after_end_world, refl, gone_dead k pid e h runs (Signal signal))
+
+-- what an exit leaves, where it was noted before the process went
+pub exit_done : (k : Kept) (call : Call) (e : Entry Task) (h : Held) (new : Kept) (notes : List Note) → notes ≡ end_note call.pid (exit_of call) ∷ noted_call call 0 [] ∷ k.notes →
+    new ≡ gone (record k { notes = notes }) e h (exit_of call) → new ≡ after_exit k e h call
+exit_done k call e h new notes is_noted departs =
+    departs ∙ gone_noted k e h (exit_of call) notes ∙ ap (λ (ns : List Note). record (gone k e h (exit_of call)) { notes = ns }) is_noted
+
+-- the same of the parts that are left, where the end was noted before the process went
+pub end_done : (a : About) (k : Kept) (pid signal : ℕ) → Regular k → Lives k.procs pid → (new : Kept) (notes : List Note) → notes ≡ end_note pid (Signal signal) ∷ k.notes →
+    ((e : Entry Task) → (h : Held) → RunsIn (record k { notes = notes }) pid e h → new ≡ gone (record k { notes = notes }) e h (Signal signal)) → Died a (at_process (world_of a k) pid (λ p s. trapped (world_of a k) p signal)) new pid
+end_done a k pid signal regular lives new notes is_noted departs =
+    let r = runs_in k pid regular lives in
+    let e : Entry Task = r.0 in
+    let h : Held = r.1.0 in
+    let runs : RunsIn k pid e h = r.1.1 in
+    let is = departs e h (record { lives = runs.lives; home = runs.home }) ∙ gone_noted k e h (Signal signal) notes ∙ ap (λ (ns : List Note). record (gone k e h (Signal signal)) { notes = ns }) is_noted in
+    subst (λ (now : Kept). Died a (at_process (world_of a k) pid (λ p s. trapped (world_of a k) p signal)) now pid) (sym is) (end_serves a k pid e h runs signal)
+
+-- ---- a note alone
+
+pub noted_world : (a : About) (k : Kept) (note : Note) (notes : List Note) → notes ≡ note ∷ k.notes → world_of a (record k { notes = notes }) ≡ noted note (world_of a k)
+unfolding world_of
+noted_world a k note notes is = ap (λ (ns : List Note). record (world_of a k) { notes = ns }) is

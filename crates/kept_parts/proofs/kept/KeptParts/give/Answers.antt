@@ -1,0 +1,100 @@
+-- The bytes are given, and the call has its reply.
+use Rattle.std.proofs.Common.{rules, ◌≡◌, arith, List, length, None, ◌∷◌, sym, ap, subst, ◌∙◌}
+use Rattle.std.specs.Prelude.{map, Ok, false}
+use Rattle.region_watch.specs.Private.{physical}
+use Rattle.call_log.specs.declared.note.Got.{Got}
+use Rattle.call_log.specs.Notes.{Note}
+use Rattle.call_log.specs.Values.{written_value}
+use Rattle.vfork_exec.specs.Procs.{Lives}
+use Rattle.mmap_rules.specs.Space.{writable_in}
+use Rattle.machine_world.specs.Event.{put_got}
+use Rattle.file_calls.specs.Calls.{written_of}
+use Rattle.physical_turns.specs.Physical.{has_stray}
+use Rattle.kept_parts.specs.Kept.{Kept}
+use Rattle.kept_parts.specs.Inside.{kept_of}
+use Rattle.call_bytes.specs.Puts.{first_stray}
+use Rattle.region_watch.specs.Private.{in_pages}
+use Rattle.kept_parts.specs.Calls.{RunsIn, IsCall, noted_call, Gave, GaveIn}
+use Rattle.kept_parts.proofs.Runs.{runs_in}
+use Rattle.kept_parts.proofs.Sound.{counts, call_strays, copies_called}
+use Rattle.kept_parts.proofs.Waits.{replied_lives}
+use Rattle.kept_parts.proofs.Finishes.{regular_finished, gave_by, gave_in_by}
+use Rattle.kept_parts.proofs.Holding.{holds_inside, none_clean, cleaned, regular_clean, copies_clean}
+use Rattle.kept_parts.proofs.GivenMemory.{copies_given}
+use Rattle.kept_parts.proofs.kept.KeptParts.give.Goals as goal
+
+abbrev new_parts : goal.After-finish → Kept
+new_parts c = record (kept_of c.self.inside) {
+  mem = c.put.new.mem;
+  files = c.follow-followed.new.files.open_files;
+  procs = c.finish.new.procs;
+  notes = c.finish.new.log.notes;
+}
+
+-- all bytes were written
+puts_all : (c : goal.After-finish) → put_got (physical (kept_of c.self.inside).mem) (in_pages (length (kept_of c.self.inside).regions)) (written_of c.args.outcome) ≡ Ok (physical c.put.new.mem)
+puts_all c =
+    let k = kept_of c.self.inside in
+    subst (λ (xs : List Got). put_got (physical k.mem) (in_pages (length k.regions)) (map written_value xs) ≡ Ok (physical c.put.new.mem)) c.deref.ensures.value
+    (c.put.ensures.all (length k.regions) c.self.invariant.0.0.memory)
+
+noted_so : (c : goal.After-finish) → c.finish.new.log.notes ≡ noted_call c.args.call c.args.outcome.value (written_of c.args.outcome) ∷ (kept_of c.self.inside).notes
+noted_so c = c.finish.ensures.notes ∙ ap (λ (ns : List Note). noted_call c.args.call c.args.outcome.value (written_of c.args.outcome) ∷ ns) (c.or_unreserve.ensures.notes ∙ c.reserve.ensures.same)
+
+pub put-requires-clause-inside : goal.put-requires-clause-inside
+put-requires-clause-inside c =
+    let inside = subst (λ (s : Kept). first_stray (in_pages (length s.regions)) (written_of c.args.outcome) ≡ None) (sym c.self.view_is) c.requires.inside in
+    let same = ap (λ (xs : List Got). first_stray (in_pages (length (kept_of c.self.inside).regions)) (map written_value xs)) c.deref.ensures.value in
+    (length (kept_of c.self.inside).regions, c.self.invariant.0.0.memory, same ∙ inside)
+
+pub invariant_of-self-2 : goal.invariant_of-self-2
+invariant_of-self-2 c =
+    let k = kept_of c.self.inside in
+    let call = c.args.call in
+    let gots = written_of c.args.outcome in
+    let lives = subst (λ (s : Kept). Lives s.procs call.pid) (sym c.self.view_is) c.requires.lives in
+    let r = runs_in k call.pid c.self.invariant.0.0 lives in
+    let fits = subst (λ (s : Kept). has_stray s.notes ≡ false → (e : _) → (h : _) → RunsIn s call.pid e h → first_stray (writable_in h.maps) gots ≡ None) (sym c.self.view_is) c.requires.kept in
+    let counted = counts call c.args.outcome.value gots k.notes _ (noted_so c) in (
+      (
+        regular_finished k call.pid c.self.invariant.0.0 lives c.args.outcome.value c.put.new.mem k.tree c.follow-followed.new.files.open_files c.finish.new.procs c.finish.new.log.notes k.console
+            c.put.ensures.len c.finish.ensures.procs (omega (arith, counted)),
+        copies_called (record k { mem = c.put.new.mem })
+            (copies_given k c.self.invariant.0.0 r.0.value.space r.1.0 r.1.1.home c.self.invariant.0.1 c.put.new.mem c.put.ensures.len gots (puts_all c) (λ unstrayed. fits unstrayed r.0 r.1.0 r.1.1))
+            c.finish.new.log.notes counted (call_strays call c.args.outcome.value gots k.notes c.finish.new.log.notes (noted_so c)),
+      ),
+      search rules,
+    )
+
+pub returns-clause-gives : goal.returns-clause-gives
+returns-clause-gives c = λ a e h.
+    let k = kept_of c.self.inside in
+    let call = c.args.call in
+    let o = c.args.outcome in
+    subst (λ (old : Kept). RunsIn old call.pid e h → IsCall e call → first_stray (writable_in h.maps) (written_of o) ≡ None → Gave a old e h call o (new_parts c)) c.self.view_is
+    (λ runs is fits.
+    gave_by a k e h call runs is o c.put.new.mem (puts_all c) c.follow-followed.new.files.open_files c.finish.new.procs c.finish.new.log.notes
+    (rw (← c.in_ok-or_unreserve.ensures.same) at c.follow-followed.ensures.after) c.finish.ensures.procs (noted_so c) c.self.invariant.0.0 fits)
+
+pub returns-clause-memory : goal.returns-clause-memory
+returns-clause-memory c = λ a e h.
+    let k = kept_of c.self.inside in
+    let call = c.args.call in
+    let o = c.args.outcome in
+    subst (λ (old : Kept). RunsIn old call.pid e h → IsCall e call → GaveIn a old e h call o (new_parts c)) c.self.view_is
+    (λ runs is.
+    gave_in_by a k e h call runs is o c.put.new.mem (puts_all c) c.follow-followed.new.files.open_files c.finish.new.procs c.finish.new.log.notes
+    (rw (← c.in_ok-or_unreserve.ensures.same) at c.follow-followed.ensures.after) c.finish.ensures.procs (noted_so c) c.put.ensures.len)
+
+pub returns-clause-lives : goal.returns-clause-lives
+returns-clause-lives c =
+    let lives = subst (λ (s : Kept). Lives s.procs c.args.call.pid) (sym c.self.view_is) c.requires.lives in
+    replied_lives (kept_of c.self.inside).procs c.args.call.pid lives c.args.outcome.value c.finish.new.procs c.finish.ensures.procs
+
+pub returns-clause-holds : goal.returns-clause-holds
+returns-clause-holds c = λ e h runs fits holds.
+    let k = kept_of c.self.inside in
+    let regular = c.self.invariant.0.0 in
+    let home = (subst (λ (s : Kept). RunsIn s c.args.call.pid e h) (sym c.self.view_is) runs).home in
+    let copies = copies_clean k c.self.invariant.0.1 (holds_inside k c.args.self.now c.self.view_is holds) in
+    (copies_given (cleaned k) (regular_clean k regular) e.value.space h home copies c.put.new.mem c.put.ensures.len (written_of c.args.outcome) (puts_all c) (λ unstrayed. fits)).hold (none_clean k.notes)

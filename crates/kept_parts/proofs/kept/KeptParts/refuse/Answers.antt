@@ -1,0 +1,27 @@
+-- The call has its errno for a reply.
+use Rattle.std.proofs.Common.{ℕ, sym, subst}
+use Rattle.std.proofs.lemmas.Result.{err_from_is_err_and}
+use Rattle.machine_world.specs.Asks.{answers}
+use Rattle.machine_world.specs.Event.{answered}
+use Rattle.kept_parts.specs.declared.effect.Effect.TheVariants.{Answer}
+use Rattle.kept_parts.specs.declared.served.Served.TheVariants.{Replied}
+use Rattle.kept_parts.specs.Kept.{Kept}
+use Rattle.kept_parts.specs.Stands.{world_of}
+use Rattle.kept_parts.specs.Serves.{Answered}
+use Rattle.kept_parts.specs.Calls.{ask_in}
+use Rattle.kept_parts.proofs.Outcomes.{effect_serves}
+use Rattle.kept_parts.proofs.kept.KeptParts.refuse.Goals as goal
+
+pub returns-in_err-reply-clause-serves : goal.returns-in_err-reply-clause-serves
+returns-in_err-reply-clause-serves c = λ a e h runs is.
+    let p = err_from_is_err_and c.from_residual.result c.from_residual.ensures.1 in
+    rw p.1 (c.in_err-reply.ensures.replies a e h runs)
+
+pub returns-clause-serves : goal.returns-clause-serves
+returns-clause-serves c = λ a e h runs is.
+    let k = c.args.self.now in
+    let call = c.args.call in
+    let outcome = λ (value : ℕ). answered (world_of a k) (ask_in a k e h call) (answers (ask_in a k e h call) value) in
+    let done = effect_serves a k e h call runs is (Answer c.refusal.result) c.requires.room in
+    subst (λ (value : ℕ). Answered a (outcome value) k c.reply.new.self call.pid Replied) c.refusal.ensures
+    (subst (λ (new : Kept). Answered a (outcome c.refusal.result) k new call.pid Replied) (sym (c.in_ok-reply.ensures.replies a e h runs)) done)

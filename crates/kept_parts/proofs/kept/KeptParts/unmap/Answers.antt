@@ -1,0 +1,98 @@
+-- Pages are unmapped, and the call has its reply.
+use Rattle.std.proofs.Common.{rules, ◌≡◌, List, [], Option, ◌∷◌, refl, sym, ap, subst, arith, ◌∙◌}
+use Rattle.std.specs.Prelude.{Some, map, slice_get, slice_set, slice_index}
+use Rattle.std.specs.Vec.{with_items}
+use Rattle.call_log.specs.Values.{written_value}
+use Rattle.mmap_rules.specs.Held.{Held}
+use Rattle.mmap_rules.specs.Mappings.{hit}
+use Rattle.vfork_exec.specs.Procs.{Lives}
+use Rattle.machine_world.specs.MapCalls.{unmaps}
+use Rattle.kept_parts.specs.declared.task.Task.{Task}
+use Rattle.kept_parts.specs.Kept.{Kept}
+use Rattle.kept_parts.specs.Inside.{kept_of}
+use Rattle.kept_parts.specs.Calls.{RunsIn, IsCall, ask_in, noted_call, Changed}
+use Rattle.kept_parts.specs.MapsIn.{UnmapsIn}
+use Rattle.kept_parts.proofs.Runs.{value_found, has_space}
+use Rattle.kept_parts.proofs.Settled.{items_set}
+use Rattle.kept_parts.proofs.Stays.{regular_ids}
+use Rattle.kept_parts.proofs.Finishes.{regular_finished, changed_ids}
+use Rattle.kept_parts.proofs.Sound.{counts, call_strays}
+use Rattle.kept_parts.proofs.NamesOf.{name_regions}
+use Rattle.kept_parts.proofs.Mapped.{with_maps, keeps_unmapped, changed_unmapped}
+use Rattle.kept_parts.proofs.Holding.{holds_inside, clean, none_clean, cleaned, regular_clean, copies_clean}
+use Rattle.kept_parts.proofs.kept.KeptParts.unmap.Goals as goal
+
+pub unmap_in-unmapped-requires-clause-names : goal.unmap_in-unmapped-requires-clause-names
+unmap_in-unmapped-requires-clause-names c = λ h there.
+    let k = kept_of c.self.inside in
+    let number = c.get.result.now.space in
+    name_regions k c.self.invariant.0.0 number h (sym (ap (λ (ss : List (Option Held)). slice_get ss number) c.deref_mut.ensures.value) ∙ there)
+
+abbrev new_parts : goal.After-finish → Kept
+new_parts c = record (kept_of c.self.inside) {
+  regions = c.unmap_in-unmapped.new.regions.regions;
+  starts = c.unmap_in-unmapped.new.regions.starts;
+  spaces = (with_items c.self.inside.spaces c.unmap_in-unmapped.new.spaces).items;
+  procs = c.finish.new.procs;
+  notes = c.finish.new.log.notes;
+}
+
+-- what is left of the space
+left : (c : goal.After-finish) (h : Held) → slice_get c.self.inside.spaces.items c.get.result.now.space ≡ Some (Some h) →
+    UnmapsIn (slice_index c.args.call.args 0) (slice_index c.args.call.args 1) c.get.result.now.space h c.self.inside.spaces.items (new_parts c).spaces c.self.inside.regions.regions
+    c.unmap_in-unmapped.new.regions.regions c.unmap_in-unmapped.result
+left c h there =
+    let number = c.get.result.now.space in
+    let is = c.unmap_in-unmapped.ensures h (ap (λ (ss : List (Option Held)). slice_get ss number) c.deref_mut.ensures.value ∙ there) in
+    record {
+      held = is.held;
+      spaces = items_set c.self.inside.spaces c.unmap_in-unmapped.new.spaces number (Some is.held)
+          (is.spaces ∙ ap (λ (ss : List (Option Held)). slice_set ss number (Some is.held)) c.deref_mut.ensures.value);
+      shaped = is.shaped;
+      unmaps = is.unmaps;
+    }
+
+noted : (c : goal.After-finish) → c.finish.new.log.notes ≡ noted_call c.args.call c.status-value.result [] ∷ c.self.inside.log.notes
+noted c = c.finish.ensures.notes ∙ (λ i. noted_call c.args.call c.status-value.result (map written_value (c.new-got.ensures.items i)) ∷ c.reserve.ensures.same i)
+
+pub invariant_of-self-2 : goal.invariant_of-self-2
+invariant_of-self-2 c =
+    let k = kept_of c.self.inside in
+    let lives = subst (λ (s : Kept). Lives s.procs c.args.call.pid) (sym c.self.view_is) c.requires.lives in
+    let live = has_space k c.args.call.pid c.get.result.now c.self.invariant.0.0 lives c.get.ensures in
+    let is = left c live.held live.there in
+    let keeps = keeps_unmapped k c.self.invariant.0.0 c.self.invariant.0.1 c.get.result.now.space live.held live.there (slice_index c.args.call.args 0) (slice_index c.args.call.args 1)
+    (new_parts c).spaces c.unmap_in-unmapped.new.regions.regions c.unmap_in-unmapped.result is in
+    let now = with_maps k k.mem c.unmap_in-unmapped.new.regions.regions (new_parts c).spaces in
+    let counted = counts c.args.call c.status-value.result [] k.notes c.finish.new.log.notes (noted c) in (
+      (
+        regular_ids _ (regular_finished now c.args.call.pid keeps.0 lives c.status-value.result k.mem k.tree k.files c.finish.new.procs c.finish.new.log.notes k.console refl c.finish.ensures.procs (omega (arith, counted))) (new_parts c).starts,
+        keeps.1 c.finish.new.log.notes (omega (arith, counted)) (call_strays c.args.call c.status-value.result [] k.notes c.finish.new.log.notes (noted c)),
+      ),
+      search rules,
+    )
+
+pub returns-clause-changes : goal.returns-clause-changes
+returns-clause-changes c = λ a e h.
+    let k = kept_of c.self.inside in
+    let call = c.args.call in
+    let addr = slice_index call.args 0 in
+    let len = slice_index call.args 1 in
+    subst (λ (old : Kept). RunsIn old call.pid e h → IsCall e call → Changed a old e h call (unmaps (ask_in a old e h call) (hit h.maps addr len)) (new_parts c)) c.self.view_is
+    (λ runs is_call.
+    let same : c.get.result.now ≡ e.value = value_found k.procs call.pid e runs.lives c.get.result.now c.get.ensures in
+    let is = left c h (ap (λ (t : Task). slice_get k.spaces t.space) same ∙ runs.home) in
+    let at : UnmapsIn addr len e.value.space h k.spaces (new_parts c).spaces k.regions c.unmap_in-unmapped.new.regions.regions c.unmap_in-unmapped.result =
+    subst (λ (t : Task). UnmapsIn addr len t.space h k.spaces (new_parts c).spaces k.regions c.unmap_in-unmapped.new.regions.regions c.unmap_in-unmapped.result) same is in
+    changed_ids a k e h call _ _ (changed_unmapped a k e h call runs is_call c.status-value.result (new_parts c).spaces c.unmap_in-unmapped.new.regions.regions c.finish.new.procs c.finish.new.log.notes
+    c.finish.ensures.procs (noted c) addr len c.unmap_in-unmapped.result at c.status-value.ensures) (new_parts c).starts)
+
+pub returns-clause-holds : goal.returns-clause-holds
+returns-clause-holds c = λ holds.
+    let k = kept_of c.self.inside in
+    let lives = subst (λ (s : Kept). Lives s.procs c.args.call.pid) (sym c.self.view_is) c.requires.lives in
+    let live = has_space k c.args.call.pid c.get.result.now c.self.invariant.0.0 lives c.get.ensures in
+    let copies = copies_clean k c.self.invariant.0.1 (holds_inside k c.args.self.now c.self.view_is holds) in
+    let keeps = keeps_unmapped (cleaned k) (regular_clean k c.self.invariant.0.0) copies c.get.result.now.space live.held live.there (slice_index c.args.call.args 0) (slice_index c.args.call.args 1)
+    (new_parts c).spaces c.unmap_in-unmapped.new.regions.regions c.unmap_in-unmapped.result (left c live.held live.there) in
+    (keeps.1 (clean k.notes) (omega arith) (λ unstrayed. unstrayed)).hold (none_clean k.notes)

@@ -1,0 +1,166 @@
+//! A program in the place of another one (Linux, execve(2), in this project's profile).
+
+ghost use Rattle.std.specs.Prelude.{◌≡◌, ◌-◌, ◌≤◌, ℕ, ◌∷◌, [], true, IfOk, List, length, slice_get, Some};
+ghost use Rattle.page_runs.specs.Choosers.{IsChooser, kind_of};
+ghost use Rattle.call_log.specs.Notes.{has_room, load_note};
+ghost use Rattle.mmap_rules.specs.Held.{Held};
+ghost use Rattle.flat_loader.specs.Frame.{frame_fits, texts};
+ghost use Rattle.flat_loader.specs.Original.{flat_original};
+ghost use Rattle.vfork_exec.specs.declared.entry.Entry.{Entry as Listed};
+ghost use Rattle.vfork_exec.specs.Procs.{CanRun, Lives, value_at, with_exec, with_value_at};
+ghost use Rattle.machine_world.specs.Asks.{refuses};
+ghost use Rattle.machine_world.specs.Event.{answered, exec_fitting};
+ghost use Rattle.kept_parts.specs.declared.task.Task.{Task};
+ghost use Rattle.kept_parts.specs.Stands.{About, world_of};
+ghost use Rattle.region_watch.specs.Private.{physical};
+ghost use Rattle.physical_turns.specs.Physical.{carried};
+ghost use Rattle.kept_parts.specs.InMemory.{header_of, physical_of, ServesIn};
+ghost use Rattle.kept_parts.specs.declared.served.Served.TheVariants.{Replied};
+ghost use Rattle.kept_parts.specs.Copies.{HoldsFiles};
+ghost use Rattle.kept_parts.specs.Serves.{Serves};
+ghost use Rattle.kept_parts.specs.Calls.{RunsIn, IsCall, ask_in, noted_call};
+
+use crate::effect::Effect;
+use crate::keep::{keep, or_unreserve};
+use crate::kept::KeptParts;
+use crate::served::Served;
+use crate::task::Task;
+use bflt_format::Flat;
+use call_bytes::ProgramStrings;
+use call_log::{Entry, Errno, Got, Log, Note};
+use file_calls::Call;
+use flat_loader::{LoadRefusal, Loaded, load};
+use page_runs::{Chooser, Run};
+use rv32im_step::Regs;
+use std::alloc::AllocError;
+use vfork_exec::Procs;
+
+/// A process goes on with these registers in the space of this number. The parent that stood still for it goes on.
+fn switch(procs: &mut Procs<Task>, pid: u32, regs: Regs, space: u32)
+    requires { Lives procs.old pid }
+    ensures { (t : Task) → value_at procs.old pid ≡ Some t → procs.new ≡ with_value_at (with_exec procs.old pid) pid (record t { regs = regs; space = space }) }
+{
+    procs.exec_done(pid);
+    let task = procs.get_mut(pid);
+    task.regs = regs;
+    task.space = space;
+}
+
+/// The call is noted, and then the program that begins.
+fn note_exec(log: &mut Log, call: Call, got: Vec<Got>, index: u32, base: u32, pages: u32)
+    requires spare { 2 ≤ log.old.spare }
+    requires empty { got.items ≡ [] }
+    requires room { has_room log.old.notes (length call.sent.items) ≡ true }
+    ensures notes { log.new.notes ≡ load_note (record { pid = call.pid; program = index; base = base; pages = pages }) ∷ noted_call call 0 [] ∷ log.old.notes }
+    ensures spare { log.new.spare ≡ log.old.spare - 2 }
+{
+    let Call {
+        pid,
+        number,
+        args,
+        sent,
+        ..
+    } = call;
+    keep(
+        log,
+        Note::Call(Entry {
+            pid,
+            call: number,
+            args,
+            sent,
+            reply: 0,
+            got,
+        }),
+    );
+    keep(
+        log,
+        Note::Load {
+            pid,
+            program: index,
+            base,
+            pages,
+        },
+    );
+}
+
+impl KeptParts {
+    /// Puts program number `index`, with these strings, in the place of the one that makes this call. Its block is looked for while
+    /// the old space is held; then that goes, unless another process lent it. Descriptors close that are marked so. E2BIG where the
+    /// start frame doesn't fit, ENOMEM where no free run is long enough. There is room for the call's note.
+    pub fn exec<F: Fn(&[Run], u32) -> Option<usize>>(
+        &mut self,
+        call: Call,
+        index: u32,
+        flat: &Flat,
+        strings: &ProgramStrings,
+        chooser: &Chooser<F>,
+    ) -> Result<Served, AllocError>
+        requires chooser { IsChooser F.pre F.post chooser.now }
+        requires ready { CanRun self.old.procs call.pid }
+        requires room { has_room self.old.notes (length call.sent.items) ≡ true }
+        ensures serves { (a : About) → a.kind ≡ kind_of chooser.now → (e : Listed Task) → (h : Held) → RunsIn self.old call.pid e h → IsCall e call →
+            Serves a
+            (exec_fitting (world_of a self.old) (ask_in a self.old e h call) (record { index = index; original = flat_original flat.now }) (record { args = texts strings.now.args.items; env = texts strings.now.env.items })
+            (frame_fits (flat_original flat.now) (texts strings.now.args.items) (texts strings.now.env.items)))
+            self.old self.new call.pid result }
+        ensures memory { (headers : List (List ℕ)) → (a : About) → a.kind ≡ kind_of chooser.now → slice_get headers index ≡ Some (header_of flat.now) → (e : Listed Task) → (h : Held) → RunsIn self.old call.pid e h → IsCall e call →
+            ServesIn headers a (carried (physical_of headers a self.old) (physical self.old.mem)
+            (exec_fitting (world_of a self.old) (ask_in a self.old e h call) (record { index = index; original = flat_original flat.now }) (record { args = texts strings.now.args.items; env = texts strings.now.env.items })
+            (frame_fits (flat_original flat.now) (texts strings.now.args.items) (texts strings.now.env.items))))
+            self.old self.new call.pid result }
+        ensures holds { HoldsFiles self.old → HoldsFiles self.new }
+        ensures replied { IfOk result (λ served. served ≡ Replied) }
+    {
+        self.spaces.reserve(1)?;
+        self.log.reserve(2)?;
+        let alloc = *self.spaces.allocator();
+        let loaded = load(
+            alloc,
+            &mut self.regions,
+            &mut self.mem,
+            flat,
+            &strings.args,
+            &strings.env,
+            chooser,
+        );
+        match or_unreserve(&mut self.log, loaded) {
+            Ok(
+                Loaded {
+                    space,
+                    regs,
+                    base,
+                    pages,
+                },
+            ) => {
+                let task = *self.procs.get(call.pid);
+                let lent = self.procs.borrows(call.pid);
+                let number = self.spaces.len() as u32;
+                self.spaces.push_reserved(Some(space));
+                self.files.exec_close(&mut self.tree, task.table);
+                switch(&mut self.procs, call.pid, regs, number);
+                note_exec(&mut self.log, call, Vec::new(alloc), index, base, pages);
+                if !lent {
+                    self.give_up(task.space);
+                }
+                Ok(Served::Replied)
+            }
+            Err(LoadRefusal::E2big) => self.refuse(call, Errno::E2big),
+            Err(LoadRefusal::NoRun) => self.refuse(call, Errno::Enomem),
+            Err(LoadRefusal::Memory) => Err(AllocError),
+        }
+    }
+
+    /// A call is refused. There is room for its note.
+    fn refuse(&mut self, call: Call, errno: Errno) -> Result<Served, AllocError>
+        requires lives { Lives self.old.procs call.pid }
+        requires room { has_room self.old.notes (length call.sent.items) ≡ true }
+        ensures memory { self.new.mem ≡ self.old.mem }
+        ensures serves { (a : About) → (e : Listed Task) → (h : Held) → RunsIn self.old call.pid e h → IsCall e call →
+            Serves a (answered (world_of a self.old) (ask_in a self.old e h call) (refuses (ask_in a self.old e h call) errno)) self.old self.new call.pid result }
+        ensures holds { HoldsFiles self.old → HoldsFiles self.new }
+        ensures replied { IfOk result (λ served. served ≡ Replied) }
+    {
+        self.reply(call, Effect::Answer(errno.refusal()))?;
+        Ok(Served::Replied)
+    }
+}

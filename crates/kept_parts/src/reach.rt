@@ -1,0 +1,93 @@
+//! What a system call may read and write.
+
+ghost use Rattle.std.specs.Prelude.{◌≡◌, ◌≤◌, IfOk, length, map, option_map, slice_get, Some};
+ghost use Rattle.call_log.specs.Values.{note_value};
+ghost use Rattle.mmap_rules.specs.Held.{Held};
+ghost use Rattle.physical_turns.specs.Physical.{has_stray};
+ghost use Rattle.machine_world.specs.Turns.{seen_of};
+ghost use Rattle.kept_parts.specs.Noted.{first_noted};
+ghost use Rattle.kept_parts.specs.Reach.{Reaches, whole_table};
+ghost use Rattle.kept_parts.specs.Regular.{HasSpace};
+
+use crate::home::home;
+use call_log::{Note, Seen, SeenKind};
+use mmap_rules::{Owners, PageOwner, Space};
+use rv32im_step::{Access, AccessKind};
+use std::alloc::{AllocError, Global};
+
+/// Which bytes the instructions and the system calls of a process may read and write.
+#[derive(Clone, Copy, Debug, PartialEq, Eq)]
+pub enum Reach {
+    /// Those that its space owns: a run up to its first stray access.
+    Own,
+    /// All of memory: a run that goes on behind it.
+    Whole,
+}
+
+/// The table that owns each byte of a memory of so many pages.
+pub fn whole_table(alloc: Global, pages: u32) -> Result<Owners, AllocError>
+    requires { pages ≤ 16384 }
+    ensures { IfOk result (λ table. table ≡ whole_table pages) }
+{
+    let page = PageOwner {
+        from: 0,
+        write: true,
+        uses: 1,
+    };
+    Ok(Owners::of(vec![in alloc; page; pages as usize]?))
+}
+
+/// The table of the bytes that are reached from the space of a number, which lives.
+pub fn table_of<'a>(
+    spaces: &'a [Option<Space>],
+    number: u32,
+    reach: Reach,
+    whole: &'a Owners,
+) -> &'a Owners
+    requires home { HasSpace spaces.now number }
+    requires pages { (h : Held) → slice_get spaces.now number ≡ Some (Some h) → h.pages ≡ length whole.now }
+    requires whole { whole.now ≡ whole_table (length whole.now) }
+    ensures { (h : Held) → slice_get spaces.now number ≡ Some (Some h) → Reaches reach (length whole.now) h result.now }
+{
+    match reach {
+        Reach::Own => home(spaces, number).owners(),
+        Reach::Whole => whole,
+    }
+}
+
+/// The access that was noted, as it was seen.
+fn accessed(seen: Seen) -> Access
+    ensures { seen_of result ≡ seen }
+{
+    let kind = match seen.kind {
+        SeenKind::Fetch => AccessKind::Fetch,
+        SeenKind::Load => AccessKind::Load,
+        SeenKind::Store => AccessKind::Store,
+        SeenKind::Call => AccessKind::Call,
+    };
+    Access {
+        pc: seen.pc,
+        addr: seen.addr,
+        len: seen.len,
+        kind,
+    }
+}
+
+/// The first stray access among notes that stand oldest first. It looks through them.
+pub fn first_stray(notes: &[Note]) -> Option<Access>
+    ensures { option_map seen_of result ≡ first_noted (map note_value notes.now) }
+{
+    for note in notes {
+        if let Note::Stray { access, .. } = note {
+            return Some(accessed(*access));
+        }
+    }
+    None
+}
+
+/// Whether the note of a stray access is among these. It looks through them.
+pub(crate) fn has_stray(notes: &[Note]) -> bool
+    ensures { result ≡ has_stray (map note_value notes.now) }
+{
+    first_stray(notes).is_some()
+}

@@ -1,0 +1,165 @@
+//! The reply of a system call after which its process lives.
+
+ghost use Rattle.std.specs.Prelude.{◌≡◌, ◌-◌, ◌≤◌, ◌∷◌, All, None, Some, false, true, length, map, slice_get, slice_set};
+ghost use Rattle.call_log.specs.Notes.{has_room, weight_of};
+ghost use Rattle.call_log.specs.Values.{written_value};
+ghost use Rattle.mmap_rules.specs.Held.{Held, next_brk};
+ghost use Rattle.mmap_rules.specs.Space.{writable_in};
+ghost use Rattle.vfork_exec.specs.declared.entry.Entry.{Entry as Listed};
+ghost use Rattle.vfork_exec.specs.Procs.{Lives, value_at, with_value_at};
+ghost use Rattle.physical_turns.specs.Physical.{has_stray};
+ghost use Rattle.machine_world.specs.Rows.{row};
+ghost use Rattle.machine_world.specs.Event.{replied};
+ghost use Rattle.file_calls.specs.Calls.{IsChange, Replies as RepliesOnly, written_of};
+ghost use Rattle.file_calls.specs.Outcomes.{CanTake, HasEnds};
+ghost use Rattle.kept_parts.specs.declared.task.Task.{Task};
+ghost use Rattle.kept_parts.specs.Copies.{HoldsFiles};
+ghost use Rattle.kept_parts.specs.Regular.{HasSpace};
+ghost use Rattle.kept_parts.specs.Stands.{About};
+ghost use Rattle.call_bytes.specs.Puts.{first_stray, IsRange};
+ghost use Rattle.region_watch.specs.Private.{in_pages};
+ghost use Rattle.kept_parts.specs.Calls.{RunsIn, IsCall, ask_in, value_of, brk_of, noted_call, Replies, Changes, Gives, GivesIn};
+
+use crate::effect::Effect;
+use crate::follow::follow;
+use crate::home::home;
+use crate::keep::{keep, or_unreserve};
+use crate::kept::KeptParts;
+use crate::task::Task;
+use call_bytes::put;
+use call_log::{Entry, Got, Log, Note};
+use file_calls::{Call, Outcome};
+use mmap_rules::Space;
+use rv32im_step::Regs;
+use std::alloc::AllocError;
+use vfork_exec::Procs;
+
+/// The reply goes to a0, and the instruction after the call follows.
+#[tactic(auto, unfolding(rv32im_step::specs::Registers::with_register))]
+pub(crate) fn set_reply(regs: &mut Regs, value: u32)
+    ensures { regs.new ≡ replied regs.old value }
+{
+    regs.x[10] = value;
+    regs.pc = regs.pc.wrapping_add(4);
+}
+
+/// Moves the break of a space that lives, if it may go there, and gives it as it is then.
+fn move_break(spaces: &mut [Option<Space>], number: u32, to: u32) -> u32
+    requires { HasSpace spaces.old number }
+    ensures { (h : Held) → slice_get spaces.old number ≡ Some (Some h) →
+        (result ≡ next_brk h to) × (spaces.new ≡ slice_set spaces.old number (Some (record h { brk = next_brk h to }))) }
+{
+    match &mut spaces[number as usize] {
+        Some(space) => space.brk(to),
+        None => unreachable!(),
+    }
+}
+
+/// The reply of a call. The break moves, if it is asked to.
+fn settle(spaces: &mut [Option<Space>], number: u32, effect: Effect) -> u32
+    requires { HasSpace spaces.old number }
+    ensures { (h : Held) → slice_get spaces.old number ≡ Some (Some h) →
+        (result ≡ value_of (next_brk h) effect) × (spaces.new ≡ slice_set spaces.old number (Some (record h { brk = brk_of (next_brk h) h.brk effect }))) }
+{
+    match effect {
+        Effect::Answer(value) => value,
+        Effect::Yield => 0,
+        Effect::Break(to) => move_break(spaces, number, to),
+    }
+}
+
+/// A call has its reply, and is noted. There is room and memory for its note.
+pub(crate) fn finish(procs: &mut Procs<Task>, log: &mut Log, call: Call, value: u32, got: Vec<Got>)
+    requires lives { Lives procs.old call.pid }
+    requires spare { 1 ≤ log.old.spare }
+    requires room { has_room log.old.notes (weight_of call.sent.items (map written_value got.items)) ≡ true }
+    ensures procs { (t : Task) → value_at procs.old call.pid ≡ Some t → procs.new ≡ with_value_at procs.old call.pid (record t { regs = replied t.regs value }) }
+    ensures notes { log.new.notes ≡ noted_call call value (map written_value got.items) ∷ log.old.notes }
+    ensures spare { log.new.spare ≡ log.old.spare - 1 }
+{
+    let task = procs.get_mut(call.pid);
+    set_reply(&mut task.regs, value);
+    let Call {
+        pid,
+        number,
+        args,
+        sent,
+        ..
+    } = call;
+    keep(
+        log,
+        Note::Call(Entry {
+            pid,
+            call: number,
+            args,
+            sent,
+            reply: value,
+            got,
+        }),
+    );
+}
+
+impl KeptParts {
+    /// Gives a call its reply, and notes it. There is room for its note.
+    pub fn reply(&mut self, call: Call, effect: Effect) -> Result<(), AllocError>
+        requires lives { Lives self.old.procs call.pid }
+        requires room { has_room self.old.notes (length call.sent.items) ≡ true }
+        ensures replies { (a : About) → (e : Listed Task) → (h : Held) → RunsIn self.old call.pid e h → Replies a self.old e h call effect self.new result }
+        ensures memory { self.new.mem ≡ self.old.mem }
+        ensures holds { HoldsFiles self.old → HoldsFiles self.new }
+    {
+        self.log.reserve(1)?;
+        let got = Vec::new(*self.console.allocator());
+        let number = self.procs.get(call.pid).space;
+        let value = settle(&mut self.spaces, number, effect);
+        finish(&mut self.procs, &mut self.log, call, value, got);
+        Ok(())
+    }
+
+    /// Carries out a call that changes files and doesn't wait, and notes it. There is room for its note.
+    pub fn change(&mut self, call: Call) -> Result<(), AllocError>
+        requires lives { Lives self.old.procs call.pid }
+        requires room { has_room self.old.notes (length call.sent.items) ≡ true }
+        requires change { IsChange call.number }
+        requires replies { RepliesOnly call self.old.files }
+        ensures changes { (a : About) → (e : Listed Task) → (h : Held) → RunsIn self.old call.pid e h → IsCall e call → Changes a self.old e h call (row (ask_in a self.old e h call)) self.new result }
+        ensures memory { self.new.mem ≡ self.old.mem }
+        ensures holds { HoldsFiles self.old → HoldsFiles self.new }
+    {
+        self.log.reserve(1)?;
+        let changed = file_calls::change(&mut self.tree, &mut self.files, &mut self.console, &call);
+        let value = or_unreserve(&mut self.log, changed)?;
+        let got = Vec::new(*self.console.allocator());
+        finish(&mut self.procs, &mut self.log, call, value, got);
+        Ok(())
+    }
+
+    /// Gives a call its reply and its bytes, which all lie in memory, and notes it. There is room for its note.
+    pub fn give(&mut self, call: Call, outcome: Outcome) -> Result<(), AllocError>
+        requires lives { Lives self.old.procs call.pid }
+        requires room { has_room self.old.notes (weight_of call.sent.items (written_of outcome)) ≡ true }
+        requires fits { CanTake self.old.files outcome.then }
+        requires ends { HasEnds self.old.files call.table outcome.then }
+        requires ranges { All IsRange (written_of outcome) }
+        requires inside { first_stray (in_pages (length self.old.regions)) (written_of outcome) ≡ None }
+        requires kept { has_stray self.old.notes ≡ false → (e : Listed Task) → (h : Held) → RunsIn self.old call.pid e h → first_stray (writable_in h.maps) (written_of outcome) ≡ None }
+        ensures gives { (a : About) → (e : Listed Task) → (h : Held) → RunsIn self.old call.pid e h → IsCall e call →
+            first_stray (writable_in h.maps) (written_of outcome) ≡ None → Gives a self.old e h call outcome self.new result }
+        ensures memory { (a : About) → (e : Listed Task) → (h : Held) → RunsIn self.old call.pid e h → IsCall e call → GivesIn a self.old e h call outcome self.new result }
+        ensures holds { (e : Listed Task) → (h : Held) → RunsIn self.old call.pid e h → first_stray (writable_in h.maps) (written_of outcome) ≡ None → HoldsFiles self.old → HoldsFiles self.new }
+        ensures lives { Lives self.new.procs call.pid }
+    {
+        self.log.reserve(1)?;
+        let followed = follow(&mut self.files, call.table, outcome.then);
+        or_unreserve(&mut self.log, followed)?;
+        put(&mut self.mem, &outcome.got);
+        finish(
+            &mut self.procs,
+            &mut self.log,
+            call,
+            outcome.value,
+            outcome.got,
+        );
+        Ok(())
+    }
+}

@@ -1,6 +1,0 @@
-use Rattle.std.proofs.Common.{sym}
-use Rattle.syscall_layer.proofs.FreePages.{free_is}
-use Rattle.syscall_layer.proofs.laws.free_runs_law.Goals as goal
-
-pub returns : goal.returns
-returns c = λ a k regular. sym (free_is a k regular)

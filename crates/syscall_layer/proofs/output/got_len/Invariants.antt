@@ -1,8 +1,0 @@
--- The bytes so far.
-use Rattle.std.proofs.Common.{◌≡◌, ◌-◌, ◌^◌, min, take, map}
-use Rattle.call_log.specs.Values.{written_value}
-use Rattle.syscall_layer.specs.Puts.{bytes_of}
-use Rattle.syscall_layer.proofs.output.got_len.Given as goal
-
-abbrev pub invariant-loop-range : goal.invariant-loop-range
-invariant-loop-range l = l.len ≡ min (bytes_of (map written_value (take l.range-index l.got))) (2 ^ 64 - 1)

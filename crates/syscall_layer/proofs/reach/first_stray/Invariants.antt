@@ -1,8 +1,0 @@
--- None so far.
-use Rattle.std.proofs.Common.{◌≡◌, take, map, None}
-use Rattle.call_log.specs.Values.{note_value}
-use Rattle.syscall_layer.specs.Parts.{first_noted}
-use Rattle.syscall_layer.proofs.reach.first_stray.Given as goal
-
-abbrev pub invariant-loop-note : goal.invariant-loop-note
-invariant-loop-note l = first_noted (map note_value (take l.note-index l.notes)) ≡ None

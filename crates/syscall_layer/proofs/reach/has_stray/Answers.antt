@@ -1,9 +1,0 @@
--- Whether there is a first one.
-use Rattle.std.proofs.Common.{map, sym, ap, ◌∙◌}
-use Rattle.std.specs.Prelude.{is_some}
-use Rattle.call_log.specs.Values.{note_value}
-use Rattle.syscall_layer.proofs.NotedStrays.{stray_first, seen_some}
-use Rattle.syscall_layer.proofs.reach.has_stray.Goals as goal
-
-pub returns : goal.returns
-returns c = c.is_some.ensures ∙ seen_some c.first_stray.result ∙ ap is_some c.first_stray.ensures ∙ sym (stray_first (map note_value c.args.notes.now))

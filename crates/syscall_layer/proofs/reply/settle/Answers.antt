@@ -1,9 +1,0 @@
--- The break stays where it isn't asked to move.
-use Rattle.syscall_layer.proofs.Settled.{stays_with}
-use Rattle.syscall_layer.proofs.reply.settle.Goals as goal
-
-pub returns-in-Answer : goal.returns-in-Answer
-returns-in-Answer c = λ h there. rw c.in-Answer.is (stays_with c.args.spaces.now c.args.number h there c.in-Answer.value)
-
-pub returns-in-Yield : goal.returns-in-Yield
-returns-in-Yield c = λ h there. rw c.in-Yield.is (stays_with c.args.spaces.now c.args.number h there 0)
