@@ -8,7 +8,7 @@ use Rattle.mmap_rules.specs.declared.owners.PageOwner.{PageOwner}
 use Rattle.mmap_rules.specs.Space.{may_use}
 use Rattle.mmap_rules.specs.Owners.{owns}
 use Rattle.region_watch.specs.Private.{own_bytes, frozen}
-use Rattle.machine_world.specs.Event.{put_got}
+use Rattle.flat_loader.specs.Alone.{put_got}
 
 -- the first range that may not be written
 abbrev pub first_stray : (ℕ → Bool) → List Written → Option Span

@@ -5,7 +5,7 @@ ghost use Rattle.call_log.specs.Values.{written_value};
 ghost use Rattle.mmap_rules.specs.declared.owners.PageOwner.{PageOwner};
 ghost use Rattle.mmap_rules.specs.Owners.{owns};
 ghost use Rattle.region_watch.specs.Private.{in_pages, physical};
-ghost use Rattle.machine_world.specs.Event.{put_got};
+ghost use Rattle.flat_loader.specs.Alone.{put_got};
 ghost use Rattle.call_bytes.specs.Puts.{first_stray, access_at, IsRange, bytes_of, Put};
 
 use call_log::Got;
