@@ -66,8 +66,8 @@ mod ExecRegular
 mod Execs
 mod ExecSteps
 mod BlockBytes
-mod ExecMemory
-mod ExecCalls
+pub mod ExecMemory
+pub mod ExecCalls
 pub mod QuietRows
 pub mod Runs
 pub mod CopiesKept
@@ -79,7 +79,7 @@ mod MapChoice
 mod MapBytes
 mod MapAgrees
 mod FreeBytes
-mod MapMemory
+pub mod MapMemory
 mod MapRegular
 mod MapCopies
 mod Unmapped
@@ -93,7 +93,7 @@ pub mod Settled
 pub mod Moves
 pub mod Outcomes
 pub mod Finishes
-mod GivenMemory
+pub mod GivenMemory
 pub mod Reached
 pub mod Forks
 pub mod Waits

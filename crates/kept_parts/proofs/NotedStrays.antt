@@ -10,11 +10,8 @@ use Rattle.call_log.specs.declared.note.Note.TheVariants.{Call, Load, End, Stray
 use Rattle.call_log.specs.Notes.{Note, call_note, load_note, end_note, stray_note}
 use Rattle.call_log.specs.Values.{note_value}
 use Rattle.machine_world.specs.Turns.{seen_of}
-use Rattle.region_watch.specs.declared.mode.Mode.{Mode}
-use Rattle.region_watch.specs.declared.mode.Mode.TheVariants.{Halt, GoOn}
 use Rattle.physical_turns.specs.Physical.{has_stray}
 use Rattle.kept_parts.specs.Noted.{first_noted}
-use Rattle.syscall_layer.specs.Parts.{halted_at}
 
 stray_or : (xs ys : List Note) → has_stray (xs ++ ys) ≡ (has_stray xs || has_stray ys)
 stray_or [] ys = refl
@@ -92,19 +89,3 @@ module _ (notes : List Stored) (i : ℕ) (d : Stored) (less : i < length notes) 
 
 pub finds_none : (notes : List Stored) (i : ℕ) → length notes ≤ i → first_noted (map note_value (take i notes)) ≡ None → first_noted (map note_value notes) ≡ None
 finds_none notes i all none = ap (λ (xs : List Stored). first_noted (map note_value xs)) (sym (take_all i notes all)) ∙ none
-
--- ---- where a run has ended
-
-pub none_noted : (mode : Mode) (notes : List Note) → has_stray notes ≡ false → halted_at mode notes ≡ None
-none_noted Halt notes none = is_none (first_noted (reverse notes)) (sym (stray_first (reverse notes)) ∙ stray_reversed notes ∙ none)
-  where
-    is_none : (o : Option Seen) → is_some o ≡ false → o ≡ None
-    is_none None none = refl
-    is_none (Some seen) none = absurd cc
-none_noted GoOn notes none = refl
-
--- as the code finds it
-pub none_halted : (mode : Mode) (notes : List Note) (o : Option Access) (access : Access) → option_map seen_of o ≡ halted_at mode notes → o ≡ Some access → has_stray notes ≡ false → ⊥
-none_halted mode notes o access found is none =
-    let both : Some (seen_of access) ≡ None = sym (ap (option_map seen_of) is) ∙ found ∙ none_noted mode notes none in
-    absurd cc

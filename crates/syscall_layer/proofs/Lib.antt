@@ -1,5 +1,6 @@
+-- Halted     where a run has ended that ends at its first stray access
 -- CallsKeep  a call notes no stray access, and leaves as many pages and no pipe marked
--- ToldMemory  and a waitid
+-- ToldMemory  what a waitid leaves of the one memory
 -- OutputRanges  the ranges that a call gives are ranges that an access can have
 -- CallRows  the row of each call, and the effect that the code gives it
 -- MapRows   the rows of mmap2 and munmap, and the file that an mmap2 asks for
@@ -16,3 +17,4 @@ mod Leaves
 pub mod CallsOn
 mod CallEvents
 mod Samples
+pub mod Halted

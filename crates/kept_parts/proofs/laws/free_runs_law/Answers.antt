@@ -1,6 +1,6 @@
 use Rattle.std.proofs.Common.{sym}
 use Rattle.kept_parts.proofs.FreePages.{free_is}
-use Rattle.syscall_layer.proofs.laws.free_runs_law.Goals as goal
+use Rattle.kept_parts.proofs.laws.free_runs_law.Goals as goal
 
 pub returns : goal.returns
 returns c = λ a k regular. sym (free_is a k regular)

@@ -18,7 +18,7 @@ use Rattle.flat_machine.specs.Runs.{repeated, Ends}
 use Rattle.flat_machine.proofs.Rounds.{time_fits, one_more_time, time_on, time_ends, time_fails, machine_ends, runs_fail, run_keeps_stays}
 use Rattle.flat_machine.proofs.RoundsIn.{first_quiet, time_on_in, time_ends_in, time_fails_in, time_first, time_first_ends, all_comes_in, all_first, runs_fail_in, goes_on_fails}
 use Rattle.flat_machine.proofs.Waiting.{run_keeps_waits, run_waits_where_stuck}
-use Rattle.kept_parts.proofs.NotedStrays.{none_halted}
+use Rattle.syscall_layer.proofs.Halted.{none_halted}
 use Rattle.flat_machine.proofs.machine.Machine.run_repeated.Given.{Over}
 use Rattle.flat_machine.proofs.machine.Machine.run_repeated.Goals as goal
 

@@ -1,7 +1,7 @@
 -- Where no stray access is marked as noted, the notes have none.
 use Rattle.std.proofs.Common.{rules, ◌≡◌, false, sym, ◌∙◌}
 use Rattle.physical_turns.specs.Physical.{has_stray}
-use Rattle.kept_parts.proofs.NotedStrays.{none_noted}
+use Rattle.syscall_layer.proofs.Halted.{none_noted}
 use Rattle.syscall_layer.proofs.parts.Parts.halted_at.Goals as goal
 
 pub returns-else-self : goal.returns-else-self
