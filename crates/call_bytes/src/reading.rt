@@ -25,7 +25,7 @@ const MOST_PATH: u32 = 4096;
 const MOST_STRINGS: u32 = 1_048_576;
 
 /// Why the bytes of a call are not read.
-#[derive(Clone, Copy, Debug, PartialEq, Eq)]
+#[derive(Clone, Copy, PartialEq, Eq)]
 pub enum Unread {
     /// A byte of this range isn't own in the table that is read by: its first address, and its bytes.
     Stray { addr: u32, len: u32 },

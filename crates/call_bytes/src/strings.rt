@@ -9,7 +9,7 @@ use byte_words::word;
 use std::alloc::{AllocError, Global};
 
 /// The arguments and the environment of a program.
-#[derive(Debug, Drop)]
+#[derive(Drop)]
 pub struct ProgramStrings {
     pub args: Vec<Vec<u8>>,
     pub env: Vec<Vec<u8>>,

@@ -1,7 +1,7 @@
 //! How a process ends, and an access that was seen to stray.
 
 /// How a process ends.
-#[derive(Clone, Copy, Debug, PartialEq, Eq)]
+#[derive(Clone, Copy, PartialEq, Eq)]
 pub enum How {
     /// By exit or exit_group, with the lowest eight bits of the code.
     Exit(u8),
@@ -10,7 +10,7 @@ pub enum How {
 }
 
 /// What an access is for.
-#[derive(Clone, Copy, Debug, PartialEq, Eq)]
+#[derive(Clone, Copy, PartialEq, Eq)]
 pub enum SeenKind {
     /// An instruction.
     Fetch,
@@ -23,7 +23,7 @@ pub enum SeenKind {
 }
 
 /// An access, as it is noted.
-#[derive(Clone, Copy, Debug, PartialEq, Eq)]
+#[derive(Clone, Copy, PartialEq, Eq)]
 pub struct Seen {
     /// The address of the instruction that makes it.
     pub pc: u32,

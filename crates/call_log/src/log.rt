@@ -16,7 +16,7 @@ const MOST_CALLS: u32 = 1_048_576;
 const MOST_BYTES: u64 = 67_108_864;
 
 /// Why a note isn't kept.
-#[derive(Clone, Copy, Debug, PartialEq, Eq)]
+#[derive(Clone, Copy, PartialEq, Eq)]
 pub enum LogFault {
     /// The call passes the limits of the log.
     Full,
@@ -25,7 +25,7 @@ pub enum LogFault {
 }
 
 /// The notes of a run, with the sums that its limits are about.
-#[derive(Debug, Drop)]
+#[derive(Drop)]
 pub struct Log {
     notes: Vec<Note>,
     /// For how many notes more memory is kept ready.

@@ -3,7 +3,7 @@
 use crate::how::{How, Seen};
 
 /// Bytes that a call wrote into its caller's memory.
-#[derive(Debug, Drop)]
+#[derive(Drop)]
 pub struct Got {
     /// The address of the first one.
     pub addr: u32,
@@ -11,7 +11,7 @@ pub struct Got {
 }
 
 /// A system call that was made, whether it was refused or not.
-#[derive(Debug, Drop)]
+#[derive(Drop)]
 pub struct Entry {
     pub pid: u32,
     /// Its number, from a7.
@@ -27,7 +27,7 @@ pub struct Entry {
 }
 
 /// What is kept of one event.
-#[derive(Debug, Drop)]
+#[derive(Drop)]
 pub enum Note {
     /// A system call.
     Call(Entry),

@@ -1,7 +1,7 @@
 //! What a pipe shows.
 
 /// How much a pipe holds, and which of its ends are open.
-#[derive(Clone, Copy, Debug, PartialEq, Eq)]
+#[derive(Clone, Copy, PartialEq, Eq)]
 pub struct PipeView {
     /// In bytes, at most 65,536.
     pub held: u32,
@@ -10,7 +10,7 @@ pub struct PipeView {
 }
 
 /// The descriptors of a pipe's ends.
-#[derive(Clone, Copy, Debug, PartialEq, Eq)]
+#[derive(Clone, Copy, PartialEq, Eq)]
 pub struct Ends {
     pub read: u32,
     pub write: u32,

@@ -10,7 +10,7 @@ use fd_tables::Way;
 pub(crate) const CLOSE_ON_EXEC: u32 = 0x80000;
 
 /// The flags of openat.
-#[derive(Clone, Copy, Debug, PartialEq, Eq)]
+#[derive(Clone, Copy, PartialEq, Eq)]
 pub(crate) struct OpenFlags {
     pub bits: u32,
 }

@@ -1,7 +1,7 @@
 //! A part of a process's memory.
 
 /// Where bytes go, and how many have room there.
-#[derive(Clone, Copy, Debug)]
+#[derive(Clone, Copy)]
 pub(crate) struct Piece {
     pub(crate) addr: u32,
     pub(crate) len: u32,

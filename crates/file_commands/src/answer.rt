@@ -5,7 +5,7 @@ use crate::status::Status;
 use std::alloc::{AllocError, Global};
 
 /// The status of a command, and its texts for the two sinks: any bytes, since a console holds any.
-#[derive(Debug, Drop)]
+#[derive(Drop)]
 pub struct Answer {
     pub status: Status,
     pub out: Vec<u8>,

@@ -20,7 +20,7 @@ const LEAST_PROGRAMS: u32 = 1;
 const MOST_PROGRAMS: u32 = 64;
 
 /// A command with its arguments.
-#[derive(Clone, Copy, Debug, PartialEq, Eq)]
+#[derive(Clone, Copy, PartialEq, Eq)]
 pub enum Command<'a> {
     /// `convert ELF FLT`, and with `--stack N` another stack than the default one.
     Convert {

@@ -18,7 +18,7 @@ use std::alloc::{AllocError, Global};
 const FILE_LIMIT: u32 = 67_108_864;
 
 /// What the load of a file gives.
-#[derive(Debug, Drop)]
+#[derive(Drop)]
 pub enum FileLoad {
     /// The whole file.
     Whole(Vec<u8>),

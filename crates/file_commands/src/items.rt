@@ -24,7 +24,7 @@ const ELF_LIMIT: u32 = 67_108_864;
 const FILE_LIMIT: u32 = 16_777_216;
 
 /// What the loads of all lines' files give.
-#[derive(Debug, Drop)]
+#[derive(Drop)]
 pub enum ItemsLoad {
     /// All files, in the order of the lines; an empty one for a folder.
     Whole(Vec<Vec<u8>>),

@@ -36,7 +36,7 @@ pub struct Loaded {
 }
 
 /// Why a program is not loaded.
-#[derive(Clone, Copy, Debug, PartialEq, Eq, Drop)]
+#[derive(Clone, Copy, PartialEq, Eq, Drop)]
 pub enum LoadRefusal {
     /// The start frame does not fit in the stack.
     E2big,

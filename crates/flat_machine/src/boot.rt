@@ -44,7 +44,7 @@ pub struct Setup {
 }
 
 /// Why a machine doesn't start: the number of the start line that failed.
-#[derive(Clone, Copy, Debug, PartialEq, Eq)]
+#[derive(Clone, Copy, PartialEq, Eq)]
 pub enum BootRefusal {
     /// Its path leads to no program.
     BadStart { line: u32 },

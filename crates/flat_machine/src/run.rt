@@ -31,7 +31,7 @@ use std::alloc::AllocError;
 use syscall_layer::Parts;
 
 /// Why a run stops.
-#[derive(Clone, Copy, Debug, PartialEq, Eq)]
+#[derive(Clone, Copy, PartialEq, Eq)]
 pub enum End {
     /// No process lives.
     AllEnded,

@@ -34,7 +34,7 @@ use syscall_layer::{Parts, serve_within};
 const SIGSEGV: u8 = 11;
 
 /// How a run goes on after an event.
-#[derive(Clone, Copy, Debug, PartialEq, Eq)]
+#[derive(Clone, Copy, PartialEq, Eq)]
 enum After {
     /// With the process's next event.
     GoesOn,

@@ -1,7 +1,7 @@
 //! What a call does that touches neither files nor memory.
 
 /// What a call does that the process lives after.
-#[derive(Clone, Copy, Debug, PartialEq, Eq)]
+#[derive(Clone, Copy, PartialEq, Eq)]
 pub enum Effect {
     /// It is answered so.
     Answer(u32),

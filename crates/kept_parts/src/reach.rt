@@ -16,7 +16,7 @@ use rv32im_step::{Access, AccessKind};
 use std::alloc::{AllocError, Global};
 
 /// Which bytes the instructions and the system calls of a process may read and write.
-#[derive(Clone, Copy, Debug, PartialEq, Eq)]
+#[derive(Clone, Copy, PartialEq, Eq)]
 pub enum Reach {
     /// Those that its space owns: a run up to its first stray access.
     Own,

@@ -3,7 +3,7 @@
 use rv32im_step::Access;
 
 /// What came of a system call.
-#[derive(Clone, Copy, Debug, PartialEq, Eq)]
+#[derive(Clone, Copy, PartialEq, Eq)]
 pub enum Served {
     /// It has its reply, and the process goes on.
     Replied,

@@ -19,7 +19,7 @@ use flat_loader::{LoadRefusal, Loaded, load};
 use page_runs::{Chooser, Run};
 
 /// Why a program doesn't start.
-#[derive(Clone, Copy, Debug, PartialEq, Eq)]
+#[derive(Clone, Copy, PartialEq, Eq)]
 pub enum StartRefusal {
     /// Its start frame doesn't fit into its stack.
     E2big,

@@ -3,7 +3,7 @@
 use rv32im_step::Regs;
 
 /// A process that lives: its registers, its space, and what it has open.
-#[derive(Clone, Copy, Debug, PartialEq, Eq, Drop)]
+#[derive(Clone, Copy, PartialEq, Eq, Drop)]
 pub struct Task {
     pub regs: Regs,
     /// Its place among the spaces of `KeptParts`.

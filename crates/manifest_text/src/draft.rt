@@ -28,7 +28,7 @@ const MOST_QUANTA: usize = 65_536;
 const DEFAULT_PAGES: u32 = 256;
 
 /// What the lines so far have said.
-#[derive(Debug, Drop)]
+#[derive(Drop)]
 pub(crate) struct Draft {
     pub pages: Option<u32>,
     pub items: Vec<Item>,

@@ -20,7 +20,7 @@ use std::alloc::{AllocError, Global};
 const DEFAULT_STACK: u32 = 4096;
 
 /// What a line says.
-#[derive(Debug, Drop)]
+#[derive(Drop)]
 pub(crate) enum Spoken {
     Nothing,
     Memory(u32),

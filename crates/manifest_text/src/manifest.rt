@@ -3,7 +3,7 @@
 use quantum_sched::Quantum;
 
 /// What a line brings in.
-#[derive(Clone, Copy, Debug, PartialEq, Eq)]
+#[derive(Clone, Copy, PartialEq, Eq)]
 pub enum ItemKind {
     /// A program made from an ELF file.
     Elf,
@@ -18,7 +18,7 @@ pub enum ItemKind {
 }
 
 /// A line that brings in a file of the host, or makes a folder.
-#[derive(Debug, Drop)]
+#[derive(Drop)]
 pub struct Item {
     /// The line's number, from 1.
     pub line: u32,
@@ -32,7 +32,7 @@ pub struct Item {
 }
 
 /// A line that starts a process.
-#[derive(Debug, Drop)]
+#[derive(Drop)]
 pub struct Start {
     /// The line's number, from 1.
     pub line: u32,
@@ -41,7 +41,7 @@ pub struct Start {
 }
 
 /// Bytes of a process that are shown after the run.
-#[derive(Clone, Copy, Debug, PartialEq, Eq)]
+#[derive(Clone, Copy, PartialEq, Eq)]
 pub struct Dump {
     pub pid: u32,
     pub addr: u32,
@@ -50,7 +50,7 @@ pub struct Dump {
 }
 
 /// A whole manifest.
-#[derive(Debug, Drop)]
+#[derive(Drop)]
 pub struct Manifest {
     /// The pages of memory.
     pub pages: u32,

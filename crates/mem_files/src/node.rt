@@ -1,7 +1,7 @@
 //! What a node is.
 
 /// What a node is.
-#[derive(Clone, Copy, Debug, PartialEq, Eq)]
+#[derive(Clone, Copy, PartialEq, Eq)]
 pub enum Node {
     /// A folder.
     Dir,

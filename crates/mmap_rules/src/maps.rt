@@ -26,7 +26,7 @@ use phys_mem::{BASE, PAGE, PhysMem};
 use std::alloc::AllocError;
 
 /// Why nothing is mapped.
-#[derive(Clone, Copy, Debug, PartialEq, Eq)]
+#[derive(Clone, Copy, PartialEq, Eq)]
 pub enum MapFault {
     /// A fresh run of pages is needed, and no free run has so many.
     Enomem,

@@ -17,7 +17,7 @@ const BASE: u32 = 0x8000_0000;
 const PAGE: u64 = 4096;
 
 /// What a space owns of one page.
-#[derive(Clone, Copy, Debug, PartialEq, Eq)]
+#[derive(Clone, Copy, PartialEq, Eq)]
 pub struct PageOwner {
     /// The first of the page's bytes that is own, if any is; all behind it are.
     pub from: u32,
@@ -28,7 +28,7 @@ pub struct PageOwner {
 }
 
 /// A table with an entry for each page of memory.
-#[derive(Debug, Drop)]
+#[derive(Drop)]
 pub struct Owners {
     entries: Vec<PageOwner>,
 }

@@ -7,7 +7,7 @@ use crate::run::Run;
 
 /// Which run is taken of those that fit: the lowest, the smallest (the lowest of equal ones), or the
 /// highest.
-#[derive(Clone, Copy, Debug, PartialEq, Eq, Drop)]
+#[derive(Clone, Copy, PartialEq, Eq, Drop)]
 pub enum Kind {
     First,
     Best,

@@ -1,7 +1,7 @@
 //! A run of pages.
 
 /// `count` pages from page `first` on. Page 0 is the first page of memory.
-#[derive(Clone, Copy, Debug, PartialEq, Eq, Drop)]
+#[derive(Clone, Copy, PartialEq, Eq, Drop)]
 pub struct Run {
     pub first: u32,
     pub count: u32,

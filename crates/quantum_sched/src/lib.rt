@@ -8,7 +8,7 @@ ghost use Rattle.quantum_sched.specs.Picked.{picked};
 use vfork_exec::Procs;
 
 /// A turn.
-#[derive(Clone, Copy, Debug, PartialEq, Eq)]
+#[derive(Clone, Copy, PartialEq, Eq)]
 pub struct Quantum {
     /// Which of the processes that may run: any number, counted round and round.
     pub pick: u32,

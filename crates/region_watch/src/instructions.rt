@@ -11,7 +11,7 @@ use crate::watch::Watch;
 use rv32im_step::{Regs, Stop, step};
 
 /// How far a program came.
-#[derive(Clone, Copy, Debug, PartialEq, Eq)]
+#[derive(Clone, Copy, PartialEq, Eq)]
 pub struct Progress {
     /// How many instructions were carried out.
     pub done: u32,

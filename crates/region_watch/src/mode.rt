@@ -1,7 +1,7 @@
 //! What becomes of a run at its first stray access.
 
 /// What becomes of a run at its first stray access.
-#[derive(Clone, Copy, Debug, PartialEq, Eq)]
+#[derive(Clone, Copy, PartialEq, Eq)]
 pub enum Mode {
     /// It ends there.
     Halt,

@@ -15,7 +15,7 @@ use rv32im_table::Instr;
 
 /// The own bytes of the program's block: those from `from` on, `size` of them. All of them may be written.
 /// It may be smaller than the block, and empty.
-#[derive(Clone, Copy, Debug, PartialEq, Eq)]
+#[derive(Clone, Copy, PartialEq, Eq)]
 pub struct Window {
     /// The first address.
     pub from: u32,

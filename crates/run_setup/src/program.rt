@@ -10,7 +10,7 @@ use elf2flt_tool::flat_file;
 use std::alloc::Global;
 
 /// A program, and the bytes of the flat file that stands at its path.
-#[derive(Debug, Drop)]
+#[derive(Drop)]
 pub(crate) struct Made {
     pub(crate) flat: Flat,
     pub(crate) bytes: Vec<u8>,

@@ -14,7 +14,7 @@ use manifest_text::Dump;
 use std::alloc::{AllocError, Global};
 
 /// What a run tells.
-#[derive(Clone, Copy, Debug, PartialEq, Eq)]
+#[derive(Clone, Copy, PartialEq, Eq)]
 pub enum Telling {
     /// Its report, with the system calls if they are asked for.
     Report { log: bool },

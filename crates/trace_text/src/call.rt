@@ -4,7 +4,7 @@ ghost use Rattle.std.specs.Prelude.{◌≡◌};
 ghost use Rattle.trace_text.specs.Calls.{call_of, call_name, replies_address};
 
 /// A system call that is served, named as in Linux (`include/uapi/asm-generic/unistd.h`).
-#[derive(Clone, Copy, Debug, PartialEq, Eq)]
+#[derive(Clone, Copy, PartialEq, Eq)]
 pub enum Call {
     Dup,
     Dup3,

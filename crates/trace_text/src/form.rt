@@ -6,7 +6,7 @@ ghost use Rattle.trace_text.specs.Forms.{forms_of};
 use crate::call::Call;
 
 /// How an argument is shown.
-#[derive(Clone, Copy, Debug, PartialEq, Eq)]
+#[derive(Clone, Copy, PartialEq, Eq)]
 pub enum Form {
     /// As a signed number.
     Decimal,
