@@ -16,8 +16,8 @@ use Rattle.machine_world.specs.Courses.{StandsAt}
 use Rattle.machine_world.proofs.States.{is_called, is_died, is_stray}
 use Rattle.machine_world.proofs.Runnable.{may_run_still}
 use Rattle.machine_world.proofs.Signals.{trap_small}
-use Rattle.syscall_layer.specs.declared.answer.Served.{Served}
-use Rattle.syscall_layer.specs.declared.answer.Served.TheVariants as served
+use Rattle.kept_parts.specs.declared.served.Served.{Served}
+use Rattle.kept_parts.specs.declared.served.Served.TheVariants as served
 use Rattle.kept_parts.specs.Kept.{Kept}
 use Rattle.kept_parts.specs.Stands.{About, later, world_of}
 use Rattle.kept_parts.specs.Serves.{Answered, Died}

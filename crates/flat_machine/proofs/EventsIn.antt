@@ -18,8 +18,8 @@ use Rattle.physical_turns.specs.Courses.{StandsIn}
 use Rattle.physical_turns.proofs.Moves.{noted_unstrayed, first_strays, event_in_calm, carried_called, carried_trapped, carried_refused}
 use Rattle.kept_parts.specs.declared.reach.Reach.{Reach}
 use Rattle.kept_parts.specs.declared.reach.Reach.TheVariants.{Own, Whole}
-use Rattle.syscall_layer.specs.declared.answer.Served.{Served}
-use Rattle.syscall_layer.specs.declared.answer.Served.TheVariants as served
+use Rattle.kept_parts.specs.declared.served.Served.{Served}
+use Rattle.kept_parts.specs.declared.served.Served.TheVariants as served
 use Rattle.kept_parts.specs.Kept.{Kept}
 use Rattle.kept_parts.specs.Copies.{StillHolds}
 use Rattle.kept_parts.proofs.Holding.{unstrayed_holds}
