@@ -43,7 +43,13 @@ fn is_reported(alloc: Global, size: u32, line: &str) -> Result<bool, AllocError>
     let mut host = SizeHost { size };
     let mut out = MemSink::new(alloc)?;
     let mut report = MemSink::new(alloc)?;
-    convert(alloc, &mut host, &mut out, &mut report)?;
+    call_suite(
+        alloc,
+        &["convert", "a.elf", "a.flt"],
+        &mut host,
+        &mut out,
+        &mut report,
+    )?;
     Ok(report.bytes() == line.as_bytes())
 }
 

@@ -41,7 +41,7 @@ fn the_given_closure_is_asked(rt: HostRuntime) -> Result<(), Fail> {
     let alloc = rt.alloc();
     let manifest =
         "memory 6\nelf /hi hi.elf\nstart /hi\nstart /hi\nstart /hi\nquanta 0:100 0:100 0:100\n";
-    let mut host = host_of(alloc, manifest)?;
+    let mut host = host_with_files(alloc, manifest)?;
     let (last, done) = asked_in(alloc, &["run", "m", "--place", "last"], &mut host)?;
     assert!(rt;
         done && last[0] == 0 && last[1] == 0 && last[2] >= 3,
