@@ -4,7 +4,7 @@ ghost use Rattle.std.specs.Prelude.{◌≡◌};
 ghost use Rattle.call_log.specs.Errno.{errno_number, refusal};
 
 /// The errors of Linux (`errno-base.h` and `errno.h`) that calls are refused with.
-#[derive(Clone, Copy, PartialEq, Eq)]
+#[derive(Clone, Copy, Debug, PartialEq, Eq)]
 pub enum Errno {
     /// No such file or directory.
     Enoent,

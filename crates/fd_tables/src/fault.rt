@@ -6,7 +6,7 @@ use call_log::Errno;
 use std::alloc::AllocError;
 
 /// Why a file isn't opened.
-#[derive(Clone, Copy, PartialEq, Eq)]
+#[derive(Clone, Copy, Debug, PartialEq, Eq)]
 pub enum FdFault {
     /// It is refused so.
     Errno(Errno),

@@ -6,7 +6,7 @@ ghost use Rattle.manifest_text.specs.declared.fault.ManifestRefusal.TheVariants.
 use std::alloc::{AllocError, AllocFailed};
 
 /// Why a line, or a manifest, isn't read. Of the faults of one line the first in this order counts.
-#[derive(Clone, Copy, PartialEq, Eq)]
+#[derive(Clone, Copy, Debug, PartialEq, Eq)]
 pub enum ManifestFault {
     /// The line has a byte outside 0x20 to 0x7e.
     BadByte,
@@ -29,7 +29,7 @@ pub enum ManifestFault {
 }
 
 /// Why there is no manifest.
-#[derive(Clone, Copy, PartialEq, Eq)]
+#[derive(Clone, Copy, Debug, PartialEq, Eq)]
 pub enum ManifestRefusal {
     /// A fault of the line with this number, from 1.
     At { line: u32, fault: ManifestFault },

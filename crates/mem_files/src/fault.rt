@@ -6,7 +6,7 @@ use call_log::Errno;
 use std::alloc::AllocError;
 
 /// Why a file or a folder isn't made or written.
-#[derive(Clone, Copy, PartialEq, Eq)]
+#[derive(Clone, Copy, Debug, PartialEq, Eq)]
 pub enum FileFault {
     /// It is refused so.
     Errno(Errno),

@@ -10,7 +10,7 @@ use mem_files::FileFault;
 use std::alloc::{AllocError, AllocFailed};
 
 /// Why a line of a manifest is refused.
-#[derive(Drop)]
+#[derive(Debug, Drop)]
 pub enum LineFault {
     /// Its file is longer than the limit of its load.
     TooLong,
@@ -31,7 +31,7 @@ pub enum LineFault {
 }
 
 /// A fault of the line with this number.
-#[derive(Drop)]
+#[derive(Debug, Drop)]
 pub struct FaultAt {
     pub line: u32,
     pub fault: LineFault,
