@@ -4,7 +4,6 @@ ghost use Rattle.std.specs.Prelude.{◌≡◌, ◌+◌, ◌<◌, ◌≤◌, ◌^
 ghost use Rattle.vfork_exec.specs.Procs.{CanRun};
 
 use call_log::{Errno, How};
-use std::process::Abort;
 use std::test::*;
 use vfork_exec::{Procs, Waited, Who};
 
@@ -21,31 +20,35 @@ fn run(procs: &Procs<u8>, pids: &[u32]) -> bool {
     true
 }
 
-fn start_three(rt: &impl Abort, procs: &mut Procs<u8>)
+fn start_three(procs: &mut Procs<u8>) -> bool
     requires { procs.old.next_pid ≤ 9 }
 {
     let pids = (procs.start(10), procs.start(20), procs.start(30));
-    assert_eq!(rt; (pids, procs.live()), ((Some(1), Some(2), Some(3)), 3));
+    pids == (Some(1), Some(2), Some(3)) && procs.live() == 3
 }
 
-/// What is kept of a process that lives is changed, and it ends.
-fn ends_changed(rt: &impl Abort, procs: &mut Procs<u8>) {
-    if procs.lives(2) {
-        assert_eq!(rt; (*procs.get(2), procs.parent(2)), (20, 0));
-        *procs.get_mut(2) = 21;
+/// What is kept of a process that lives is changed.
+fn changes(procs: &mut Procs<u8>) -> bool {
+    if !procs.lives(2) || *procs.get(2) != 20 || procs.parent(2) != 0 {
+        return false;
     }
-    if procs.lives(2) {
-        assert_eq!(rt; *procs.get(2), 21);
-        procs.end(2, How::Exit(0));
+    *procs.get_mut(2) = 21;
+    true
+}
+
+/// It ends.
+fn ends_changed(procs: &mut Procs<u8>) -> bool {
+    if !procs.lives(2) || *procs.get(2) != 21 {
+        return false;
     }
-    assert_eq!(rt; (procs.lives(2), run(procs, &[1, 3])), (false, true));
+    procs.end(2, How::Exit(0));
+    !procs.lives(2) && run(procs, &[1, 3])
 }
 
 #[test]
 fn processes_start_and_end(rt: HostRuntime) -> Result<(), Fail> {
     let mut procs: Procs<u8> = Procs::new(rt.alloc())?;
-    start_three(&rt, &mut procs);
-    ends_changed(&rt, &mut procs);
+    assert!(rt; start_three(&mut procs) && changes(&mut procs) && ends_changed(&mut procs));
     Ok(())
 }
 
@@ -61,7 +64,7 @@ enum Call {
     Wake(u32),
 }
 
-#[derive(Clone, Copy, Debug, PartialEq, Eq)]
+#[derive(Clone, Copy, PartialEq, Eq)]
 enum Answer {
     Done,
     Pid(u32),
@@ -160,16 +163,19 @@ fn serve(procs: &mut Procs<u8>, call: Call) -> Answer
 /// A call, its answer, and who may run then.
 type Row = (Call, Answer, &'static [u32]);
 
-fn serves(rt: &impl Abort, procs: &mut Procs<u8>, rows: &[Row])
+/// The pids of the first row that isn't so.
+fn serves(procs: &mut Procs<u8>, rows: &[Row]) -> Option<&'static [u32]>
     requires { procs.old.next_pid + length rows.now < 2 ^ 32 }
 {
     for (call, want, pids) in rows {
-        let given = serve(procs, *call);
-        assert_eq!(rt; (given, run(procs, *pids)), (*want, true));
+        if serve(procs, *call) != *want || !run(procs, *pids) {
+            return Some(*pids);
+        }
     }
+    None
 }
 
-const FAMILIES: [Row; 31] = [
+static FAMILIES: [Row; 31] = [
     // The parent stands still until the child's exec or end, and no other child's.
     (Start, Pid(1), &[1]),
     (Vfork(1), Pid(2), &[2]),
@@ -210,11 +216,12 @@ const FAMILIES: [Row; 31] = [
 #[test]
 fn families(rt: HostRuntime) -> Result<(), Fail> {
     let mut procs: Procs<u8> = Procs::new(rt.alloc())?;
-    serves(&rt, &mut procs, &FAMILIES);
+    let other = serves(&mut procs, &FAMILIES);
+    assert!(rt; other.is_none(), "{other:?}");
     Ok(())
 }
 
-const PIPES: [Row; 24] = [
+static PIPES: [Row; 24] = [
     (Start, Pid(1), &[1]),
     (Start, Pid(2), &[1, 2]),
     (Vfork(2), Pid(3), &[1, 3]),
@@ -248,24 +255,26 @@ const PIPES: [Row; 24] = [
 #[test]
 fn pipes(rt: HostRuntime) -> Result<(), Fail> {
     let mut procs: Procs<u8> = Procs::new(rt.alloc())?;
-    serves(&rt, &mut procs, &PIPES);
+    let other = serves(&mut procs, &PIPES);
+    assert!(rt; other.is_none(), "{other:?}");
     Ok(())
 }
 
-/// One that lives, and 63 children of it that have ended.
-fn fills(rt: &impl Abort, procs: &mut Procs<u8>)
+/// Whether one lives, and 63 children of it have ended.
+fn fills(procs: &mut Procs<u8>) -> bool
     requires { procs.old.next_pid ≤ 1 }
     ensures { procs.new.next_pid ≤ 130 }
 {
-    assert_eq!(rt; serve(procs, Start), Pid(1));
+    let mut is_so = serve(procs, Start) == Pid(1);
     for pid in 2..65 {
         let child = serve(procs, Vfork(1));
-        assert_eq!(rt; (child, serve(procs, End(pid))), (Pid(pid), Done));
+        let end = serve(procs, End(pid));
+        is_so = is_so && child == Pid(pid) && end == Done;
     }
-    assert!(rt; procs.full());
+    is_so && procs.full()
 }
 
-const FULL: [Row; 7] = [
+static FULL: [Row; 7] = [
     (Vfork(1), Refused(Errno::Eagain), &[1]),
     (Start, Refused(Errno::Eagain), &[1]),
     (Wait(1, Who::All), Child(2, How::Exit(2)), &[1]),
@@ -279,7 +288,6 @@ const FULL: [Row; 7] = [
 #[test]
 fn those_that_have_ended_count(rt: HostRuntime) -> Result<(), Fail> {
     let mut procs: Procs<u8> = Procs::new(rt.alloc())?;
-    fills(&rt, &mut procs);
-    serves(&rt, &mut procs, &FULL);
+    assert!(rt; fills(&mut procs) && serves(&mut procs, &FULL).is_none());
     Ok(())
 }

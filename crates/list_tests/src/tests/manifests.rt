@@ -3,15 +3,14 @@
 use manifest_text::{Dump, Item, ItemKind, Manifest, ManifestFault, ManifestRefusal, Start, read};
 use quantum_sched::Quantum;
 use std::alloc::{AllocError, Global};
-use std::process::Abort;
 use std::test::*;
 
-/// What is refused: its line, and its fault.
-fn fault_of(alloc: Global, text: &[u8]) -> Result<Option<(u32, ManifestFault)>, Fail> {
+/// Whether a text is read, or refused at this line for this fault.
+fn has_fault(alloc: Global, text: &[u8], want: Option<(u32, ManifestFault)>) -> bool {
     match read(alloc, text) {
-        Ok(_) => Ok(None),
-        Err(ManifestRefusal::At { line, fault }) => Ok(Some((line, fault))),
-        Err(ManifestRefusal::Memory) => Err(Fail::from("no memory")),
+        Ok(_) => want.is_none(),
+        Err(ManifestRefusal::At { line, fault }) => want == Some((line, fault)),
+        Err(ManifestRefusal::Memory) => false,
     }
 }
 
@@ -32,11 +31,11 @@ fn many(
     Ok(text)
 }
 
-const EXAMPLE: &str =
+static EXAMPLE: &str =
     "# hi\n\nmemory 4\nelf /hi hi.elf\n  flat  /x x.flt\ndir /d\nfile /d/f f.txt\nstdin in.txt\nstart /hi a 7\nquanta 0:100 4294967295:1\nquanta 1:5\nrepeat 3\ndump 2 0x80002040 1";
 
 /// Its lines that bring something in: number, kind, path, name, and stack.
-const ITEMS: [(u32, ItemKind, &[u8], &[u8], u32); 5] = [
+static ITEMS: [(u32, ItemKind, &[u8], &[u8], u32); 5] = [
     (4, ItemKind::Elf, b"/hi", b"hi.elf", 4096),
     (5, ItemKind::Flat, b"/x", b"x.flt", 0),
     (6, ItemKind::Dir, b"/d", b"", 0),
@@ -44,7 +43,7 @@ const ITEMS: [(u32, ItemKind, &[u8], &[u8], u32); 5] = [
     (8, ItemKind::Stdin, b"", b"in.txt", 0),
 ];
 
-const QUANTA: [Quantum; 3] = [
+static QUANTA: [Quantum; 3] = [
     Quantum {
         pick: 0,
         count: 100,
@@ -56,59 +55,56 @@ const QUANTA: [Quantum; 3] = [
     Quantum { pick: 1, count: 5 },
 ];
 
-const DUMPS: [Dump; 1] = [Dump {
+static DUMPS: [Dump; 1] = [Dump {
     pid: 2,
     addr: 0x8000_2040,
     len: 1,
 }];
 
-fn brings_in(rt: &impl Abort, items: &[Item]) {
-    assert_eq!(rt; items.len(), ITEMS.len());
+fn brings_in(items: &[Item]) -> bool {
     for (item, (line, kind, path, name, stack)) in items.iter().zip(&ITEMS) {
-        assert_eq!(rt;
-            (
-                item.line,
-                item.kind,
-                item.path.as_slice(),
-                item.name.as_slice(),
-                item.stack
-            ),
-            (*line, *kind, *path, *name, *stack)
-        );
+        let is_so = item.line == *line
+            && item.kind == *kind
+            && item.path.as_slice() == *path
+            && item.name.as_slice() == *name
+            && item.stack == *stack;
+        if !is_so {
+            return false;
+        }
+    }
+    items.len() == ITEMS.len()
+}
+
+fn starts(starts: &[Start]) -> bool {
+    match starts {
+        [start] => start.line == 9 && start.args.len() == 3,
+        _ => false,
     }
 }
 
-fn starts(rt: &impl Abort, starts: &[Start]) {
-    assert_eq!(rt; starts.len(), 1);
-    for start in starts {
-        assert_eq!(rt; (start.line, start.args.len()), (9, 3));
-    }
-}
-
-fn runs(rt: &impl Abort, manifest: &Manifest) {
-    assert_eq!(rt; (manifest.pages, manifest.repeat), (4, 3));
-    assert_eq!(rt; manifest.quanta.as_slice(), QUANTA.as_slice());
-    assert_eq!(rt; manifest.dumps.as_slice(), DUMPS.as_slice());
+fn runs(manifest: &Manifest) -> bool {
+    manifest.pages == 4
+        && manifest.repeat == 3
+        && manifest.quanta.as_slice() == QUANTA.as_slice()
+        && manifest.dumps.as_slice() == DUMPS.as_slice()
 }
 
 #[test]
 fn example_is_read(rt: HostRuntime) -> Result<(), Fail> {
     let manifest = read(rt.alloc(), EXAMPLE.as_bytes())?;
-    runs(&rt, &manifest);
-    brings_in(&rt, &manifest.items);
-    starts(&rt, &manifest.starts);
+    assert!(rt; runs(&manifest) && brings_in(&manifest.items) && starts(&manifest.starts));
     Ok(())
 }
 
 #[test]
 fn defaults_are_taken(rt: HostRuntime) -> Result<(), Fail> {
     let manifest = read(rt.alloc(), b"start /hi\nquanta 0:1\n")?;
-    assert_eq!(rt; (manifest.pages, manifest.repeat), (256, 1));
+    assert!(rt; manifest.pages == 256 && manifest.repeat == 1);
     Ok(())
 }
 
 /// Manifests, the line of the fault, and the fault.
-const FAULTS: [(&str, u32, ManifestFault); 40] = [
+static FAULTS: [(&str, u32, ManifestFault); 40] = [
     ("quanta 0:1\n\tx", 2, ManifestFault::BadByte),
     ("files\u{7f}", 1, ManifestFault::BadByte),
     ("files", 1, ManifestFault::UnknownWord),
@@ -152,16 +148,17 @@ const FAULTS: [(&str, u32, ManifestFault); 40] = [
 ];
 
 #[test]
-fn each_fault_has_its_line(rt: HostRuntime) -> Result<(), Fail> {
-    for (text, line, fault) in FAULTS {
-        let found = fault_of(rt.alloc(), text.as_bytes())?;
-        assert_eq!(rt; found, Some((line, fault)), "{text}");
+fn each_fault_has_its_line(rt: HostRuntime) {
+    for &(text, line, fault) in &FAULTS {
+        assert!(rt;
+            has_fault(rt.alloc(), text.as_bytes(), Some((line, fault))),
+            "{text}"
+        );
     }
-    Ok(())
 }
 
 /// A front, how often a part stands behind it, and a back; the line of the fault and the fault, if there is one.
-const LIMITS: [(&str, u32, &str, &str, Option<(u32, ManifestFault)>); 15] = [
+static LIMITS: [(&str, u32, &str, &str, Option<(u32, ManifestFault)>); 15] = [
     ("start /", 255, "a", "\nquanta 0:1", None),
     ("start /", 256, "a", "", Some((1, ManifestFault::BadPath))),
     ("start ", 2047, "/a", "b\nquanta 0:1", None),
@@ -223,10 +220,9 @@ const LIMITS: [(&str, u32, &str, &str, Option<(u32, ManifestFault)>); 15] = [
 
 #[test]
 fn limits_are_exact(rt: HostRuntime) -> Result<(), Fail> {
-    for (front, count, part, back, want) in LIMITS {
+    for &(front, count, part, back, want) in &LIMITS {
         let text = many(rt.alloc(), front, count, part, back)?;
-        let found = fault_of(rt.alloc(), text.as_bytes())?;
-        assert_eq!(rt; found, want, "{count} {part}");
+        assert!(rt; has_fault(rt.alloc(), text.as_bytes(), want), "{count}");
     }
     Ok(())
 }

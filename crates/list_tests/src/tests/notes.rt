@@ -2,7 +2,6 @@
 
 use call_log::{Entry, Errno, Got, How, Log, LogFault, Note, Seen, SeenKind, line};
 use std::alloc::{AllocError, Global};
-use std::process::Abort;
 use std::test::*;
 
 /// The line of a note of a run whose one program is `/hi`; empty for a note of another program.
@@ -12,11 +11,6 @@ fn text(alloc: Global, note: &Note) -> Result<Vec<u8>, AllocError> {
         Note::Load { program, .. } if *program > 0 => Ok(Vec::new(alloc)),
         _ => line(alloc, note, &paths),
     }
-}
-
-fn expect_line(rt: &impl Abort, alloc: Global, note: Note, want: &str) -> Result<(), Fail> {
-    assert_eq!(rt; text(alloc, &note)?.as_slice(), want.as_bytes());
-    Ok(())
 }
 
 /// A write of so many zeros.
@@ -53,54 +47,64 @@ fn refused(alloc: Global) -> Result<Note, AllocError> {
     }))
 }
 
-#[test]
-fn calls_have_their_lines(rt: HostRuntime) -> Result<(), Fail> {
-    let alloc = rt.alloc();
-    let want =
-        "call 1 64 00000001 800000a4 00000003 00000000 00000000 00000000 = 00000003 sent - got -\n";
-    expect_line(&rt, alloc, write(alloc, 0)?, want)?;
-    let want =
-        "call 2 65 00000000 00000001 00000002 00000003 00000004 ffffffff = ffffffda sent 0abc got 80001000:68 00000010:ff00\n";
-    expect_line(&rt, alloc, refused(alloc)?, want)
+/// The notes of `LINES`, by their numbers.
+fn note_of(alloc: Global, number: u32) -> Result<Note, AllocError> {
+    match number {
+        0 => write(alloc, 0),
+        1 => refused(alloc),
+        2 => Ok(Note::Load {
+            pid: 1,
+            program: 0,
+            base: 0x8000_0000,
+            pages: 2,
+        }),
+        3 => Ok(Note::End {
+            pid: 1,
+            how: How::Exit(7),
+        }),
+        4 => Ok(Note::End {
+            pid: 12,
+            how: How::Signal(4),
+        }),
+        _ => Ok(Note::Stray {
+            pid: 1,
+            access: Seen {
+                pc: 0x8000_0088,
+                addr: 0x8000_2040,
+                len: 1,
+                kind: SeenKind::Store,
+            },
+        }),
+    }
+}
+
+static LINES: [(u32, &str); 6] = [
+    (
+        0,
+        "call 1 64 00000001 800000a4 00000003 00000000 00000000 00000000 = 00000003 sent - got -\n",
+    ),
+    (
+        1,
+        "call 2 65 00000000 00000001 00000002 00000003 00000004 ffffffff = ffffffda sent 0abc got 80001000:68 00000010:ff00\n",
+    ),
+    (2, "load 1 /hi base 0x80000000 pages 2\n"),
+    (3, "end 1 exit 7\n"),
+    (4, "end 12 signal 4\n"),
+    (5, "stray 1 pc 0x80000088 addr 0x80002040 len 1 store\n"),
+];
+
+/// Whether the note of this number has this line.
+fn has_line(alloc: Global, number: u32, want: &str) -> Result<bool, AllocError> {
+    let note = note_of(alloc, number)?;
+    Ok(text(alloc, &note)?.as_slice() == want.as_bytes())
 }
 
 #[test]
-fn loads_and_ends_have_their_lines(rt: HostRuntime) -> Result<(), Fail> {
-    let load = Note::Load {
-        pid: 1,
-        program: 0,
-        base: 0x8000_0000,
-        pages: 2,
-    };
-    expect_line(
-        &rt,
-        rt.alloc(),
-        load,
-        "load 1 /hi base 0x80000000 pages 2\n",
-    )?;
-    let exit = Note::End {
-        pid: 1,
-        how: How::Exit(7),
-    };
-    expect_line(&rt, rt.alloc(), exit, "end 1 exit 7\n")?;
-    let signal = Note::End {
-        pid: 12,
-        how: How::Signal(4),
-    };
-    expect_line(&rt, rt.alloc(), signal, "end 12 signal 4\n")?;
-    let access = Seen {
-        pc: 0x8000_0088,
-        addr: 0x8000_2040,
-        len: 1,
-        kind: SeenKind::Store,
-    };
-    let stray = Note::Stray { pid: 1, access };
-    expect_line(
-        &rt,
-        rt.alloc(),
-        stray,
-        "stray 1 pc 0x80000088 addr 0x80002040 len 1 store\n",
-    )
+fn notes_have_their_lines(rt: HostRuntime) -> Result<(), Fail> {
+    for &(number, line) in &LINES {
+        assert!(rt; has_line(rt.alloc(), number, line)?, "{line}");
+    }
+    Ok(())
 }
 
 /// What is asked of a log.
@@ -116,24 +120,24 @@ enum Step {
     TakeBack,
 }
 
-/// Whether there is room, or a note is kept; true of all else.
-fn answer(alloc: Global, log: &mut Log, step: Step) -> Result<bool, Fail> {
+/// Whether there is room, or a note is kept; true of all else, and None where memory is wanting.
+fn answer(alloc: Global, log: &mut Log, step: Step) -> Option<bool> {
     let note = match step {
-        Step::Room(bytes) => return Ok(log.room(bytes)),
+        Step::Room(bytes) => return Some(log.room(bytes)),
         Step::TakeBack => {
             log.take_back();
-            return Ok(true);
+            return Some(true);
         }
-        Step::Write(bytes) => write(alloc, bytes)?,
+        Step::Write(bytes) => write(alloc, bytes).ok()?,
         Step::End => Note::End {
             pid: 1,
             how: How::Exit(0),
         },
     };
     match log.push(note) {
-        Ok(()) => Ok(true),
-        Err(LogFault::Full) => Ok(false),
-        Err(LogFault::Memory) => Err(Fail::from("no memory")),
+        Ok(()) => Some(true),
+        Err(LogFault::Full) => Some(false),
+        Err(LogFault::Memory) => None,
     }
 }
 
@@ -141,7 +145,7 @@ fn answer(alloc: Global, log: &mut Log, step: Step) -> Result<bool, Fail> {
 const FOURTH: usize = 16_777_216;
 
 /// Steps, their answers, and how many notes there are then.
-const STEPS: [(Step, bool, usize); 18] = [
+static STEPS: [(Step, bool, usize); 18] = [
     (Step::Room(16_777_216), true, 0),
     (Step::Write(FOURTH), true, 1),
     (Step::Room(16_777_216), true, 1),
@@ -162,58 +166,66 @@ const STEPS: [(Step, bool, usize); 18] = [
     (Step::Room(16_777_217), false, 3),
 ];
 
-fn fills(rt: &impl Abort, alloc: Global, log: &mut Log) -> Result<(), Fail> {
-    for (step, done, notes) in STEPS {
-        let is_done = answer(alloc, log, step)?;
-        assert_eq!(rt; (is_done, log.notes().len()), (done, notes));
+fn fills(alloc: Global, log: &mut Log) -> bool {
+    for &(step, done, notes) in &STEPS {
+        if answer(alloc, log, step) != Some(done) || log.notes().len() != notes {
+            return false;
+        }
     }
-    Ok(())
+    true
 }
 
 #[test]
 fn large_entries_fill_the_log(rt: HostRuntime) -> Result<(), Fail> {
     let mut log = Log::new(rt.alloc())?;
-    fills(&rt, rt.alloc(), &mut log)
+    assert!(rt; fills(rt.alloc(), &mut log));
+    Ok(())
 }
 
 /// The most calls that a log keeps.
 const MOST_CALLS: u32 = 1_048_576;
 
-/// A log with memory for one note more than so many calls, which are in it.
-fn full_log(alloc: Global) -> Result<Log, Fail> {
-    let mut log = Log::new(alloc)?;
+/// Memory for notes is kept ready and given back, and then kept for one note more than so many calls.
+fn keeps_memory(log: &mut Log) -> Result<bool, AllocError> {
     log.reserve(7)?;
     log.unreserve();
-    if log.spare() != 0 {
-        return Err(Fail::from("memory is kept ready"));
-    }
+    let none = log.spare() == 0;
     log.reserve(MOST_CALLS + 1)?;
-    if log.spare() != MOST_CALLS + 1 {
-        return Err(Fail::from("memory isn't kept ready"));
-    }
-    for _ in 0..MOST_CALLS {
-        log.push(write(alloc, 0)?)?;
-    }
-    Ok(log)
+    Ok(none && log.spare() == MOST_CALLS + 1)
 }
 
-fn is_full(rt: &impl Abort, alloc: Global, log: &mut Log) -> Result<(), Fail> {
-    for (step, done, spare, notes) in [
-        (Step::Room(0), false, 1, 1_048_576),
-        (Step::Write(0), false, 1, 1_048_576),
-        (Step::End, true, 0, 1_048_577),
-    ] {
-        let is_done = answer(alloc, log, step)?;
-        assert_eq!(rt;
-            (is_done, log.spare(), log.notes().len()),
-            (done, spare, notes)
-        );
+/// Whether so many calls are kept.
+fn keeps_calls(alloc: Global, log: &mut Log) -> bool {
+    for _ in 0..MOST_CALLS {
+        if answer(alloc, log, Step::Write(0)) != Some(true) {
+            return false;
+        }
     }
-    Ok(())
+    true
+}
+
+/// What is asked of the log with so many calls, the answers, how many notes there is memory for then, and how many there
+/// are.
+static LAST_STEPS: [(Step, bool, u32, usize); 3] = [
+    (Step::Room(0), false, 1, 1_048_576),
+    (Step::Write(0), false, 1, 1_048_576),
+    (Step::End, true, 0, 1_048_577),
+];
+
+fn is_full(alloc: Global, log: &mut Log) -> bool {
+    for &(step, done, spare, notes) in &LAST_STEPS {
+        let is_done = answer(alloc, log, step) == Some(done);
+        if !is_done || log.spare() != spare || log.notes().len() != notes {
+            return false;
+        }
+    }
+    true
 }
 
 #[test]
 fn many_calls_fill_the_log(rt: HostRuntime) -> Result<(), Fail> {
-    let mut log = full_log(rt.alloc())?;
-    is_full(&rt, rt.alloc(), &mut log)
+    let mut log = Log::new(rt.alloc())?;
+    let is_ready = keeps_memory(&mut log)?;
+    assert!(rt; is_ready && keeps_calls(rt.alloc(), &mut log) && is_full(rt.alloc(), &mut log));
+    Ok(())
 }

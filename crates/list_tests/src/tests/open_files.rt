@@ -4,7 +4,6 @@ use call_log::Errno;
 use fd_tables::{FdFault, Files, Target, View, Way};
 use mem_files::Tree;
 use std::alloc::{AllocError, Global};
-use std::process::Abort;
 use std::test::*;
 
 pub(super) const READ: Way = Way {
@@ -66,18 +65,21 @@ fn seen(files: &Files, table: u32, fd: u32) -> Seen {
     Ok((view.target, view.way, view.at))
 }
 
-/// Tables and descriptors, and what is behind each.
-fn shows(rt: &impl Abort, files: &Files, rows: &[(u32, u32, Seen)]) {
+/// Whether what is behind descriptors of tables is what it has to be.
+fn shows(files: &Files, rows: &[(u32, u32, Seen)]) -> bool {
     for (table, fd, want) in rows {
-        assert_eq!(rt; seen(files, *table, *fd), *want, "{table} {fd}");
+        if seen(files, *table, *fd) != *want {
+            return false;
+        }
     }
+    true
 }
 
 /// Where there is no table.
-const NONE: [(u32, u32, Seen); 1] = [(0, 0, Err(Errno::Ebadf))];
+static NONE: [(u32, u32, Seen); 1] = [(0, 0, Err(Errno::Ebadf))];
 
 /// Where there are two.
-const TWO: [(u32, u32, Seen); 6] = [
+static TWO: [(u32, u32, Seen); 6] = [
     (0, 0, Ok((Target::Console, READ, 0))),
     (0, 1, Ok((Target::Console, WRITE, 0))),
     (1, 2, Ok((Target::Console, WRITE, 0))),
@@ -86,19 +88,17 @@ const TWO: [(u32, u32, Seen); 6] = [
     (2, 0, Err(Errno::Ebadf)),
 ];
 
-fn tables_begin(rt: &impl Abort, files: &mut Files) -> Result<(), Fail> {
-    shows(rt, files, &NONE);
-    let first = files.new_table()?;
-    let second = files.new_table()?;
-    assert_eq!(rt; (first, second), (0, 1));
-    shows(rt, files, &TWO);
-    Ok(())
+/// Whether the next table has this number.
+fn begins(files: &mut Files, number: u32) -> bool {
+    matches!(files.new_table(), Ok(table) if table == number)
 }
 
 #[test]
 fn a_new_table_has_the_console(rt: HostRuntime) -> Result<(), Fail> {
     let mut files = nothing_open(rt.alloc())?;
-    tables_begin(&rt, &mut files)
+    let begins = shows(&files, &NONE) && begins(&mut files, 0) && begins(&mut files, 1);
+    assert!(rt; begins && shows(&files, &TWO));
+    Ok(())
 }
 
 /// What is asked of the table 0.
@@ -155,11 +155,14 @@ fn answer(tree: &mut Tree, files: &mut Files, step: Step) -> Result<u32, FdFault
 /// A step, its answer, and what is behind a descriptor then.
 type Row = (Step, Result<u32, FdFault>, u32, Seen);
 
-fn steps(rt: &impl Abort, tree: &mut Tree, files: &mut Files, rows: &[Row]) {
+/// Whether the steps are answered as they have to be.
+fn steps(tree: &mut Tree, files: &mut Files, rows: &[Row]) -> bool {
     for (step, want, fd, view) in rows {
-        let given = answer(tree, files, *step);
-        assert_eq!(rt; (given, seen(files, 0, *fd)), (*want, *view), "{fd}");
+        if answer(tree, files, *step) != *want || seen(files, 0, *fd) != *view {
+            return false;
+        }
     }
+    true
 }
 
 const BAD: Seen = Err(Errno::Ebadf);
@@ -167,7 +170,7 @@ const BAD: Seen = Err(Errno::Ebadf);
 const REFUSED: Result<u32, FdFault> = Err(FdFault::Errno(Errno::Ebadf));
 
 /// The lowest descriptor opens, and a copy shares its position.
-const LOWEST: [Row; 10] = [
+static LOWEST: [Row; 10] = [
     (
         Step::Open(7, READ),
         Ok(3),
@@ -195,12 +198,12 @@ fn the_lowest_descriptor_opens(rt: HostRuntime) -> Result<(), Fail> {
     let mut tree = Tree::new(rt.alloc())?;
     let mut files = one_table(rt.alloc())?;
     files.ready()?;
-    steps(&rt, &mut tree, &mut files, &LOWEST);
+    assert!(rt; steps(&mut tree, &mut files, &LOWEST));
     Ok(())
 }
 
 /// dup3 refuses, replaces, and says what an execve closes.
-const REPLACED: [Row; 9] = [
+static REPLACED: [Row; 9] = [
     (
         Step::Open(7, READ),
         Ok(3),
@@ -246,19 +249,22 @@ const REPLACED: [Row; 9] = [
 fn dup3_replaces(rt: HostRuntime) -> Result<(), Fail> {
     let mut tree = Tree::new(rt.alloc())?;
     let mut files = one_table(rt.alloc())?;
-    steps(&rt, &mut tree, &mut files, &REPLACED);
+    assert!(rt; steps(&mut tree, &mut files, &REPLACED));
     Ok(())
 }
 
-/// Opens node 7 at each of these descriptors in turn.
-pub(super) fn opens_up_to(rt: &impl Abort, tree: &mut Tree, files: &mut Files, end: u32) {
+/// Whether node 7 opens at each of these descriptors in turn.
+pub(super) fn opens_up_to(tree: &mut Tree, files: &mut Files, end: u32) -> bool {
     for fd in 3..end {
-        assert_eq!(rt; files.open(tree, 0, 7, READ), Ok(fd));
+        if files.open(tree, 0, 7, READ) != Ok(fd) {
+            return false;
+        }
     }
+    true
 }
 
 /// A descriptor more than there can be.
-const PAST_ALL: [Row; 2] = [
+static PAST_ALL: [Row; 2] = [
     (
         Step::Open(7, READ),
         Err(FdFault::Errno(Errno::Emfile)),
@@ -277,27 +283,29 @@ const PAST_ALL: [Row; 2] = [
 fn the_33rd_descriptor_is_refused(rt: HostRuntime) -> Result<(), Fail> {
     let mut tree = Tree::new(rt.alloc())?;
     let mut files = one_table(rt.alloc())?;
-    opens_up_to(&rt, &mut tree, &mut files, 32);
-    steps(&rt, &mut tree, &mut files, &PAST_ALL);
+    let opens = opens_up_to(&mut tree, &mut files, 32);
+    assert!(rt; opens && steps(&mut tree, &mut files, &PAST_ALL));
     Ok(())
 }
 
 /// Steps with node 2, which has no name from the third one on, their answers, and its size then.
-const USES: [(Step, u32, u32); 4] = [
+static USES: [(Step, u32, u32); 4] = [
     (Step::Open(2, READ), 3, 3),
     (Step::Dup(3), 4, 3),
     (Step::Close(3), 0, 3),
     (Step::Close(4), 0, 0),
 ];
 
-fn lets_go(rt: &impl Abort, tree: &mut Tree, files: &mut Files) {
-    for (step, want, size) in USES {
-        if let Step::Close(3) = step {
-            assert_eq!(rt; tree.unlink(b"/f", false), Ok(()));
+fn lets_go(tree: &mut Tree, files: &mut Files) -> bool {
+    for &(step, want, size) in &USES {
+        if matches!(step, Step::Close(3)) && tree.unlink(b"/f", false) != Ok(()) {
+            return false;
         }
-        let given = answer(tree, files, step);
-        assert_eq!(rt; (given, tree.size(2)), (Ok(want), size));
+        if answer(tree, files, step) != Ok(want) || tree.size(2) != size {
+            return false;
+        }
     }
+    true
 }
 
 #[test]
@@ -305,47 +313,45 @@ fn the_last_close_lets_the_node_go(rt: HostRuntime) -> Result<(), Fail> {
     let mut tree = Tree::new(rt.alloc())?;
     let bytes = Vec::from_slice(rt.alloc(), b"abc")?;
     let id = tree.create(b"/f", bytes, None)?;
-    assert_eq!(rt; id, 2);
     let mut files = one_table(rt.alloc())?;
-    lets_go(&rt, &mut tree, &mut files);
+    assert!(rt; id == 2 && lets_go(&mut tree, &mut files));
     Ok(())
 }
 
 /// A second table is a copy, and its position moved.
-const SHARED: [(u32, u32, Seen); 2] = [
+static SHARED: [(u32, u32, Seen); 2] = [
     (0, 3, Ok((Target::Node(7), READ, 5))),
     (1, 3, Ok((Target::Node(7), READ, 5))),
 ];
 
 /// The first one is dropped.
-const LEFT: [(u32, u32, Seen); 2] = [(0, 0, BAD), (1, 3, Ok((Target::Node(7), READ, 5)))];
+static LEFT: [(u32, u32, Seen); 2] = [(0, 0, BAD), (1, 3, Ok((Target::Node(7), READ, 5)))];
 
-fn shares(rt: &impl Abort, tree: &mut Tree, files: &mut Files) -> Result<(), Fail> {
-    opens_up_to(rt, tree, files, 4);
-    let second = files.copy_table(0)?;
-    files.move_to(second, 3, 5);
-    shows(rt, files, &SHARED);
+fn shares(tree: &mut Tree, files: &mut Files) -> bool {
+    if !opens_up_to(tree, files, 4) || !matches!(files.copy_table(0), Ok(1)) {
+        return false;
+    }
+    files.move_to(1, 3, 5);
+    let are_shared = shows(files, &SHARED);
     files.drop_table(tree, 0);
-    shows(rt, files, &LEFT);
-    let again = files.new_table()?;
-    assert_eq!(rt; (second, again), (1, 0));
-    Ok(())
+    are_shared && shows(files, &LEFT) && begins(files, 0)
 }
 
 #[test]
 fn tables_share_positions(rt: HostRuntime) -> Result<(), Fail> {
     let mut tree = Tree::new(rt.alloc())?;
     let mut files = one_table(rt.alloc())?;
-    shares(&rt, &mut tree, &mut files)
+    assert!(rt; shares(&mut tree, &mut files));
+    Ok(())
 }
 
 #[test]
 fn input_is_taken_from_the_front(rt: HostRuntime) -> Result<(), Fail> {
     let mut files = nothing_open(rt.alloc())?;
-    assert_eq!(rt; files.stdin_left(), b"input".as_slice());
+    let is_whole = files.stdin_left() == b"input".as_slice();
     if files.stdin_left().len() >= 2 {
         files.take_stdin(2);
     }
-    assert_eq!(rt; files.stdin_left(), b"put".as_slice());
+    assert!(rt; is_whole && files.stdin_left() == b"put".as_slice());
     Ok(())
 }

@@ -5,7 +5,6 @@ use call_log::Errno;
 use fd_tables::{Ends, FdFault, Files, PipeView, Target, View, Way};
 use mem_files::Tree;
 use std::alloc::Global;
-use std::process::Abort;
 use std::test::*;
 
 fn put(files: &mut Files, id: u32, bytes: &[u8]) {
@@ -39,7 +38,7 @@ fn one_pipe(alloc: Global, cloexec: bool) -> Result<Files, Fail> {
 }
 
 /// Bytes that are put, and how many are then taken; what the pipe holds then, and its first five bytes.
-const CALLS: [(&[u8], u32, u32, &[u8]); 5] = [
+static CALLS: [(&[u8], u32, u32, &[u8]); 5] = [
     (b"abc", 0, 3, b"abc"),
     (b"", 1, 2, b"bc"),
     (b"defg", 0, 6, b"bcdef"),
@@ -47,43 +46,49 @@ const CALLS: [(&[u8], u32, u32, &[u8]); 5] = [
     (b"h", 2, 0, b""),
 ];
 
-fn moves_bytes(rt: &impl Abort, alloc: Global, files: &mut Files) -> Result<(), Fail> {
-    for (bytes, n, held, want) in CALLS {
+/// Whether the first bytes of the pipe, up to so many, are these.
+fn has_front(alloc: Global, files: &Files, most: usize, want: &[u8]) -> bool {
+    match files.pipe_front(alloc, 1, most) {
+        Ok(front) => front.as_slice() == want,
+        Err(_) => false,
+    }
+}
+
+fn moves_bytes(alloc: Global, files: &mut Files) -> bool {
+    for &(bytes, n, held, want) in &CALLS {
         put(files, 1, bytes);
         take(files, 1, n);
-        let front = files.pipe_front(alloc, 1, 5)?;
-        assert_eq!(rt; (files.pipe_view(1), front.as_slice()), (holds(held), want));
+        if files.pipe_view(1) != holds(held) || !has_front(alloc, files, 5, want) {
+            return false;
+        }
     }
-    Ok(())
+    true
 }
 
 #[test]
 fn bytes_come_out_as_they_went_in(rt: HostRuntime) -> Result<(), Fail> {
     let mut files = one_pipe(rt.alloc(), true)?;
-    moves_bytes(&rt, rt.alloc(), &mut files)
+    assert!(rt; moves_bytes(rt.alloc(), &mut files));
+    Ok(())
 }
 
 /// A pipe that is full is emptied but for four bytes, and gets some over its edge.
-fn goes_round(rt: &impl Abort, alloc: Global, files: &mut Files, many: &[u8]) -> Result<(), Fail> {
+fn goes_round(alloc: Global, files: &mut Files, many: &[u8]) -> bool {
     put(files, 1, b"abcdefgh");
     take(files, 1, 8);
     put(files, 1, many);
-    assert_eq!(rt; files.pipe_view(1), holds(65_536));
+    let is_full = files.pipe_view(1) == holds(65_536);
     take(files, 1, 65_532);
     put(files, 1, b"over the edge");
-    let front = files.pipe_front(alloc, 1, 65_536)?;
-    assert_eq!(rt;
-        front.as_slice(),
-        b"\x07\x07\x07\x07over the edge".as_slice()
-    );
-    Ok(())
+    is_full && has_front(alloc, files, 65_536, b"\x07\x07\x07\x07over the edge")
 }
 
 #[test]
 fn a_full_pipe_goes_round(rt: HostRuntime) -> Result<(), Fail> {
     let mut files = one_pipe(rt.alloc(), true)?;
     let many = vec![in rt.alloc(); 7; 65_536]?;
-    goes_round(&rt, rt.alloc(), &mut files, &many)
+    assert!(rt; goes_round(rt.alloc(), &mut files, &many));
+    Ok(())
 }
 
 /// The writing end of the pipe.
@@ -99,43 +104,38 @@ const WRITING: View = View {
 };
 
 /// Descriptors that are closed, and the pipe and the mark then.
-const CLOSED: [(u32, bool, Option<u32>); 2] = [(4, true, None), (5, false, Some(1))];
+static CLOSED: [(u32, bool, Option<u32>); 2] = [(4, true, None), (5, false, Some(1))];
 
-/// The pipe with its writing end as it is told.
-const fn empty(write_open: bool) -> PipeView {
-    PipeView {
+/// Whether the pipe is empty, its ends are open as it is told, and it is marked or not.
+fn is_empty(files: &mut Files, read_open: bool, write_open: bool, mark: Option<u32>) -> bool {
+    let view = PipeView {
         held: 0,
-        read_open: true,
+        read_open,
         write_open,
-    }
+    };
+    files.pipe_view(1) == view && files.next_changed() == mark
 }
 
 /// A second descriptor keeps the writing end open, and the table the reading end.
-fn closes(rt: &impl Abort, tree: &mut Tree, files: &mut Files) {
-    assert_eq!(rt; (files.view(0, 4), files.dup(0, 4)), (Ok(WRITING), Ok(5)));
-    for (fd, write_open, mark) in CLOSED {
-        let done = files.close(tree, 0, fd);
-        assert_eq!(rt;
-            (done, files.pipe_view(1), files.next_changed()),
-            (Ok(()), empty(write_open), mark),
-            "{fd}"
-        );
+fn closes(tree: &mut Tree, files: &mut Files) -> bool {
+    if files.view(0, 4) != Ok(WRITING) || files.dup(0, 4) != Ok(5) {
+        return false;
     }
-    assert_eq!(rt; files.next_changed(), None);
+    for &(fd, write_open, mark) in &CLOSED {
+        if files.close(tree, 0, fd) != Ok(()) || !is_empty(files, true, write_open, mark) {
+            return false;
+        }
+    }
+    let no_mark = files.next_changed().is_none();
     files.drop_table(tree, 0);
-    let shut = PipeView {
-        held: 0,
-        read_open: false,
-        write_open: false,
-    };
-    assert_eq!(rt; (files.pipe_view(1), files.next_changed()), (shut, Some(1)));
+    no_mark && is_empty(files, false, false, Some(1))
 }
 
 #[test]
 fn ends_are_open_while_descriptors_are(rt: HostRuntime) -> Result<(), Fail> {
     let mut tree = Tree::new(rt.alloc())?;
     let mut files = one_pipe(rt.alloc(), false)?;
-    closes(&rt, &mut tree, &mut files);
+    assert!(rt; closes(&mut tree, &mut files));
     Ok(())
 }
 
@@ -148,44 +148,44 @@ fn three_pipes(alloc: Global) -> Result<Files, Fail> {
 }
 
 /// Which pipe is marked, one after the other.
-const MARKS: [Option<u32>; 3] = [Some(1), Some(3), None];
+static MARKS: [Option<u32>; 3] = [Some(1), Some(3), None];
 
-fn marks(rt: &impl Abort, files: &mut Files) {
-    for id in [3, 1, 3] {
+/// The pipes that get a byte.
+static PUT: [u32; 3] = [3, 1, 3];
+
+fn marks(files: &mut Files) -> bool {
+    for &id in &PUT {
         put(files, id, b"x");
     }
-    for want in MARKS {
-        assert_eq!(rt; files.next_changed(), want);
+    for &want in &MARKS {
+        if files.next_changed() != want {
+            return false;
+        }
     }
     take(files, 3, 2);
-    assert_eq!(rt; files.next_changed(), Some(3));
+    files.next_changed() == Some(3)
 }
 
 #[test]
 fn the_lowest_marked_pipe_comes_first(rt: HostRuntime) -> Result<(), Fail> {
     let mut files = three_pipes(rt.alloc())?;
-    marks(&rt, &mut files);
+    assert!(rt; marks(&mut files));
     Ok(())
 }
 
 /// One descriptor is left, and then two.
-fn wants_two(rt: &impl Abort, tree: &mut Tree, files: &mut Files) {
-    opens_up_to(rt, tree, files, 31);
-    assert_eq!(rt;
-        (files.two_free(0), files.pipe(0, false)),
-        (None, Err(FdFault::Errno(Errno::Emfile)))
-    );
-    let done = files.close(tree, 0, 9);
-    assert_eq!(rt;
-        (done, files.pipe(0, false)),
-        (Ok(()), Ok(Ends { read: 9, write: 31 }))
-    );
+fn wants_two(tree: &mut Tree, files: &mut Files) -> bool {
+    opens_up_to(tree, files, 31)
+        && files.two_free(0).is_none()
+        && files.pipe(0, false) == Err(FdFault::Errno(Errno::Emfile))
+        && files.close(tree, 0, 9) == Ok(())
+        && files.pipe(0, false) == Ok(Ends { read: 9, write: 31 })
 }
 
 #[test]
 fn a_pipe_needs_two_descriptors(rt: HostRuntime) -> Result<(), Fail> {
     let mut tree = Tree::new(rt.alloc())?;
     let mut files = one_table(rt.alloc())?;
-    wants_two(&rt, &mut tree, &mut files);
+    assert!(rt; wants_two(&mut tree, &mut files));
     Ok(())
 }

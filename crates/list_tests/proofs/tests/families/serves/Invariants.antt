@@ -3,4 +3,4 @@ use Rattle.std.proofs.Common.{◌+◌, ◌≤◌}
 use Rattle.list_tests.proofs.tests.families.serves.Given as goal
 
 abbrev pub invariant-loop-call : goal.invariant-loop-call
-invariant-loop-call g l = l.procs.next_pid ≤ l.fn.procs.next_pid + l.call-index
+invariant-loop-call l = l.procs.next_pid ≤ l.fn.procs.next_pid + l.call-index
