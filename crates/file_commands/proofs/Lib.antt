@@ -1,5 +1,6 @@
 -- HostCourses, HostSteps, Stops: a course of the host, step by step.
 -- Lines, SpelledNumbers, Addresses: the ends and texts of private functions.
+-- Ranges: the numbers of a command that is read.
 -- OneFileSteps: a command that goes on with one file.
 -- Conversions, Listed: what the commands do behind their load.
 -- SizesLaw: the numbers of an ELF file in the header of its flat file.
@@ -11,6 +12,7 @@ pub mod OneFileSteps
 pub mod Stops
 pub mod Lines
 pub mod SpelledNumbers
+pub mod Ranges
 pub mod Addresses
 pub mod Conversions
 pub mod Listed

@@ -4,7 +4,7 @@ use Rattle.std.specs.Prelude.{codes}
 use Rattle.std.specs.Fmt.{digits}
 use Rattle.file_commands.specs.Sizes.{Sizes, header_sizes}
 use Rattle.file_commands.specs.Texts.{refusal_tail, convert_line, check_line, demo_line}
-use Rattle.file_commands.specs.Arguments.{convert, check, run, demo, command_of}
+use Rattle.file_commands.specs.Arguments.{convert, check, run, trace, demo, command_of}
 use Rattle.elf2flt_tool.specs.declared.refusal.Refusal.TheVariants as refusal
 use Rattle.page_runs.specs.declared.place.Kind.TheVariants.{First, Best, Last}
 use Rattle.region_watch.specs.declared.mode.Mode.TheVariants.{Halt, GoOn}
@@ -82,6 +82,43 @@ go_on_in_front = refl
 
 unknown_placement : command_of (codes "run" ∷ codes "a" ∷ codes "--place" ∷ codes "worst" ∷ []) ≡ None
 unknown_placement = refl
+
+-- a trace, of all processes or of one
+trace_is_read : command_of (codes "trace" ∷ codes "a" ∷ []) ≡ Some (trace (codes "a") None false First)
+trace_is_read = refl
+
+count_is_read : command_of (codes "trace" ∷ codes "a" ∷ codes "--count" ∷ []) ≡ Some (trace (codes "a") None true First)
+count_is_read = refl
+
+pid_is_read : command_of (codes "trace" ∷ codes "a" ∷ codes "--pid" ∷ codes "1000000" ∷ []) ≡ Some (trace (codes "a") (Some 1000000) false First)
+unfolding digits
+pid_is_read = refl
+
+trace_is_placed : command_of (codes "trace" ∷ codes "a" ∷ codes "--place" ∷ codes "best" ∷ []) ≡ Some (trace (codes "a") None false Best)
+trace_is_placed = refl
+
+whole_trace_is_read :
+    command_of (codes "trace" ∷ codes "a" ∷ codes "--pid" ∷ codes "2" ∷ codes "--count" ∷ codes "--place" ∷ codes "last" ∷ []) ≡ Some (trace (codes "a") (Some 2) true Last)
+unfolding digits
+whole_trace_is_read = refl
+
+-- no process has such a pid
+no_pid :
+    (command_of (codes "trace" ∷ codes "a" ∷ codes "--pid" ∷ codes "0" ∷ []) ∷ command_of (codes "trace" ∷ codes "a" ∷ codes "--pid" ∷ codes "1000001" ∷ [])
+    ∷ command_of (codes "trace" ∷ codes "a" ∷ codes "--pid" ∷ codes "01" ∷ []) ∷ command_of (codes "trace" ∷ codes "a" ∷ codes "--pid" ∷ []) ∷ [])
+    ≡ (None ∷ None ∷ None ∷ None ∷ [])
+unfolding digits
+no_pid = refl
+
+-- words in another order, of another command, or said again
+count_in_front : command_of (codes "trace" ∷ codes "a" ∷ codes "--count" ∷ codes "--pid" ∷ codes "1" ∷ []) ≡ None
+count_in_front = refl
+
+no_trace :
+    (command_of (codes "trace" ∷ []) ∷ command_of (codes "trace" ∷ codes "a" ∷ codes "--log" ∷ []) ∷ command_of (codes "trace" ∷ codes "a" ∷ codes "--go-on" ∷ [])
+    ∷ command_of (codes "trace" ∷ codes "a" ∷ codes "--count" ∷ codes "--count" ∷ []) ∷ [])
+    ≡ (None ∷ None ∷ None ∷ None ∷ [])
+no_trace = refl
 
 -- the line of `check`, and the tails of refused relocations and places
 check_is_told : check_line numbers ≡ codes "accepted text 64 data 12 bss 0 records 1\n"

@@ -1,6 +1,7 @@
 -- The table of commands. The arguments are those after the program's name; a name is any text.
 use Rattle.std.specs.Prelude.{ℕ, Bool, true, false, ◌&&◌, nat_le, List, [], ◌∷◌, codes, slice_index, bytes_eq, decimal, Option, Some, None, option_map, if◌then◌else◌}
 use Rattle.std.specs.Int.{IsInRange}
+use Rattle.std.specs.Option.{option_and_then}
 use Rattle.std.specs.Str.Parse.{digits_value}
 use Rattle.page_runs.specs.declared.place.Kind.{Kind}
 use Rattle.page_runs.specs.declared.place.Kind.TheVariants.{First, Best, Last}
@@ -15,6 +16,7 @@ pub data Invocation : Type 0 where
   list : (flt : List ℕ) → Invocation
   check : (elf : List ℕ) → Invocation
   run : (manifest : List ℕ) (log : Bool) (mode : Mode) (kind : Kind) → Invocation
+  trace : (manifest : List ℕ) (pid : Option ℕ) (counted : Bool) (kind : Kind) → Invocation
   demo : (programs : ℕ) → Invocation
 
 -- the bytes of stack that a program gets where no argument says it
@@ -35,6 +37,13 @@ least_programs = 1
 abbrev pub most_programs : ℕ
 most_programs = 64
 
+-- the least and the greatest pid that an argument may say
+abbrev pub least_pid : ℕ
+least_pid = 1
+
+abbrev pub most_pid : ℕ
+most_pid = 1000000
+
 abbrev pub is_between : (least most n : ℕ) → Bool
 is_between least most n = nat_le least n && nat_le n most
 
@@ -49,12 +58,15 @@ spelled_number least most text n = if is_spelling text n && is_between least mos
 abbrev pub number_of : (least most : ℕ) → List ℕ → Option ℕ
 number_of least most text = spelled_number least most text (digits_value 10 text)
 
--- the stack that a text spells, and the number of programs
+-- the stack that a text spells, the number of programs, and the pid
 abbrev pub stack_of : List ℕ → Option ℕ
 stack_of text = number_of least_stack most_stack text
 
 abbrev pub programs_of : List ℕ → Option ℕ
 programs_of text = number_of least_programs most_programs text
+
+abbrev pub pid_of : List ℕ → Option ℕ
+pid_of text = number_of least_pid most_pid text
 
 -- the first byte is a digit from 1 to 9
 abbrev pub StartsWell : List ℕ → Type 0
@@ -99,12 +111,31 @@ run_of (manifest ∷ []) = mode_of manifest false []
 run_of (manifest ∷ option ∷ words) =
     if bytes_eq option (codes "--log") then mode_of manifest true words else mode_of manifest false (option ∷ words)
 
+-- `--count` or not, and then a placement or not
+abbrev pub counted_of : (manifest : List ℕ) (pid : Option ℕ) → List (List ℕ) → Option Invocation
+counted_of manifest pid [] = Some (trace manifest pid false First)
+counted_of manifest pid (option ∷ words) =
+    if bytes_eq option (codes "--count") then option_map (trace manifest pid true) (placement_of words)
+    else option_map (trace manifest pid false) (placement_of (option ∷ words))
+
+-- `P`, and what stands behind it
+abbrev pub process_of : (manifest : List ℕ) → List (List ℕ) → Option Invocation
+process_of manifest [] = None
+process_of manifest (number ∷ words) = option_and_then (λ pid. counted_of manifest (Some pid) words) (pid_of number)
+
+-- `MANIFEST`, with `--pid P` behind it or not
+abbrev pub trace_of : List (List ℕ) → Option Invocation
+trace_of [] = None
+trace_of (manifest ∷ []) = counted_of manifest None []
+trace_of (manifest ∷ option ∷ words) =
+    if bytes_eq option (codes "--pid") then process_of manifest words else counted_of manifest None (option ∷ words)
+
 -- `N`
 abbrev pub demo_of : List (List ℕ) → Option Invocation
 demo_of (number ∷ []) = option_map demo (programs_of number)
 demo_of words = None
 
--- `convert` with its words, `list FLT`, `check ELF`, `run` with its words, and `demo N`; any other arguments are no command
+-- `convert` with its words, `list FLT`, `check ELF`, `run` and `trace` with their words, and `demo N`; any other arguments are no command
 abbrev pub command_of : List (List ℕ) → Option Invocation
 command_of [] = None
 command_of (first ∷ words) =
@@ -112,12 +143,14 @@ command_of (first ∷ words) =
     else if bytes_eq first (codes "list") then option_map list (only words)
     else if bytes_eq first (codes "check") then option_map check (only words)
     else if bytes_eq first (codes "run") then run_of words
+    else if bytes_eq first (codes "trace") then trace_of words
     else if bytes_eq first (codes "demo") then demo_of words
     else None
 
 -- no command, or one that runs no program
 abbrev pub IsNoRun : Option Invocation → Type 0
 IsNoRun (Some (run manifest log mode kind)) = ⊥
+IsNoRun (Some (trace manifest pid counted kind)) = ⊥
 IsNoRun (Some (demo programs)) = ⊥
 IsNoRun other = Unit {0}
 
@@ -127,4 +160,5 @@ invocation (command.Convert elf flt stack) = convert elf.now flt.now stack
 invocation (command.List flt) = list flt.now
 invocation (command.Check elf) = check elf.now
 invocation (command.Run manifest log mode kind) = run manifest.now log mode kind
+invocation (command.Trace manifest pid counted kind) = trace manifest.now pid counted kind
 invocation (command.Demo programs) = demo programs

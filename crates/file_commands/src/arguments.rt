@@ -1,6 +1,6 @@
 //! The table of commands.
 ghost use Rattle.std.specs.Prelude.{◌≡◌, ◌≤◌, ◌↔◌, IsTrue, map, option_map, string_bytes};
-ghost use Rattle.file_commands.specs.Arguments.{is_between, StartsWell, number_of, kind_of_word, only, convert_of, placement_of, mode_of, run_of, demo_of, command_of, invocation};
+ghost use Rattle.file_commands.specs.Arguments.{is_between, StartsWell, number_of, kind_of_word, only, convert_of, placement_of, mode_of, run_of, counted_of, process_of, trace_of, demo_of, command_of, invocation};
 
 use page_runs::Kind;
 use region_watch::Mode;
@@ -18,6 +18,11 @@ const MOST_STACK: u32 = 1_048_576;
 const LEAST_PROGRAMS: u32 = 1;
 
 const MOST_PROGRAMS: u32 = 64;
+
+/// The least pid that an argument may say, and the greatest.
+const LEAST_PID: u32 = 1;
+
+const MOST_PID: u32 = 1_000_000;
 
 /// A command with its arguments.
 #[derive(Clone, Copy, PartialEq, Eq)]
@@ -42,6 +47,14 @@ pub enum Command<'a> {
         manifest: &'a str,
         log: bool,
         mode: Mode,
+        kind: Kind,
+    },
+    /// `trace MANIFEST`; with `--pid P` the calls of that process alone are shown, with `--count` the shown
+    /// calls are counted too, and with `--place K` another placement than the first fit.
+    Trace {
+        manifest: &'a str,
+        pid: Option<u32>,
+        counted: bool,
         kind: Kind,
     },
     /// `demo N`.
@@ -119,7 +132,7 @@ fn read_convert(words: &[String]) -> Option<Command<'_>>
     }
 }
 
-/// The placement that the last words of `run` say.
+/// The placement that the last words of `run` and `trace` say.
 fn read_placement(words: &[String]) -> Option<Kind>
     ensures { result ≡ placement_of (map string_bytes words.now) }
 {
@@ -158,6 +171,43 @@ fn read_run(words: &[String]) -> Option<Command<'_>>
     }
 }
 
+/// The words behind `trace MANIFEST`, and behind `--pid P`.
+fn read_counted<'a>(manifest: &'a str, pid: Option<u32>, words: &[String]) -> Option<Command<'a>>
+    ensures { option_map invocation result ≡ counted_of manifest.now pid (map string_bytes words.now) }
+{
+    let (counted, last) = match words {
+        [count, last @ ..] if count.as_str() == "--count" => (true, last),
+        _ => (false, words),
+    };
+    let kind = read_placement(last)?;
+    Some(Command::Trace {
+        manifest,
+        pid,
+        counted,
+        kind,
+    })
+}
+
+/// The words behind `trace MANIFEST --pid`.
+fn read_process<'a>(manifest: &'a str, words: &[String]) -> Option<Command<'a>>
+    ensures { option_map invocation result ≡ process_of manifest.now (map string_bytes words.now) }
+{
+    let (number, last) = words.split_first()?;
+    let pid = read_number(number, LEAST_PID, MOST_PID)?;
+    read_counted(manifest, Some(pid), last)
+}
+
+/// The words behind `trace`.
+fn read_trace(words: &[String]) -> Option<Command<'_>>
+    ensures { option_map invocation result ≡ trace_of (map string_bytes words.now) }
+{
+    let (manifest, options) = words.split_first()?;
+    match options {
+        [pid, last @ ..] if pid.as_str() == "--pid" => read_process(manifest, last),
+        _ => read_counted(manifest, None, options),
+    }
+}
+
 /// The words behind `demo`.
 fn read_demo(words: &[String]) -> Option<Command<'_>>
     ensures { option_map invocation result ≡ demo_of (map string_bytes words.now) }
@@ -183,6 +233,7 @@ pub fn read_arguments(arguments: &[String]) -> Option<Command<'_>>
             Some(Command::Check { elf })
         }
         "run" => read_run(words),
+        "trace" => read_trace(words),
         "demo" => read_demo(words),
         _ => None,
     }

@@ -20,6 +20,11 @@ usage: flatc COMMAND WORDS
                                               strays, over all of memory, and K says which
                                               free run is taken: first, best or last, else
                                               first
+  trace MANIFEST [--pid P] [--count] [--place K]
+                                              run the programs of MANIFEST as run does, and
+                                              show each system call, as strace would; with
+                                              P, 1 to 1000000, those of that process alone;
+                                              --count counts the shown calls
   demo N                                      run N small programs, 1 to 64, that need no
                                               file
   --help                                      write this page

@@ -4,7 +4,9 @@ use Rattle.std.specs.Prelude.{option_map}
 use Rattle.std.proofs.lemmas.List.{append-nil}
 use Rattle.host_io.specs.Host.{Told}
 use Rattle.file_commands.specs.Outcome.{Request, load, store, Inputs, name_of}
-use Rattle.file_commands.specs.Arguments.{Invocation, convert, list, check, run, demo, command_of}
+use Rattle.file_commands.specs.Arguments.{Invocation, convert, list, check, run, trace, demo, command_of}
+use Rattle.region_watch.specs.declared.mode.Mode.TheVariants.{Halt}
+use Rattle.suite_top.specs.declared.telling.Telling.TheVariants.{Report, Trace}
 use Rattle.suite_top.specs.Result.{command_outcome}
 use Rattle.file_commands.specs.HostCourse.{HostCourse, complete, failed, out_of_memory, AreLoads, IsCourseOf, FaultsAfter, after_answer, after_answers, told_after}
 use Rattle.suite_top.specs.Call.{outcome_of}
@@ -70,7 +72,8 @@ others_load None inputs other = tt
 others_load (Some (convert elf flt stack)) inputs other = absurd (other elf flt stack refl)
 others_load (Some (list flt)) inputs other = subst AreLoads (sym (list_requests flt inputs)) tt
 others_load (Some (check elf)) inputs other = subst AreLoads (sym (check_requests elf inputs)) tt
-others_load (Some (run manifest log mode kind)) inputs other = run_requests manifest log mode kind inputs
+others_load (Some (run manifest log mode kind)) inputs other = run_requests manifest (Report log) mode kind inputs
+others_load (Some (trace manifest pid counted kind)) inputs other = run_requests manifest (Trace pid counted) Halt kind inputs
 others_load (Some (demo programs)) inputs other = tt
 
 files_stay : (requests : List Request) (k : HostCourse) (t : Told) → IsCourseOf requests k → AreLoads requests → (told_after requests k t).files ≡ t.files

@@ -14,7 +14,7 @@ use Rattle.file_commands.specs.Texts.Listing.{listing, flat_tail}
 use Rattle.bflt_format.specs.Header.{flat_values}
 use Rattle.file_commands.specs.Ending.{Ending, done_ending, usage_ending, refused_ending}
 use Rattle.file_commands.specs.Outcome.{Request, load, store, failure_ending, Outcome, Inputs, after}
-use Rattle.file_commands.specs.Arguments.{Invocation, convert, list, check, run, demo, IsNoRun, default_stack, command_of}
+use Rattle.file_commands.specs.Arguments.{Invocation, convert, list, check, run, trace, demo, IsNoRun, default_stack, command_of}
 use Rattle.file_commands.specs.OneFile.{file_limit, with_found, with_file}
 use Rattle.file_commands.specs.Convert.{judged_outcome, converted_outcome}
 use Rattle.file_commands.specs.Check.{verdict, checked_outcome, check_outcome}
@@ -23,7 +23,9 @@ use Rattle.page_runs.specs.declared.place.Kind.{Kind}
 use Rattle.machine_world.specs.World.{World}
 use Rattle.machine_world.specs.Turns.{End}
 use Rattle.region_watch.specs.declared.mode.Mode.{Mode}
+use Rattle.region_watch.specs.declared.mode.Mode.TheVariants.{Halt}
 use Rattle.suite_top.specs.declared.telling.Telling.{Telling}
+use Rattle.suite_top.specs.declared.telling.Telling.TheVariants.{Report, Trace}
 use Rattle.suite_top.specs.Telling.{told_ending}
 use Rattle.suite_top.specs.Run.{run_outcome}
 use Rattle.suite_top.specs.Result.{command_outcome, result_of}
@@ -59,11 +61,13 @@ module _ (P : Ending → Type 0) (read : (name : List ℕ) → P (failure_ending
   other_than_run (check elf) inputs other = found_ending elf checked_outcome (λ e. check_judged e (fault e)) (inputs 0 elf)
   other_than_run (list flt) inputs other = found_ending flt listed_outcome (λ y. list_judged y (flat_fault y)) (inputs 0 flt)
   other_than_run (run manifest log mode kind) inputs other = absurd other
+  other_than_run (trace manifest pid counted kind) inputs other = absurd other
   other_than_run (demo programs) inputs other = absurd other
 
   module _ (told : (telling : Telling) (dumped : List ℕ) (w : World) (end : Option End) → P (told_ending telling dumped w end)) where
     pub invoked : (k : Invocation) (inputs : Inputs) → P (command_outcome (Some k) inputs).ending
-    invoked (run manifest log mode kind) inputs = run_by (λ (o : Outcome). P o.ending) (λ name o p. p) read refused told manifest log mode kind inputs
+    invoked (run manifest log mode kind) inputs = run_by (λ (o : Outcome). P o.ending) (λ name o p. p) read refused told manifest (Report log) mode kind inputs
+    invoked (trace manifest pid counted kind) inputs = run_by (λ (o : Outcome). P o.ending) (λ name o p. p) read refused told manifest (Trace pid counted) Halt kind inputs
     invoked (demo programs) inputs = demo_by (λ (o : Outcome). P o.ending) (λ name o p. p) read refused told programs
     invoked (convert elf flt stack) inputs = other_than_run (convert elf flt stack) inputs tt
     invoked (check elf) inputs = other_than_run (check elf) inputs tt
@@ -123,5 +127,5 @@ list_requests flt inputs = one_load flt listed_outcome (λ y. refl) (inputs 0 fl
 pub check_requests : (elf : List ℕ) (inputs : Inputs) → (check_outcome elf inputs).requests ≡ load elf ∷ []
 check_requests elf inputs = one_load elf checked_outcome (λ e. refl) (inputs 0 elf)
 
-pub run_requests : (manifest : List ℕ) (log : Bool) (mode : Mode) (kind : Kind) (inputs : Inputs) → AreLoads (run_outcome manifest log mode kind inputs).requests
+pub run_requests : (manifest : List ℕ) (telling : Telling) (mode : Mode) (kind : Kind) (inputs : Inputs) → AreLoads (run_outcome manifest telling mode kind inputs).requests
 run_requests = run_by (λ (o : Outcome). AreLoads o.requests) (λ name o are. are) (λ name. tt) (λ tail. tt) (λ telling dumped w end. tt)

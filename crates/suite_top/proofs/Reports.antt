@@ -12,7 +12,8 @@ use Rattle.machine_world.specs.Programs.{AreLoaded}
 use Rattle.machine_world.specs.Turns.{End}
 use Rattle.flat_machine.specs.declared.run.End.{End as Told}
 use Rattle.flat_machine.specs.Runs.{Ends}
-use Rattle.suite_top.specs.Report.{note_text, stop_line, report_text, IsStopWord}
+use Rattle.suite_top.specs.Report.{note_text, stop_line, report_of, report_text, trace_report, IsStopWord}
+use Rattle.trace_text.specs.Texts.{trace_texts, AreProgramsBelow}
 
 loaded_append : (n : ℕ) (xs ys : List Note) → AreLoaded n xs → AreLoaded n ys → AreLoaded n (xs ++ ys)
 loaded_append n [] ys hx hy = hy
@@ -21,6 +22,11 @@ loaded_append n (x ∷ xs) ys hx hy = (hx.0, loaded_append n xs ys hx.1 hy)
 loaded_reverse : (n : ℕ) (xs : List Note) → AreLoaded n xs → AreLoaded n (reverse xs)
 loaded_reverse n [] h = tt
 loaded_reverse n (x ∷ xs) h = subst (AreLoaded n) (sym (reverse-append (x ∷ []) xs)) (loaded_append n (reverse xs) (x ∷ []) (loaded_reverse n xs h.1) (h.0, tt))
+
+-- as the texts of a trace ask for it
+pub loaded_below : (n : ℕ) (notes : List Note) → AreLoaded n notes → AreProgramsBelow n notes
+loaded_below n [] are = tt
+loaded_below n (note ∷ notes) are = (are.0, loaded_below n notes are.1)
 
 -- the note at a place
 pub loaded_at : (n : ℕ) (notes : List Stored) (i : ℕ) (d : Stored) → AreLoaded n (map note_value notes) → i < length notes → IsProgramBelow n (note_value (get_or notes i d))
@@ -37,15 +43,17 @@ module _ {Y : Type 0} (w : World) (notes : List Stored) (paths : List (Vec ℕ Y
       let count : length w.rest.programs ≡ length paths = sym (length-map w.rest.programs program_path) ∙ sym (ap length named) ∙ length-map paths (λ path. path.items) in
       subst (λ (n : ℕ). AreLoaded n (map note_value notes)) count (subst (AreLoaded (length w.rest.programs)) in_order (loaded_reverse (length w.rest.programs) w.notes loaded))
 
-  pub is_report : (log : Bool) (dumped : List ℕ) (t : Told) (word text : List ℕ) → IsStopWord t word
-      → text ≡ (flat_map (note_text log (paths_of paths)) (map note_value notes) ++ dumped) ++ stop_line word w.events
-      → (end : Option End) → Ends end t → text ≡ report_text log dumped w end
+  abbrev programs : List (List ℕ)
+  programs = map program_path w.rest.programs
+
+  pub is_report : (log : Bool) (dumped : List ℕ) (end : Option End) → report_of (flat_map (note_text log (paths_of paths)) (map note_value notes)) dumped w end ≡ report_text log dumped w end
   unfolding report_text
-  is_report log dumped t word text stops is end ends =
-      let programs = map program_path w.rest.programs in
-      let lines = flat_map (note_text log (paths_of paths)) (map note_value notes) in
-      let by_paths : lines ≡ flat_map (note_text log programs) (map note_value notes) = ap (λ (ps : List (List ℕ)). flat_map (note_text log ps) (map note_value notes)) named in
-      let by_order : flat_map (note_text log programs) (map note_value notes) ≡ flat_map (note_text log programs) (reverse w.notes) = ap (flat_map (note_text log programs)) (sym in_order) in
-      is
-      ∙ ap (λ (front : List ℕ). front ++ dumped ++ stop_line word w.events) (by_paths ∙ by_order)
-      ∙ ap (λ (said : List ℕ). flat_map (note_text log programs) (reverse w.notes) ++ dumped ++ stop_line said w.events) (stops end ends)
+  is_report log dumped end =
+      ap (λ (ps : List (List ℕ)). report_of (flat_map (note_text log ps) (map note_value notes)) dumped w end) named
+      ∙ ap (λ (ns : List Note). report_of (flat_map (note_text log programs) ns) dumped w end) (sym in_order)
+
+  pub is_trace_report : (pid : Option ℕ) (counted : Bool) (dumped : List ℕ) (end : Option End) → report_of (trace_texts pid counted (paths_of paths) (map note_value notes)) dumped w end ≡ trace_report pid counted dumped w end
+  unfolding trace_report
+  is_trace_report pid counted dumped end =
+      ap (λ (ps : List (List ℕ)). report_of (trace_texts pid counted ps (map note_value notes)) dumped w end) named
+      ∙ ap (λ (ns : List Note). report_of (trace_texts pid counted programs ns) dumped w end) (sym in_order)

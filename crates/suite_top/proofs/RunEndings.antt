@@ -1,5 +1,5 @@
 -- How a run ends behind its loads.
-use Rattle.std.proofs.Common.{◌≡◌, ◌≢◌, ℕ, Bool, List, map, Result, Ok, Err, sym, subst, inl, inr}
+use Rattle.std.proofs.Common.{◌≡◌, ◌≢◌, ℕ, List, map, Result, Ok, Err, sym, subst, inl, inr}
 use Rattle.std.specs.Prelude.{◌⊎◌}
 use Rattle.host_io.specs.Host.{Told}
 use Rattle.page_runs.specs.declared.place.Kind.{Kind}
@@ -18,7 +18,6 @@ use Rattle.file_commands.specs.Texts.Refusals.{manifest_tail}
 use Rattle.file_commands.specs.Observed.{Observed}
 use Rattle.file_commands.specs.HostCourse.{PerformsCommand}
 use Rattle.suite_top.specs.declared.telling.Telling.{Telling}
-use Rattle.suite_top.specs.declared.telling.Telling.TheVariants.{Report}
 use Rattle.run_setup.specs.Brought.{Brought, FaultAt, nothing_brought, all_brought}
 use Rattle.run_setup.specs.Faults.{IsMemory}
 use Rattle.file_commands.specs.ItemLoads.{GaveFiles}
@@ -46,17 +45,17 @@ unfolding files_ending
 files_are_told telling mode kind m files = brought_is_told telling mode kind m (all_brought m.items files nothing_brought)
 
 -- a manifest with a fault
-pub refuses_manifest : (old : Observed Told) (log : Bool) (mode : Mode) (kind : Kind) (r : Result Manifest Fault) (first : Fault) (ending : Ending)
-    → r ≡ Err first → OrMemory (refused_ending (manifest_tail first.line first.fault)) ending → PerformsCommand old old (manifest_outcome log mode kind r) ending
-refuses_manifest old log mode kind r first ending is ends =
-    subst (λ (x : Result Manifest Fault). PerformsCommand old old (manifest_outcome log mode kind x) ending) (sym is) (asks_nothing old (refused_ending (manifest_tail first.line first.fault)) ending (λ h. cc) ends)
+pub refuses_manifest : (old : Observed Told) (telling : Telling) (mode : Mode) (kind : Kind) (r : Result Manifest Fault) (first : Fault) (ending : Ending)
+    → r ≡ Err first → OrMemory (refused_ending (manifest_tail first.line first.fault)) ending → PerformsCommand old old (manifest_outcome telling mode kind r) ending
+refuses_manifest old telling mode kind r first ending is ends =
+    subst (λ (x : Result Manifest Fault). PerformsCommand old old (manifest_outcome telling mode kind x) ending) (sym is) (asks_nothing old (refused_ending (manifest_tail first.line first.fault)) ending (λ h. cc) ends)
 
 -- behind all loads nothing more is asked
-pub runs_files : (old now : Observed Told) (log : Bool) (mode : Mode) (kind : Kind) (m : Manifest) (files : List (List ℕ)) (ending : Ending)
-    → GaveFiles old now m.items files → OrMemory (files_ending (Report log) mode kind m files) ending → PerformsCommand old now (items_outcome log mode kind m) ending
-runs_files old now log mode kind m files ending gave ends =
-    gave.goes_on (λ fs. at_once (files_ending (Report log) mode kind m fs)) now ending
-    (asks_nothing now (files_ending (Report log) mode kind m files) ending (files_are_told (Report log) mode kind m files) ends)
+pub runs_files : (old now : Observed Told) (telling : Telling) (mode : Mode) (kind : Kind) (m : Manifest) (files : List (List ℕ)) (ending : Ending)
+    → GaveFiles old now m.items files → OrMemory (files_ending telling mode kind m files) ending → PerformsCommand old now (items_outcome telling mode kind m) ending
+runs_files old now telling mode kind m files ending gave ends =
+    gave.goes_on (λ fs. at_once (files_ending telling mode kind m fs)) now ending
+    (asks_nothing now (files_ending telling mode kind m files) ending (files_are_told telling mode kind m files) ends)
 
 module _ (telling : Telling) (mode : Mode) (kind : Kind) (m : Manifest) (files : List (List ℕ)) (ending : Ending) where
   pub brings_all : (b : Brought) → all_brought m.items files nothing_brought ≡ Ok b → OrMemory (brought_ending telling mode kind m (Ok b)) ending → OrMemory (files_ending telling mode kind m files) ending

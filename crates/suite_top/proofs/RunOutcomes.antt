@@ -21,7 +21,7 @@ use Rattle.file_commands.specs.Load.{at_once, behind, with_limited, with_load}
 use Rattle.run_setup.specs.Brought.{Brought, FaultAt, nothing_brought, all_brought}
 use Rattle.suite_top.specs.Report.{status_of_end, own_dumps, memory_dumps}
 use Rattle.suite_top.specs.declared.telling.Telling.{Telling}
-use Rattle.suite_top.specs.declared.telling.Telling.TheVariants.{Report, Demo}
+use Rattle.suite_top.specs.declared.telling.Telling.TheVariants.{Report, Trace, Demo}
 use Rattle.suite_top.specs.Telling.{told_ending}
 use Rattle.page_runs.specs.declared.place.Kind.TheVariants.{First}
 use Rattle.elf_maker.specs.Demo.{demo_file}
@@ -69,17 +69,17 @@ module _ (P : Outcome → Type 0) (step : (name : List ℕ) (o : Outcome) → P 
   unfolding files_ending
   from_files telling mode kind m files = made telling mode kind m (all_brought m.items files nothing_brought)
 
-  from_manifest : (log : Bool) (mode : Mode) (kind : Kind) (r : Result Manifest Fault) (inputs : Inputs) → P (manifest_outcome log mode kind r inputs)
-  from_manifest log mode kind (Err first) inputs = refused (manifest_tail first.line first.fault)
-  from_manifest log mode kind (Ok m) inputs =
-      items_run files_limit m.items (λ files. at_once (files_ending (Report log) mode kind m files)) (from_files (Report log) mode kind m) inputs
+  from_manifest : (telling : Telling) (mode : Mode) (kind : Kind) (r : Result Manifest Fault) (inputs : Inputs) → P (manifest_outcome telling mode kind r inputs)
+  from_manifest telling mode kind (Err first) inputs = refused (manifest_tail first.line first.fault)
+  from_manifest telling mode kind (Ok m) inputs =
+      items_run files_limit m.items (λ files. at_once (files_ending telling mode kind m files)) (from_files telling mode kind m) inputs
 
-  pub run_by : (name : List ℕ) (log : Bool) (mode : Mode) (kind : Kind) (inputs : Inputs) → P (run_outcome name log mode kind inputs)
+  pub run_by : (name : List ℕ) (telling : Telling) (mode : Mode) (kind : Kind) (inputs : Inputs) → P (run_outcome name telling mode kind inputs)
   unfolding run_outcome
-  run_by name log mode kind inputs =
-      let next : List ℕ → Outcome = λ bytes. manifest_outcome log mode kind (manifest_of bytes) (behind inputs) in
+  run_by name telling mode kind inputs =
+      let next : List ℕ → Outcome = λ bytes. manifest_outcome telling mode kind (manifest_of bytes) (behind inputs) in
       step name (with_limited manifest_limit None name (inputs 0 name) next)
-      (limited manifest_limit None name next (λ bytes. from_manifest log mode kind (manifest_of bytes) (behind inputs)) (inputs 0 name))
+      (limited manifest_limit None name next (λ bytes. from_manifest telling mode kind (manifest_of bytes) (behind inputs)) (inputs 0 name))
 
   pub demo_by : (n : ℕ) → P (at_once (demo_ending n))
   unfolding demo_ending
@@ -98,6 +98,7 @@ other_status P done stray quanta full still (Some log_full) = full
 pub told_status : (P : Status → Type 0) → P Done → P Stray → P OutOfQuanta → P LogFull → P Stuck
     → (telling : Telling) (dumped : List ℕ) (w : World) (end : Option End) → P (told_ending telling dumped w end).status
 told_status P done stray quanta full still (Report log) dumped w end = other_status P done stray quanta full still end
+told_status P done stray quanta full still (Trace pid counted) dumped w end = other_status P done stray quanta full still end
 told_status P done stray quanta full still (Demo n) dumped w None = quanta
 told_status P done stray quanta full still (Demo n) dumped w (Some all_ended) = done
 told_status P done stray quanta full still (Demo n) dumped w (Some stuck) = still

@@ -2,8 +2,8 @@
 -- texts stand in `file_commands`, as do Outcome, HostCourse and Delivery; the laws of single commands in `command_laws`.
 --
 -- Report      the report of a run, and the status that it ends with
--- Telling     what a run of programs tells: a report, or the line of a demo
--- Run         the command `run`
+-- Telling     what a run of programs tells: a report, a trace, or the line of a demo
+-- Run         the commands `run` and `trace`
 -- Demo        the command `demo`
 -- Result      result_of: the outcome of each command line
 --

@@ -1,5 +1,5 @@
--- The command `run MANIFEST`: the programs of a manifest run by turns in one memory.
-use Rattle.std.specs.Prelude.{ℕ, Bool, List, [], map, None, Result, Ok, Err}
+-- The commands `run MANIFEST` and `trace MANIFEST`: the programs of a manifest run by turns in one memory.
+use Rattle.std.specs.Prelude.{ℕ, List, [], map, None, Result, Ok, Err}
 use Rattle.page_runs.specs.declared.place.Kind.{Kind}
 use Rattle.quantum_sched.specs.declared.Quantum.{Quantum}
 use Rattle.manifest_text.specs.declared.manifest.Dump.{Dump}
@@ -21,7 +21,6 @@ use Rattle.file_commands.specs.Outcome.{Outcome, Inputs}
 use Rattle.file_commands.specs.Load.{at_once, with_load}
 use Rattle.file_commands.specs.Items.{files_limit, with_items}
 use Rattle.suite_top.specs.declared.telling.Telling.{Telling}
-use Rattle.suite_top.specs.declared.telling.Telling.TheVariants.{Report}
 use Rattle.suite_top.specs.Report.{own_dumps, memory_dumps}
 use Rattle.suite_top.specs.Telling.{told_ending}
 
@@ -87,13 +86,13 @@ unfoldable pub files_ending : Telling → Mode → Kind → Manifest → List (L
 files_ending telling mode kind m files = brought_ending telling mode kind m (all_brought m.items files nothing_brought)
 
 -- behind the manifest
-abbrev pub items_outcome : (log : Bool) → Mode → Kind → Manifest → Inputs → Outcome
-items_outcome log mode kind m inputs = with_items files_limit m.items (λ files. at_once (files_ending (Report log) mode kind m files)) inputs
+abbrev pub items_outcome : Telling → Mode → Kind → Manifest → Inputs → Outcome
+items_outcome telling mode kind m inputs = with_items files_limit m.items (λ files. at_once (files_ending telling mode kind m files)) inputs
 
-abbrev pub manifest_outcome : (log : Bool) → Mode → Kind → Result Manifest Fault → Inputs → Outcome
-manifest_outcome log mode kind (Err first) inputs = at_once (refused_ending (manifest_tail first.line first.fault))
-manifest_outcome log mode kind (Ok m) inputs = items_outcome log mode kind m inputs
+abbrev pub manifest_outcome : Telling → Mode → Kind → Result Manifest Fault → Inputs → Outcome
+manifest_outcome telling mode kind (Err first) inputs = at_once (refused_ending (manifest_tail first.line first.fault))
+manifest_outcome telling mode kind (Ok m) inputs = items_outcome telling mode kind m inputs
 
 -- the manifest is load 0, and the files of its items are the loads behind it
-unfoldable pub run_outcome : (name : List ℕ) (log : Bool) → Mode → Kind → Inputs → Outcome
-run_outcome name log mode kind inputs = with_load manifest_limit None name (λ bytes. manifest_outcome log mode kind (manifest_of bytes)) inputs
+unfoldable pub run_outcome : (name : List ℕ) → Telling → Mode → Kind → Inputs → Outcome
+run_outcome name telling mode kind inputs = with_load manifest_limit None name (λ bytes. manifest_outcome telling mode kind (manifest_of bytes)) inputs

@@ -5,7 +5,7 @@ ghost use Rattle.call_log.specs.Values.{note_value};
 ghost use Rattle.call_log.specs.Programs.{IsProgramBelow, paths_of};
 ghost use Rattle.machine_world.specs.Programs.{AreLoaded};
 ghost use Rattle.flat_machine.specs.State.{world};
-ghost use Rattle.suite_top.specs.Report.{is_told, note_text, bytes_text, dump_line, shown_of, dumps_of, stop_line, IsStopWord, IsReport, IsStatus};
+ghost use Rattle.suite_top.specs.Report.{is_told, note_text, bytes_text, dump_line, shown_of, dumps_of, stop_line, IsStopWord, IsReportOf, IsReport, IsTraceReport, IsStatus};
 
 use call_log::{Note, line};
 use file_commands::Status;
@@ -13,6 +13,7 @@ use file_commands::texts::address_words;
 use flat_machine::{End, Machine};
 use manifest_text::Dump;
 use std::alloc::{AllocError, Global};
+use trace_text::trace_texts;
 
 /// The notes of a run with its calls if they are asked for, the dumps, and why it stopped.
 pub fn report(
@@ -24,9 +25,39 @@ pub fn report(
 ) -> Result<Vec<u8>, AllocError>
     ensures { IfOk result (λ text. IsReport log dumps.now machine.now end text.items) }
 {
-    let mut text = notes_text(alloc, log, machine.notes(), machine.paths())?;
+    let notes = notes_text(alloc, log, machine.notes(), machine.paths())?;
+    finished(alloc, notes, machine, dumps, end)
+}
+
+/// The notes of a run with its calls as a trace, with a pid only those of this process, and their counts if they
+/// are asked for; the dumps, and why it stopped.
+pub fn trace_report(
+    alloc: Global,
+    machine: &Machine,
+    pid: Option<u32>,
+    counted: bool,
+    dumps: &[Dump],
+    end: End,
+) -> Result<Vec<u8>, AllocError>
+    ensures { IfOk result (λ text. IsTraceReport pid counted dumps.now machine.now end text.items) }
+{
+    let notes = trace_texts(alloc, machine.notes(), machine.paths(), pid, counted)?;
+    finished(alloc, notes, machine, dumps, end)
+}
+
+/// What is told of the notes, and behind it the dumps and why the run stopped.
+fn finished(
+    alloc: Global,
+    notes: Vec<u8>,
+    machine: &Machine,
+    dumps: &[Dump],
+    end: End,
+) -> Result<Vec<u8>, AllocError>
+    ensures { IfOk result (λ text. IsReportOf notes.items dumps.now machine.now end text.items) }
+{
     let dumped = dumps_text(alloc, machine, dumps)?;
     let stopped = stop_line(alloc, stop_word(end), machine.events())?;
+    let mut text = notes;
     text.extend_from_slice(dumped.as_bytes())?;
     text.extend_from_slice(stopped.as_bytes())?;
     Ok(text)

@@ -1,4 +1,4 @@
-//! The command `run MANIFEST`.
+//! The commands `run MANIFEST` and `trace MANIFEST`.
 ghost use Rattle.std.specs.Prelude.{◌≡◌, ◌+◌, ◌*◌, ◌^◌, ◌<◌, false, length, Ok, sum_by};
 ghost use Rattle.page_runs.specs.Choosers.{IsChooser, kind_of};
 ghost use Rattle.manifest_text.specs.Manifest.{manifest_of};
@@ -37,16 +37,16 @@ const MANIFEST_LIMIT: u32 = 1_048_576;
 pub fn run_file<H: Host, F: Fn(&[Run], u32) -> Option<usize>>(
     alloc: Global,
     manifest: &str,
-    log: bool,
+    telling: Telling,
     mode: Mode,
     chooser: &Chooser<F>,
     host: &mut H,
 ) -> Result<Answer, AllocError>
     requires { IsChooser F.pre F.post chooser.now }
-    ensures { PerformsCommand (observed H.told H.faults host.old) (observed H.told H.faults host.new) (run_outcome manifest.now log mode (kind_of chooser.now)) (ending_of result) }
+    ensures { PerformsCommand (observed H.told H.faults host.old) (observed H.told H.faults host.new) (run_outcome manifest.now telling mode (kind_of chooser.now)) (ending_of result) }
 {
     match load_limited(alloc, manifest, MANIFEST_LIMIT, None, host) {
-        FileLoad::Whole(bytes) => run_manifest(alloc, &bytes, log, mode, chooser, host),
+        FileLoad::Whole(bytes) => run_manifest(alloc, &bytes, telling, mode, chooser, host),
         FileLoad::Ended(ends) => ends,
     }
 }
@@ -55,16 +55,16 @@ pub fn run_file<H: Host, F: Fn(&[Run], u32) -> Option<usize>>(
 fn run_manifest<H: Host, F: Fn(&[Run], u32) -> Option<usize>>(
     alloc: Global,
     bytes: &[u8],
-    log: bool,
+    telling: Telling,
     mode: Mode,
     chooser: &Chooser<F>,
     host: &mut H,
 ) -> Result<Answer, AllocError>
     requires { IsChooser F.pre F.post chooser.now }
-    ensures { PerformsCommand (observed H.told H.faults host.old) (observed H.told H.faults host.new) (manifest_outcome log mode (kind_of chooser.now) (manifest_of bytes.now)) (ending_of result) }
+    ensures { PerformsCommand (observed H.told H.faults host.old) (observed H.told H.faults host.new) (manifest_outcome telling mode (kind_of chooser.now) (manifest_of bytes.now)) (ending_of result) }
 {
     match manifest_text::read(alloc, bytes) {
-        Ok(manifest) => run_items(alloc, manifest, log, mode, chooser, host),
+        Ok(manifest) => run_items(alloc, manifest, telling, mode, chooser, host),
         Err(ManifestRefusal::At { line, fault }) => {
             let text = refused_manifest(alloc, line, fault);
             Answer::early(alloc, Status::Refused, text)
@@ -77,26 +77,17 @@ fn run_manifest<H: Host, F: Fn(&[Run], u32) -> Option<usize>>(
 fn run_items<H: Host, F: Fn(&[Run], u32) -> Option<usize>>(
     alloc: Global,
     manifest: Manifest,
-    log: bool,
+    telling: Telling,
     mode: Mode,
     chooser: &Chooser<F>,
     host: &mut H,
 ) -> Result<Answer, AllocError>
     requires chooser { IsChooser F.pre F.post chooser.now }
     requires manifest { Reasonable (manifest_value manifest) }
-    ensures { PerformsCommand (observed H.told H.faults host.old) (observed H.told H.faults host.new) (items_outcome log mode (kind_of chooser.now) (manifest_value manifest)) (ending_of result) }
+    ensures { PerformsCommand (observed H.told H.faults host.old) (observed H.told H.faults host.new) (items_outcome telling mode (kind_of chooser.now) (manifest_value manifest)) (ending_of result) }
 {
     match load_items(alloc, &manifest.items, host) {
-        ItemsLoad::Whole(files) => {
-            run_files(
-                alloc,
-                manifest,
-                files,
-                Telling::Report { log },
-                mode,
-                chooser,
-            )
-        }
+        ItemsLoad::Whole(files) => { run_files(alloc, manifest, files, telling, mode, chooser) }
         ItemsLoad::Ended(ends) => ends,
     }
 }

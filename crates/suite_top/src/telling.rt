@@ -4,9 +4,9 @@ ghost use Rattle.call_log.specs.Values.{note_value};
 ghost use Rattle.flat_machine.specs.State.{world};
 ghost use Rattle.file_commands.specs.Ending.{done_ending, OrMemory};
 ghost use Rattle.file_commands.specs.Answer.{ending_of};
-ghost use Rattle.suite_top.specs.Telling.{exit_code, demo_text, IsReported, IsTold};
+ghost use Rattle.suite_top.specs.Telling.{exit_code, demo_text, EndsWith, IsReported, IsTraced, IsTold};
 
-use crate::report::{report, status_of};
+use crate::report::{report, status_of, trace_report};
 use call_log::{How, Note};
 use file_commands::{Answer, Status, texts};
 use flat_machine::{End, Machine};
@@ -18,6 +18,8 @@ use std::alloc::{AllocError, Global};
 pub enum Telling {
     /// Its report, with the system calls if they are asked for.
     Report { log: bool },
+    /// Its report with the system calls as a trace, of one process or of all, and their counts if they are asked for.
+    Trace { pid: Option<u32>, counted: bool },
     /// The line of a demo of so many programs, and no report where all of them ended.
     Demo { programs: u32 },
 }
@@ -34,6 +36,7 @@ pub fn told(
 {
     match telling {
         Telling::Report { log } => reported(alloc, machine, log, dumps, end),
+        Telling::Trace { pid, counted } => traced(alloc, machine, pid, counted, dumps, end),
         Telling::Demo { programs } => match end {
             End::AllEnded => demonstrated(alloc, machine, programs),
             End::Stuck | End::Stray(_) | End::OutOfQuanta | End::LogFull => {
@@ -54,6 +57,33 @@ fn reported(
     ensures { IsReported log dumps.now machine.now end (ending_of result) }
 {
     let report = report(alloc, machine, log, dumps, end)?;
+    with_console(alloc, machine, report, end)
+}
+
+/// The console, and the report with a trace.
+fn traced(
+    alloc: Global,
+    machine: &Machine,
+    pid: Option<u32>,
+    counted: bool,
+    dumps: &[Dump],
+    end: End,
+) -> Result<Answer, AllocError>
+    ensures { IsTraced pid counted dumps.now machine.now end (ending_of result) }
+{
+    let report = trace_report(alloc, machine, pid, counted, dumps, end)?;
+    with_console(alloc, machine, report, end)
+}
+
+/// The console, and this report.
+fn with_console(
+    alloc: Global,
+    machine: &Machine,
+    report: Vec<u8>,
+    end: End,
+) -> Result<Answer, AllocError>
+    ensures { EndsWith report.items machine.now end (ending_of result) }
+{
     let out = Vec::from_slice(alloc, machine.console())?;
     Ok(Answer {
         status: status_of(end),

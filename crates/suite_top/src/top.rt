@@ -12,6 +12,7 @@ ghost use Rattle.suite_top.specs.Call.{MeetsResult};
 use crate::demo_run::run_demo;
 use crate::placements::Placements;
 use crate::run::run_file;
+use crate::telling::Telling;
 use file_commands::{
     Answer, Command, Status, check_file, convert_file, deliver, list_file, read_arguments, texts,
 };
@@ -24,7 +25,7 @@ use std::alloc::{AllocError, Global};
 fn run_placed<H: Host, A, B, C>(
     alloc: Global,
     manifest: &str,
-    log: bool,
+    telling: Telling,
     mode: Mode,
     kind: Kind,
     host: &mut H,
@@ -35,12 +36,12 @@ where
     B: Fn(&[Run], u32) -> Option<usize>,
     C: Fn(&[Run], u32) -> Option<usize>,
     requires { ArePlacements A.pre A.post B.pre B.post C.pre C.post place.now }
-    ensures { PerformsCommand (observed H.told H.faults host.old) (observed H.told H.faults host.new) (run_outcome manifest.now log mode kind) (ending_of result) }
+    ensures { PerformsCommand (observed H.told H.faults host.old) (observed H.told H.faults host.new) (run_outcome manifest.now telling mode kind) (ending_of result) }
 {
     match kind {
-        Kind::First => run_file(alloc, manifest, log, mode, &place.first, host),
-        Kind::Best => run_file(alloc, manifest, log, mode, &place.best, host),
-        Kind::Last => run_file(alloc, manifest, log, mode, &place.last, host),
+        Kind::First => run_file(alloc, manifest, telling, mode, &place.first, host),
+        Kind::Best => run_file(alloc, manifest, telling, mode, &place.best, host),
+        Kind::Last => run_file(alloc, manifest, telling, mode, &place.last, host),
     }
 }
 
@@ -68,7 +69,21 @@ where
                 mode,
                 kind,
             },
-        ) => run_placed(alloc, manifest, log, mode, kind, host, place),
+        ) => {
+            let telling = Telling::Report { log };
+            run_placed(alloc, manifest, telling, mode, kind, host, place)
+        }
+        Some(
+            Command::Trace {
+                manifest,
+                pid,
+                counted,
+                kind,
+            },
+        ) => {
+            let telling = Telling::Trace { pid, counted };
+            run_placed(alloc, manifest, telling, Mode::Halt, kind, host, place)
+        }
         Some(Command::Demo { programs }) => run_demo(alloc, programs, &place.first),
         None => Answer::early(alloc, Status::Usage, texts::usage(alloc)),
     }

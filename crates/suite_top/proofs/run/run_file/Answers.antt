@@ -10,8 +10,8 @@ pub returns-in-Whole : goal.returns-in-Whole
 unfolding run_outcome
 returns-in-Whole g c =
     let performs = rw c.deref.ensures.value at c.run_manifest.ensures in
-    performs_rest manifest_limit None c.args.manifest.now (λ bytes. manifest_outcome c.args.log c.args.mode (kind_of c.args.chooser.now) (manifest_of bytes)) _ _ _ _ _ c.in-Whole.ensures performs
+    performs_rest manifest_limit None c.args.manifest.now (λ bytes. manifest_outcome c.args.telling c.args.mode (kind_of c.args.chooser.now) (manifest_of bytes)) _ _ _ _ _ c.in-Whole.ensures performs
 
 pub returns-in-Ended : goal.returns-in-Ended
 unfolding run_outcome
-returns-in-Ended g c = c.in-Ended.ensures (λ bytes. manifest_outcome c.args.log c.args.mode (kind_of c.args.chooser.now) (manifest_of bytes))
+returns-in-Ended g c = c.in-Ended.ensures (λ bytes. manifest_outcome c.args.telling c.args.mode (kind_of c.args.chooser.now) (manifest_of bytes))

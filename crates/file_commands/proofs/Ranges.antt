@@ -1,0 +1,115 @@
+-- The numbers of a command that is read lie in their ranges.
+use Rattle.std.proofs.Common.{◌≡◌, ℕ, ◌≤◌, Bool, true, false, cond, List, [], ◌∷◌, Option, Some, None, refl, arith}
+use Rattle.std.specs.Prelude.{codes, bytes_eq, option_map}
+use Rattle.page_runs.specs.declared.place.Kind.{Kind}
+use Rattle.region_watch.specs.declared.mode.Mode.{Mode}
+use Rattle.region_watch.specs.declared.mode.Mode.TheVariants.{Halt, GoOn}
+use Rattle.std.specs.Option.{option_and_then}
+use Rattle.file_commands.specs.Arguments.{Invocation, convert, list, check, run, trace, demo, least_stack, most_stack, least_programs, most_programs, stack_of, programs_of, pid_of, only, convert_of, placement_of, mode_of, run_of, counted_of, process_of, trace_of, demo_of, command_of}
+use Rattle.file_commands.proofs.SpelledNumbers.{is_spelled}
+
+-- what the commands ask for of their numbers
+abbrev pub HasRanges : Option Invocation → Type 0
+HasRanges (Some (convert elf flt stack)) = (least_stack ≤ stack) × (stack ≤ most_stack)
+HasRanges (Some (demo programs)) = (least_programs ≤ programs) × (programs ≤ most_programs)
+HasRanges other = Unit {0}
+
+either : (b : Bool) (one other : Option Invocation) → HasRanges one → HasRanges other → HasRanges (cond b one other)
+either true one other is is_other = is
+either false one other is is_other = is_other
+
+-- ---- `convert`
+
+stack_has : (elf flt text : List ℕ) (o : Option ℕ) → stack_of text ≡ o → HasRanges (option_map (convert elf flt) o)
+stack_has elf flt text None is = tt
+stack_has elf flt text (Some n) is = let spells = is_spelled least_stack most_stack (omega arith) text n is in (spells.1, spells.2)
+
+convert_has : (words : List (List ℕ)) → HasRanges (convert_of words)
+convert_has [] = tt
+convert_has (elf ∷ []) = tt
+convert_has (elf ∷ flt ∷ []) = (omega arith, omega arith)
+convert_has (elf ∷ flt ∷ option ∷ []) = tt
+convert_has (elf ∷ flt ∷ option ∷ number ∷ []) =
+    either (bytes_eq option (codes "--stack")) (option_map (convert elf flt) (stack_of number)) None (stack_has elf flt number (stack_of number) refl) tt
+convert_has (elf ∷ flt ∷ option ∷ number ∷ word ∷ words) = tt
+
+-- ---- `list` and `check`
+
+list_has : (o : Option (List ℕ)) → HasRanges (option_map list o)
+list_has None = tt
+list_has (Some flt) = tt
+
+check_has : (o : Option (List ℕ)) → HasRanges (option_map check o)
+check_has None = tt
+check_has (Some elf) = tt
+
+-- ---- `run` and `trace`
+
+placed_has : (manifest : List ℕ) (log : Bool) (mode : Mode) (o : Option Kind) → HasRanges (option_map (run manifest log mode) o)
+placed_has manifest log mode None = tt
+placed_has manifest log mode (Some kind) = tt
+
+mode_has : (manifest : List ℕ) (log : Bool) (words : List (List ℕ)) → HasRanges (mode_of manifest log words)
+mode_has manifest log [] = tt
+mode_has manifest log (option ∷ words) =
+    either (bytes_eq option (codes "--go-on")) (option_map (run manifest log GoOn) (placement_of words)) (option_map (run manifest log Halt) (placement_of (option ∷ words)))
+    (placed_has manifest log GoOn (placement_of words)) (placed_has manifest log Halt (placement_of (option ∷ words)))
+
+run_has : (words : List (List ℕ)) → HasRanges (run_of words)
+run_has [] = tt
+run_has (manifest ∷ []) = tt
+run_has (manifest ∷ option ∷ words) =
+    either (bytes_eq option (codes "--log")) (mode_of manifest true words) (mode_of manifest false (option ∷ words))
+    (mode_has manifest true words) (mode_has manifest false (option ∷ words))
+
+shown_has : (manifest : List ℕ) (pid : Option ℕ) (counted : Bool) (o : Option Kind) → HasRanges (option_map (trace manifest pid counted) o)
+shown_has manifest pid counted None = tt
+shown_has manifest pid counted (Some kind) = tt
+
+counted_has : (manifest : List ℕ) (pid : Option ℕ) (words : List (List ℕ)) → HasRanges (counted_of manifest pid words)
+counted_has manifest pid [] = tt
+counted_has manifest pid (option ∷ words) =
+    either (bytes_eq option (codes "--count")) (option_map (trace manifest pid true) (placement_of words)) (option_map (trace manifest pid false) (placement_of (option ∷ words)))
+    (shown_has manifest pid true (placement_of words)) (shown_has manifest pid false (placement_of (option ∷ words)))
+
+pid_has : (manifest : List ℕ) (words : List (List ℕ)) (o : Option ℕ) → HasRanges (option_and_then (λ pid. counted_of manifest (Some pid) words) o)
+pid_has manifest words None = tt
+pid_has manifest words (Some pid) = counted_has manifest (Some pid) words
+
+process_has : (manifest : List ℕ) (words : List (List ℕ)) → HasRanges (process_of manifest words)
+process_has manifest [] = tt
+process_has manifest (number ∷ words) = pid_has manifest words (pid_of number)
+
+trace_has : (words : List (List ℕ)) → HasRanges (trace_of words)
+trace_has [] = tt
+trace_has (manifest ∷ []) = counted_has manifest None []
+trace_has (manifest ∷ option ∷ words) =
+    either (bytes_eq option (codes "--pid")) (process_of manifest words) (counted_of manifest None (option ∷ words))
+    (process_has manifest words) (counted_has manifest None (option ∷ words))
+
+-- ---- `demo`
+
+programs_have : (text : List ℕ) (o : Option ℕ) → programs_of text ≡ o → HasRanges (option_map demo o)
+programs_have text None is = tt
+programs_have text (Some n) is = let spells = is_spelled least_programs most_programs (omega arith) text n is in (spells.1, spells.2)
+
+demo_has : (words : List (List ℕ)) → HasRanges (demo_of words)
+demo_has [] = tt
+demo_has (number ∷ []) = programs_have number (programs_of number) refl
+demo_has (number ∷ word ∷ words) = tt
+
+-- ---- the table
+
+from_demo : (first : List ℕ) (words : List (List ℕ)) → HasRanges (cond (bytes_eq first (codes "demo")) (demo_of words) None)
+from_demo first words = either (bytes_eq first (codes "demo")) (demo_of words) None (demo_has words) tt
+
+from_trace : (first : List ℕ) (words : List (List ℕ)) → HasRanges (cond (bytes_eq first (codes "trace")) (trace_of words) (cond (bytes_eq first (codes "demo")) (demo_of words) None))
+from_trace first words = either (bytes_eq first (codes "trace")) (trace_of words) _ (trace_has words) (from_demo first words)
+
+pub read_in_ranges : (words : List (List ℕ)) → HasRanges (command_of words)
+read_in_ranges [] = tt
+read_in_ranges (first ∷ words) =
+    either (bytes_eq first (codes "convert")) (convert_of words) _ (convert_has words)
+    (either (bytes_eq first (codes "list")) (option_map list (only words)) _ (list_has (only words))
+    (either (bytes_eq first (codes "check")) (option_map check (only words)) _ (check_has (only words))
+    (either (bytes_eq first (codes "run")) (run_of words) _ (run_has words) (from_trace first words))))
