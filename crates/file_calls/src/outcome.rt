@@ -5,7 +5,7 @@ use fd_tables::Ends;
 use std::alloc::Global;
 
 /// What changes once the bytes are given.
-#[derive(Clone, Copy, PartialEq, Eq)]
+#[derive(Clone, Copy)]
 pub enum Then {
     /// Nothing.
     Nothing,

@@ -25,7 +25,7 @@ const LEAST_PID: u32 = 1;
 const MOST_PID: u32 = 1_000_000;
 
 /// A command with its arguments.
-#[derive(Clone, Copy, PartialEq, Eq)]
+#[derive(Clone, Copy)]
 pub enum Command<'a> {
     /// `convert ELF FLT`, and with `--stack N` another stack than the default one.
     Convert {
