@@ -1,5 +1,5 @@
 -- The definitions, computed on the image without any node.
-use Rattle.std.proofs.Common.{◌≡◌, ℕ, List, [], ◌∷◌, ◌++◌, take, refl, Some, None, slice_set}
+use Rattle.std.proofs.Common.{◌≡◌, ℕ, List, [], ◌∷◌, refl, slice_set}
 use Rattle.std.specs.Prelude.{Ok, Err}
 use Rattle.romfs_image.specs.declared.fault.RomFault.TheVariants as fault
 use Rattle.byte_words.specs.Numbers.{number_at}

@@ -1,5 +1,5 @@
 -- The walk ends by itself: any two numbers of steps that suffice give the same.
-use Rattle.std.proofs.Common.{◌≡◌, ℕ, zero, suc, ◌+◌, ◌<◌, ◌≤◌, Bool, true, false, List, [], ◌∷◌, length, Option, refl, sym, ap, ◌∙◌, arith}
+use Rattle.std.proofs.Common.{◌≡◌, ℕ, zero, suc, ◌+◌, ◌<◌, ◌≤◌, Bool, true, false, List, [], ◌∷◌, length, Option, refl, sym, ◌∙◌, arith}
 use Rattle.std.specs.Prelude.{None, Some}
 use Rattle.std.proofs.lemmas.Bool.{leb-false}
 use Rattle.byte_words.specs.Search.{first}
@@ -7,7 +7,7 @@ use Rattle.romfs_image.specs.declared.fault.RomFault.{RomFault}
 use Rattle.romfs_image.specs.declared.walk.Level.{Level}
 use Rattle.romfs_image.specs.Header.{name_end, header_at}
 use Rattle.romfs_image.specs.Fault.{header_rows, header_fault}
-use Rattle.romfs_image.specs.Walk.{Entry, levels_behind, entries_behind, or_else, unless, fault_at, walk, walked}
+use Rattle.romfs_image.specs.Walk.{Entry, levels_behind, entries_behind, or_else, fault_at, walk, walked}
 use Rattle.romfs_image.specs.Laws.{StepsSuffice}
 use Rattle.romfs_image.proofs.Walks.{words_fit, walk_taken, walk_stopped}
 
@@ -37,17 +37,19 @@ pub same_steps : (n k : ℕ) (y : List ℕ) (before : ℕ) (levels : List Level)
 same_steps n k y before [] entries inside enough also = refl
 same_steps zero k y before (level ∷ levels) entries inside enough also = absurd (omega arith)
 same_steps (suc n) zero y before (level ∷ levels) entries inside enough also = absurd (omega arith)
-same_steps (suc n) (suc k) y before (level ∷ levels) entries inside enough also = by (fault_at y before level entries) refl
+same_steps (suc n) (suc k) y before (level ∷ levels) entries inside enough also =
+    by (same_steps n k y level.at (levels_behind (header_at y level.at) level.folder (length entries + 1) levels) (entries_behind (header_at y level.at) level entries)) (fault_at y before level entries) refl
   where
-    by : (fault : Option RomFault) → fault_at y before level entries ≡ fault → walk (suc n) y before (level ∷ levels) entries ≡ walk (suc k) y before (level ∷ levels) entries
-    by (Some f) is = walk_stopped n y before level levels entries f is ∙ sym (walk_stopped k y before level levels entries f is)
-    by None is =
+    by : (level.at < length y → length y ≤ level.at + n → length y ≤ level.at + k
+        → walk n y level.at (levels_behind (header_at y level.at) level.folder (length entries + 1) levels) (entries_behind (header_at y level.at) level entries)
+        ≡ walk k y level.at (levels_behind (header_at y level.at) level.folder (length entries + 1) levels) (entries_behind (header_at y level.at) level entries)) → (fault : Option RomFault) → fault_at y before level entries ≡ fault
+        → walk (suc n) y before (level ∷ levels) entries ≡ walk (suc k) y before (level ∷ levels) entries
+    by later (Some f) is = walk_stopped n y before level levels entries f is ∙ sym (walk_stopped k y before level levels entries f is)
+    by later None is =
         let sound : header_fault y before level.at ≡ None = or_else_none _ _ is in
-        let later = rises y before level.at sound in
+        let behind = rises y before level.at sound in
         let fits = words_fit y before level.at sound in
-        walk_taken n y before level levels entries is
-        ∙ same_steps n k y level.at (levels_behind (header_at y level.at) level.folder (length entries + 1) levels) (entries_behind (header_at y level.at) level entries) (omega arith) (omega arith) (omega arith)
-        ∙ sym (walk_taken k y before level levels entries is)
+        walk_taken n y before level levels entries is ∙ later (omega arith) (omega arith) (omega arith) ∙ sym (walk_taken k y before level levels entries is)
 
 pub steps_suffice : StepsSuffice
 unfolding walked

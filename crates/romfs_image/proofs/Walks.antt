@@ -1,6 +1,6 @@
 -- One step of the walk.
-use Rattle.std.proofs.Common.{◌≡◌, ℕ, suc, ◌+◌, ◌-◌, ◌<◌, ◌≤◌, Bool, true, false, nat_lt, nat_eq, List, [], ◌∷◌, ◌++◌, length, refl, sym, ap, ◌∙◌, arith, inl, inr}
-use Rattle.std.specs.Prelude.{None, Some, Ok, Err, reverse}
+use Rattle.std.proofs.Common.{◌≡◌, ℕ, suc, ◌+◌, ◌-◌, ◌<◌, ◌≤◌, false, nat_lt, nat_eq, List, [], ◌∷◌, ◌++◌, length, refl, sym, ap, ◌∙◌, arith, inl, inr}
+use Rattle.std.specs.Prelude.{None, Some, Err, reverse}
 use Rattle.std.specs.List.{list_any}
 use Rattle.std.proofs.lemmas.Bool.{ltb-false, or_cases, cases_Bool, eqb-true, ne_eqb, and_parts}
 use Rattle.std.proofs.lemmas.List.{reverse-append}
@@ -9,7 +9,7 @@ use Rattle.romfs_image.specs.declared.fault.RomFault.{RomFault}
 use Rattle.romfs_image.specs.declared.fault.RomFault.TheVariants as fault
 use Rattle.romfs_image.specs.declared.walk.Level.{Level}
 use Rattle.romfs_image.specs.Header.{Header, name_end, header_at}
-use Rattle.romfs_image.specs.Fault.{is_node, header_rows, header_fault}
+use Rattle.romfs_image.specs.Fault.{is_node, header_fault}
 use Rattle.romfs_image.specs.Walk.{Entry, pending, levels_behind, entries_behind, repeat_fault, or_else, unless, fault_at, walk, walked}
 use Rattle.romfs_image.specs.Reading.{is_file_at, FilesFit}
 

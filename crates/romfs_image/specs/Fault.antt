@@ -1,6 +1,6 @@
 -- What may be wrong with an image: twelve rows in one order. Here stand 1 to 5, of the superblock, and 6 to 11, of one
 -- header; `Reading` has 12, of the hard links.
-use Rattle.std.specs.Prelude.{ℕ, ◌+◌, ◌%◌, ◌^◌, Bool, not, ◌&&◌, ◌||◌, ◌==◌, nat_lt, nat_le, List, [], ◌∷◌, length, take, drop, codes, bytes_eq, Option, Some, None, if◌then◌else◌}
+use Rattle.std.specs.Prelude.{ℕ, ◌+◌, ◌%◌, ◌^◌, Bool, not, ◌&&◌, ◌||◌, ◌==◌, nat_lt, nat_le, List, [], ◌∷◌, length, take, codes, bytes_eq, Option}
 use Rattle.std.specs.List.{list_any}
 use Rattle.byte_words.specs.Search.{first}
 use Rattle.romfs_image.specs.declared.fault.RomFault.{RomFault}

@@ -1,6 +1,6 @@
 -- A header (romfs.rst, "file header"): the words next, info, size and checksum, then the name with a zero, padded to
 -- 16, and behind it the data. The superblock's volume name stands where the name of a header at 0 would.
-use Rattle.std.specs.Prelude.{◌≡◌, ℕ, ◌+◌, ◌*◌, ◌-◌, ◌/◌, ◌%◌, Bool, ◌==◌, List, length, take, drop}
+use Rattle.std.specs.Prelude.{ℕ, ◌+◌, ◌*◌, ◌-◌, ◌/◌, ◌%◌, Bool, ◌==◌, List, length, take, drop}
 use Rattle.std.specs.List.{before_first}
 use Rattle.romfs_image.specs.Words.{big_at, padded}
 

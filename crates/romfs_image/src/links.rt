@@ -80,7 +80,7 @@ fn node_of<'a>(image: &'a [u8], entry: &Entry<'a>) -> RomNode<'a>
             name: header.name,
             kind: RomKind::Dir,
             bytes: image.split_at(0).0,
-            exec: header.exec,
+            exec: entry.header.exec,
         };
     }
     if header.kind == LINK {

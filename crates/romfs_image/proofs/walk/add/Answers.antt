@@ -1,8 +1,8 @@
-use Rattle.std.proofs.Common.{◌≡◌, ◌++◌, ◌∷◌, [], map, refl, sym, ap, ◌∙◌, inr, true, false}
+use Rattle.std.proofs.Common.{◌≡◌, ◌∷◌, [], refl, sym, ap, ◌∙◌, inr, true, false}
 use Rattle.std.specs.List.{list_any}
 use Rattle.std.proofs.lemmas.List.{map-append}
-use Rattle.romfs_image.specs.Walk.{Entry, is_named}
-use Rattle.romfs_image.specs.Code.{found, header_value, entry_value, HasNames}
+use Rattle.romfs_image.specs.Walk.{is_named}
+use Rattle.romfs_image.specs.Code.{found, header_value, entry_value}
 use Rattle.romfs_image.proofs.Names.{names_more, none_passed, none_new, some_old, not_true, not_false}
 use Rattle.romfs_image.proofs.walk.add.Goals as goal
 

@@ -1,4 +1,4 @@
-use Rattle.std.proofs.Common.{◌≡◌, ◌+◌, ◌-◌, ◌<◌, ◌≤◌, [], ◌∷◌, ◌++◌, length, refl, sym, ap, ◌∙◌, subst, inl, inr, arith}
+use Rattle.std.proofs.Common.{length, sym, ap, ◌∙◌, subst, inl, inr, arith}
 use Rattle.std.specs.Prelude.{reverse}
 use Rattle.std.proofs.lemmas.List.{length-map}
 use Rattle.std.proofs.lemmas.Grind.{common_steps}
@@ -39,7 +39,7 @@ returns-in_err-add-clause-fault c =
     rw (p.1, p.2) (elim c.in_err-add.ensures.err [
       | inl memory ↦ inl memory
       | inr old ↦ inr (stopped y c.loop.counter c.loop.before c.loop.levels.items c.pop.new.self.items c.in-Some.level entries _ c.loop-test.true c.in-Some.ensures.items c.loop.invariant.rest
-      (second_fault y c.loop.before c.in-Some.level entries (header_value c.in_ok-header.header) _ sound.1 sound.0 old))
+          (second_fault y c.loop.before c.in-Some.level entries (header_value c.in_ok-header.header) _ sound.1 sound.0 old))
     ])
 
 pub loop-preserved : goal.loop-preserved
