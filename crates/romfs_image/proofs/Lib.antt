@@ -1,0 +1,6 @@
+pub mod Samples
+pub mod Sums
+pub mod Names
+pub mod Walks
+pub mod Entries
+pub mod Steps

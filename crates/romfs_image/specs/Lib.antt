@@ -1,0 +1,16 @@
+-- Words: big-endian words, their sum, and padding.
+-- Header: what stands at a position of an image.
+-- Fault: what may be wrong with a superblock and with a header.
+-- Walk: the headers in the order in which they are read.
+-- Nodes: what an image says, a file or a folder each.
+-- Reading: the nodes of an image, or its first fault.
+-- Code: what contracts see of the code's types.
+-- Laws: that the walk ends.
+pub mod Words
+pub mod Header
+pub mod Fault
+pub mod Walk
+pub mod Nodes
+pub mod Reading
+pub mod Code
+pub mod Laws

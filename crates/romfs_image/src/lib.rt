@@ -1,0 +1,18 @@
+//! romfs images (Linux, filesystems/romfs.rst): what an image says, which images are refused and why.
+//!
+//! What may stand here: the format's definitions, its reader, and laws on these. No manifest, no tree of a
+//! machine and no text for users.
+#![tactic(auto)]
+
+mod fault;
+mod header;
+mod laws;
+mod links;
+mod node;
+mod rom;
+mod walk;
+
+pub use fault::RomFault;
+pub use laws::steps_suffice;
+pub use node::{RomKind, RomNode};
+pub use rom::Rom;
