@@ -15,7 +15,6 @@ use Rattle.region_watch.specs.declared.mode.Mode.{Mode}
 use Rattle.flat_machine.specs.Runs.{repeated}
 use Rattle.file_commands.specs.Texts.Refusals.{too_long_at}
 use Rattle.suite_top.specs.declared.telling.Telling.{Telling}
-use Rattle.suite_top.specs.declared.telling.Telling.TheVariants.{Report}
 use Rattle.file_commands.specs.Ending.{Ending, refused_ending}
 use Rattle.file_commands.specs.Outcome.{Request, load, Outcome, Inputs, after}
 use Rattle.file_commands.specs.HostCourse.{inputs_in}
@@ -74,13 +73,13 @@ runs_where_booted telling mode kind m files b =
 
 pub runs_where_it_opens : RunsWhereItOpens
 unfolding run_outcome
-runs_where_it_opens t name log mode kind o =
+runs_where_it_opens t name telling mode kind o =
     ap (after (load name))
-    (is_within manifest_limit None name (get t name) o.text (λ bytes. manifest_outcome log mode kind (manifest_of bytes) (inputs_in t)) o.found o.fits
-    ∙ ap (λ (r : Result Manifest Fault). manifest_outcome log mode kind r (inputs_in t)) o.reads
-    ∙ items_there t files_limit o.manifest.items o.files (λ files. at_once (files_ending (Report log) mode kind o.manifest files)) o.there
-    ∙ ap (λ (e : Ending). behind_all o.manifest.items (at_once e)) (runs_where_booted (Report log) mode kind o.manifest o.files o.booted)
-    ∙ ap (λ (rs : List Request). record { requests = rs; ending = (opened_outcome log mode o).ending }) (append-nil (loads_of o.manifest.items)))
+    (is_within manifest_limit None name (get t name) o.text (λ bytes. manifest_outcome telling mode kind (manifest_of bytes) (inputs_in t)) o.found o.fits
+    ∙ ap (λ (r : Result Manifest Fault). manifest_outcome telling mode kind r (inputs_in t)) o.reads
+    ∙ items_there t files_limit o.manifest.items o.files (λ files. at_once (files_ending telling mode kind o.manifest files)) o.there
+    ∙ ap (λ (e : Ending). behind_all o.manifest.items (at_once e)) (runs_where_booted telling mode kind o.manifest o.files o.booted)
+    ∙ ap (λ (rs : List Request). record { requests = rs; ending = (opened_outcome telling mode o).ending }) (append-nil (loads_of o.manifest.items)))
 
 -- ---- from the status to what is there
 
@@ -114,9 +113,9 @@ items_within t left (item ∷ items) rest stop =
     let (files, there, last) = items_within t (left - length file) items (λ files. rest (file ∷ files)) more in
     (file ∷ files, (is, there), last)
 
-ok_manifest : (t : Files) (log : Bool) (mode : Mode) (kind : Kind) (r : Result Manifest Fault) → IsStop (manifest_outcome log mode kind r (inputs_in t)).ending.status → (m : Manifest) × (r ≡ Ok m) × IsStop (items_outcome log mode kind m (inputs_in t)).ending.status
-ok_manifest t log mode kind (Err fault) stop = absurd stop
-ok_manifest t log mode kind (Ok m) stop = (m, refl, stop)
+ok_manifest : (t : Files) (telling : Telling) (mode : Mode) (kind : Kind) (r : Result Manifest Fault) → IsStop (manifest_outcome telling mode kind r (inputs_in t)).ending.status → (m : Manifest) × (r ≡ Ok m) × IsStop (items_outcome telling mode kind m (inputs_in t)).ending.status
+ok_manifest t telling mode kind (Err fault) stop = absurd stop
+ok_manifest t telling mode kind (Ok m) stop = (m, refl, stop)
 
 ok_brought : (telling : Telling) (mode : Mode) (kind : Kind) (m : Manifest) (r : Result Brought FaultAt) → IsStop (brought_ending telling mode kind m r).status
     → (b : Brought) × (r ≡ Ok b) × IsStop (booted_ending telling mode m b.headers (boot (opening kind m b) (map start_line m.starts))).status
@@ -136,11 +135,11 @@ booted_where_it_stops telling mode kind m files stop =
 
 pub opens_where_it_stops : OpensWhereItStops
 unfolding run_outcome
-opens_where_it_stops t name log mode kind stop =
-    let (text, found, fits, reads_on) = within manifest_limit None name (get t name) (λ bytes. manifest_outcome log mode kind (manifest_of bytes) (inputs_in t)) stop in
-    let (m, reads, loads_on) = ok_manifest t log mode kind (manifest_of text) reads_on in
-    let (files, there, makes_on) = items_within t files_limit m.items (λ fs. at_once (files_ending (Report log) mode kind m fs)) loads_on in
-    let booted = booted_where_it_stops (Report log) mode kind m files makes_on in
+opens_where_it_stops t name telling mode kind stop =
+    let (text, found, fits, reads_on) = within manifest_limit None name (get t name) (λ bytes. manifest_outcome telling mode kind (manifest_of bytes) (inputs_in t)) stop in
+    let (m, reads, loads_on) = ok_manifest t telling mode kind (manifest_of text) reads_on in
+    let (files, there, makes_on) = items_within t files_limit m.items (λ fs. at_once (files_ending telling mode kind m fs)) loads_on in
+    let booted = booted_where_it_stops telling mode kind m files makes_on in
     record { text = text; found = found; fits = fits; manifest = m; reads = reads; files = files; there = there; booted = booted }
 
 pub runs_stop_or_end_early : RunsStopOrEndEarly

@@ -17,6 +17,7 @@ use Rattle.flat_machine.specs.Runs.{repeated}
 use Rattle.flat_machine.specs.OwnBytes.{own_bytes, memory_bytes}
 use Rattle.file_commands.specs.declared.status.Status.TheVariants.{Stray}
 use Rattle.file_commands.specs.Ending.{Ending}
+use Rattle.suite_top.specs.declared.telling.Telling.TheVariants.{Report}
 use Rattle.suite_top.specs.Report.{own_dumps, memory_dumps, notes_text}
 use Rattle.file_commands.specs.Outcome.{Inputs}
 use Rattle.suite_top.specs.Run.{run_outcome}
@@ -62,10 +63,10 @@ MemoryIsRegular = (t : Files) (name : List ℕ) (kind : Kind) (o : Opens t name 
 -- ---- the status and the texts
 
 abbrev pub halting_ending : {t : Files} {name : List ℕ} {kind : Kind} → (log : Bool) → Opens t name kind → Ending
-halting_ending log o = (opened_outcome log Halt o).ending
+halting_ending log o = (opened_outcome (Report log) Halt o).ending
 
 abbrev pub going_on_ending : {t : Files} {name : List ℕ} {kind : Kind} → (log : Bool) → Opens t name kind → Ending
-going_on_ending log o = (opened_outcome log GoOn o).ending
+going_on_ending log o = (opened_outcome (Report log) GoOn o).ending
 
 -- a dump of a process that lives, of bytes that lie in memory and aren't all own
 pub record ShowsMore (private : World) (one : Physical) (d : Dump) : Type 0 where
@@ -114,8 +115,8 @@ RunsTellWell = (t : Files) (name : List ℕ) (kind : Kind) (log : Bool) (o : Ope
 -- a run that doesn't reach its machine is the same with it and without it
 abbrev pub RunsEndEarlyAlike : Type 0
 RunsEndEarlyAlike = (name : List ℕ) (log : Bool) (kind : Kind) (inputs : Inputs)
-    → IsStop (run_outcome name log Halt kind inputs).ending.status ⊎ (run_outcome name log GoOn kind inputs ≡ run_outcome name log Halt kind inputs)
+    → IsStop (run_outcome name (Report log) Halt kind inputs).ending.status ⊎ (run_outcome name (Report log) GoOn kind inputs ≡ run_outcome name (Report log) Halt kind inputs)
 
 -- and with it no run ends at a stray access
 abbrev pub RunsOnNeverStray : Type 0
-RunsOnNeverStray = (name : List ℕ) (log : Bool) (kind : Kind) (inputs : Inputs) → (run_outcome name log GoOn kind inputs).ending.status ≢ Stray
+RunsOnNeverStray = (name : List ℕ) (log : Bool) (kind : Kind) (inputs : Inputs) → (run_outcome name (Report log) GoOn kind inputs).ending.status ≢ Stray

@@ -5,6 +5,7 @@
 -- Booted        the machine of a run before the first turn, and what is said of a run from there on
 -- RunLaws       when a run reaches its machine
 -- Beside        a run with `--go-on` beside the same run without it
+-- TraceLaws     the command `trace`, beside the run of its manifest
 -- DemoLaws      the command `demo`, and that its programs have no fault
 pub mod OneFileLaws
 pub mod ConvertLaws
@@ -13,4 +14,5 @@ pub mod ListLaws
 pub mod Booted
 pub mod RunLaws
 pub mod Beside
+pub mod TraceLaws
 pub mod DemoLaws

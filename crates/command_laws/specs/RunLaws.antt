@@ -9,7 +9,7 @@ use Rattle.region_watch.specs.declared.mode.Mode.{Mode}
 use Rattle.flat_machine.specs.Runs.{repeated}
 use Rattle.file_commands.specs.declared.status.Status.{Status}
 use Rattle.file_commands.specs.declared.status.Status.TheVariants.{Done, HostRead, Refused, Stray, OutOfQuanta, LogFull, Stuck}
-use Rattle.suite_top.specs.declared.telling.Telling.TheVariants.{Report}
+use Rattle.suite_top.specs.declared.telling.Telling.{Telling}
 use Rattle.file_commands.specs.Ending.{Ending}
 use Rattle.file_commands.specs.Outcome.{load, Outcome, Inputs}
 use Rattle.file_commands.specs.HostCourse.{inputs_in}
@@ -42,10 +42,10 @@ pub record Opens (t : Files) (name : List ℕ) (kind : Kind) : Type 0 where
 
 -- the manifest is asked for, then the file of each line that has one, in order; and the turns from that world, or, of a run that goes on,
 -- those over one memory, give the texts
-abbrev pub opened_outcome : {t : Files} {name : List ℕ} {kind : Kind} → (log : Bool) → Mode → Opens t name kind → Outcome
-opened_outcome {name = name} log mode o = record {
+abbrev pub opened_outcome : {t : Files} {name : List ℕ} {kind : Kind} → Telling → Mode → Opens t name kind → Outcome
+opened_outcome {name = name} telling mode o = record {
   requests = load name ∷ map (λ i. load i.name) (filter (λ i. has_file i.kind) o.manifest.items);
-  ending = mode_ending (Report log) mode (repeated o.manifest.repeat o.manifest.quanta) o.manifest.dumps o.booted.brought.headers o.booted.world;
+  ending = mode_ending telling mode (repeated o.manifest.repeat o.manifest.quanta) o.manifest.dumps o.booted.brought.headers o.booted.world;
 }
 
 -- the statuses of a machine that stopped
@@ -58,11 +58,11 @@ IsStop Stuck = Unit {0}
 IsStop other = ⊥
 
 abbrev pub RunsWhereItOpens : Type 0
-RunsWhereItOpens = (t : Files) (name : List ℕ) (log : Bool) (mode : Mode) (kind : Kind) (o : Opens t name kind) → run_outcome name log mode kind (inputs_in t) ≡ opened_outcome log mode o
+RunsWhereItOpens = (t : Files) (name : List ℕ) (telling : Telling) (mode : Mode) (kind : Kind) (o : Opens t name kind) → run_outcome name telling mode kind (inputs_in t) ≡ opened_outcome telling mode o
 
 -- and in no other case a run ends with one of these
 abbrev pub OpensWhereItStops : Type 0
-OpensWhereItStops = (t : Files) (name : List ℕ) (log : Bool) (mode : Mode) (kind : Kind) → IsStop (run_outcome name log mode kind (inputs_in t)).ending.status → Opens t name kind
+OpensWhereItStops = (t : Files) (name : List ℕ) (telling : Telling) (mode : Mode) (kind : Kind) → IsStop (run_outcome name telling mode kind (inputs_in t)).ending.status → Opens t name kind
 
 -- it ends early: a load failed, or something was refused, and nothing goes to `out`
 abbrev pub IsEarly : Ending → Type 0
@@ -70,8 +70,8 @@ IsEarly ending = (ending.out ≡ []) × ((ending.status ≡ HostRead) ⊎ (endin
 
 -- a run reaches its machine or ends early, whatever its files are
 abbrev pub RunsStopOrEndEarly : Type 0
-RunsStopOrEndEarly = (name : List ℕ) (log : Bool) (mode : Mode) (kind : Kind) (inputs : Inputs)
-    → IsStop (run_outcome name log mode kind inputs).ending.status ⊎ IsEarly (run_outcome name log mode kind inputs).ending
+RunsStopOrEndEarly = (name : List ℕ) (telling : Telling) (mode : Mode) (kind : Kind) (inputs : Inputs)
+    → IsStop (run_outcome name telling mode kind inputs).ending.status ⊎ IsEarly (run_outcome name telling mode kind inputs).ending
 
 -- ---- what is said of each run from its opening world on
 

@@ -33,7 +33,11 @@ use Rattle.file_commands.specs.Ending.{done_ending}
 use Rattle.file_commands.specs.Outcome.{Request, load, store, Outcome, Inputs, after}
 use Rattle.file_commands.specs.Load.{at_once}
 use Rattle.file_commands.specs.Convert.{stored_outcome}
-use Rattle.suite_top.specs.Report.{stop_word, stop_line, report_text, status_of_end}
+use Rattle.trace_text.specs.Calls.{call_of}
+use Rattle.trace_text.specs.Lines.{trace_line}
+use Rattle.trace_text.specs.Counts.{counts_of, count_line}
+use Rattle.trace_text.specs.Texts.{trace_texts}
+use Rattle.suite_top.specs.Report.{stop_word, stop_line, report_text, trace_report, status_of_end}
 use Rattle.suite_top.specs.Result.{result_of}
 use Rattle.definition_samples.proofs.Exits.{running, over}
 
@@ -143,6 +147,17 @@ told-long = refl
 told-dump : report_text true (codes "dump ..\n") (running 0x8000_0080 0 0) None ≡ codes "load 1 /x base 0x80000000 pages 2\ndump ..\nstop quanta events 0\n"
 unfolding digits report_text
 told-dump = refl
+
+-- with its call as a trace, counted behind the notes; and of a process that isn't there
+told-trace : trace_report None true (codes "dump ..\n") over (Some all_ended)
+    ≡ codes "load 1 /x base 0x80000000 pages 2\ntrace 1 exit(0) = 0\nend 1 exit 0\n"
+    ++ codes "count 93 exit calls 1 errors 0 sent 0 got 0\ndump ..\nstop done events 2\n"
+unfolding digits trace_report trace_texts trace_line counts_of count_line call_of
+told-trace = refl
+
+told-no-trace : trace_report (Some 2) true [] over (Some all_ended) ≡ codes "load 1 /x base 0x80000000 pages 2\nend 1 exit 0\nstop done events 2\n"
+unfolding digits trace_report trace_texts counts_of
+told-no-trace = refl
 
 stops : stop_line (stop_word (Some stuck)) 123 ++ stop_line (stop_word (Some log_full)) 0 ++ stop_line (stop_word (Some out_of_quanta)) 7 ≡ codes "stop stuck events 123\nstop log events 0\nstop quanta events 7\n"
 unfolding digits

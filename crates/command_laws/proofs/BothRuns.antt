@@ -1,0 +1,84 @@
+-- Two runs of one manifest that tell other things, or go on behind a stray access or not, by the loads that they share.
+use Rattle.std.proofs.Common.{ℕ, ◌-◌, Bool, true, false, cond, List, [], ◌∷◌, map, length, nat_lt, Option, Some, None, Result, Ok, Err}
+use Rattle.page_runs.specs.declared.place.Kind.{Kind}
+use Rattle.quantum_sched.specs.declared.Quantum.{Quantum}
+use Rattle.manifest_text.specs.declared.manifest.Dump.{Dump}
+use Rattle.manifest_text.specs.Values.{Item, Manifest}
+use Rattle.manifest_text.specs.Manifest.{Fault, manifest_of}
+use Rattle.machine_world.specs.World.{World}
+use Rattle.machine_world.specs.Boot.{BootFault, boot}
+use Rattle.flat_machine.specs.Runs.{repeated}
+use Rattle.region_watch.specs.declared.mode.Mode.{Mode}
+use Rattle.run_setup.specs.Brought.{Brought, FaultAt, nothing_brought, all_brought}
+use Rattle.file_commands.specs.Texts.Refusals.{too_long_at, manifest_tail, line_tail}
+use Rattle.file_commands.specs.Ending.{refused_ending}
+use Rattle.file_commands.specs.Outcome.{Request, load, failure_ending, Outcome, Inputs, after}
+use Rattle.file_commands.specs.Load.{at_once, behind, with_limited, with_load}
+use Rattle.file_commands.specs.Items.{load_limit, files_limit, has_file, with_item, with_items}
+use Rattle.suite_top.specs.declared.telling.Telling.{Telling}
+use Rattle.suite_top.specs.Run.{manifest_limit, start_line, opening, boot_fault, mode_ending, booted_ending, brought_ending, files_ending, manifest_outcome, run_outcome}
+
+-- a relation of both outcomes holds if it holds of equal early ends and of what a machine tells, and stays behind a load
+module _ (telling telling_other : Telling) (mode mode_other : Mode) (R : (one other : Outcome) → Type 0) (step : (request : Request) (one other : Outcome) → R one other → R (after request one) (after request other))
+    (failed : (name : List ℕ) → R (at_once (failure_ending (load name))) (at_once (failure_ending (load name))))
+    (refused : (tail : List ℕ) → R (at_once (refused_ending tail)) (at_once (refused_ending tail)))
+    (tells : (quanta : List Quantum) (dumps : List Dump) (headers : List (List ℕ)) (w : World)
+    → R (at_once (mode_ending telling mode quanta dumps headers w)) (at_once (mode_ending telling_other mode_other quanta dumps headers w))) where
+  -- ---- behind loads
+
+  both_limited : (limit : ℕ) (line : Option ℕ) (name : List ℕ) (file : Option (List ℕ)) (one other : List ℕ → Outcome) → ((bytes : List ℕ) → R (one bytes) (other bytes))
+      → R (with_limited limit line name file one) (with_limited limit line name file other)
+  both_limited limit line name None one other each = failed name
+  both_limited limit line name (Some bytes) one other each = by_test (nat_lt limit (length bytes))
+    where
+      by_test : (long : Bool) → R (cond long (at_once (refused_ending (too_long_at line))) (one bytes)) (cond long (at_once (refused_ending (too_long_at line))) (other bytes))
+      by_test true = refused (too_long_at line)
+      by_test false = each bytes
+
+  module _ (one other : List ℕ → Inputs → Outcome) (each : (bytes : List ℕ) (inputs : Inputs) → R (one bytes inputs) (other bytes inputs)) where
+    both_load : (limit : ℕ) (line : Option ℕ) (name : List ℕ) (inputs : Inputs) → R (with_load limit line name one inputs) (with_load limit line name other inputs)
+    both_load limit line name inputs =
+        step (load name) (with_limited limit line name (inputs 0 name) (λ bytes. one bytes (behind inputs))) (with_limited limit line name (inputs 0 name) (λ bytes. other bytes (behind inputs)))
+        (both_limited limit line name (inputs 0 name) (λ bytes. one bytes (behind inputs)) (λ bytes. other bytes (behind inputs)) (λ bytes. each bytes (behind inputs)))
+
+    both_item : (left : ℕ) (item : Item) (inputs : Inputs) → R (with_item left item one inputs) (with_item left item other inputs)
+    both_item left item inputs = by_kind (has_file item.kind)
+      where
+        by_kind : (has : Bool)
+            → R (cond has (with_load (load_limit item.kind left) (Some item.line) item.name one inputs) (one [] inputs)) (cond has (with_load (load_limit item.kind left) (Some item.line) item.name other inputs) (other [] inputs))
+        by_kind true = both_load (load_limit item.kind left) (Some item.line) item.name inputs
+        by_kind false = each [] inputs
+
+  both_items : (left : ℕ) (items : List Item) (one other : List (List ℕ) → Outcome) → ((files : List (List ℕ)) → R (one files) (other files)) → (inputs : Inputs)
+      → R (with_items left items one inputs) (with_items left items other inputs)
+  unfolding with_items
+  both_items left [] one other each inputs = each []
+  both_items left (item ∷ items) one other each inputs =
+      both_item (λ bytes. with_items (left - length bytes) items (λ files. one (bytes ∷ files))) (λ bytes. with_items (left - length bytes) items (λ files. other (bytes ∷ files)))
+      (λ bytes others. both_items (left - length bytes) items (λ files. one (bytes ∷ files)) (λ files. other (bytes ∷ files)) (λ files. each (bytes ∷ files)) others) left item inputs
+
+  -- ---- where all files are there
+
+  module _ (m : Manifest) where
+    both_booted : (headers : List (List ℕ)) (r : Result World BootFault) → R (at_once (booted_ending telling mode m headers r)) (at_once (booted_ending telling_other mode_other m headers r))
+    both_booted headers (Err first) = let at = boot_fault first in refused (line_tail at.line at.fault)
+    both_booted headers (Ok w) = tells (repeated m.repeat m.quanta) m.dumps headers w
+
+    both_brought : (kind : Kind) (r : Result Brought FaultAt) → R (at_once (brought_ending telling mode kind m r)) (at_once (brought_ending telling_other mode_other kind m r))
+    both_brought kind (Err at) = refused (line_tail at.line at.fault)
+    both_brought kind (Ok b) = both_booted b.headers (boot (opening kind m b) (map start_line m.starts))
+
+    both_files : (kind : Kind) (files : List (List ℕ)) → R (at_once (files_ending telling mode kind m files)) (at_once (files_ending telling_other mode_other kind m files))
+    unfolding files_ending
+    both_files kind files = both_brought kind (all_brought m.items files nothing_brought)
+
+  both_manifest : (kind : Kind) (r : Result Manifest Fault) (inputs : Inputs) → R (manifest_outcome telling mode kind r inputs) (manifest_outcome telling_other mode_other kind r inputs)
+  both_manifest kind (Err first) inputs = refused (manifest_tail first.line first.fault)
+  both_manifest kind (Ok m) inputs =
+      both_items files_limit m.items (λ files. at_once (files_ending telling mode kind m files)) (λ files. at_once (files_ending telling_other mode_other kind m files)) (both_files m kind) inputs
+
+  pub both_run : (name : List ℕ) (kind : Kind) (inputs : Inputs) → R (run_outcome name telling mode kind inputs) (run_outcome name telling_other mode_other kind inputs)
+  unfolding run_outcome
+  both_run name kind inputs =
+      both_load (λ bytes. manifest_outcome telling mode kind (manifest_of bytes)) (λ bytes. manifest_outcome telling_other mode_other kind (manifest_of bytes)) (λ bytes others. both_manifest kind (manifest_of bytes) others)
+      manifest_limit None name inputs
