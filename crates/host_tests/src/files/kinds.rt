@@ -1,108 +1,84 @@
 //! Pipes: one without a path is read and written, and one with a path isn't opened.
 
-use host_io::{FolderHost, Host, HostError, Loaded};
-use std::alloc::Allocator;
-use std::fs::{File, Metadata, OpenOptions};
-use std::io::{ErrorKind, Read};
+use super::broken_files::{Step, broken_host};
+use super::real_host;
+use host_io::{Host, HostError, Loaded};
+use std::alloc::{AllocError, Global};
+use std::io;
+use std::io::{PipeReader, Read};
 use std::os::fd::AsRawFd;
-use std::path::PathBuf;
-use std::rt::Files;
 use std::test::Fail;
-use std::{fs, io};
 
-/// Real files, but that every path is one of its own, with nothing behind links.
-#[derive(Drop)]
-struct PathedFiles {
-    real: HostRuntime,
+/// The path of an open descriptor.
+fn path_of(alloc: Global, number: i32) -> Result<String, AllocError> {
+    format!(in alloc; "/dev/fd/{number}")
 }
 
-fn refused<T>() -> io::Result<T> {
-    Err(io::Error::from(ErrorKind::Other))
+/// What a host answers to a store into a descriptor.
+fn store_at<H: Host>(
+    alloc: Global,
+    host: &mut H,
+    number: i32,
+    bytes: &[u8],
+) -> Result<Result<(), HostError>, AllocError> {
+    let path = path_of(alloc, number)?;
+    Ok(host.store(alloc, &path, bytes))
 }
 
-impl Files for PathedFiles {
-    type File = File;
+/// Whether a load of a descriptor is answered so, and gives these bytes.
+fn is_loaded_at<H: Host>(
+    alloc: Global,
+    host: &mut H,
+    number: i32,
+    want: Result<Loaded, HostError>,
+    bytes: &[u8],
+) -> Result<bool, AllocError> {
+    let path = path_of(alloc, number)?;
+    let mut into = Vec::new(alloc);
+    let answer = host.load(alloc, &path, 5, &mut into);
+    Ok(answer == want && into.as_slice() == bytes)
+}
 
-    type Dir = File;
+/// Whether the bytes of two stores into a pipe are taken, and the first ones can be read.
+fn takes_stores(rt: &HostRuntime, number: i32, reader: &mut PipeReader) -> Result<bool, Fail> {
+    let mut host = real_host(rt)?;
+    let first = store_at(rt.alloc(), &mut host, number, b"piped")?;
+    let mut taken = [0u8; 5];
+    reader.read_exact(&mut taken)?;
+    let second = store_at(rt.alloc(), &mut host, number, b"again")?;
+    Ok(first == Ok(()) && taken.as_slice() == b"piped".as_slice() && second == Ok(()))
+}
 
-    fn open_file(&self, how: &OpenOptions, path: &str) -> io::Result<File> {
-        how.open(&self.real, path)
-    }
-
-    fn open_dir(&self, _path: &str) -> io::Result<File> {
-        refused()
-    }
-
-    fn metadata(&self, path: &str) -> io::Result<Metadata> {
-        fs::metadata(&self.real, path)
-    }
-
-    fn symlink_metadata(&self, path: &str) -> io::Result<Metadata> {
-        fs::metadata(&self.real, path)
-    }
-
-    fn copy(&self, _from: &str, _to: &str) -> io::Result<u64> {
-        refused()
-    }
-
-    fn rename(&self, _from: &str, _to: &str) -> io::Result<()> {
-        refused()
-    }
-
-    fn remove_file(&self, _path: &str) -> io::Result<()> {
-        refused()
-    }
-
-    fn create_dir(&self, _path: &str) -> io::Result<()> {
-        refused()
-    }
-
-    fn remove_dir(&self, _path: &str) -> io::Result<()> {
-        refused()
-    }
-
-    fn remove_dir_all<B: Allocator>(&self, _alloc: B, _path: &str) -> io::Result<()> {
-        refused()
-    }
-
-    fn canonicalize<B: Allocator>(&self, alloc: B, path: &str) -> io::Result<PathBuf<B>> {
-        let real = PathBuf::from(String::from_str(alloc, path)?);
-        Ok(real)
-    }
+/// Whether the second ones are loaded.
+fn gives_again(rt: &HostRuntime, number: i32) -> Result<bool, AllocError> {
+    let mut host = real_host(rt)?;
+    is_loaded_at(rt.alloc(), &mut host, number, Ok(Loaded::All), b"again")
 }
 
 #[test]
 fn a_pipe_without_a_path_is_taken(rt: HostRuntime) -> Result<(), Fail> {
-    let alloc = rt.alloc();
     let (mut reader, writer) = io::pipe(&rt)?;
-    let target = format!(in alloc; "/dev/fd/{}", writer.as_raw_fd())?;
-    let mut host = FolderHost::new(rt.clone()?, "host_io", 7);
-    assert_eq!(rt; host.store(alloc, target.as_str(), b"piped"), Ok(()));
-    let mut taken = [0u8; 5];
-    reader.read_exact(&mut taken)?;
-    assert_eq!(rt; taken.as_slice(), b"piped".as_slice());
-    assert_eq!(rt; host.store(alloc, target.as_str(), b"again"), Ok(()));
+    let takes = takes_stores(&rt, writer.as_raw_fd(), &mut reader)?;
     drop(writer);
-    let source = format!(in alloc; "/dev/fd/{}", reader.as_raw_fd())?;
-    let mut into = Vec::new(alloc);
-    let answer = host.load(alloc, source.as_str(), 5, &mut into);
-    assert_eq!(rt; answer, Ok(Loaded::All));
-    assert_eq!(rt; into.as_slice(), b"again".as_slice());
+    assert!(rt; takes && gives_again(&rt, reader.as_raw_fd())?);
     Ok(())
+}
+
+fn refuses_store(rt: &HostRuntime, number: i32) -> Result<bool, AllocError> {
+    let mut host = broken_host(rt, Step::OwnPaths)?;
+    Ok(store_at(rt.alloc(), &mut host, number, b"piped")? == Err(HostError::Failed))
+}
+
+fn refuses_load(rt: &HostRuntime, number: i32) -> Result<bool, AllocError> {
+    let mut host = broken_host(rt, Step::OwnPaths)?;
+    is_loaded_at(rt.alloc(), &mut host, number, Err(HostError::Failed), b"")
 }
 
 #[test]
 fn a_pipe_with_a_path_is_refused(rt: HostRuntime) -> Result<(), Fail> {
-    let alloc = rt.alloc();
     let (reader, writer) = io::pipe(&rt)?;
-    let target = format!(in alloc; "/dev/fd/{}", writer.as_raw_fd())?;
-    let source = format!(in alloc; "/dev/fd/{}", reader.as_raw_fd())?;
-    let mut host = FolderHost::new(PathedFiles { real: rt.clone()? }, "host_io", 7);
-    let answer = host.store(alloc, target.as_str(), b"piped");
-    assert_eq!(rt; answer, Err(HostError::Failed));
+    let stored = refuses_store(&rt, writer.as_raw_fd())?;
     drop(writer);
-    let mut into = Vec::new(alloc);
-    let answer = host.load(alloc, source.as_str(), 5, &mut into);
-    assert_eq!(rt; answer, Err(HostError::Failed));
+    assert!(rt; stored && refuses_load(&rt, reader.as_raw_fd())?);
     Ok(())
 }
