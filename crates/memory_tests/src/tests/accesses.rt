@@ -9,14 +9,13 @@ use phys_mem::{BASE, PhysMem};
 use region_watch::{Mode, Progress, Watch, Window, run_steps};
 use rv32im_step::{Access, AccessKind, Bus, Regs, Stop};
 use std::alloc::{AllocError, Global};
-use std::process::Abort;
 use std::test::*;
 
 /// The address of the code.
 const CODE: u32 = BASE + 0x80;
 
 /// `li a0, 122`, `addi a1, sp, 96`, `sb a0, 0(a1)`, `j .`.
-const STORING: [u8; 16] = [
+static STORING: [u8; 16] = [
     0x13, 5, 0xa0, 7, 0x93, 5, 1, 6, 0x23, 0x80, 0xa5, 0, 0x6f, 0, 0, 0,
 ];
 
@@ -31,7 +30,7 @@ fn memory_with(alloc: Global, code: &[u8]) -> Result<PhysMem, AllocError>
     Ok(mem)
 }
 
-const PAGES: [PageOwner; 2] = [
+static PAGES: [PageOwner; 2] = [
     PageOwner {
         from: 64,
         write: true,
@@ -66,7 +65,7 @@ fn window(owners: &Owners, size: u32) -> Window
 }
 
 /// An address and a length: whether a load is own, whether a store is, and whether it lies in memory.
-const ACCESSES: [(u32, u32, bool, bool, bool); 13] = [
+static ACCESSES: [(u32, u32, bool, bool, bool); 13] = [
     (BASE - 1, 1, false, false, false),
     (BASE, 4, false, false, true),
     (BASE + 63, 1, false, false, true),
@@ -82,9 +81,10 @@ const ACCESSES: [(u32, u32, bool, bool, bool); 13] = [
     (0xffff_fffe, 4, false, false, false),
 ];
 
-/// Loads and stores. A run that goes on has all within memory carried out.
-fn has_accesses(rt: &impl Abort, watch: &mut Watch<'_>, mode: Mode) {
-    for (addr, len, load, store, within) in ACCESSES {
+/// Loads and stores: the first address at which one is answered otherwise. A run that goes on has all within memory
+/// carried out.
+fn other_access(watch: &mut Watch<'_>, mode: Mode) -> Option<u32> {
+    for &(addr, len, load, store, within) in &ACCESSES {
         let want = match mode {
             Mode::Halt => (load, store),
             Mode::GoOn => (within, within),
@@ -92,27 +92,36 @@ fn has_accesses(rt: &impl Abort, watch: &mut Watch<'_>, mode: Mode) {
         if len == 1 || len == 2 || len == 4 {
             let loads = watch.load(0, addr, len).is_ok();
             let stores = watch.store(0, addr, len, 0x5555_5555).is_ok();
-            assert_eq!(rt; (loads, stores), want, "{addr:#x} {len}");
+            if loads != want.0 || stores != want.1 {
+                return Some(addr);
+            }
         }
     }
+    None
 }
 
 /// The same over memory and a table of their own, with a window of so many bytes.
-fn try_accesses(rt: &impl Abort, alloc: Global, mode: Mode, size: u32) -> Result<(), Fail> {
+fn other_access_in(alloc: Global, mode: Mode, size: u32) -> Result<Option<u32>, AllocError> {
     let owners = table(alloc)?;
     let mut mem = memory_with(alloc, &STORING)?;
     let mut watch = Watch::with_window(&mut mem, &owners, mode, window(&owners, size));
-    has_accesses(rt, &mut watch, mode);
-    Ok(())
+    Ok(other_access(&mut watch, mode))
 }
+
+/// Modes, and windows of so many bytes.
+static WINDOWS: [(Mode, u32); 4] = [
+    (Mode::Halt, 0),
+    (Mode::Halt, 4032),
+    (Mode::GoOn, 0),
+    (Mode::GoOn, 4032),
+];
 
 /// The window changes no answer.
 #[test]
 fn accesses(rt: HostRuntime) -> Result<(), Fail> {
-    for mode in [Mode::Halt, Mode::GoOn] {
-        for size in [0, 4032] {
-            try_accesses(&rt, rt.alloc(), mode, size)?;
-        }
+    for &(mode, size) in &WINDOWS {
+        let other = other_access_in(rt.alloc(), mode, size)?;
+        assert!(rt; other.is_none(), "{other:?}");
     }
     Ok(())
 }
@@ -140,7 +149,7 @@ fn access_of(place: Place) -> Access {
 /// Ranges of calls, whether each is let through, and the first that strayed by then.
 type Range = (Asked, Place, bool, Option<Place>);
 
-const HALTED: [Range; 7] = [
+static HALTED: [Range; 7] = [
     (Asked::Reads, (0, 0, 0), true, None),
     (Asked::Writes, (0, 0, 0), true, None),
     (Asked::Reads, (0, BASE + 64, 4032), true, None),
@@ -163,7 +172,7 @@ const HALTED: [Range; 7] = [
 const FIRST: Option<Place> = Some((8, BASE + 64, 4033));
 
 /// The same in a run that goes on: what lies in memory isn't refused, but told all the same.
-const WENT_ON: [Range; 16] = [
+static WENT_ON: [Range; 16] = [
     (Asked::Reads, (0, 0, 0), true, None),
     (Asked::Writes, (0, 0, 0), true, None),
     (Asked::Reads, (0, BASE + 64, 4032), true, None),
@@ -182,7 +191,8 @@ const WENT_ON: [Range; 16] = [
     (Asked::Writes, (16, u32::MAX, 2), false, FIRST),
 ];
 
-fn has_ranges(rt: &impl Abort, watch: &mut Watch<'_>, rows: &[Range]) {
+/// The first range that is answered otherwise.
+fn other_range(watch: &mut Watch<'_>, rows: &[Range]) -> Option<Place> {
     for (asked, place, passes, first) in rows {
         let (pc, addr, len) = *place;
         let given = match asked {
@@ -194,35 +204,32 @@ fn has_ranges(rt: &impl Abort, watch: &mut Watch<'_>, rows: &[Range]) {
         } else {
             Err(access_of(*place))
         };
-        let told = match first {
-            Some(place) => Some(access_of(*place)),
-            None => None,
-        };
-        assert_eq!(rt; (given, watch.first()), (want, told), "{addr:#x} {len}");
+        if given != want || watch.first() != first.map(access_of) {
+            return Some(*place);
+        }
     }
+    None
+}
+
+/// The same over memory and a table of their own.
+fn other_range_in(alloc: Global, mode: Mode, rows: &[Range]) -> Result<Option<Place>, AllocError> {
+    let owners = table(alloc)?;
+    let mut mem = memory_with(alloc, &STORING)?;
+    let mut watch = Watch::new(&mut mem, &owners, mode);
+    Ok(other_range(&mut watch, rows))
 }
 
 #[test]
 fn ranges(rt: HostRuntime) -> Result<(), Fail> {
-    let owners = table(rt.alloc())?;
-    let mut mem = memory_with(rt.alloc(), &STORING)?;
-    let mut watch = Watch::new(&mut mem, &owners, Mode::Halt);
-    has_ranges(&rt, &mut watch, &HALTED);
-    Ok(())
-}
-
-#[test]
-fn ranges_on(rt: HostRuntime) -> Result<(), Fail> {
-    let owners = table(rt.alloc())?;
-    let mut mem = memory_with(rt.alloc(), &STORING)?;
-    let mut watch = Watch::new(&mut mem, &owners, Mode::GoOn);
-    has_ranges(&rt, &mut watch, &WENT_ON);
+    let halted = other_range_in(rt.alloc(), Mode::Halt, &HALTED)?;
+    let went_on = other_range_in(rt.alloc(), Mode::GoOn, &WENT_ON)?;
+    assert!(rt; halted.is_none() && went_on.is_none());
     Ok(())
 }
 
 /// A store or a load of a value by an instruction, at an address, of one byte or four; whether it is carried out, and whether an access
 /// has strayed by then.
-const GOING_ON: [(bool, u32, u32, u32, u32, bool, bool); 6] = [
+static GOING_ON: [(bool, u32, u32, u32, u32, bool, bool); 6] = [
     (true, 0x0102_0304, 8, BASE + 0xffc, 4, true, false),
     (false, 0, 12, BASE + 0x1000, 4, true, false),
     (true, 0x0506_0708, 16, BASE + 0xffd, 4, true, true),
@@ -238,32 +245,34 @@ const STRAY: Access = Access {
     kind: AccessKind::Store,
 };
 
-/// The first stray access of a run that goes on: an own one isn't told, and a later one doesn't replace it.
-fn goes_on(rt: &impl Abort, watch: &mut Watch<'_>) {
-    for (stores, value, pc, addr, len, done, strayed) in GOING_ON {
+/// The first instruction of a run that goes on that is answered otherwise. An own access isn't told as the first stray
+/// one, and a later one doesn't replace it.
+fn other_going_on(watch: &mut Watch<'_>) -> Option<u32> {
+    for &(stores, value, pc, addr, len, done, strayed) in &GOING_ON {
         if len == 1 || len == 4 {
             let given = if stores {
                 watch.store(pc, addr, len, value).is_ok().then_some(value)
             } else {
                 watch.load(pc, addr, len).ok()
             };
-            let want = (done.then_some(value), strayed.then_some(STRAY));
-            assert_eq!(rt; (given, watch.first()), want, "{pc}");
+            if given != done.then_some(value) || watch.first() != strayed.then_some(STRAY) {
+                return Some(pc);
+            }
         }
     }
+    None
 }
 
 #[test]
 fn first_on(rt: HostRuntime) -> Result<(), Fail> {
     let owners = table(rt.alloc())?;
     let mut mem = memory_with(rt.alloc(), &STORING)?;
-    {
+    let other = {
         let mut watch = Watch::with_window(&mut mem, &owners, Mode::GoOn, window(&owners, 4032));
-        goes_on(&rt, &mut watch);
-    }
-    if mem.holds(BASE + 0x1000, 1) {
-        assert_eq!(rt; mem.get8(BASE + 0x1000), 5);
-    }
+        other_going_on(&mut watch)
+    };
+    let is_written = mem.holds(BASE + 0x1000, 1) && mem.get8(BASE + 0x1000) == 5;
+    assert!(rt; other.is_none() && is_written, "{other:?}");
     Ok(())
 }
 
@@ -272,7 +281,7 @@ fn first_on(rt: HostRuntime) -> Result<(), Fail> {
 type Ran = (Progress, Option<Access>, u32, Option<u8>);
 
 /// Up to so many instructions of the code, with sp as it is given.
-fn run(alloc: Global, mode: Mode, sp: u32, count: u32) -> Result<Ran, Fail> {
+fn run(alloc: Global, mode: Mode, sp: u32, count: u32) -> Result<Ran, AllocError> {
     let owners = table(alloc)?;
     let mut mem = memory_with(alloc, &STORING)?;
     let mut x = [0; 32];
@@ -306,7 +315,7 @@ const OUTSIDE: Access = Access {
 
 /// Modes, sp and instructions that may be carried out; what is done, why it stops, the first stray access, pc, and the byte. A store
 /// into the block, one behind it, which a run that goes on carries out and tells, and one behind memory.
-const RUNS: [(Mode, u32, u32, u32, Stop, Option<Access>, u32, Option<u8>); 11] = [
+static RUNS: [(Mode, u32, u32, u32, Stop, Option<Access>, u32, Option<u8>); 11] = [
     (
         Mode::Halt,
         BASE + 0xf9f,
@@ -421,12 +430,11 @@ const RUNS: [(Mode, u32, u32, u32, Stop, Option<Access>, u32, Option<u8>); 11] =
 
 #[test]
 fn runs(rt: HostRuntime) -> Result<(), Fail> {
-    for (mode, sp, count, done, stop, first, pc, byte) in RUNS {
+    for &(mode, sp, count, done, stop, first, pc, byte) in &RUNS {
         let ran = run(rt.alloc(), mode, sp, count)?;
-        assert_eq!(rt;
-            ran,
-            (Progress { done, stop }, first, pc, byte),
-            "{sp:#x} {count}"
+        assert!(rt;
+            ran == (Progress { done, stop }, first, pc, byte),
+            "{sp} {count}"
         );
     }
     Ok(())
@@ -443,7 +451,12 @@ fn changing(store: u32) -> [u8; 20] {
 
 /// Two instructions of the code are carried out twice, with this store of a value at an address: how many were, why it stops, and a0
 /// and a1.
-fn changes(alloc: Global, store: u32, value: u32, at: u32) -> Result<(u32, Stop, u32, u32), Fail> {
+fn changes(
+    alloc: Global,
+    store: u32,
+    value: u32,
+    at: u32,
+) -> Result<(u32, Stop, u32, u32), AllocError> {
     let owners = table(alloc)?;
     let mut mem = memory_with(alloc, &changing(store))?;
     let mut x = [0; 32];
@@ -458,7 +471,7 @@ fn changes(alloc: Global, store: u32, value: u32, at: u32) -> Result<(u32, Stop,
 
 /// By SW, SH and SB, and by an SW over the end of the instruction's word or its beginning: a store, its value and address, and what a0
 /// and a1 are then.
-const CHANGED: [(u32, u32, u32, u32, u32); 5] = [
+static CHANGED: [(u32, u32, u32, u32, u32); 5] = [
     (0x00d7_2023, 0x0105_0513, CODE, 17, 0),
     (0x00d7_1023, 0x0105, CODE + 2, 17, 0),
     (0x00d7_0023, 1, CODE + 3, 18, 0),
@@ -469,9 +482,9 @@ const CHANGED: [(u32, u32, u32, u32, u32); 5] = [
 /// A program changes an instruction that it has carried out, in one turn.
 #[test]
 fn changed_code(rt: HostRuntime) -> Result<(), Fail> {
-    for (store, value, at, a0, a1) in CHANGED {
+    for &(store, value, at, a0, a1) in &CHANGED {
         let given = changes(rt.alloc(), store, value, at)?;
-        assert_eq!(rt; given, (8, Stop::Call, a0, a1), "{store:#x} {at:#x}");
+        assert!(rt; given == (8, Stop::Call, a0, a1), "{store}");
     }
     Ok(())
 }

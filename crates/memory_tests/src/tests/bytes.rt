@@ -2,7 +2,6 @@
 
 use phys_mem::{BASE, PhysMem};
 use rv32im_table::Instr;
-use std::process::Abort;
 use std::test::*;
 
 /// A change of memory.
@@ -42,37 +41,37 @@ fn change(memory: &mut PhysMem, step: Step) {
 }
 
 /// Bytes are copied over the end of a page, a word is written over some of them, and a byte is written and one cleared.
-const OVER: [Step; 4] = [
+static OVER: [Step; 4] = [
     Step::CopyIn(0x8000_0ffd, &[1, 2, 3, 4, 5, 6, 7, 8]),
     Step::Set32(0x8000_0ffe, 0x0d0c_0b0a),
     Step::Set8(0x8000_1004, 0xff),
     Step::Clear(0x8000_1001, 1),
 ];
 
-fn has_bytes(rt: &impl Abort, memory: &PhysMem) {
-    if memory.holds(0x8000_0ffd, 8) {
-        let mut bytes = [0; 8];
-        memory.copy_out(0x8000_0ffd, &mut bytes);
-        assert_eq!(rt;
-            (bytes, memory.get32(0x8000_0ffe), memory.get(0x8000_1003, 2)),
-            ([1, 10, 11, 12, 0, 6, 7, 0xff], 0x000c_0b0a, 0xff07)
-        );
+fn has_bytes(memory: &PhysMem) -> bool {
+    if !memory.holds(0x8000_0ffd, 8) {
+        return false;
     }
+    let mut bytes = [0; 8];
+    memory.copy_out(0x8000_0ffd, &mut bytes);
+    bytes == [1, 10, 11, 12, 0, 6, 7, 0xff]
+        && memory.get32(0x8000_0ffe) == 0x000c_0b0a
+        && memory.get(0x8000_1003, 2) == 0xff07
 }
 
 #[test]
 fn bytes_over_a_page(rt: HostRuntime) -> Result<(), Fail> {
     let mut memory = PhysMem::new(rt.alloc(), 2)?;
-    assert_eq!(rt; (memory.pages(), memory.as_slice().len()), (2, 8192));
-    for step in OVER {
+    let is_whole = memory.pages() == 2 && memory.as_slice().len() == 8192;
+    for &step in &OVER {
         change(&mut memory, step);
     }
-    has_bytes(&rt, &memory);
+    assert!(rt; is_whole && has_bytes(&memory));
     Ok(())
 }
 
 /// Ranges at the ends of memory of one page, and of the address space: whether it holds them.
-const RANGES: [(u32, u32, bool); 7] = [
+static RANGES: [(u32, u32, bool); 7] = [
     (0x7fff_ffff, 1, false),
     (0x8000_0000, 4096, true),
     (0x8000_0000, 4097, false),
@@ -85,8 +84,8 @@ const RANGES: [(u32, u32, bool); 7] = [
 #[test]
 fn ranges(rt: HostRuntime) -> Result<(), Fail> {
     let memory = PhysMem::new(rt.alloc(), 1)?;
-    for (at, len, want) in RANGES {
-        assert_eq!(rt; memory.holds(at, len), want, "{at:#x} {len}");
+    for &(at, len, want) in &RANGES {
+        assert!(rt; memory.holds(at, len) == want, "{at} {len}");
     }
     Ok(())
 }
@@ -112,7 +111,7 @@ const BEHIND: u32 = BASE + 2000;
 
 /// Changes, and the instruction at an address then: behind a write over its word or the end of it, a copy and a clear, and at no
 /// multiple of 4.
-const CHANGES: [(Step, u32, &'static str); 15] = [
+static CHANGES: [(Step, u32, &'static str); 15] = [
     (Step::Nothing, BASE, "none"),
     (Step::Set32(BASE, 0x0000_0013), BEHIND, "none"),
     (Step::Set32(BASE + 4, 0x0000_0073), BASE, "nop"),
@@ -130,18 +129,19 @@ const CHANGES: [(Step, u32, &'static str); 15] = [
     (Step::Nothing, BASE, "none"),
 ];
 
-fn has_instructions(rt: &impl Abort, memory: &mut PhysMem) {
-    for (step, at, want) in CHANGES {
+fn has_instructions(memory: &mut PhysMem) -> bool {
+    for &(step, at, want) in &CHANGES {
         change(memory, step);
-        if memory.holds(at, 4) {
-            assert_eq!(rt; word_of(memory.instr(at)), want, "{at:#x}");
+        if !memory.holds(at, 4) || word_of(memory.instr(at)) != want {
+            return false;
         }
     }
+    true
 }
 
 #[test]
 fn instructions(rt: HostRuntime) -> Result<(), Fail> {
     let mut memory = PhysMem::new(rt.alloc(), 1)?;
-    has_instructions(&rt, &mut memory);
+    assert!(rt; has_instructions(&mut memory));
     Ok(())
 }

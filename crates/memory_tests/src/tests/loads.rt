@@ -9,11 +9,10 @@ use page_runs::{Chooser, Kind, Run, first_fit};
 use phys_mem::PhysMem;
 use rv32im_step::Regs;
 use std::alloc::{AllocError, Global};
-use std::process::Abort;
 use std::test::*;
 
 /// The program `hi` as a flat file: nine words of code, a text of three bytes, and a pointer to it.
-const HI: [u8; 176] = [
+static HI: [u8; 176] = [
     0x62, 0x46, 0x4c, 0x54, 0x00, 0x00, 0x00, 0x04, 0x00, 0x00, 0x00, 0x80, 0x00, 0x00, 0x00, 0xa0,
     0x00, 0x00, 0x00, 0xac, 0x00, 0x00, 0x00, 0xac, 0x00, 0x00, 0x10, 0x00, 0x00, 0x00, 0x00, 0xac,
     0x00, 0x00, 0x00, 0x01, 0x00, 0x00, 0x00, 0x01, 0x00, 0x00, 0x00, 0x00, 0x00, 0x00, 0x00, 0x00,
@@ -98,11 +97,14 @@ fn word(mem: &PhysMem, at: u32) -> Option<u32> {
     }
 }
 
-/// Addresses, and the word at each.
-fn has_words(rt: &impl Abort, mem: &PhysMem, words: &[(u32, u32)]) {
+/// The first address at which another word is.
+fn other_word(mem: &PhysMem, words: &[(u32, u32)]) -> Option<u32> {
     for (at, want) in words {
-        assert_eq!(rt; word(mem, *at), Some(*want), "{at:#x}");
+        if word(mem, *at) != Some(*want) {
+            return Some(*at);
+        }
     }
+    None
 }
 
 /// Three pages of four that were used before.
@@ -115,7 +117,7 @@ fn used_memory(alloc: Global) -> Result<PhysMem, Fail> {
 }
 
 /// Behind a load at the start of memory: the bytes that were there go, and those of the next page stay.
-const AT_START: [(u32, u32); 10] = [
+static AT_START: [(u32, u32); 10] = [
     (0x8000_00a8, 0x8000_00a4),
     (0x8000_00ac, 0),
     (0x8000_1fdc, 0),
@@ -132,14 +134,15 @@ const AT_START: [(u32, u32); 10] = [
 fn program_at_the_start_of_memory(rt: HostRuntime) -> Result<(), Fail> {
     let mut mem = used_memory(rt.alloc())?;
     let regs = load_strings(rt.alloc(), &mut mem, 0x8000_0000, &[], &["/hi"], &[])?;
-    assert_eq!(rt; regs, begun(0x8000_0080, 0x8000_1fe0));
-    assert!(rt; mem.as_slice().starts_with(&HI[..168]));
-    has_words(&rt, &mem, &AT_START);
+    let is_begun = regs == begun(0x8000_0080, 0x8000_1fe0);
+    let is_there = mem.as_slice().starts_with(&HI[..168]);
+    let other = other_word(&mem, &AT_START);
+    assert!(rt; is_begun && is_there && other.is_none(), "{other:?}");
     Ok(())
 }
 
 /// Behind a load with several strings, in the third page of four.
-const WITH_STRINGS: [(u32, u32); 12] = [
+static WITH_STRINGS: [(u32, u32); 12] = [
     (0x8000_20a8, 0x8000_20a4),
     (0x8000_3fd0, 3),
     (0x8000_3fd4, 0x8000_3fec),
@@ -154,15 +157,15 @@ const WITH_STRINGS: [(u32, u32); 12] = [
     (0x8000_0000, 0),
 ];
 
-const ARGS: [&str; 3] = ["/hi", "a", ""];
+static ARGS: [&str; 3] = ["/hi", "a", ""];
 
-const ENV: [&str; 1] = ["B=1"];
+static ENV: [&str; 1] = ["B=1"];
 
 #[test]
 fn frames_have_a_length(rt: HostRuntime) -> Result<(), Fail> {
     let args = strings(rt.alloc(), &ARGS)?;
     let env = strings(rt.alloc(), &ENV)?;
-    assert_eq!(rt; frame_len(&args, &env), 39);
+    assert!(rt; frame_len(&args, &env) == 39);
     Ok(())
 }
 
@@ -170,30 +173,30 @@ fn frames_have_a_length(rt: HostRuntime) -> Result<(), Fail> {
 fn several_strings(rt: HostRuntime) -> Result<(), Fail> {
     let mut mem = PhysMem::new(rt.alloc(), 4)?;
     let regs = load_strings(rt.alloc(), &mut mem, 0x8000_2000, &[], &ARGS, &ENV)?;
-    assert_eq!(rt; regs, begun(0x8000_2080, 0x8000_3fd0));
-    has_words(&rt, &mem, &WITH_STRINGS);
+    let is_begun = regs == begun(0x8000_2080, 0x8000_3fd0);
+    let other = other_word(&mem, &WITH_STRINGS);
+    assert!(rt; is_begun && other.is_none(), "{other:?}");
     Ok(())
 }
 
 /// Words of the file: the bytes of its stack, its flags and its build date, and the word that its record names.
-const HEADER: [(u8, u32); 4] = [(24, 4095), (36, 17), (40, 7), (168, 0)];
+static HEADER: [(u8, u32); 4] = [(24, 4095), (36, 17), (40, 7), (168, 0)];
 
 /// What is at their places behind a load.
-const LOADED: [(u8, u32); 3] = [(24, 4095), (36, 17), (168, 0)];
+static LOADED: [(u8, u32); 3] = [(24, 4095), (36, 17), (168, 0)];
 
 /// The header has what the file says, and the fixed words for all else. A word 0 is not linked.
 #[test]
 fn header_and_a_word_0(rt: HostRuntime) -> Result<(), Fail> {
     let mut mem = PhysMem::new(rt.alloc(), 2)?;
     let regs = load_strings(rt.alloc(), &mut mem, 0x8000_0000, &HEADER, &["/hi"], &[])?;
-    assert!(rt; regs.is_some());
     let want = changed(rt.alloc(), &LOADED)?;
-    assert_eq!(rt; mem.as_slice().get(..172), want.get(..172));
+    assert!(rt; regs.is_some() && mem.as_slice().get(..172) == want.get(..172));
     Ok(())
 }
 
 /// Bytes of a stack that are wanted, the pages of the block, and whether a frame of 20 bytes fits.
-const STACKS: [(u32, u32, bool); 7] = [
+static STACKS: [(u32, u32, bool); 7] = [
     (0, 1, false),
     (16, 1, false),
     (17, 1, true),
@@ -206,14 +209,12 @@ const STACKS: [(u32, u32, bool); 7] = [
 #[test]
 fn sizes_of_stacks(rt: HostRuntime) -> Result<(), Fail> {
     let args = strings(rt.alloc(), &["/hi"])?;
-    for (stack, pages, fits) in STACKS {
+    for &(stack, pages, fits) in &STACKS {
         let flat = program(rt.alloc(), &[(24, stack)])?;
-        let sizes = (
-            block_pages(&flat),
-            stack_len(&flat) % 16,
-            frame_fits(&flat, &args, &[]),
-        );
-        assert_eq!(rt; sizes, (pages, 0, fits), "{stack}");
+        let is_so = block_pages(&flat) == pages
+            && stack_len(&flat) % 16 == 0
+            && frame_fits(&flat, &args, &[]) == fits;
+        assert!(rt; is_so, "{stack}");
     }
     Ok(())
 }
@@ -237,70 +238,64 @@ fn load_first(
 }
 
 /// A block of two pages at the start of memory.
-fn has_first(rt: &impl Abort, loaded: &mut Loaded) {
-    assert_eq!(rt; (loaded.base, loaded.pages), (0x8000_0000, 2));
-    assert_eq!(rt; Some(loaded.regs), begun(0x8000_0080, 0x8000_1fe0));
+fn is_first(loaded: &mut Loaded) -> bool {
     let space = &mut loaded.space;
-    let breaks = (space.brk(0), space.brk(0x8000_1000), space.brk(0x8000_1001));
-    assert_eq!(rt; breaks, (0x8000_00ac, 0x8000_1000, 0x8000_1000));
-    let own = (
-        space.own(0x8000_0040, 0x1fc0, true),
-        space.own(0x8000_003f, 1, false),
-    );
-    assert_eq!(rt; own, (true, false));
+    loaded.base == 0x8000_0000
+        && loaded.pages == 2
+        && Some(loaded.regs) == begun(0x8000_0080, 0x8000_1fe0)
+        && space.brk(0) == 0x8000_00ac
+        && space.brk(0x8000_1000) == 0x8000_1000
+        && space.brk(0x8000_1001) == 0x8000_1000
+        && space.own(0x8000_0040, 0x1fc0, true)
+        && !space.own(0x8000_003f, 1, false)
 }
 
-/// In 4 pages: a block of 2, and behind the first one no room for a third.
-fn loads_two(
-    rt: &impl Abort,
-    alloc: Global,
-    regions: &mut Regions,
-    mem: &mut PhysMem,
-) -> Result<(), Fail> {
-    let Ok(mut first) = load_first(alloc, regions, mem, &[])? else {
-        return Err(Fail::from("the first one isn't loaded"));
+/// A load into an empty memory.
+fn loads_first(alloc: Global, regions: &mut Regions, mem: &mut PhysMem) -> Result<bool, Fail> {
+    match load_first(alloc, regions, mem, &[])? {
+        Ok(mut first) => Ok(is_first(&mut first) && word(mem, 0x8000_00a8) == Some(0x8000_00a4)),
+        Err(_) => Ok(false),
+    }
+}
+
+/// In 4 pages: a block of 2 behind the first one, and no room for a third.
+fn loads_second(alloc: Global, regions: &mut Regions, mem: &mut PhysMem) -> Result<bool, Fail> {
+    let is_second = match load_first(alloc, regions, mem, &[])? {
+        Ok(second) => second.base == 0x8000_2000 && regions.free().len() == 0,
+        Err(_) => false,
     };
-    has_first(rt, &mut first);
-    assert_eq!(rt; word(mem, 0x8000_00a8), Some(0x8000_00a4));
-    let Ok(second) = load_first(alloc, regions, mem, &[])? else {
-        return Err(Fail::from("the second one isn't loaded"));
-    };
-    assert_eq!(rt; (second.base, regions.free().len()), (0x8000_2000, 0));
     let third = load_first(alloc, regions, mem, &[])?;
-    assert_eq!(rt; third.err(), Some(LoadRefusal::NoRun));
-    Ok(())
+    Ok(is_second && third.err() == Some(LoadRefusal::NoRun))
 }
 
 #[test]
 fn programs_in_the_lowest_run(rt: HostRuntime) -> Result<(), Fail> {
     let mut mem = PhysMem::new(rt.alloc(), 4)?;
     let mut regions = Regions::new(rt.alloc(), 4)?;
-    loads_two(&rt, rt.alloc(), &mut regions, &mut mem)
+    let first = loads_first(rt.alloc(), &mut regions, &mut mem)?;
+    let second = loads_second(rt.alloc(), &mut regions, &mut mem)?;
+    assert!(rt; first && second);
+    Ok(())
 }
 
 /// A stack of 16 bytes is too small for a frame of 20, and then nothing is taken.
-const REFUSED: [(u32, LoadRefusal); 2] = [(4096, LoadRefusal::NoRun), (16, LoadRefusal::E2big)];
+static REFUSED: [(u32, LoadRefusal); 2] = [(4096, LoadRefusal::NoRun), (16, LoadRefusal::E2big)];
 
-fn refuses(
-    rt: &impl Abort,
-    alloc: Global,
-    regions: &mut Regions,
-    mem: &mut PhysMem,
-) -> Result<(), Fail> {
-    for (stack, refusal) in REFUSED {
+fn refuses(alloc: Global, regions: &mut Regions, mem: &mut PhysMem) -> Result<bool, Fail> {
+    for &(stack, refusal) in &REFUSED {
         let loaded = load_first(alloc, regions, mem, &[(24, stack)])?;
-        assert_eq!(rt;
-            (loaded.err(), regions.free().first().copied()),
-            (Some(refusal), Some(Run { first: 0, count: 1 })),
-            "{stack}"
-        );
+        let free = regions.free().first().copied();
+        if loaded.err() != Some(refusal) || free != Some(Run { first: 0, count: 1 }) {
+            return Ok(false);
+        }
     }
-    Ok(())
+    Ok(true)
 }
 
 #[test]
 fn refusals(rt: HostRuntime) -> Result<(), Fail> {
     let mut mem = PhysMem::new(rt.alloc(), 1)?;
     let mut regions = Regions::new(rt.alloc(), 1)?;
-    refuses(&rt, rt.alloc(), &mut regions, &mut mem)
+    assert!(rt; refuses(rt.alloc(), &mut regions, &mut mem)?);
+    Ok(())
 }

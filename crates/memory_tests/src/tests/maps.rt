@@ -4,7 +4,6 @@ use crate::tests::machine::{Machine, machine_of, one_file};
 use call_log::Errno;
 use mem_files::Tree;
 use mmap_rules::{FileSide, MapFault, check_mmap2};
-use std::process::Abort;
 use std::test::*;
 
 /// MAP_PRIVATE, and MAP_PRIVATE with MAP_ANONYMOUS.
@@ -15,7 +14,7 @@ const ANONYMOUS: u32 = 0x22;
 const FILE: FileSide = FileSide::File { id: 2, change: 0 };
 
 /// The address, the length, the protection, the flags, the first page and the file of a call, and why it is refused.
-const REFUSALS: [(u32, u32, u32, u32, u32, FileSide, Errno); 10] = [
+static REFUSALS: [(u32, u32, u32, u32, u32, FileSide, Errno); 10] = [
     (0, 0, 3, ANONYMOUS, 0, FILE, Errno::Einval),
     (0, 4096, 3, 0x32, 0, FILE, Errno::Einval),
     (4096, 4096, 3, ANONYMOUS, 0, FILE, Errno::Einval),
@@ -30,9 +29,9 @@ const REFUSALS: [(u32, u32, u32, u32, u32, FileSide, Errno); 10] = [
 
 #[test]
 fn refusals(rt: HostRuntime) {
-    for (addr, len, prot, flags, first, side, errno) in REFUSALS {
+    for &(addr, len, prot, flags, first, side, errno) in &REFUSALS {
         let got = check_mmap2(addr, len, prot, flags, first, side);
-        assert_eq!(rt; got, Err(errno), "{addr} {len} {flags:#x}");
+        assert!(rt; got == Err(errno), "{flags}");
     }
 }
 
@@ -46,24 +45,24 @@ struct Call {
     file: FileSide,
 }
 
-/// What mmap2 answers.
-fn mmap2(machine: &mut Machine, tree: &Tree, call: Call) -> Result<Result<u32, Errno>, Fail> {
+/// What mmap2 answers; None where memory of the host is wanting.
+fn mmap2(machine: &mut Machine, tree: &Tree, call: Call) -> Option<Result<u32, Errno>> {
     let want = match check_mmap2(0, call.len, call.prot, call.flags, call.first, call.file) {
         Ok(want) => want,
-        Err(errno) => return Ok(Err(errno)),
+        Err(errno) => return Some(Err(errno)),
     };
     match machine.map(tree, want) {
-        Ok(addr) => Ok(Ok(addr)),
-        Err(MapFault::Enomem) => Ok(Err(Errno::Enomem)),
-        Err(MapFault::Memory) => Err(Fail::from("no host memory")),
+        Ok(addr) => Some(Ok(addr)),
+        Err(MapFault::Enomem) => Some(Err(Errno::Enomem)),
+        Err(MapFault::Memory) => None,
     }
 }
 
 /// Lengths of anonymous mappings one after the other, and their answers, where two pages are left.
-const LEFT: [(u32, Result<u32, Errno>); 2] = [(8192, Ok(0x8000_6000)), (4096, Err(Errno::Enomem))];
+static LEFT: [(u32, Result<u32, Errno>); 2] = [(8192, Ok(0x8000_6000)), (4096, Err(Errno::Enomem))];
 
-fn takes_what_is_left(rt: &impl Abort, machine: &mut Machine, tree: &Tree) -> Result<(), Fail> {
-    for (len, answer) in LEFT {
+fn takes_what_is_left(machine: &mut Machine, tree: &Tree) -> bool {
+    for &(len, answer) in &LEFT {
         let call = Call {
             len,
             prot: 3,
@@ -71,22 +70,24 @@ fn takes_what_is_left(rt: &impl Abort, machine: &mut Machine, tree: &Tree) -> Re
             first: 0,
             file: FileSide::Closed,
         };
-        assert_eq!(rt; mmap2(machine, tree, call)?, answer);
+        if mmap2(machine, tree, call) != Some(answer) {
+            return false;
+        }
     }
-    assert!(rt; machine.has(0x8000_6000, 8192, 0));
-    Ok(())
+    machine.has(0x8000_6000, 8192, 0)
 }
 
 #[test]
 fn pages_that_are_left(rt: HostRuntime) -> Result<(), Fail> {
     let tree = Tree::new(rt.alloc())?;
     let mut machine = machine_of(rt.alloc(), 8)?;
-    takes_what_is_left(&rt, &mut machine, &tree)
+    assert!(rt; takes_what_is_left(&mut machine, &tree));
+    Ok(())
 }
 
 /// Pages of the file from a first one on, with this protection: whether the file is written before, and the address. Pages that aren't
 /// written share a copy as long as the file stays as it is.
-const PAGES: [(u32, u32, u32, bool, u32); 10] = [
+static PAGES: [(u32, u32, u32, bool, u32); 10] = [
     (0, 5000, 1, false, 0x8000_6000),
     (0, 8192, 1, false, 0x8000_6000),
     (1, 1, 1, false, 0x8000_7000),
@@ -99,10 +100,10 @@ const PAGES: [(u32, u32, u32, bool, u32); 10] = [
     (0xffff_ffff, 4096, 1, false, 0x8000_f000),
 ];
 
-fn maps_the_file(rt: &impl Abort, machine: &mut Machine, tree: &mut Tree) -> Result<(), Fail> {
-    for (first, len, prot, written, addr) in PAGES {
-        if written {
-            tree.write_at(2, 4999, &[8])?;
+fn maps_the_file(machine: &mut Machine, tree: &mut Tree) -> bool {
+    for &(first, len, prot, written, addr) in &PAGES {
+        if written && tree.write_at(2, 4999, &[8]) != Ok(()) {
+            return false;
         }
         let call = Call {
             len,
@@ -114,13 +115,15 @@ fn maps_the_file(rt: &impl Abort, machine: &mut Machine, tree: &mut Tree) -> Res
                 change: tree.change(2),
             },
         };
-        assert_eq!(rt; mmap2(machine, tree, call)?, Ok(addr));
+        if mmap2(machine, tree, call) != Some(Ok(addr)) {
+            return false;
+        }
     }
-    Ok(())
+    true
 }
 
 /// Addresses, and bytes that are all alike from there on.
-const BYTES: [(u32, u32, u8); 9] = [
+static BYTES: [(u32, u32, u8); 9] = [
     (0x8000_6000, 5000, 7),
     (0x8000_7388, 3192, 0),
     (0x8000_8000, 5000, 7),
@@ -132,17 +135,20 @@ const BYTES: [(u32, u32, u8); 9] = [
     (0x8000_f000, 4096, 0),
 ];
 
-fn has_bytes(rt: &impl Abort, machine: &Machine) {
-    for (at, len, byte) in BYTES {
-        assert!(rt; machine.has(at, len, byte), "{at:#x}");
+/// The first address from which on other bytes are.
+fn other_bytes(machine: &Machine) -> Option<u32> {
+    for &(at, len, byte) in &BYTES {
+        if !machine.has(at, len, byte) {
+            return Some(at);
+        }
     }
+    None
 }
 
 #[test]
 fn pages_of_a_file(rt: HostRuntime) -> Result<(), Fail> {
     let mut tree = one_file(rt.alloc())?;
     let mut machine = machine_of(rt.alloc(), 16)?;
-    maps_the_file(&rt, &mut machine, &mut tree)?;
-    has_bytes(&rt, &machine);
+    assert!(rt; maps_the_file(&mut machine, &mut tree) && other_bytes(&machine).is_none());
     Ok(())
 }

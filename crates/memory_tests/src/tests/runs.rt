@@ -1,12 +1,11 @@
 //! Free runs: where the placements take pages, and how what is given back joins its neighbours.
 
-ghost use Rattle.std.specs.Prelude.{◌≡◌, ◌+◌, ◌≤◌, ◌<◌, ℕ, true, false, IsTrue, IfOk};
+ghost use Rattle.std.specs.Prelude.{◌≡◌, ◌+◌, ◌≤◌, ◌<◌, ℕ, true, false, IsTrue};
 ghost use Rattle.page_runs.specs.Pages.{in_run, has_page};
 
 use page_runs::{Chooser, Kind, Run, Runs, best_fit, first_fit, last_fit};
 use std::alloc::Global;
 use std::cell::Cell;
-use std::process::Abort;
 use std::test::*;
 
 /// Whether no page of a range is in a run.
@@ -23,39 +22,32 @@ fn is_taken(runs: &[Run], first: u32, count: u32) -> bool
     true
 }
 
-/// Gives pages of a memory of 24 pages back.
-fn give_back(runs: &mut Runs, first: u32, count: u32) -> Result<(), Fail>
+/// Gives pages of a memory of 24 pages back, if they are taken.
+fn give_back(runs: &mut Runs, first: u32, count: u32) -> bool
     requires { runs.old.pages ≡ 24 }
     ensures { runs.new.pages ≡ 24 }
 {
     if first > 24 || count > 24 - first || !is_taken(runs.list(), first, count) {
-        return Err(Fail::from("free already"));
+        return false;
     }
     runs.give(first, count);
-    Ok(())
+    true
 }
 
 /// A memory of 24 pages with these free runs alone.
 const LIST: [(u32, u32); 4] = [(2, 1), (5, 4), (12, 2), (20, 3)];
 
-fn give_list(runs: &mut Runs) -> Result<(), Fail>
+/// Takes all pages and gives these back: whether just these runs are free then.
+fn give_list(runs: &mut Runs) -> bool
     requires { runs.old.pages ≡ 24 }
     ensures { runs.new.pages ≡ 24 }
 {
     let chooser = Chooser::new(Kind::First, |runs: &[Run], need: u32| first_fit(runs, need));
     runs.take(24, &chooser);
-    for (first, count) in LIST {
-        give_back(runs, first, count)?;
+    for &(first, count) in &LIST {
+        give_back(runs, first, count);
     }
-    Ok(())
-}
-
-fn runs_of(alloc: Global) -> Result<Runs, Fail>
-    ensures { IfOk result (λ runs. runs.pages ≡ 24) }
-{
-    let mut runs = Runs::new(alloc, 24)?;
-    give_list(&mut runs)?;
-    Ok(runs)
+    listed(runs, &LIST)
 }
 
 fn listed(runs: &Runs, want: &[(u32, u32)]) -> bool {
@@ -98,44 +90,45 @@ fn take(runs: &mut Runs, calls: &Cell<u32>, kind: Kind, need: u32) -> Option<u32
 /// A placement, the first of two pages that it takes, the calls of closures so far, and the free runs then.
 type Placed = (Kind, u32, u32, &'static [(u32, u32)]);
 
-const PLACED: [Placed; 3] = [
+static PLACED: [Placed; 3] = [
     (Kind::First, 5, 2, &[(2, 1), (7, 2), (12, 2), (20, 3)]),
     (Kind::Best, 12, 102, &[(2, 1), (5, 4), (20, 3)]),
     (Kind::Last, 20, 10_102, &[(2, 1), (5, 4), (12, 2), (22, 1)]),
 ];
 
 /// Five pages aren't in any run. Two are, and are given back.
-fn places(rt: &impl Abort, runs: &mut Runs, calls: &Cell<u32>) -> Result<(), Fail>
+fn places(runs: &mut Runs, calls: &Cell<u32>) -> bool
     requires { runs.old.pages ≡ 24 }
 {
-    let none = take(runs, calls, Kind::First, 5);
-    assert_eq!(rt; (none, listed(runs, &LIST)), (None, true));
-    for (kind, want, count, list) in PLACED {
-        let taken = take(runs, calls, kind, 2);
-        assert_eq!(rt;
-            (taken, calls.get(), listed(runs, list)),
-            (Some(want), count, true)
-        );
-        give_back(runs, want, 2)?;
+    if take(runs, calls, Kind::First, 5).is_some() || !listed(runs, &LIST) {
+        return false;
     }
-    Ok(())
+    for &(kind, want, count, list) in &PLACED {
+        let taken = take(runs, calls, kind, 2);
+        let is_so = taken == Some(want) && calls.get() == count && listed(runs, list);
+        if !is_so || !give_back(runs, want, 2) {
+            return false;
+        }
+    }
+    true
 }
 
 #[test]
 fn placements(rt: HostRuntime) -> Result<(), Fail> {
     let calls = Cell::new(0u32);
-    let mut runs = runs_of(rt.alloc())?;
-    places(&rt, &mut runs, &calls)
+    let mut runs = Runs::new(rt.alloc(), 24)?;
+    assert!(rt; give_list(&mut runs) && places(&mut runs, &calls));
+    Ok(())
 }
 
 #[test]
 fn a_chooser_has_its_kind(rt: HostRuntime) {
     let best = Chooser::new(Kind::Best, |runs: &[Run], need: u32| best_fit(runs, need));
-    assert_eq!(rt; best.kind(), Kind::Best);
+    assert!(rt; best.kind() == Kind::Best);
 }
 
 /// What is given back joins both neighbours, one or none.
-const MERGED: [(u32, u32, &[(u32, u32)]); 8] = [
+static MERGED: [(u32, u32, &[(u32, u32)]); 8] = [
     (16, 0, &LIST),
     (16, 2, &[(2, 1), (5, 4), (12, 2), (16, 2), (20, 3)]),
     (14, 2, &[(2, 1), (5, 4), (12, 6), (20, 3)]),
@@ -146,20 +139,22 @@ const MERGED: [(u32, u32, &[(u32, u32)]); 8] = [
     (23, 1, &[(0, 1), (2, 1), (5, 5), (12, 12)]),
 ];
 
-fn merge(rt: &impl Abort, runs: &mut Runs) -> Result<(), Fail>
+fn merge(runs: &mut Runs) -> bool
     requires { runs.old.pages ≡ 24 }
 {
-    for (first, count, want) in MERGED {
-        give_back(runs, first, count)?;
-        assert!(rt; listed(runs, want), "after {first} {count}");
+    for &(first, count, want) in &MERGED {
+        if !give_back(runs, first, count) || !listed(runs, want) {
+            return false;
+        }
     }
-    Ok(())
+    true
 }
 
 #[test]
 fn merges(rt: HostRuntime) -> Result<(), Fail> {
-    let mut runs = runs_of(rt.alloc())?;
-    merge(&rt, &mut runs)
+    let mut runs = Runs::new(rt.alloc(), 24)?;
+    assert!(rt; give_list(&mut runs) && merge(&mut runs));
+    Ok(())
 }
 
 /// More pages than there are.
@@ -167,11 +162,9 @@ fn merges(rt: HostRuntime) -> Result<(), Fail> {
 fn too_many(rt: HostRuntime) -> Result<(), Fail> {
     let mut runs = Runs::new(rt.alloc(), 8)?;
     let chooser = Chooser::new(Kind::First, |runs: &[Run], need: u32| first_fit(runs, need));
-    let taken = (
-        runs.take(9, &chooser),
-        runs.take(8, &chooser),
-        runs.take(1, &chooser),
-    );
-    assert_eq!(rt; taken, (None, Some(0), None));
+    let nine = runs.take(9, &chooser);
+    let eight = runs.take(8, &chooser);
+    let one = runs.take(1, &chooser);
+    assert!(rt; nine.is_none() && eight == Some(0) && one.is_none());
     Ok(())
 }

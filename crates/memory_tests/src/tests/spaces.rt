@@ -8,7 +8,6 @@ use page_runs::{Chooser, Kind, Run, first_fit};
 use phys_mem::{BASE, PhysMem};
 use std::alloc::Global;
 use std::marker::Brand;
-use std::process::Abort;
 use std::sync::ledger::{Blank, Ledger};
 use std::test::*;
 
@@ -45,7 +44,7 @@ const READ: PageOwner = PageOwner {
 };
 
 /// Ranges over the end of the first page, into the second: a page, whether the range is own, and the page's entry.
-const LOOKS: [(u32, u32, u32, bool, PageOwner); 5] = [
+static LOOKS: [(u32, u32, u32, bool, PageOwner); 5] = [
     (BASE + 4094, 2, 0, true, WRITTEN),
     (BASE + 4094, 4, 1, false, READ),
     (BASE + 62, 4, 0, false, WRITTEN),
@@ -53,21 +52,22 @@ const LOOKS: [(u32, u32, u32, bool, PageOwner); 5] = [
     (0, 0, 0, true, WRITTEN),
 ];
 
-fn looks(rt: &impl Abort, owners: &Owners)
+/// The first address at which something else is seen.
+fn looks_other(owners: &Owners) -> Option<u32>
     requires { length owners.now ≡ 2 }
 {
-    for (addr, len, page, own, entry) in LOOKS {
-        if page < 2 {
-            let seen = looked::<Brand>(owners, addr, len, page, Blank::new(1));
-            assert_eq!(rt; seen, (own, entry), "{addr:#x} {len}");
+    for &(addr, len, page, own, entry) in &LOOKS {
+        if page < 2 && looked::<Brand>(owners, addr, len, page, Blank::new(1)) != (own, entry) {
+            return Some(addr);
         }
     }
+    None
 }
 
 #[test]
 fn counted_looks(rt: HostRuntime) -> Result<(), Fail> {
     let owners = Owners::of(Vec::from_array(rt.alloc(), [WRITTEN, READ])?);
-    looks(&rt, &owners);
+    assert!(rt; looks_other(&owners).is_none());
     Ok(())
 }
 
@@ -90,7 +90,7 @@ fn space_of(alloc: Global, regions: &mut Regions) -> Result<Space, Fail> {
 }
 
 /// Ranges, and whether all of their bytes are own.
-const OWN: [(u32, u32, bool); 11] = [
+static OWN: [(u32, u32, bool); 11] = [
     (BASE + 64, 1, true),
     (BASE + 63, 1, false),
     (BASE + 62, 4, false),
@@ -104,19 +104,18 @@ const OWN: [(u32, u32, bool); 11] = [
     (0, 0, true),
 ];
 
-fn owns(rt: &impl Abort, space: &Space) {
-    for (addr, len, own) in OWN {
-        assert_eq!(rt;
-            (space.own(addr, len, true), space.own(addr, len, false)),
-            (own, own),
-            "{addr:#x} {len}"
-        );
+/// The first address of a range that is answered otherwise.
+fn owns_other(space: &Space) -> Option<u32> {
+    for &(addr, len, own) in &OWN {
+        if space.own(addr, len, true) != own || space.own(addr, len, false) != own {
+            return Some(addr);
+        }
     }
-    assert_eq!(rt; space.maps().len(), 1);
+    None
 }
 
 /// Where the break is to go, and where it is then.
-const BREAKS: [(u32, u32); 5] = [
+static BREAKS: [(u32, u32); 5] = [
     (0, 0x8000_00ac),
     (0x8000_1000, 0x8000_1000),
     (0x8000_1001, 0x8000_1000),
@@ -124,17 +123,21 @@ const BREAKS: [(u32, u32); 5] = [
     (0x8000_00ac, 0x8000_00ac),
 ];
 
-fn breaks(rt: &impl Abort, space: &mut Space) {
-    for (to, now) in BREAKS {
-        assert_eq!(rt; space.brk(to), now, "{to:#x}");
+/// The first break that goes elsewhere.
+fn breaks_other(space: &mut Space) -> Option<u32> {
+    for &(to, now) in &BREAKS {
+        if space.brk(to) != now {
+            return Some(to);
+        }
     }
+    None
 }
 
 #[test]
 fn a_space_with_its_block(rt: HostRuntime) -> Result<(), Fail> {
     let mut regions = Regions::new(rt.alloc(), 4)?;
     let mut space = space_of(rt.alloc(), &mut regions)?;
-    owns(&rt, &space);
-    breaks(&rt, &mut space);
+    let owns = owns_other(&space).is_none() && space.maps().len() == 1;
+    assert!(rt; owns && breaks_other(&mut space).is_none());
     Ok(())
 }

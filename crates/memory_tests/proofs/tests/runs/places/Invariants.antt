@@ -2,4 +2,4 @@ use Rattle.std.proofs.Common.{◌≡◌}
 use Rattle.memory_tests.proofs.tests.runs.places.Given as goal
 
 abbrev pub invariant-loop-kind : goal.invariant-loop-kind
-invariant-loop-kind g l = l.runs.pages ≡ 24
+invariant-loop-kind l = l.runs.pages ≡ 24
