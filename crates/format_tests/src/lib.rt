@@ -17,4 +17,6 @@ mod number_tests;
 #[cfg(test)]
 mod refusal_tests;
 #[cfg(test)]
+mod reloc_tests;
+#[cfg(test)]
 mod sample;
