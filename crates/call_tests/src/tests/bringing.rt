@@ -11,7 +11,6 @@ use manifest_text::{Item, ItemKind};
 use mem_files::{Node, Tree};
 use run_setup::{FaultAt, LineFault, RunFiles, bring};
 use std::alloc::{AllocError, Global};
-use std::process::Abort;
 use std::test::*;
 
 /// An ELF file: .text at 0x10000 with two instructions, .data at 0x10008 with the word 0x00010000, which
@@ -89,7 +88,7 @@ fn files_of(alloc: Global, texts: &[&[u8]]) -> Result<Vec<Vec<u8>>, AllocError> 
 }
 
 /// The files of a folder, a flat file, a plain file, an ELF file, and the console's input.
-const FILES: [&[u8]; 5] = [b"", &FLT, b"text", &ELF, b"in"];
+static FILES: [&[u8]; 5] = [b"", &FLT, b"text", &ELF, b"in"];
 
 /// What a line of each kind brings in.
 fn each_kind(alloc: Global) -> Result<RunFiles, Fail> {
@@ -108,42 +107,48 @@ fn each_kind(alloc: Global) -> Result<RunFiles, Fail> {
 }
 
 /// Paths with their nodes: the kind, the number of its program, and the bytes.
-const NODES: [(&[u8], u32, Node, Option<u32>, &[u8]); 4] = [
+static NODES: [(&[u8], u32, Node, Option<u32>, &[u8]); 4] = [
     (b"/d", 2, Node::Dir, None, b""),
     (b"/d/x", 3, Node::File, Some(0), &FLT),
     (b"/d/f", 4, Node::File, None, b"text"),
     (b"/e", 5, Node::File, Some(1), &FLT),
 ];
 
-fn has_nodes(rt: &impl Abort, tree: &Tree) {
-    for (path, id, kind, program, bytes) in NODES {
-        assert_eq!(rt;
-            (tree.lookup(path), tree.kind(id), tree.program(id)),
-            (Ok(Some(id)), kind, program)
-        );
-        assert_eq!(rt; tree.bytes(id), bytes);
+fn has_nodes(tree: &Tree) -> bool {
+    for &(path, id, kind, program, bytes) in &NODES {
+        let is_so = tree.lookup(path) == Ok(Some(id))
+            && tree.kind(id) == kind
+            && tree.program(id) == program
+            && tree.bytes(id) == bytes;
+        if !is_so {
+            return false;
+        }
     }
+    true
 }
 
 /// The path of each program.
-const PATHS: [&[u8]; 2] = [b"/d/x", b"/e"];
+static PATHS: [&[u8]; 2] = [b"/d/x", b"/e"];
 
-fn has_programs(rt: &impl Abort, run: &RunFiles) {
-    assert_eq!(rt; (run.paths.len(), run.flats.len()), (2, 2));
+fn has_programs(run: &RunFiles) -> bool {
     for (path, want) in run.paths.iter().zip(&PATHS) {
-        assert_eq!(rt; path.as_slice(), *want);
+        if path.as_slice() != *want {
+            return false;
+        }
     }
     for flat in &run.flats {
-        assert_eq!(rt; flat.entry(), 128);
+        if flat.entry() != 128 {
+            return false;
+        }
     }
+    run.paths.len() == 2 && run.flats.len() == 2
 }
 
 #[test]
 fn each_kind_is_brought_in(rt: HostRuntime) -> Result<(), Fail> {
     let run = each_kind(rt.alloc())?;
-    has_nodes(&rt, &run.tree);
-    has_programs(&rt, &run);
-    assert_eq!(rt; run.stdin.as_slice(), b"in".as_slice());
+    let has_input = run.stdin.as_slice() == b"in".as_slice();
+    assert!(rt; has_nodes(&run.tree) && has_programs(&run) && has_input);
     Ok(())
 }
 
@@ -174,7 +179,7 @@ fn behind(alloc: Global, kind: ItemKind, path: &str) -> Result<Result<RunFiles, 
 }
 
 /// The faults that are told apart here.
-#[derive(Clone, Copy, Debug, PartialEq, Eq)]
+#[derive(Clone, Copy, PartialEq, Eq)]
 enum Told {
     /// It isn't an ELF file.
     Elf,
@@ -202,7 +207,7 @@ fn fault_behind(alloc: Global, kind: ItemKind, path: &str) -> Result<Option<(u32
 }
 
 /// Kinds and paths of a line 7, and its fault.
-const FAULTS: [(ItemKind, &str, Option<(u32, Told)>); 6] = [
+static FAULTS: [(ItemKind, &str, Option<(u32, Told)>); 6] = [
     (ItemKind::Elf, "/e", Some((7, Told::Elf))),
     (ItemKind::Flat, "/x", Some((7, Told::Short))),
     (ItemKind::File, "f", Some((7, Told::Place(Errno::Eexist)))),
@@ -221,9 +226,9 @@ const FAULTS: [(ItemKind, &str, Option<(u32, Told)>); 6] = [
 
 #[test]
 fn first_fault_is_told(rt: HostRuntime) -> Result<(), Fail> {
-    for (kind, path, want) in FAULTS {
+    for &(kind, path, want) in &FAULTS {
         let found = fault_behind(rt.alloc(), kind, path)?;
-        assert_eq!(rt; found, want, "{path}");
+        assert!(rt; found == want, "{path}");
     }
     Ok(())
 }

@@ -8,7 +8,6 @@ use fd_tables::Files;
 use file_calls::{Call, change, wait_of};
 use mem_files::Tree;
 use std::alloc::{AllocError, Global};
-use std::process::Abort;
 use std::test::*;
 
 /// AT_FDCWD, -100.
@@ -99,18 +98,17 @@ fn word(reply: Result<u32, Errno>) -> u32 {
 /// A call, the bytes that it reads, and its reply.
 type Row = (u32, [u32; 3], &'static [u8], Result<u32, Errno>);
 
-fn replies(rt: &impl Abort, parts: &mut Parts, rows: &[Row]) -> Result<(), Fail> {
+/// The number of the first call with another reply.
+fn other_reply(parts: &mut Parts, rows: &[Row]) -> Option<u32> {
     for (number, args, sent, reply) in rows {
-        assert_eq!(rt;
-            call(parts, *number, *args, *sent)?,
-            word(*reply),
-            "{number} {args:?}"
-        );
+        if call(parts, *number, *args, *sent) != Ok(word(*reply)) {
+            return Some(*number);
+        }
     }
-    Ok(())
+    None
 }
 
-const EACH: [Row; 14] = [
+static EACH: [Row; 14] = [
     (34, [HERE, 0, 0], b"/new\0", Ok(0)),
     (56, [HERE, 0, 0x41], b"/new/file\0", Ok(3)),
     (64, [3, 0, 5], b"hello", Ok(5)),
@@ -130,19 +128,15 @@ const EACH: [Row; 14] = [
 #[test]
 fn each_call_once(rt: HostRuntime) -> Result<(), Fail> {
     let mut parts = parts_of(rt.alloc())?;
-    replies(&rt, &mut parts, &EACH)?;
-    assert_eq!(rt;
-        (
-            parts.console.as_slice(),
-            position(&parts, 5),
-            parts.tree.size(4)
-        ),
-        (b"out".as_slice(), Some(11), 0)
-    );
+    let other = other_reply(&mut parts, &EACH);
+    let is_so = parts.console.as_slice() == b"out".as_slice()
+        && position(&parts, 5) == Some(11)
+        && parts.tree.size(4) == 0;
+    assert!(rt; is_so && other.is_none(), "{other:?}");
     Ok(())
 }
 
-const REFUSALS: [Row; 27] = [
+static REFUSALS: [Row; 27] = [
     // dup and dup3
     (23, [7, 0, 0], b"", Err(Errno::Ebadf)),
     (24, [7, 7, 1], b"", Err(Errno::Einval)),
@@ -179,7 +173,7 @@ const REFUSALS: [Row; 27] = [
 ];
 
 /// What is refused of calls whose path has 4096 bytes.
-const LONG: [(u32, [u32; 3], Errno); 6] = [
+static LONG: [(u32, [u32; 3], Errno); 6] = [
     (34, [3, 0, 0], Errno::Enametoolong),
     (35, [3, 0, 1], Errno::Einval),
     (35, [3, 0, 0], Errno::Enametoolong),
@@ -188,23 +182,26 @@ const LONG: [(u32, [u32; 3], Errno); 6] = [
     (56, [3, 0, 0], Errno::Enametoolong),
 ];
 
-fn refuses_long(rt: &impl Abort, parts: &mut Parts) -> Result<(), Fail> {
-    for (number, args, errno) in LONG {
-        let reply = call(parts, number, args, &[b'a'; 4096])?;
-        assert_eq!(rt; reply, errno.refusal(), "{number} {args:?}");
+fn refuses_long(parts: &mut Parts) -> bool {
+    for &(number, args, errno) in &LONG {
+        if call(parts, number, args, &[b'a'; 4096]) != Ok(errno.refusal()) {
+            return false;
+        }
     }
-    Ok(())
+    true
 }
 
 #[test]
 fn refusals_in_their_order(rt: HostRuntime) -> Result<(), Fail> {
     let mut parts = parts_of(rt.alloc())?;
-    refuses_long(&rt, &mut parts)?;
-    replies(&rt, &mut parts, &REFUSALS)
+    let refuses = refuses_long(&mut parts);
+    let other = other_reply(&mut parts, &REFUSALS);
+    assert!(rt; refuses && other.is_none(), "{other:?}");
+    Ok(())
 }
 
 /// What is refused where no descriptor is free.
-const NONE_FREE: [Row; 5] = [
+static NONE_FREE: [Row; 5] = [
     (56, [HERE, 0, 0x40], b"d\0", Err(Errno::Eisdir)),
     (56, [HERE, 0, 0x202], b"f\0", Err(Errno::Emfile)),
     (56, [HERE, 0, 0], b"nope\0", Err(Errno::Enoent)),
@@ -212,22 +209,22 @@ const NONE_FREE: [Row; 5] = [
     (23, [3, 0, 0], b"", Err(Errno::Emfile)),
 ];
 
-fn opens_all(rt: &impl Abort, parts: &mut Parts) -> Result<(), Fail> {
+fn opens_all(parts: &mut Parts) -> bool {
     for fd in 3..32 {
-        assert_eq!(rt; call(parts, 56, [HERE, 0, 2], b"f\0")?, fd);
+        if call(parts, 56, [HERE, 0, 2], b"f\0") != Ok(fd) {
+            return false;
+        }
     }
-    Ok(())
+    true
 }
 
 #[test]
 fn no_descriptor_comes_before_no_space(rt: HostRuntime) -> Result<(), Fail> {
     let mut parts = parts_of(rt.alloc())?;
-    opens_all(&rt, &mut parts)?;
-    replies(&rt, &mut parts, &NONE_FREE)?;
-    assert_eq!(rt;
-        (parts.tree.lookup(b"/nope"), parts.tree.bytes(4)),
-        (Ok(None), b"abc".as_slice())
-    );
+    let refuses = opens_all(&mut parts) && other_reply(&mut parts, &NONE_FREE).is_none();
+    let is_as_before = parts.tree.lookup(b"/nope") == Ok(None)
+        && parts.tree.bytes(4) == b"abc".as_slice();
+    assert!(rt; refuses && is_as_before);
     Ok(())
 }
 
@@ -242,7 +239,7 @@ type Moved = (
     u64,
 );
 
-const MOVED: [Moved; 6] = [
+static MOVED: [Moved; 6] = [
     (56, [HERE, 0, 1], b"f\0", 3, Some(0), None, 0),
     (56, [HERE, 0, 0x401], b"f\0", 4, Some(0), Some(0), 0),
     (64, [3, 0, 2], b"AB", 2, Some(2), Some(0), 1),
@@ -252,34 +249,35 @@ const MOVED: [Moved; 6] = [
 ];
 
 /// At the end of the longest file.
-const AT_END: [Row; 2] = [
+static AT_END: [Row; 2] = [
     (64, [3, 0, 1], b"x", Err(Errno::Efbig)),
     (64, [3, 0, 0], b"", Ok(0)),
 ];
 
-fn moves(rt: &impl Abort, parts: &mut Parts) -> Result<(), Fail> {
-    for (number, args, sent, want, third, fourth, changes) in MOVED {
-        let reply = call(parts, number, args, sent)?;
-        let at = (position(parts, 3), position(parts, 4));
-        assert_eq!(rt;
-            (reply, at, parts.tree.change(4)),
-            (want, (third, fourth), changes)
-        );
+fn moves(parts: &mut Parts) -> bool {
+    for &(number, args, sent, want, third, fourth, changes) in &MOVED {
+        let is_so = call(parts, number, args, sent) == Ok(want)
+            && position(parts, 3) == third
+            && position(parts, 4) == fourth
+            && parts.tree.change(4) == changes;
+        if !is_so {
+            return false;
+        }
     }
-    Ok(())
+    true
 }
 
 #[test]
 fn writes_move_the_position(rt: HostRuntime) -> Result<(), Fail> {
     let mut parts = parts_of(rt.alloc())?;
-    moves(&rt, &mut parts)?;
-    assert_eq!(rt; parts.tree.bytes(4), b"ABcd".as_slice());
+    let moves = moves(&mut parts) && parts.tree.bytes(4) == b"ABcd".as_slice();
     parts.files.move_to(0, 3, 0x100_0000);
-    replies(&rt, &mut parts, &AT_END)
+    assert!(rt; moves && other_reply(&mut parts, &AT_END).is_none());
+    Ok(())
 }
 
 /// A call with a descriptor and so many bytes, and its reply.
-const FILLED: [(u32, u32, usize, Result<u32, Errno>); 9] = [
+static FILLED: [(u32, u32, usize, Result<u32, Errno>); 9] = [
     (64, 4, 65_000, Ok(65_000)),
     (64, 4, 4096, Ok(WAITS)),
     (64, 4, 5000, Ok(536)),
@@ -291,17 +289,14 @@ const FILLED: [(u32, u32, usize, Result<u32, Errno>); 9] = [
     (64, 4, 0, Ok(0)),
 ];
 
-fn fills(rt: &impl Abort, parts: &mut Parts, bytes: &[u8]) -> Result<(), Fail> {
-    for (number, fd, count, reply) in FILLED {
+fn fills(parts: &mut Parts, bytes: &[u8]) -> bool {
+    for &(number, fd, count, reply) in &FILLED {
         let sent = &bytes[..count.min(bytes.len())];
-        assert_eq!(rt;
-            call(parts, number, [fd, 0, 0], sent)?,
-            word(reply),
-            "{number} {count}"
-        );
+        if call(parts, number, [fd, 0, 0], sent) != Ok(word(reply)) {
+            return false;
+        }
     }
-    assert_eq!(rt; parts.files.pipe_view(1).held, 65_536);
-    Ok(())
+    parts.files.pipe_view(1).held == 65_536
 }
 
 #[test]
@@ -309,5 +304,6 @@ fn a_pipe_is_full_and_closed(rt: HostRuntime) -> Result<(), Fail> {
     let bytes = vec![in rt.alloc(); b'x'; 65_000]?;
     let mut parts = parts_of(rt.alloc())?;
     parts.files.pipe(0, false)?;
-    fills(&rt, &mut parts, &bytes)
+    assert!(rt; fills(&mut parts, &bytes));
+    Ok(())
 }

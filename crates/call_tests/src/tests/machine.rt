@@ -10,12 +10,11 @@ use quantum_sched::Quantum;
 use region_watch::Mode;
 use run_setup::bring;
 use rv32im_step::{Access, AccessKind};
-use std::process::Abort;
 use std::test::*;
 
 /// A flat file whose program writes `hi` with its first six instructions, and exits with the answer by two more: a text of 64 bytes, of
 /// which the two behind the instructions are written, a stack of 4096 bytes, and no records.
-const GREETING: [u8; 128] = [
+static GREETING: [u8; 128] = [
     0x62, 0x46, 0x4c, 0x54, 0x00, 0x00, 0x00, 0x04, 0x00, 0x00, 0x00, 0x40, 0x00, 0x00, 0x00, 0x80,
     0x00, 0x00, 0x00, 0x80, 0x00, 0x00, 0x00, 0x80, 0x00, 0x00, 0x10, 0x00, 0x00, 0x00, 0x00, 0x80,
     0x00, 0x00, 0x00, 0x00, 0x00, 0x00, 0x00, 0x01, 0x00, 0x00, 0x00, 0x00, 0x00, 0x00, 0x00, 0x00,
@@ -100,34 +99,40 @@ fn has_written(machine: &Machine, text: &[u8]) -> Result<Option<bool>, Fail> {
     }
 }
 
-/// The greeting is written by the first two quanta, and the program ends by the next two.
-fn runs_twice(rt: &impl Abort, machine: &mut Machine) -> Result<(), Fail> {
-    assert_eq!(rt; run(machine, [4, 2])?, (End::OutOfQuanta, 6, 2));
-    assert_eq!(rt; machine.console(), b"hi".as_slice());
-    assert_eq!(rt; has_written(machine, b"hi")?, Some(true));
-    assert_eq!(rt; run(machine, [1, 9])?, (End::AllEnded, 8, 4));
-    assert_eq!(rt; machine.console(), b"hi".as_slice());
-    assert_eq!(rt; has_written(machine, b"hi")?, None);
-    Ok(())
+/// Whether a machine runs to this end, has written the greeting then, and has it in memory or not.
+fn runs_to(
+    machine: &mut Machine,
+    counts: [u32; 2],
+    end: (End, u64, usize),
+    written: Option<bool>,
+) -> Result<bool, Fail> {
+    Ok(
+        run(machine, counts)? == end
+            && machine.console() == b"hi".as_slice()
+            && has_written(machine, b"hi")? == written,
+    )
 }
 
+/// The greeting is written by the first two quanta, and the program ends by the next two.
 #[test]
 fn a_machine_runs_twice(rt: HostRuntime) -> Result<(), Fail> {
     let mut machine = machine_of(rt, &GREETING)?;
-    runs_twice(&rt, &mut machine)
+    let writes = runs_to(&mut machine, [4, 2], (End::OutOfQuanta, 6, 2), Some(true))?;
+    let ends = runs_to(&mut machine, [1, 9], (End::AllEnded, 8, 4), None)?;
+    assert!(rt; writes && ends);
+    Ok(())
 }
 
 /// It writes two bytes of the page behind its block by its sixth instruction, which strays, and nothing more comes of it.
-fn stays_where_it_strayed(rt: &impl Abort, machine: &mut Machine) -> Result<(), Fail> {
+fn stays_where_it_strayed(machine: &mut Machine) -> Result<bool, Fail> {
     let access = Access {
         pc: 0x8000_0054,
         addr: 0x8000_2060,
         len: 2,
         kind: AccessKind::Call,
     };
-    assert_eq!(rt; run(machine, [9, 9])?, (End::Stray(access), 5, 2));
-    assert_eq!(rt; run(machine, [9, 9])?, (End::Stray(access), 5, 2));
-    Ok(())
+    let end = (End::Stray(access), 5, 2);
+    Ok(run(machine, [9, 9])? == end && run(machine, [9, 9])? == end)
 }
 
 #[test]
@@ -136,5 +141,6 @@ fn a_machine_stays_where_it_strayed(rt: HostRuntime) -> Result<(), Fail> {
     // auipc, which adds 0x2000 to the address.
     file[69] = 0x25;
     let mut machine = machine_of(rt, &file)?;
-    stays_where_it_strayed(&rt, &mut machine)
+    assert!(rt; stays_where_it_strayed(&mut machine)?);
+    Ok(())
 }

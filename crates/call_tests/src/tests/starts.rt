@@ -10,7 +10,7 @@ use std::test::*;
 use kept_parts::{KeptParts, StartRefusal};
 
 /// A flat file with a text of 32 bytes, of which the first four are an `ecall`, a stack of 4096 bytes, and no records.
-const SMALL: [u8; 96] = [
+static SMALL: [u8; 96] = [
     0x62, 0x46, 0x4c, 0x54, 0x00, 0x00, 0x00, 0x04, 0x00, 0x00, 0x00, 0x40, 0x00, 0x00, 0x00, 0x60,
     0x00, 0x00, 0x00, 0x60, 0x00, 0x00, 0x00, 0x60, 0x00, 0x00, 0x10, 0x00, 0x00, 0x00, 0x00, 0x60,
     0x00, 0x00, 0x00, 0x00, 0x00, 0x00, 0x00, 0x01, 0x00, 0x00, 0x00, 0x00, 0x00, 0x00, 0x00, 0x00,
@@ -49,8 +49,9 @@ fn started(
 /// Two pages are enough, one is not, and a frame that is longer than the stack doesn't fit.
 #[test]
 fn starts(rt: HostRuntime) -> Result<(), Fail> {
-    assert_eq!(rt; started(rt, 2, b"/a")?, Ok((1, 1, 1)));
-    assert_eq!(rt; started(rt, 1, b"/a")?, Err(StartRefusal::NoRun));
-    assert_eq!(rt; started(rt, 4, &[0x61; 5000])?, Err(StartRefusal::E2big));
+    let is_started = started(rt, 2, b"/a")? == Ok((1, 1, 1));
+    let has_no_run = started(rt, 1, b"/a")? == Err(StartRefusal::NoRun);
+    let is_too_big = started(rt, 4, &[0x61; 5000])? == Err(StartRefusal::E2big);
+    assert!(rt; is_started && has_no_run && is_too_big);
     Ok(())
 }
