@@ -5,7 +5,7 @@ use fd_tables::Ends;
 use std::alloc::Global;
 
 /// What changes once the bytes are given.
-#[derive(Clone, Copy)]
+#[derive(Clone, Copy, PartialEq, Eq)]
 pub enum Then {
     /// Nothing.
     Nothing,

@@ -4,8 +4,10 @@ ghost use Rattle.std.specs.Prelude.{◌≡◌, IfSome};
 ghost use Rattle.vfork_exec.specs.Procs.{CanRun, Lives};
 
 use bflt_format::Flat;
+use call_bytes::program_strings;
 use call_log::Note;
 use fd_tables::Files;
+use kept_parts::{KeptParts, Served};
 use mem_files::Tree;
 use page_runs::{Chooser, Kind, Run, first_fit};
 use quantum_sched::{Quantum, pick};
@@ -13,8 +15,6 @@ use region_watch::Mode;
 use rv32im_step::{Access, AccessKind};
 use std::alloc::Global;
 use std::test::*;
-use call_bytes::program_strings;
-use kept_parts::{KeptParts, Served};
 use syscall_layer::{Parts, serve};
 
 /// A flat file with a text of 32 bytes that begins with `hi`, a stack of 4096 bytes, and no records.

@@ -4,10 +4,10 @@ ghost use Rattle.std.specs.Prelude.{◌≤◌};
 
 use bflt_format::Flat;
 use fd_tables::Files;
+use kept_parts::{KeptParts, StartRefusal};
 use mem_files::Tree;
 use page_runs::{Chooser, Kind, Run, first_fit};
 use std::test::*;
-use kept_parts::{KeptParts, StartRefusal};
 
 /// A flat file with a text of 32 bytes, of which the first four are an `ecall`, a stack of 4096 bytes, and no records.
 static SMALL: [u8; 96] = [

@@ -1,8 +1,8 @@
 //! What an execve reads, and the strings in it.
 
+use call_bytes::program_strings;
 use std::alloc::AllocError;
 use std::test::*;
-use call_bytes::program_strings;
 
 /// The path "/a", and behind it the pointer 32 with "a", the pointer 40 with "bc", and the zero.
 static BOTH: [u8; 20] = [

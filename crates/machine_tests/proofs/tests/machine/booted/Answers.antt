@@ -3,7 +3,7 @@ use Rattle.std.proofs.lemmas.List.{length-map}
 use Rattle.manifest_text.specs.Values.{start_value}
 use Rattle.manifest_text.specs.Laws.{HasArgument}
 use Rattle.run_setup.proofs.Opened.{each_got}
-use Rattle.call_tests.proofs.tests.machine.booted.Goals as goal
+use Rattle.machine_tests.proofs.tests.machine.booted.Goals as goal
 
 pub boot-requires-clause-args : goal.boot-requires-clause-args
 boot-requires-clause-args c i s is =
