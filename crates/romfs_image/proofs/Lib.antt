@@ -1,4 +1,5 @@
 pub mod Samples
+pub mod Texts
 pub mod Sums
 pub mod Names
 pub mod Walks

@@ -8,6 +8,7 @@ mod fault;
 mod header;
 mod laws;
 mod links;
+mod make;
 mod node;
 mod rom;
 mod walk;
