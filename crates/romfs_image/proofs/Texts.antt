@@ -1,5 +1,5 @@
 -- The maker's definitions, computed on small trees and read again.
-use Rattle.std.proofs.Common.{◌≡◌, ℕ, true, false, List, [], ◌∷◌, length, refl}
+use Rattle.std.proofs.Common.{◌≡◌, ℕ, true, false, List, [], ◌∷◌, refl}
 use Rattle.std.specs.Prelude.{codes, Ok}
 use Rattle.byte_words.specs.Numbers.{number_at}
 use Rattle.romfs_image.specs.declared.node.RomKind.TheVariants.{Dir, File}

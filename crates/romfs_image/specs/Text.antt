@@ -5,6 +5,7 @@ use Rattle.std.specs.List.{flat_map}
 use Rattle.byteorder.specs.Endian.{big_bytes}
 use Rattle.romfs_image.specs.declared.node.RomKind.{RomKind}
 use Rattle.romfs_image.specs.declared.node.RomKind.TheVariants.{Dir, File}
+use Rattle.romfs_image.specs.declared.making.Place.{Place}
 use Rattle.romfs_image.specs.Words.{word_sum, padded}
 use Rattle.romfs_image.specs.Nodes.{RomValue}
 
@@ -52,24 +53,52 @@ file_bits exec = if exec then 10 else 2
 unfoldable pub dots_text : (at own parent first : ℕ) → List ℕ
 dots_text at own parent first = header_text (at + 32) own 0 (codes ".") ++ header_text first parent 0 (codes "..")
 
--- a node whose header stands at `at`: with the next of its folder, its parent's header and the first of its own list
-unfoldable pub node_text : (at next parent first : ℕ) → RomValue → List ℕ
-node_text at next parent first n = text n.kind
+-- (`Place` is the code's: where a node's header stands, the next header of its folder, its folder's header, and the first
+-- header of its own list behind `.` and `..`; 0 where none is.)
+unfoldable pub node_text : Place → RomValue → List ℕ
+node_text p n = text n.kind
   where
     text : RomKind → List ℕ
-    text Dir = header_text (next + 9) (at + header_len n.name) 0 n.name ++ dots_text (at + header_len n.name) at parent first
-    text File = header_text (next + file_bits n.exec) 0 (length n.bytes) n.name ++ with_padding n.bytes
+    text Dir = header_text (p.next + 9) (p.at + header_len n.name) 0 n.name ++ dots_text (p.at + header_len n.name) p.at p.parent p.first
+    text File = header_text (p.next + file_bits n.exec) 0 (length n.bytes) n.name ++ with_padding n.bytes
 
--- the nodes from position `at` on; `headers` has the positions of the headers before: the root's, and those of earlier nodes
-abbrev pub nodes_text : (headers : List ℕ) → (at : ℕ) → List RomValue → List ℕ
-nodes_text headers at [] = []
-nodes_text headers at (n ∷ ns) =
-    node_text at (first_in n.parent (at + node_len n) ns) (slice_index headers n.parent) (first_in (length headers) (at + node_len n) ns) n
-    ++ nodes_text (headers ++ at ∷ []) (at + node_len n) ns
+abbrev pub nodes_text : List Place → List RomValue → List ℕ
+nodes_text [] nodes = []
+nodes_text (p ∷ ps) [] = []
+nodes_text (p ∷ ps) (n ∷ ns) = node_text p n ++ nodes_text ps ns
+
+-- where the nodes stand, the first one from `at` on, and where what is behind them would
+abbrev pub positions : ℕ → List RomValue → List ℕ
+positions at [] = []
+positions at (n ∷ ns) = at ∷ positions (at + node_len n) ns
+
+abbrev pub end_at : ℕ → List RomValue → ℕ
+end_at at [] = at
+end_at at (n ∷ ns) = end_at (at + node_len n) ns
+
+-- the place of a node with this number, before others
+abbrev pub place_at : (headers : List ℕ) → (number at : ℕ) → RomValue → List RomValue → Place
+place_at headers number at n ns = record {
+  at = at;
+  next = first_in n.parent (at + node_len n) ns;
+  parent = slice_index headers n.parent;
+  first = first_in number (at + node_len n) ns;
+}
+
+-- the places of nodes, where the first one has this number and stands at `at`; `headers` are those of all folders by number
+abbrev pub places : (headers : List ℕ) → (number at : ℕ) → List RomValue → List Place
+places headers number at [] = []
+places headers number at (n ∷ ns) = place_at headers number at n ns ∷ places headers (number + 1) (at + node_len n) ns
+
+-- the headers by number: the root's stands at 32
+abbrev pub headers_of : List RomValue → List ℕ
+headers_of nodes = 32 ∷ positions 96 nodes
 
 -- the root's list: `.` is the root's header, a folder at 32, and `..` a hard link to it
 unfoldable pub list_text : List RomValue → List ℕ
-list_text nodes = header_text (64 + 9) 32 0 (codes ".") ++ (header_text (first_in 0 96 nodes) 32 0 (codes "..") ++ nodes_text (32 ∷ []) 96 nodes)
+list_text nodes =
+    header_text (64 + 9) 32 0 (codes ".")
+    ++ (header_text (first_in 0 96 nodes) 32 0 (codes "..") ++ nodes_text (places (headers_of nodes) 1 96 nodes) nodes)
 
 -- the superblock, with a checksum
 abbrev pub super_text : (full sum : ℕ) → List ℕ
