@@ -1,4 +1,7 @@
 pub mod Samples
+pub mod Lengths
+pub mod TextLengths
+pub mod Texts
 pub mod Sums
 pub mod Names
 pub mod Walks

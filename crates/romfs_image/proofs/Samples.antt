@@ -8,7 +8,7 @@ use Rattle.romfs_image.specs.Fault.{sums_to_zero, image_of, super_fault, is_dots
 use Rattle.romfs_image.specs.Walk.{is_named, repeat_fault, walked}
 use Rattle.romfs_image.specs.Reading.{is_file_at, is_dangling, node_of, linked, rom_read}
 
-empty : List ℕ
+unfoldable pub empty : List ℕ
 empty =
     45 ∷ 114 ∷ 111 ∷ 109 ∷ 49 ∷ 102 ∷ 115 ∷ 45 ∷ 0 ∷ 0 ∷ 0 ∷ 96 ∷ 0xd7 ∷ 0xba ∷ 0xbb ∷ 0x92 ∷ 0x66 ∷ 0x6c ∷ 0x61 ∷ 0x74 ∷ 0x63 ∷ 0 ∷ 0 ∷ 0 ∷ 0 ∷ 0 ∷ 0 ∷ 0 ∷ 0 ∷ 0 ∷ 0 ∷ 0
     ∷ 0 ∷ 0 ∷ 0 ∷ 0x49 ∷ 0 ∷ 0 ∷ 0 ∷ 0x20 ∷ 0 ∷ 0 ∷ 0 ∷ 0 ∷ 0xd1 ∷ 0xff ∷ 0xff ∷ 0x97 ∷ 0x2e ∷ 0 ∷ 0 ∷ 0 ∷ 0 ∷ 0 ∷ 0 ∷ 0 ∷ 0 ∷ 0 ∷ 0 ∷ 0 ∷ 0 ∷ 0 ∷ 0 ∷ 0

@@ -1,11 +1,13 @@
 -- What contracts see of the code's types.
-use Rattle.std.specs.Prelude.{◌≡◌, ℕ, Bool, List, [], ◌∷◌, ◌++◌, map}
+use Rattle.std.specs.Prelude.{◌≡◌, ℕ, Bool, List, [], ◌∷◌, ◌++◌, map, length, ◌≤◌, ◌+◌}
 use Rattle.std.specs.List.{list_any}
 use Rattle.std.specs.declared.cmp.Ordering.{Ordering}
 use Rattle.std.specs.Ordering.{nat_cmp, ordering_then}
 use Rattle.std.specs.Cmp.Lexicographic.{slice_cmp}
 use Rattle.std.specs.Borrow.{Bor}
 use Rattle.std.specs.BTreeSet as tree
+use Rattle.std.specs.BTreeMap as heads_map
+use Rattle.std.specs.Option.{unwrap_or}
 use Rattle.romfs_image.specs.declared.header.Header as code
 use Rattle.romfs_image.specs.declared.node.RomNode as node
 use Rattle.romfs_image.specs.declared.walk.Entry as code_entry
@@ -14,6 +16,8 @@ use Rattle.romfs_image.specs.Header.{Header}
 use Rattle.romfs_image.specs.Walk.{Entry, is_named}
 use Rattle.romfs_image.specs.Reading.{is_file_at, is_dangling}
 use Rattle.romfs_image.specs.Nodes.{RomValue}
+use Rattle.romfs_image.specs.declared.making.Place.{Place}
+use Rattle.romfs_image.specs.Text.{node_len, first_in, place_at, most_bytes}
 
 abbrev pub header_value : code.Header → Header
 header_value h = record { next = h.next; kind = h.kind; exec = h.exec; info = h.info; size = h.size; name = h.name.now; body = h.body }
@@ -50,3 +54,21 @@ AddsFile old new e = (entries : List Entry) → HasFiles old entries → HasFile
 -- the answer is whether this entry dangles, where the files are those of some entries
 abbrev pub Dangles : tree.BTreeSet ℕ → Entry → Bool → Type 0
 Dangles files e answer = (entries : List Entry) → HasFiles files entries → answer ≡ is_dangling entries e
+
+-- each name has at most 255 bytes, and each node's length counts its bytes
+abbrev pub AreNamed : List RomValue → Type 0
+AreNamed [] = Unit {0}
+AreNamed (n ∷ ns) = (length n.name ≤ 255) × (length n.bytes ≤ node_len n) × AreNamed ns
+
+-- the map has the first header of each folder among these nodes
+abbrev pub HasHeads : heads_map.BTreeMap ℕ ℕ → ℕ → List RomValue → Type 0
+HasHeads heads at nodes = (folder : ℕ) → unwrap_or (heads_map.get nat_cmp heads folder) 0 ≡ first_in folder at nodes
+
+-- the node has its place before any nodes whose first headers the map has, and the map then has its header too
+abbrev pub Places : (headers : List ℕ) → (old new : heads_map.BTreeMap ℕ ℕ) → (number at : ℕ) → RomValue → Place → Type 0
+Places headers old new number at n place = (ns : List RomValue) → HasHeads old (at + node_len n) ns → (place ≡ place_at headers number at n ns) × HasHeads new at (n ∷ ns)
+
+-- positions that have room for a type and for a header more
+abbrev pub AreSmall : List Place → Type 0
+AreSmall [] = Unit {0}
+AreSmall (p ∷ ps) = (p.at ≤ most_bytes) × (p.next ≤ most_bytes) × AreSmall ps

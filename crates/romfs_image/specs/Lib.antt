@@ -4,6 +4,8 @@
 -- Walk: the headers in the order in which they are read.
 -- Nodes: what an image says, a file or a folder each.
 -- Reading: the nodes of an image, or its first fault.
+-- Text: the one text that is written for nodes.
+-- Given: which nodes can be written.
 -- Code: what contracts see of the code's types.
 -- Laws: that the walk ends.
 pub mod Words
@@ -12,5 +14,7 @@ pub mod Fault
 pub mod Walk
 pub mod Nodes
 pub mod Reading
+pub mod Text
+pub mod Given
 pub mod Code
 pub mod Laws

@@ -2,6 +2,7 @@
 
 ghost use Rattle.std.specs.Prelude.{◌≡◌};
 ghost use Rattle.romfs_image.specs.declared.fault.RomFault.TheVariants.{Memory};
+ghost use Rattle.romfs_image.specs.declared.fault.MakeFault.TheVariants.{Memory as NoMemory};
 
 use std::alloc::{AllocError, AllocFailed};
 
@@ -50,5 +51,22 @@ impl<T: Drop> From<AllocFailed<T>> for RomFault {
 
     fn from(_error: AllocFailed<T>) -> RomFault {
         RomFault::Memory
+    }
+}
+
+/// Why nodes have no image.
+#[derive(Clone, Copy, Debug, PartialEq, Eq)]
+pub enum MakeFault {
+    /// It would have more than 67,108,864 bytes.
+    TooLarge,
+    /// Out of memory.
+    Memory,
+}
+
+impl From<AllocError> for MakeFault {
+    ghost from_gives = { λ _ e. e ≡ NoMemory };
+
+    fn from(_error: AllocError) -> MakeFault {
+        MakeFault::Memory
     }
 }

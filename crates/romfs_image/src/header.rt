@@ -93,16 +93,23 @@ pub fn header_at(image: &[u8], at: usize) -> Header<'_>
     }
 }
 
-/// Whether the words sum to 0.
-#[tactic(auto, unfolding(crate::specs::Fault::sums_to_zero))]
-pub fn sums_to_zero(bytes: &[u8]) -> bool
-    ensures { result ≡ sums_to_zero bytes.now }
+/// The sum of the words.
+pub fn sum_of(bytes: &[u8]) -> u32
+    ensures { result ≡ word_sum bytes.now % 2 ^ 32 }
 {
     let mut sum: u32 = 0;
     for index in 0..bytes.len() / 4 {
         sum = sum.wrapping_add(big_word(bytes, 4 * index));
     }
-    sum == 0
+    sum
+}
+
+/// Whether the words sum to 0.
+#[tactic(auto, unfolding(crate::specs::Fault::sums_to_zero))]
+pub fn sums_to_zero(bytes: &[u8]) -> bool
+    ensures { result ≡ sums_to_zero bytes.now }
+{
+    sum_of(bytes) == 0
 }
 
 /// The bytes from the start of a header to the end of its name.

@@ -8,11 +8,13 @@ mod fault;
 mod header;
 mod laws;
 mod links;
+mod making;
 mod node;
 mod rom;
 mod walk;
 
-pub use fault::RomFault;
+pub use fault::{MakeFault, RomFault};
 pub use laws::steps_suffice;
+pub use making::make;
 pub use node::{RomKind, RomNode};
 pub use rom::Rom;

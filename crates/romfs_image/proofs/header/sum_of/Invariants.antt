@@ -1,6 +1,6 @@
 use Rattle.std.proofs.Common.{◌≡◌, ◌+◌, ◌*◌, ◌%◌, ◌^◌, drop}
 use Rattle.romfs_image.specs.Words.{word_sum}
-use Rattle.romfs_image.proofs.header.sums_to_zero.Given as goal
+use Rattle.romfs_image.proofs.header.sum_of.Given as goal
 
 -- the sum so far and that of what is left
 abbrev pub invariant-loop-index : goal.invariant-loop-index
