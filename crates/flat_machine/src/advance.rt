@@ -12,10 +12,10 @@ ghost use Rattle.kept_parts.specs.Stands.{About, later, world_of};
 ghost use Rattle.flat_machine.specs.State.{is_whole, mode_within};
 ghost use Rattle.flat_machine.specs.LeavesIn.{HaltsWithin};
 
+use kept_parts::{KeptParts, Reach};
 use mmap_rules::Space;
 use region_watch::{Mode, Progress, Watch, Window, run_steps};
 use rv32im_step::Stop;
-use kept_parts::{KeptParts, Reach};
 
 /// The own bytes of the program's block.
 fn window(space: &Space) -> Window

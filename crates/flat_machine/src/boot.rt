@@ -17,12 +17,12 @@ ghost use Rattle.flat_machine.specs.Boots.{marked, Boots, Begins, BeginsStays, B
 use crate::machine::Machine;
 use bflt_format::Flat;
 use fd_tables::Files;
+use kept_parts::{KeptParts, StartRefusal};
 use manifest_text::Start;
 use mem_files::Tree;
 use page_runs::{Chooser, Run};
 use region_watch::Mode;
 use std::alloc::{AllocError, Global};
-use kept_parts::{KeptParts, StartRefusal};
 use syscall_layer::Parts;
 
 /// What a machine starts with.

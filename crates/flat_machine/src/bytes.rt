@@ -10,11 +10,11 @@ ghost use Rattle.flat_machine.specs.State.{world, one_memory};
 ghost use Rattle.flat_machine.specs.OwnBytes.{own_bytes, memory_bytes};
 
 use crate::machine::Machine;
+use call_bytes::{Unread, read_range};
+use kept_parts::{KeptParts, Reach, table_of};
 use mmap_rules::Owners;
 use region_watch::Mode;
 use std::alloc::AllocError;
-use call_bytes::{Unread, read_range};
-use kept_parts::{KeptParts, Reach, table_of};
 
 /// A copy of the bytes of a process that lives, within this reach.
 fn copied(

@@ -23,11 +23,11 @@ ghost use Rattle.flat_machine.specs.LeavesIn.{CarriedIn, CarriedWithin, StandsWi
 use crate::advance::advance;
 use crate::run::End;
 use bflt_format::Flat;
+use kept_parts::{KeptParts, Reach, Served};
 use mmap_rules::Owners;
 use page_runs::{Chooser, Run};
 use rv32im_step::{Access, Stop};
 use std::alloc::AllocError;
-use kept_parts::{KeptParts, Reach, Served};
 use syscall_layer::{Parts, serve_within};
 
 /// The signal of an access outside memory.
