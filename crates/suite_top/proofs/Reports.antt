@@ -10,9 +10,7 @@ use Rattle.call_log.specs.Programs.{IsProgramBelow, paths_of}
 use Rattle.machine_world.specs.World.{World, program_path}
 use Rattle.machine_world.specs.Programs.{AreLoaded}
 use Rattle.machine_world.specs.Turns.{End}
-use Rattle.flat_machine.specs.declared.run.End.{End as Told}
-use Rattle.flat_machine.specs.Runs.{Ends}
-use Rattle.suite_top.specs.Report.{note_text, stop_line, report_of, report_text, trace_report, IsStopWord}
+use Rattle.suite_top.specs.Report.{note_text, report_of, report_text, trace_report}
 use Rattle.trace_text.specs.Texts.{trace_texts, AreProgramsBelow}
 
 loaded_append : (n : ℕ) (xs ys : List Note) → AreLoaded n xs → AreLoaded n ys → AreLoaded n (xs ++ ys)
