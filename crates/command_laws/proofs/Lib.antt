@@ -2,7 +2,7 @@
 -- RunLaws: when a run reaches its machine.
 -- BootedRuns: what is said of a run from its opening world on, by the laws of boots, turns and runs.
 -- Headers, GoOn, GoOnTexts, SamePrograms, BothModes: a run that goes on, beside the same run without it.
--- BothRuns: two runs of one manifest. TraceLaws: the laws of `trace`.
+-- Headline: what a call of `run` did. BothRuns: two runs of one manifest. TraceLaws: the laws of `trace`.
 -- DemoFaults, DemoLaws: the programs of a demo, and the laws of the command.
 -- DemoSamples, RunSamples: the definitions on two programs of a demo, and on small manifests.
 -- BootedSamples, WaitingSamples: what is said of a run from its opening world on, computed on one whose program exits and on one whose program waits.
@@ -16,6 +16,7 @@ mod Headers
 mod GoOn
 mod GoOnTexts
 mod SamePrograms
+mod Headline
 mod BothRuns
 mod BothModes
 mod TraceLaws

@@ -1,9 +1,7 @@
 -- When a run reaches its machine.
 use Rattle.std.proofs.Common.{◌≡◌, ℕ, ◌-◌, ◌≤◌, Bool, true, false, cond, List, [], ◌∷◌, ◌++◌, map, length, nat_lt, Option, Some, None, Result, Ok, Err, ◌⊎◌, inl, inr, refl, sym, ap, ◌∙◌, arith, filter}
-use Rattle.std.specs.FinMap.{get}
 use Rattle.std.proofs.lemmas.Bool.Decides.{nat_tests}
 use Rattle.std.proofs.lemmas.List.{append-nil}
-use Rattle.host_io.specs.Host.{Files}
 use Rattle.page_runs.specs.declared.place.Kind.{Kind}
 use Rattle.manifest_text.specs.Values.{Item, Manifest}
 use Rattle.manifest_text.specs.Manifest.{Fault, manifest_of}
@@ -17,17 +15,16 @@ use Rattle.file_commands.specs.Texts.Refusals.{too_long_at}
 use Rattle.suite_top.specs.declared.telling.Telling.{Telling}
 use Rattle.file_commands.specs.Ending.{Ending, refused_ending}
 use Rattle.file_commands.specs.Outcome.{Request, load, Outcome, Inputs, after}
-use Rattle.file_commands.specs.HostCourse.{inputs_in}
-use Rattle.file_commands.specs.Load.{at_once, with_limited, with_load}
+use Rattle.file_commands.specs.Load.{at_once, behind, with_limited, with_load}
 use Rattle.run_setup.specs.Brought.{Brought, FaultAt, nothing_brought, all_brought}
 use Rattle.file_commands.specs.Items.{load_limit, files_limit, has_file, with_item, with_items}
 use Rattle.suite_top.specs.Run.{manifest_limit, start_line, opening, mode_ending, booted_ending, brought_ending, files_ending, items_outcome, manifest_outcome, run_outcome}
 use Rattle.command_laws.specs.Booted.{Booted}
-use Rattle.command_laws.specs.RunLaws.{Opens, IsThere, AreThere, opened_outcome, IsStop, IsEarly, RunsWhereItOpens, OpensWhereItStops, RunsStopOrEndEarly}
+use Rattle.command_laws.specs.RunLaws.{Opens, IsThere, behind_item, AreThere, opened_outcome, IsStop, IsEarly, RunsWhereItOpens, OpensWhereItStops, RunsStopOrEndEarly}
 use Rattle.suite_top.proofs.RunOutcomes.{run_by, told_status}
 
 -- a manifest that is read has no number past its bound
-pub reasonable : {t : Files} {name : List ℕ} {kind : Kind} (o : Opens t name kind) → Reasonable o.manifest
+pub reasonable : {inputs : Inputs} {name : List ℕ} {kind : Kind} (o : Opens inputs name kind) → Reasonable o.manifest
 reasonable o = manifests_are_reasonable o.text o.manifest o.reads
 
 -- ---- from what is there to the outcome
@@ -45,24 +42,24 @@ loads_of items = map (λ i. load i.name) (filter (λ i. has_file i.kind) items)
 abbrev behind_all : List Item → Outcome → Outcome
 behind_all items x = record { requests = loads_of items ++ x.requests; ending = x.ending }
 
-items_there : (t : Files) (left : ℕ) (items : List Item) (files : List (List ℕ)) (rest : List (List ℕ) → Outcome) → AreThere t left items files → with_items left items rest (inputs_in t) ≡ behind_all items (rest files)
+items_there : (inputs : Inputs) (left : ℕ) (items : List Item) (files : List (List ℕ)) (rest : List (List ℕ) → Outcome) → AreThere inputs left items files → with_items left items rest inputs ≡ behind_all items (rest files)
 unfolding with_items
-items_there t left [] [] rest there = refl
-items_there t left [] (file ∷ files) rest there = absurd there
-items_there t left (item ∷ items) [] rest there = absurd there
-items_there t left (item ∷ items) (file ∷ files) rest there =
-    by_kind (has_file item.kind) there.0 (items_there t (left - length file) items files (λ more. rest (file ∷ more)) there.1)
+items_there inputs left [] [] rest there = refl
+items_there inputs left [] (file ∷ files) rest there = absurd there
+items_there inputs left (item ∷ items) [] rest there = absurd there
+items_there inputs left (item ∷ items) (file ∷ files) rest there =
+    by_kind (has_file item.kind) there.0 (items_there (behind_item (has_file item.kind) inputs) (left - length file) items files (λ more. rest (file ∷ more)) there.1)
   where
     next : List ℕ → Inputs → Outcome
     next bytes = with_items (left - length bytes) items (λ more. rest (bytes ∷ more))
 
-    by_kind : (b : Bool) → IsThere t left item file b → next file (inputs_in t) ≡ behind_all items (rest (file ∷ files))
-        → cond b (with_load (load_limit item.kind left) (Some item.line) item.name next (inputs_in t)) (next [] (inputs_in t))
+    by_kind : (b : Bool) → IsThere inputs left item file b → next file (behind_item b inputs) ≡ behind_all items (rest (file ∷ files))
+        → cond b (with_load (load_limit item.kind left) (Some item.line) item.name next inputs) (next [] inputs)
         ≡ record { requests = map (λ i. load i.name) (cond b (item ∷ filter (λ i. has_file i.kind) items) (filter (λ i. has_file i.kind) items)) ++ (rest (file ∷ files)).requests; ending = (rest (file ∷ files)).ending }
     by_kind true is more =
         ap (after (load item.name))
-        (is_within (load_limit item.kind left) (Some item.line) item.name (get t item.name) file (λ bytes. next bytes (inputs_in t)) is.0 is.1 ∙ more)
-    by_kind false is more = ap (λ bytes. next bytes (inputs_in t)) (sym is) ∙ more
+        (is_within (load_limit item.kind left) (Some item.line) item.name (inputs 0 item.name) file (λ bytes. next bytes (behind inputs)) is.0 is.1 ∙ more)
+    by_kind false is more = ap (λ bytes. next bytes inputs) (sym is) ∙ more
 
 -- of a run and of a demo
 pub runs_where_booted : (telling : Telling) (mode : Mode) (kind : Kind) (m : Manifest) (files : List (List ℕ)) (b : Booted kind m files)
@@ -73,11 +70,11 @@ runs_where_booted telling mode kind m files b =
 
 pub runs_where_it_opens : RunsWhereItOpens
 unfolding run_outcome
-runs_where_it_opens t name telling mode kind o =
+runs_where_it_opens inputs name telling mode kind o =
     ap (after (load name))
-    (is_within manifest_limit None name (get t name) o.text (λ bytes. manifest_outcome telling mode kind (manifest_of bytes) (inputs_in t)) o.found o.fits
-    ∙ ap (λ (r : Result Manifest Fault). manifest_outcome telling mode kind r (inputs_in t)) o.reads
-    ∙ items_there t files_limit o.manifest.items o.files (λ files. at_once (files_ending telling mode kind o.manifest files)) o.there
+    (is_within manifest_limit None name (inputs 0 name) o.text (λ bytes. manifest_outcome telling mode kind (manifest_of bytes) (behind inputs)) o.found o.fits
+    ∙ ap (λ (r : Result Manifest Fault). manifest_outcome telling mode kind r (behind inputs)) o.reads
+    ∙ items_there (behind inputs) files_limit o.manifest.items o.files (λ files. at_once (files_ending telling mode kind o.manifest files)) o.there
     ∙ ap (λ (e : Ending). behind_all o.manifest.items (at_once e)) (runs_where_booted telling mode kind o.manifest o.files o.booted)
     ∙ ap (λ (rs : List Request). record { requests = rs; ending = (opened_outcome telling mode o).ending }) (append-nil (loads_of o.manifest.items)))
 
@@ -93,29 +90,29 @@ within limit line name (Some bytes) rest stop = by_test (nat_lt limit (length by
     by_test true is stops = absurd stops
     by_test false is stops = (bytes, refl, grind (arith, nat_tests), stops)
 
-item_within : (t : Files) (left : ℕ) (item : Item) (rest : List ℕ → Inputs → Outcome) → IsStop (with_item left item rest (inputs_in t)).ending.status
-    → (file : List ℕ) × IsThere t left item file (has_file item.kind) × IsStop (rest file (inputs_in t)).ending.status
-item_within t left item rest stop = by_kind (has_file item.kind) stop
+item_within : (inputs : Inputs) (left : ℕ) (item : Item) (rest : List ℕ → Inputs → Outcome) → IsStop (with_item left item rest inputs).ending.status
+    → (file : List ℕ) × IsThere inputs left item file (has_file item.kind) × IsStop (rest file (behind_item (has_file item.kind) inputs)).ending.status
+item_within inputs left item rest stop = by_kind (has_file item.kind) stop
   where
-    by_kind : (b : Bool) → IsStop (cond b (with_load (load_limit item.kind left) (Some item.line) item.name rest (inputs_in t)) (rest [] (inputs_in t))).ending.status
-        → (file : List ℕ) × IsThere t left item file b × IsStop (rest file (inputs_in t)).ending.status
+    by_kind : (b : Bool) → IsStop (cond b (with_load (load_limit item.kind left) (Some item.line) item.name rest inputs) (rest [] inputs)).ending.status
+        → (file : List ℕ) × IsThere inputs left item file b × IsStop (rest file (behind_item b inputs)).ending.status
     by_kind true stops =
-        let (file, found, fits, more) = within (load_limit item.kind left) (Some item.line) item.name (get t item.name) (λ bytes. rest bytes (inputs_in t)) stops in
+        let (file, found, fits, more) = within (load_limit item.kind left) (Some item.line) item.name (inputs 0 item.name) (λ bytes. rest bytes (behind inputs)) stops in
         (file, (found, fits), more)
     by_kind false stops = ([], refl, stops)
 
-items_within : (t : Files) (left : ℕ) (items : List Item) (rest : List (List ℕ) → Outcome) → IsStop (with_items left items rest (inputs_in t)).ending.status
-    → (files : List (List ℕ)) × AreThere t left items files × IsStop (rest files).ending.status
+items_within : (inputs : Inputs) (left : ℕ) (items : List Item) (rest : List (List ℕ) → Outcome) → IsStop (with_items left items rest inputs).ending.status
+    → (files : List (List ℕ)) × AreThere inputs left items files × IsStop (rest files).ending.status
 unfolding with_items
-items_within t left [] rest stop = ([], tt, stop)
-items_within t left (item ∷ items) rest stop =
-    let (file, is, more) = item_within t left item (λ bytes. with_items (left - length bytes) items (λ files. rest (bytes ∷ files))) stop in
-    let (files, there, last) = items_within t (left - length file) items (λ files. rest (file ∷ files)) more in
+items_within inputs left [] rest stop = ([], tt, stop)
+items_within inputs left (item ∷ items) rest stop =
+    let (file, is, more) = item_within inputs left item (λ bytes. with_items (left - length bytes) items (λ files. rest (bytes ∷ files))) stop in
+    let (files, there, last) = items_within (behind_item (has_file item.kind) inputs) (left - length file) items (λ files. rest (file ∷ files)) more in
     (file ∷ files, (is, there), last)
 
-ok_manifest : (t : Files) (telling : Telling) (mode : Mode) (kind : Kind) (r : Result Manifest Fault) → IsStop (manifest_outcome telling mode kind r (inputs_in t)).ending.status → (m : Manifest) × (r ≡ Ok m) × IsStop (items_outcome telling mode kind m (inputs_in t)).ending.status
-ok_manifest t telling mode kind (Err fault) stop = absurd stop
-ok_manifest t telling mode kind (Ok m) stop = (m, refl, stop)
+ok_manifest : (inputs : Inputs) (telling : Telling) (mode : Mode) (kind : Kind) (r : Result Manifest Fault) → IsStop (manifest_outcome telling mode kind r inputs).ending.status → (m : Manifest) × (r ≡ Ok m) × IsStop (items_outcome telling mode kind m inputs).ending.status
+ok_manifest inputs telling mode kind (Err fault) stop = absurd stop
+ok_manifest inputs telling mode kind (Ok m) stop = (m, refl, stop)
 
 ok_brought : (telling : Telling) (mode : Mode) (kind : Kind) (m : Manifest) (r : Result Brought FaultAt) → IsStop (brought_ending telling mode kind m r).status
     → (b : Brought) × (r ≡ Ok b) × IsStop (booted_ending telling mode m b.headers (boot (opening kind m b) (map start_line m.starts))).status
@@ -135,10 +132,10 @@ booted_where_it_stops telling mode kind m files stop =
 
 pub opens_where_it_stops : OpensWhereItStops
 unfolding run_outcome
-opens_where_it_stops t name telling mode kind stop =
-    let (text, found, fits, reads_on) = within manifest_limit None name (get t name) (λ bytes. manifest_outcome telling mode kind (manifest_of bytes) (inputs_in t)) stop in
-    let (m, reads, loads_on) = ok_manifest t telling mode kind (manifest_of text) reads_on in
-    let (files, there, makes_on) = items_within t files_limit m.items (λ fs. at_once (files_ending telling mode kind m fs)) loads_on in
+opens_where_it_stops inputs name telling mode kind stop =
+    let (text, found, fits, reads_on) = within manifest_limit None name (inputs 0 name) (λ bytes. manifest_outcome telling mode kind (manifest_of bytes) (behind inputs)) stop in
+    let (m, reads, loads_on) = ok_manifest (behind inputs) telling mode kind (manifest_of text) reads_on in
+    let (files, there, makes_on) = items_within (behind inputs) files_limit m.items (λ fs. at_once (files_ending telling mode kind m fs)) loads_on in
     let booted = booted_where_it_stops telling mode kind m files makes_on in
     record { text = text; found = found; fits = fits; manifest = m; reads = reads; files = files; there = there; booted = booted }
 

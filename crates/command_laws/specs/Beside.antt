@@ -1,7 +1,6 @@
 -- A run with `--go-on` beside the same run without it.
 use Rattle.std.specs.Prelude.{◌≡◌, ◌≢◌, ◌⊎◌, ℕ, Bool, List, ◌++◌, Some, None}
 use Rattle.rv32im_step.specs.declared.access.Access.{Access}
-use Rattle.host_io.specs.Host.{Files}
 use Rattle.page_runs.specs.declared.place.Kind.{Kind}
 use Rattle.quantum_sched.specs.declared.Quantum.{Quantum}
 use Rattle.manifest_text.specs.declared.manifest.Dump.{Dump}
@@ -25,10 +24,10 @@ use Rattle.command_laws.specs.Booted.{booted_turns}
 use Rattle.command_laws.specs.RunLaws.{Opens, opened_outcome, IsStop}
 
 -- the turns without it, and those with it
-abbrev pub halting : {t : Files} {name : List ℕ} {kind : Kind} → Opens t name kind → Walk
+abbrev pub halting : {inputs : Inputs} {name : List ℕ} {kind : Kind} → Opens inputs name kind → Walk
 halting o = booted_turns o.booted
 
-abbrev pub going_on : {t : Files} {name : List ℕ} {kind : Kind} → Opens t name kind → PhysicalWalk
+abbrev pub going_on : {inputs : Inputs} {name : List ℕ} {kind : Kind} → Opens inputs name kind → PhysicalWalk
 going_on o = physical_turns (repeated o.manifest.repeat o.manifest.quanta) (memory_opening o.booted.brought.headers o.booted.world)
 
 -- ---- the worlds
@@ -46,26 +45,26 @@ pub record GoesOnWell (private : Walk) (one : PhysicalWalk) : Type 0 where
   pub past : (pid : ℕ) (access : Access) → private.end ≡ Some (stray_at pid access) → GoesPast private.world one pid access
 
 abbrev pub RunsGoOnWell : Type 0
-RunsGoOnWell = (t : Files) (name : List ℕ) (kind : Kind) (o : Opens t name kind) → GoesOnWell (halting o) (going_on o)
+RunsGoOnWell = (inputs : Inputs) (name : List ℕ) (kind : Kind) (o : Opens inputs name kind) → GoesOnWell (halting o) (going_on o)
 
 -- the one memory of such a run behind some quanta, before the first stray access and behind it
-abbrev pub memory_behind : {t : Files} {name : List ℕ} {kind : Kind} → Opens t name kind → List Quantum → Physical
+abbrev pub memory_behind : {inputs : Inputs} {name : List ℕ} {kind : Kind} → Opens inputs name kind → List Quantum → Physical
 memory_behind o quanta = (physical_turns quanta (memory_opening o.booted.brought.headers o.booted.world)).now
 
 -- its nodes are a tree of names, and all counts of what is open are exact
 abbrev pub MemoryIsInOrder : Type 0
-MemoryIsInOrder = (t : Files) (name : List ℕ) (kind : Kind) (o : Opens t name kind) (quanta : List Quantum) → IsInOrder (memory_behind o quanta).world
+MemoryIsInOrder = (inputs : Inputs) (name : List ℕ) (kind : Kind) (o : Opens inputs name kind) (quanta : List Quantum) → IsInOrder (memory_behind o quanta).world
 
 -- and it is regular: the laws of refused calls speak of it
 abbrev pub MemoryIsRegular : Type 0
-MemoryIsRegular = (t : Files) (name : List ℕ) (kind : Kind) (o : Opens t name kind) (quanta : List Quantum) → IsRegularIn (memory_behind o quanta)
+MemoryIsRegular = (inputs : Inputs) (name : List ℕ) (kind : Kind) (o : Opens inputs name kind) (quanta : List Quantum) → IsRegularIn (memory_behind o quanta)
 
 -- ---- the status and the texts
 
-abbrev pub halting_ending : {t : Files} {name : List ℕ} {kind : Kind} → (log : Bool) → Opens t name kind → Ending
+abbrev pub halting_ending : {inputs : Inputs} {name : List ℕ} {kind : Kind} → (log : Bool) → Opens inputs name kind → Ending
 halting_ending log o = (opened_outcome (Report log) Halt o).ending
 
-abbrev pub going_on_ending : {t : Files} {name : List ℕ} {kind : Kind} → (log : Bool) → Opens t name kind → Ending
+abbrev pub going_on_ending : {inputs : Inputs} {name : List ℕ} {kind : Kind} → (log : Bool) → Opens inputs name kind → Ending
 going_on_ending log o = (opened_outcome (Report log) GoOn o).ending
 
 -- a dump of a process that lives, of bytes that lie in memory and aren't all own
@@ -89,7 +88,7 @@ pub record ReportsAlike (private : World) (one : Physical) (dumps : List Dump) (
   pub shown : (d : Dump) → DumpsAlike private one d
 
 -- where nothing strays the status and the console are the same, and the reports but for such dumps
-pub record TellsAlike {t : Files} {name : List ℕ} {kind : Kind} (log : Bool) (o : Opens t name kind) : Type 0 where
+pub record TellsAlike {inputs : Inputs} {name : List ℕ} {kind : Kind} (log : Bool) (o : Opens inputs name kind) : Type 0 where
   pub status : (going_on_ending log o).status ≡ (halting_ending log o).status
   pub out : (going_on_ending log o).out ≡ (halting_ending log o).out
   pub report : ReportsAlike (halting o).world (going_on o).now o.manifest.dumps (halting_ending log o).report (going_on_ending log o).report
@@ -100,17 +99,17 @@ Begins start text = (more : List ℕ) × (text ≡ start ++ more)
 
 -- where they end with a stray access, the console goes on behind what it has there, and both reports begin with the notes up to that
 -- access, its own among them
-pub record TellsPast {t : Files} {name : List ℕ} {kind : Kind} (log : Bool) (o : Opens t name kind) : Type 0 where
+pub record TellsPast {inputs : Inputs} {name : List ℕ} {kind : Kind} (log : Bool) (o : Opens inputs name kind) : Type 0 where
   pub out : Begins (halting_ending log o).out (going_on_ending log o).out
   pub halts : Begins (notes_text log (halting o).world) (halting_ending log o).report
   pub goes_on : Begins (notes_text log (halting o).world) (going_on_ending log o).report
 
-pub record TellsWell {t : Files} {name : List ℕ} {kind : Kind} (log : Bool) (o : Opens t name kind) : Type 0 where
+pub record TellsWell {inputs : Inputs} {name : List ℕ} {kind : Kind} (log : Bool) (o : Opens inputs name kind) : Type 0 where
   pub alike : ((pid : ℕ) (access : Access) → (halting o).end ≢ Some (stray_at pid access)) → TellsAlike log o
   pub past : (pid : ℕ) (access : Access) → (halting o).end ≡ Some (stray_at pid access) → TellsPast log o
 
 abbrev pub RunsTellWell : Type 0
-RunsTellWell = (t : Files) (name : List ℕ) (kind : Kind) (log : Bool) (o : Opens t name kind) → TellsWell log o
+RunsTellWell = (inputs : Inputs) (name : List ℕ) (kind : Kind) (log : Bool) (o : Opens inputs name kind) → TellsWell log o
 
 -- a run that doesn't reach its machine is the same with it and without it
 abbrev pub RunsEndEarlyAlike : Type 0

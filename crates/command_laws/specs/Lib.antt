@@ -5,6 +5,7 @@
 -- Booted        the machine of a run before the first turn, and what is said of a run from there on
 -- RunLaws       when a run reaches its machine
 -- Beside        a run with `--go-on` beside the same run without it
+-- Headline      what a call of `run` that reached its machine did
 -- TraceLaws     the command `trace`, beside the run of its manifest
 -- DemoLaws      the command `demo`, and that its programs have no fault
 pub mod OneFileLaws
@@ -14,5 +15,6 @@ pub mod ListLaws
 pub mod Booted
 pub mod RunLaws
 pub mod Beside
+pub mod Headline
 pub mod TraceLaws
 pub mod DemoLaws

@@ -1,7 +1,5 @@
--- When a run reaches its machine, over a host that tells its files.
+-- When a run reaches its machine, and what is said of it from there on: over any host, for the files that its loads give.
 use Rattle.std.specs.Prelude.{◌≡◌, ◌⊎◌, ℕ, ◌-◌, ◌≤◌, Bool, true, false, List, [], ◌∷◌, map, filter, length, Some, Ok}
-use Rattle.std.specs.FinMap.{get}
-use Rattle.host_io.specs.Host.{Files}
 use Rattle.page_runs.specs.declared.place.Kind.{Kind}
 use Rattle.manifest_text.specs.Values.{Item, Manifest}
 use Rattle.manifest_text.specs.Manifest.{manifest_of}
@@ -12,37 +10,42 @@ use Rattle.file_commands.specs.declared.status.Status.TheVariants.{Done, HostRea
 use Rattle.suite_top.specs.declared.telling.Telling.{Telling}
 use Rattle.file_commands.specs.Ending.{Ending}
 use Rattle.file_commands.specs.Outcome.{load, Outcome, Inputs}
-use Rattle.file_commands.specs.HostCourse.{inputs_in}
+use Rattle.file_commands.specs.Load.{behind}
 use Rattle.file_commands.specs.Items.{load_limit, files_limit, has_file}
 use Rattle.suite_top.specs.Run.{manifest_limit, mode_ending, run_outcome}
 use Rattle.command_laws.specs.Booted.{Booted, DoesAsAlone, EndsAsAlone, WaitsToTheEnd, HasWorldsInOrder, HasRegularWorlds}
 
--- the file of a line that has one is there, and isn't longer than the limit of its load
-abbrev pub IsThere : Files → (left : ℕ) → Item → List ℕ → Bool → Type 0
-IsThere t left item file true = (get t item.name ≡ Some file) × (length file ≤ load_limit item.kind left)
-IsThere t left item file false = file ≡ []
+-- the file of a line that has one is what the next load gives, and isn't longer than the limit of that load
+abbrev pub IsThere : Inputs → (left : ℕ) → Item → List ℕ → Bool → Type 0
+IsThere inputs left item file true = (inputs 0 item.name ≡ Some file) × (length file ≤ load_limit item.kind left)
+IsThere inputs left item file false = file ≡ []
+
+-- the loads behind those of a line
+abbrev pub behind_item : Bool → Inputs → Inputs
+behind_item true inputs = behind inputs
+behind_item false inputs = inputs
 
 -- that of each line
-abbrev pub AreThere : Files → (left : ℕ) → List Item → List (List ℕ) → Type 0
-AreThere t left [] [] = Unit {0}
-AreThere t left (item ∷ items) (file ∷ files) =
-    IsThere t left item file (has_file item.kind) × AreThere t (left - length file) items files
-AreThere t left items files = ⊥
+abbrev pub AreThere : Inputs → (left : ℕ) → List Item → List (List ℕ) → Type 0
+AreThere inputs left [] [] = Unit {0}
+AreThere inputs left (item ∷ items) (file ∷ files) =
+    IsThere inputs left item file (has_file item.kind) × AreThere (behind_item (has_file item.kind) inputs) (left - length file) items files
+AreThere inputs left items files = ⊥
 
 -- all that a run needs is there and has no fault, and this is its opening world
-pub record Opens (t : Files) (name : List ℕ) (kind : Kind) : Type 0 where
+pub record Opens (inputs : Inputs) (name : List ℕ) (kind : Kind) : Type 0 where
   pub text : List ℕ
-  pub found : get t name ≡ Some text
+  pub found : inputs 0 name ≡ Some text
   pub fits : length text ≤ manifest_limit
   pub manifest : Manifest
   pub reads : manifest_of text ≡ Ok manifest
   pub files : List (List ℕ)
-  pub there : AreThere t files_limit manifest.items files
+  pub there : AreThere (behind inputs) files_limit manifest.items files
   pub booted : Booted kind manifest files
 
 -- the manifest is asked for, then the file of each line that has one, in order; and the turns from that world, or, of a run that goes on,
 -- those over one memory, give the texts
-abbrev pub opened_outcome : {t : Files} {name : List ℕ} {kind : Kind} → Telling → Mode → Opens t name kind → Outcome
+abbrev pub opened_outcome : {inputs : Inputs} {name : List ℕ} {kind : Kind} → Telling → Mode → Opens inputs name kind → Outcome
 opened_outcome {name = name} telling mode o = record {
   requests = load name ∷ map (λ i. load i.name) (filter (λ i. has_file i.kind) o.manifest.items);
   ending = mode_ending telling mode (repeated o.manifest.repeat o.manifest.quanta) o.manifest.dumps o.booted.brought.headers o.booted.world;
@@ -58,11 +61,11 @@ IsStop Stuck = Unit {0}
 IsStop other = ⊥
 
 abbrev pub RunsWhereItOpens : Type 0
-RunsWhereItOpens = (t : Files) (name : List ℕ) (telling : Telling) (mode : Mode) (kind : Kind) (o : Opens t name kind) → run_outcome name telling mode kind (inputs_in t) ≡ opened_outcome telling mode o
+RunsWhereItOpens = (inputs : Inputs) (name : List ℕ) (telling : Telling) (mode : Mode) (kind : Kind) (o : Opens inputs name kind) → run_outcome name telling mode kind inputs ≡ opened_outcome telling mode o
 
 -- and in no other case a run ends with one of these
 abbrev pub OpensWhereItStops : Type 0
-OpensWhereItStops = (t : Files) (name : List ℕ) (telling : Telling) (mode : Mode) (kind : Kind) → IsStop (run_outcome name telling mode kind (inputs_in t)).ending.status → Opens t name kind
+OpensWhereItStops = (inputs : Inputs) (name : List ℕ) (telling : Telling) (mode : Mode) (kind : Kind) → IsStop (run_outcome name telling mode kind inputs).ending.status → Opens inputs name kind
 
 -- it ends early: a load failed, or something was refused, and nothing goes to `out`
 abbrev pub IsEarly : Ending → Type 0
@@ -76,16 +79,16 @@ RunsStopOrEndEarly = (name : List ℕ) (telling : Telling) (mode : Mode) (kind :
 -- ---- what is said of each run from its opening world on
 
 abbrev pub RunsAreAsAlone : Type 0
-RunsAreAsAlone = (t : Files) (name : List ℕ) (kind : Kind) (o : Opens t name kind) → DoesAsAlone o.booted
+RunsAreAsAlone = (inputs : Inputs) (name : List ℕ) (kind : Kind) (o : Opens inputs name kind) → DoesAsAlone o.booted
 
 abbrev pub EndsAreAsAlone : Type 0
-EndsAreAsAlone = (t : Files) (name : List ℕ) (kind : Kind) (o : Opens t name kind) → EndsAsAlone o.booted
+EndsAreAsAlone = (inputs : Inputs) (name : List ℕ) (kind : Kind) (o : Opens inputs name kind) → EndsAsAlone o.booted
 
 abbrev pub RunsWaitWell : Type 0
-RunsWaitWell = (t : Files) (name : List ℕ) (kind : Kind) (o : Opens t name kind) → WaitsToTheEnd o.booted
+RunsWaitWell = (inputs : Inputs) (name : List ℕ) (kind : Kind) (o : Opens inputs name kind) → WaitsToTheEnd o.booted
 
 abbrev pub WorldsAreInOrder : Type 0
-WorldsAreInOrder = (t : Files) (name : List ℕ) (kind : Kind) (o : Opens t name kind) → HasWorldsInOrder o.booted
+WorldsAreInOrder = (inputs : Inputs) (name : List ℕ) (kind : Kind) (o : Opens inputs name kind) → HasWorldsInOrder o.booted
 
 abbrev pub WorldsAreRegular : Type 0
-WorldsAreRegular = (t : Files) (name : List ℕ) (kind : Kind) (o : Opens t name kind) → HasRegularWorlds o.booted
+WorldsAreRegular = (inputs : Inputs) (name : List ℕ) (kind : Kind) (o : Opens inputs name kind) → HasRegularWorlds o.booted

@@ -1,12 +1,10 @@
 -- What a call of `trace` does: it is the run of its manifest, but for the report.
 use Rattle.std.specs.Prelude.{◌≡◌, ◌↔◌, ◌⊎◌, ℕ, ◌≤◌, Bool, List, ◌++◌, map, reverse, decimal, Option, Some}
-use Rattle.host_io.specs.Host.{Files}
 use Rattle.page_runs.specs.declared.place.Kind.{Kind}
 use Rattle.region_watch.specs.declared.mode.Mode.TheVariants.{Halt}
 use Rattle.trace_text.specs.Texts.{trace_texts}
 use Rattle.machine_world.specs.World.{program_path}
 use Rattle.file_commands.specs.Outcome.{Outcome, Inputs}
-use Rattle.file_commands.specs.HostCourse.{inputs_in}
 use Rattle.file_commands.specs.Arguments.{run, trace, least_pid, most_pid, pid_of}
 use Rattle.suite_top.specs.Report.{own_dumps, stop_word, stop_line}
 use Rattle.suite_top.specs.Result.{command_outcome}
@@ -32,8 +30,8 @@ TracesAreRuns = (manifest : List ℕ) (pid : Option ℕ) (counted log : Bool) (k
 -- where the machine is reached, the report has the texts of a trace, of the notes in the world behind the turns, then the dumps and why the
 -- run stopped
 abbrev pub TracesTellNotes : Type 0
-TracesTellNotes = (t : Files) (manifest : List ℕ) (pid : Option ℕ) (counted : Bool) (kind : Kind) (o : Opens t manifest kind)
-    → (command_outcome (Some (trace manifest pid counted kind)) (inputs_in t)).ending.report
+TracesTellNotes = (inputs : Inputs) (manifest : List ℕ) (pid : Option ℕ) (counted : Bool) (kind : Kind) (o : Opens inputs manifest kind)
+    → (command_outcome (Some (trace manifest pid counted kind)) inputs).ending.report
     ≡ trace_texts pid counted (map program_path (halting o).world.rest.programs) (reverse (halting o).world.notes)
     ++ own_dumps (halting o).world o.manifest.dumps
     ++ stop_line (stop_word (halting o).end) (halting o).world.events

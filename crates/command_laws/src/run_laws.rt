@@ -1,7 +1,15 @@
 //! Laws over every run. No code runs.
 ghost use Rattle.command_laws.specs.Beside.{MemoryIsInOrder, MemoryIsRegular, RunsEndEarlyAlike, RunsGoOnWell, RunsOnNeverStray, RunsTellWell};
+ghost use Rattle.command_laws.specs.Headline.{RunsAreRunsAlone};
 ghost use Rattle.command_laws.specs.RunLaws.{RunsWhereItOpens, OpensWhereItStops, RunsStopOrEndEarly, RunsAreAsAlone, EndsAreAsAlone, RunsWaitWell, WorldsAreInOrder, WorldsAreRegular};
 ghost use Rattle.run_setup.specs.Originals.{OriginalsAreSame};
+
+/// The headline, of each call of `run`, over any host, sinks, manifest, placement and quanta: where it ends with one of the statuses of a
+/// machine that stopped, the status and both texts are those of the turns of private spaces (with `--go-on`, of the turns over one memory),
+/// from the world that the loaded files open; and each process did, and ended as, its own program does alone.
+pub fn headline_law()
+    ensures { RunsAreRunsAlone }
+{}
 
 /// A run reaches its machine exactly where all files are there and nothing has a fault.
 pub fn run_law()

@@ -1,6 +1,5 @@
 -- By the law that a run which goes on is that of private spaces up to its first stray access.
 use Rattle.std.proofs.Common.{◌≡◌, ℕ, List, map, refl, sym, ap, ◌∙◌}
-use Rattle.host_io.specs.Host.{Files}
 use Rattle.page_runs.specs.declared.place.Kind.{Kind}
 use Rattle.physical_turns.specs.Physical.{opening as memory_opening}
 use Rattle.physical_turns.proofs.Growth.{runs_leave_programs}
@@ -10,6 +9,7 @@ use Rattle.go_on_laws.proofs.Walks.{runs_go_on}
 use Rattle.flat_machine.specs.Runs.{repeated}
 use Rattle.suite_top.specs.Report.{own_dumps, memory_dumps, status_of_end}
 use Rattle.suite_top.specs.Run.{start_line, opening}
+use Rattle.file_commands.specs.Outcome.{Inputs}
 use Rattle.command_laws.specs.RunLaws.{Opens}
 use Rattle.command_laws.specs.Beside.{halting, going_on}
 use Rattle.command_laws.proofs.GoOn.{ends_alike, goes_past, goes_on_well}
@@ -21,7 +21,7 @@ use Rattle.command_laws.proofs.BootedRuns.{can_boot, few_starts, sound}
 use Rattle.command_laws.proofs.RunLaws.{reasonable}
 use Rattle.command_laws.proofs.run_laws.go_on_law.Goals as goal
 
-module _ {t : Files} {name : List ℕ} {kind : Kind} (o : Opens t name kind) where
+module _ {inputs : Inputs} {name : List ℕ} {kind : Kind} (o : Opens inputs name kind) where
   goes_alike : GoesAlike (halting o).world (going_on o) (halting o).end
   goes_alike =
       let is = reasonable o in
@@ -40,10 +40,10 @@ module _ {t : Files} {name : List ℕ} {kind : Kind} (o : Opens t name kind) whe
       (runs_leave_programs quanta (memory_opening b.brought.headers b.world)).programs ∙ sym (programs_stay b.world.rest.programs quanta b.world refl)
 
 pub returns-clause-worlds : goal.returns-clause-worlds
-returns-clause-worlds c t name kind o = goes_on_well (halting o) (going_on o) (goes_alike o)
+returns-clause-worlds c inputs name kind o = goes_on_well (halting o) (going_on o) (goes_alike o)
 
 pub returns-clause-texts : goal.returns-clause-texts
-returns-clause-texts c t name kind log o = record {
+returns-clause-texts c inputs name kind log o = record {
   alike = λ never.
       let ends = ends_alike (halting o) (going_on o) (goes_alike o) never in
       record {

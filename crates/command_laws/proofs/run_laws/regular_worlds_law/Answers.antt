@@ -8,10 +8,10 @@ use Rattle.command_laws.proofs.RunLaws.{reasonable}
 use Rattle.command_laws.proofs.run_laws.regular_worlds_law.Goals as goal
 
 pub returns-clause-worlds : goal.returns-clause-worlds
-returns-clause-worlds c t name kind o = has_regular_worlds (reasonable o) o.booted
+returns-clause-worlds c inputs name kind o = has_regular_worlds (reasonable o) o.booted
 
 pub returns-clause-memory : goal.returns-clause-memory
-returns-clause-memory c t name kind o quanta =
+returns-clause-memory c inputs name kind o quanta =
     let is = reasonable o in
     let b = o.booted in
     let headers = b.brought.headers in
