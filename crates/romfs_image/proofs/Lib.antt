@@ -7,3 +7,9 @@ pub mod Names
 pub mod Walks
 pub mod Entries
 pub mod Steps
+pub mod Written
+pub mod Open
+pub mod Passes
+pub mod Returns
+pub mod Supers
+pub mod Inverse

@@ -14,7 +14,7 @@ use Rattle.romfs_image.specs.Given.{is_name, is_plain, is_new, from_folder, fold
 use Rattle.romfs_image.specs.Code.{AreNamed}
 use Rattle.romfs_image.specs.Text.{with_padding, name_text, header_text, header_len, node_len, dots_text, node_text, nodes_text, place_at, places, headers_of, file_bits, end_at, first_in, list_text, image_text, rom_text}
 
-length-with_padding : (bytes : List ℕ) → length (with_padding bytes) ≡ padded (length bytes)
+pub length-with_padding : (bytes : List ℕ) → length (with_padding bytes) ≡ padded (length bytes)
 length-with_padding bytes =
     omega (arith, length-append bytes (replicate (padded (length bytes) - length bytes) 0), length-replicate {A = ℕ} (padded (length bytes) - length bytes) 0)
 
@@ -25,7 +25,7 @@ pub length-header_text : (next info size : ℕ) (name : List ℕ) → length (he
 unfolding header_text
 length-header_text next info size name = omega (arith, length-name_text name)
 
-length-node_text : (p : Place) (n : RomValue) (kind : RomKind) → n.kind ≡ kind → length (node_text p n) ≡ node_len n
+pub length-node_text : (p : Place) (n : RomValue) (kind : RomKind) → n.kind ≡ kind → length (node_text p n) ≡ node_len n
 unfolding node_text node_len dots_text
 length-node_text p n Dir is =
     rw is (omega (
@@ -74,7 +74,7 @@ length-rom_text ns = omega (arith, length-list_text ns)
 
 -- ---- what the condition says of lengths
 
-plain_fits : (n : RomValue) (kind : RomKind) → n.kind ≡ kind → is_plain kind n ≡ true → length n.bytes ≤ node_len n
+pub plain_fits : (n : RomValue) (kind : RomKind) → n.kind ≡ kind → is_plain kind n ≡ true → length n.bytes ≤ node_len n
 unfolding node_len
 plain_fits n Dir is plain = rw is (omega (arith, eqb-true (length n.bytes) 0 (and_parts n.exec (length n.bytes == 0) plain).1))
 plain_fits n File is plain = rw is (omega arith)

@@ -1,8 +1,13 @@
 //! Laws on the definitions of the format, each the contract of a function that does nothing.
 
-ghost use Rattle.romfs_image.specs.Laws.{StepsSuffice};
+ghost use Rattle.romfs_image.specs.Laws.{StepsSuffice, TextReads};
 
 /// The walk over an image ends by itself, and not for want of steps.
 pub fn steps_suffice()
     ensures { StepsSuffice }
+{}
+
+/// What is written for nodes has no fault, and is read as these nodes.
+pub fn text_reads()
+    ensures { TextReads }
 {}
