@@ -20,24 +20,24 @@ three_each at [] = omega arith
 three_each at (n ∷ ns) = omega (arith, three_each (at + node_len n) ns, node_least n n.kind refl)
 
 -- where the root's list stands
-root_here : (ns : List RomValue) → drop 32 (rom_text ns) ≡ header_text 73 32 0 (codes ".") ++ (header_text (first_in 0 96 ns) 32 0 (codes "..") ++ nodes_text (places (headers_of ns) 1 96 ns) ns)
+pub root_here : (ns : List RomValue) → drop 32 (rom_text ns) ≡ header_text 73 32 0 (codes ".") ++ (header_text (first_in 0 96 ns) 32 0 (codes "..") ++ nodes_text (places (headers_of ns) 1 96 ns) ns)
 unfolding rom_text list_text
 root_here ns = text_behind (list_text ns)
 
-root_second : (ns : List RomValue) → drop 64 (rom_text ns) ≡ header_text (first_in 0 96 ns) 32 0 (codes "..") ++ nodes_text (places (headers_of ns) 1 96 ns) ns
+pub root_second : (ns : List RomValue) → drop 64 (rom_text ns) ≡ header_text (first_in 0 96 ns) 32 0 (codes "..") ++ nodes_text (places (headers_of ns) 1 96 ns) ns
 root_second ns =
     behind_front (rom_text ns) (header_text 73 32 0 (codes ".")) (header_text (first_in 0 96 ns) 32 0 (codes "..") ++ nodes_text (places (headers_of ns) 1 96 ns) ns) 32 32
     (length-header_text 73 32 0 (codes ".")) (root_here ns)
 
-root_behind : (ns : List RomValue) → drop 96 (rom_text ns) ≡ nodes_text (places (headers_of ns) 1 96 ns) ns
+pub root_behind : (ns : List RomValue) → drop 96 (rom_text ns) ≡ nodes_text (places (headers_of ns) 1 96 ns) ns
 root_behind ns =
     behind_front (rom_text ns) (header_text (first_in 0 96 ns) 32 0 (codes "..")) (nodes_text (places (headers_of ns) 1 96 ns) ns) 64 32 (length-header_text (first_in 0 96 ns) 32 0 (codes "..")) (root_second ns)
 
-root_end : (ns : List RomValue) → name_end (rom_text ns) 0 ≡ 32
+pub root_end : (ns : List RomValue) → name_end (rom_text ns) 0 ≡ 32
 unfolding rom_text
 root_end ns = text_end (list_text ns)
 
-root_walked : (ns : List RomValue) → AreNodes ns → length (rom_text ns) ≤ most_bytes → walked (rom_text ns) ≡ Ok (entries_of (headers_of ns) 1 96 ns)
+pub root_walked : (ns : List RomValue) → AreNodes ns → length (rom_text ns) ≤ most_bytes → walked (rom_text ns) ≡ Ok (entries_of (headers_of ns) 1 96 ns)
 unfolding walked
 root_walked ns nodes fit =
     let y = rom_text ns in

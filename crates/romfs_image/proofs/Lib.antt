@@ -13,3 +13,4 @@ pub mod Passes
 pub mod Returns
 pub mod Supers
 pub mod Inverse
+pub mod Dots

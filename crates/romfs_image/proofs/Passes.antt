@@ -127,41 +127,62 @@ file_taken k y before p n rest levels found kind place name new here later =
     by true = (omega (arith, place.few_next), omega (arith, place.next), omega (arith, place.next), eq-eqb ((p.next + 10) / 8 % 2) 1 (omega (arith, place.next)))
     by false = (omega (arith, place.few_next), omega (arith, place.next), omega (arith, place.next), ne_eqb ((p.next + 2) / 8 % 2) 1 (λ e. absurd (omega (arith, place.next, e))))
 
--- a folder, and its `.` and `..`
+-- the headers of a folder's text, one behind the other
+pub record IsFolderText (y : List ℕ) (p : Place) (n : RomValue) (rest : List ℕ) : Type 0 where
+  pub own : drop p.at y ≡ header_text (p.next + 9) (p.at + header_len n.name) 0 n.name ++ (dots_text (p.at + header_len n.name) p.at p.parent p.first ++ rest)
+  pub one : drop (p.at + header_len n.name) y ≡ header_text (p.at + header_len n.name + 32) p.at 0 (codes ".") ++ (header_text p.first p.parent 0 (codes "..") ++ rest)
+  pub two : drop (p.at + header_len n.name + 32) y ≡ header_text p.first p.parent 0 (codes "..") ++ rest
+
+pub folder_text : (y : List ℕ) (p : Place) (n : RomValue) (rest : List ℕ) → n.kind ≡ Dir → drop p.at y ≡ node_text p n ++ rest → IsFolderText y p n rest
+unfolding node_text dots_text
+folder_text y p n rest kind here =
+    let list = p.at + header_len n.name in
+    let front = header_text (p.next + 9) list 0 n.name in
+    let one = header_text (list + 32) p.at 0 (codes ".") in
+    let two = header_text p.first p.parent 0 (codes "..") in
+    let text : drop p.at y ≡ front ++ ((one ++ two) ++ rest) = here ∙ rw kind (append_assoc front (one ++ two) rest) in
+    let dots = behind_front y front ((one ++ two) ++ rest) p.at (header_len n.name) (length-header_text (p.next + 9) list 0 n.name) text ∙ append_assoc one two rest in
+    record { own = text; one = dots; two = behind_front y one (two ++ rest) list 32 (length-header_text (list + 32) p.at 0 (codes ".")) dots }
+
+-- it is read as the node's header
+pub folder_read : (p : Place) (n : RomValue) → IsPlace p n → length n.name ≤ 255 → read_header p.at (p.next + 9) (p.at + header_len n.name) 0 n.name ≡ header_of Dir p n
+folder_read p n place few =
+    let next : (p.next + 9) / 16 * 16 ≡ p.next = omega (arith, place.next) in
+    let type : (p.next + 9) % 8 ≡ 1 = omega (arith, place.next) in
+    let exec : ((p.next + 9) / 8 % 2 == 1) ≡ true = eq-eqb ((p.next + 9) / 8 % 2) 1 (omega (arith, place.next)) in
+    let info : (p.at + header_len n.name) % 2 ^ 32 / 16 * 16 ≡ p.at + header_len n.name = omega (arith, place.at, place.few_at, few) in
+    λ i. record { next = next i; kind = type i; exec = exec i; info = info i; size = 0; name = n.name; body = p.at + header_len n.name }
+
+pub folder_stands : (y : List ℕ) (p : Place) (n : RomValue) (rest : List ℕ) → IsPlace p n → IsName n.name → IsFolderText y p n rest
+    → Stands y p.at (p.next + 9) (p.at + header_len n.name) 0 n.name (dots_text (p.at + header_len n.name) p.at p.parent p.first ++ rest)
+folder_stands y p n rest place name text = record { here = text.own; small_word = omega (arith, place.few_next); small_size = omega arith; ended = name.ended }
+
+-- the walk takes the folder, and passes over its `.` and `..`
 pub folder_taken : (k : ℕ) (y : List ℕ) (before : ℕ) (p : Place) (n : RomValue) (rest : List ℕ) (levels : List Level) (found : List Entry)
     → n.kind ≡ Dir → IsPlace p n → IsName n.name → list_any (is_named n.parent n.name) found ≡ false → drop p.at y ≡ node_text p n ++ rest → before < p.at
     → walk (suc (suc (suc k))) y before (record { at = p.at; folder = n.parent } ∷ levels) found
     ≡ walk k y (p.at + header_len n.name + 32) (pending p.first (length found + 1) (pending p.next n.parent levels)) (found ++ entry_of p n ∷ [])
-unfolding node_text dots_text
 folder_taken k y before p n rest levels found kind place name new here later =
     let word = p.next + 9 in
     let list = p.at + header_len n.name in
     let number = length found + 1 in
     let level : Level = record { at = p.at; folder = n.parent } in
-    let one = header_text (list + 32) p.at 0 (codes ".") in
+    let text = folder_text y p n rest kind here in
     let two = header_text p.first p.parent 0 (codes "..") in
-    let text : drop p.at y ≡ header_text word list 0 n.name ++ ((one ++ two) ++ rest) = here ∙ rw kind (append_assoc (header_text word list 0 n.name) (one ++ two) rest) in
-    let stands : Stands y p.at word list 0 n.name ((one ++ two) ++ rest) = record { here = text; small_word = omega (arith, place.few_next); small_size = omega arith; ended = name.ended } in
-    let next : word / 16 * 16 ≡ p.next = omega (arith, place.next) in
-    let type : word % 8 ≡ 1 = omega (arith, place.next) in
-    let exec : (word / 8 % 2 == 1) ≡ true = eq-eqb (word / 8 % 2) 1 (omega (arith, place.next)) in
-    let info : list % 2 ^ 32 / 16 * 16 ≡ list = omega (arith, place.at, place.few_at, name.few) in
-    let same : read_header p.at word list 0 n.name ≡ header_of Dir p n = (λ i. record { next = next i; kind = type i; exec = exec i; info = info i; size = 0; name = n.name; body = list }) in
-    let no_file : (word % 8 == 2) ≡ false = ne_eqb (word % 8) 2 (λ e. absurd (omega (arith, e, type))) in
+    let dots = dots_text list p.at p.parent p.first ++ rest in
+    let no_file : (word % 8 == 2) ≡ false = ne_eqb (word % 8) 2 (λ e. absurd (omega (arith, e, place.next))) in
     let more = found ++ entry_of p n ∷ [] in
     let behind = pending p.next n.parent levels in
-    let dots : drop list y ≡ one ++ (two ++ rest) = behind_front y (header_text word list 0 n.name) ((one ++ two) ++ rest) p.at (header_len n.name) (length-header_text word list 0 n.name) text ∙ append_assoc one two rest in
-    let second : drop (list + 32) y ≡ two ++ rest = behind_front y one (two ++ rest) list 32 (length-header_text (list + 32) p.at 0 (codes ".")) dots in
-    taken (suc (suc k)) y before p.at word list 0 n.name ((one ++ two) ++ rest) n.parent levels found stands later (name_good p.at word list 0 n.name name)
-    (ap (λ b. b && nat_lt (length ((one ++ two) ++ rest)) 0) no_file) (none_new n.parent (read_header p.at word list 0 n.name) found new)
-    ∙ ap (λ (g : Header). walk (suc (suc k)) y p.at (levels_behind g n.parent number levels) (entries_behind g level found)) same
+    taken (suc (suc k)) y before p.at word list 0 n.name dots n.parent levels found (folder_stands y p n rest place name text) later (name_good p.at word list 0 n.name name)
+    (ap (λ b. b && nat_lt (length dots) 0) no_file) (none_new n.parent (read_header p.at word list 0 n.name) found new)
+    ∙ ap (λ (g : Header). walk (suc (suc k)) y p.at (levels_behind g n.parent number levels) (entries_behind g level found)) (folder_read p n place name.few)
     ∙ (let is : is_node (header_of Dir p n) ≡ true = name_node (header_of Dir p n) name refl in
     rw (is, kind) refl)
     ∙ ap (λ ls. walk (suc (suc k)) y p.at ls more) (goes_on list number behind (omega arith))
-    ∙ dots_taken (suc k) y p.at list (list + 32) p.at (codes ".") (two ++ rest) number behind more one_dot dots (omega (arith, place.few_at, name.few)) (omega (arith, place.at)) (omega arith)
+    ∙ dots_taken (suc k) y p.at list (list + 32) p.at (codes ".") (two ++ rest) number behind more one_dot text.one (omega (arith, place.few_at, name.few)) (omega (arith, place.at)) (omega arith)
     ∙ ap (λ at. walk (suc k) y list (pending at number behind) more) (let e : (list + 32) / 16 * 16 ≡ list + 32 = omega (arith, place.at) in e)
     ∙ ap (λ ls. walk (suc k) y list ls more) (goes_on (list + 32) number behind (omega arith))
-    ∙ dots_taken k y list (list + 32) p.first p.parent (codes "..") rest number behind more two_dots second (omega (arith, place.few_first)) (omega (arith, place.first)) (omega arith)
+    ∙ dots_taken k y list (list + 32) p.first p.parent (codes "..") rest number behind more two_dots text.two (omega (arith, place.few_first)) (omega (arith, place.first)) (omega arith)
     ∙ ap (λ at. walk k y (list + 32) (pending at number behind) more) (let e : p.first / 16 * 16 ≡ p.first = omega (arith, place.first) in e)
   where
     goes_on : (at folder : ℕ) (levels : List Level) → 0 < at → pending at folder levels ≡ record { at = at; folder = folder } ∷ levels

@@ -29,7 +29,7 @@ entries_of headers number at (n ∷ ns) = entry_of (place_at headers number at n
 
 -- ---- where nodes stand
 
-node_len_16 : (n : RomValue) (kind : RomKind) → n.kind ≡ kind → node_len n % 16 ≡ 0
+pub node_len_16 : (n : RomValue) (kind : RomKind) → n.kind ≡ kind → node_len n % 16 ≡ 0
 unfolding node_len
 node_len_16 n Dir is = rw is (omega arith)
 node_len_16 n File is = rw is (omega arith)
@@ -50,7 +50,7 @@ first_16 folder at (n ∷ ns) even = elim (cases_Bool (n.parent == folder)) [
   | inr later ↦ rw later (first_16 folder (at + node_len n) ns (omega (arith, even, node_len_16 n n.kind refl)))
 ]
 
-is_place : (headers : List ℕ) (number at : ℕ) (n : RomValue) (ns : List RomValue) → at % 16 ≡ 0 → end_at at (n ∷ ns) ≤ most_bytes → is_plain n.kind n ≡ true → IsPlace (place_at headers number at n ns) n
+pub is_place : (headers : List ℕ) (number at : ℕ) (n : RomValue) (ns : List RomValue) → at % 16 ≡ 0 → end_at at (n ∷ ns) ≤ most_bytes → is_plain n.kind n ≡ true → IsPlace (place_at headers number at n ns) n
 is_place headers number at n ns even fit plain =
     let then = at + node_len n in
     let end = end_above then ns in

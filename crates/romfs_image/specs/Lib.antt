@@ -7,7 +7,7 @@
 -- Text: the one text that is written for nodes.
 -- Given: which nodes can be written.
 -- Code: what contracts see of the code's types.
--- Laws: that the walk ends.
+-- Laws: that the walk ends, that what is written is read again, and what `.` and `..` name in it.
 pub mod Words
 pub mod Header
 pub mod Fault

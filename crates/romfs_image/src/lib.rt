@@ -14,7 +14,7 @@ mod rom;
 mod walk;
 
 pub use fault::{MakeFault, RomFault};
-pub use laws::{steps_suffice, text_reads};
+pub use laws::{dots_lead, steps_suffice, text_reads};
 pub use making::make;
 pub use node::{RomKind, RomNode};
 pub use rom::Rom;
