@@ -6,7 +6,7 @@ use Rattle.std.proofs.lemmas.List.Folds.{list_any_at, list_any-append}
 use Rattle.romfs_image.specs.declared.walk.Entry as code
 use Rattle.romfs_image.specs.Walk.{Entry}
 use Rattle.romfs_image.specs.Reading.{is_file_at, is_dangling, FilesFit}
-use Rattle.romfs_image.specs.Code.{entry_value, found}
+use Rattle.romfs_image.specs.Code.{kind_number, entry_value, found}
 
 -- one more entry
 pub found_more : (xs : List code.Entry) (i : ℕ) (d : code.Entry) → i < length xs → found (take (i + 1) xs) ≡ found (take i xs) ++ entry_value (get_or xs i d) ∷ []
@@ -37,13 +37,13 @@ none_more p xs i d lt none other =
 
 -- a hard link that doesn't dangle names words in the image
 pub link_fits : (y : List ℕ) (xs : List code.Entry) (i : ℕ) (d : code.Entry) → FilesFit y (found xs) → list_any (is_dangling (found xs)) (found xs) ≡ false → i < length xs
-    → (get_or xs i d).header.kind ≡ 0 → (get_or xs i d).header.info + 16 ≤ length y
+    → kind_number (get_or xs i d).header.kind ≡ 0 → (get_or xs i d).header.info + 16 ≤ length y
 unfolding is_dangling
 link_fits y xs i d fit none lt kind =
     let h = (get_or xs i d).header in
     elim (cases_Bool (list_any (is_file_at h.info) (found xs))) [
       | inl there ↦ fit h.info there
       | inr absent ↦
-          let dangles : is_dangling (found xs) (entry_value (get_or xs i d)) ≡ true = rw (eq-eqb h.kind 0 kind, absent) refl in
+          let dangles : is_dangling (found xs) (entry_value (get_or xs i d)) ≡ true = rw (eq-eqb (kind_number h.kind) 0 kind, absent) refl in
           absurd (both_ways (list_any (is_dangling (found xs)) (found xs)) none (any_entry (is_dangling (found xs)) xs i d lt dangles))
     ]

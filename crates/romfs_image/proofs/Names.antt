@@ -1,5 +1,5 @@
 -- The set of names beside the list of entries.
-use Rattle.std.proofs.Common.{◌≡◌, ℕ, Bool, true, false, cond, ◌&&◌, ◌||◌, ◌==◌, not, ◌≢◌, bytes_eq, List, [], ◌∷◌, ◌++◌, refl, sym, ap, ◌∙◌}
+use Rattle.std.proofs.Common.{◌≡◌, ℕ, Bool, true, false, cond, ◌&&◌, ◌||◌, ◌==◌, not, bytes_eq, List, [], ◌∷◌, ◌++◌, refl, sym, ap, ◌∙◌}
 use Rattle.std.specs.Prelude.{None, Some}
 use Rattle.std.specs.List.{list_any}
 use Rattle.std.specs.Ordering.{nat_cmp}
@@ -8,7 +8,6 @@ use Rattle.std.specs.Cmp.Lexicographic.{slice_cmp, lists_ties}
 use Rattle.std.specs.Borrow.{Bor}
 use Rattle.std.specs.BTreeSet as tree
 use Rattle.std.specs.BTreeMap.{is_at}
-use Rattle.std.proofs.lemmas.Bool.{eq-eqb, ne_eqb}
 use Rattle.std.proofs.lemmas.List.Folds.{list_any-append}
 use Rattle.romfs_image.specs.declared.fault.RomFault.TheVariants as fault
 use Rattle.romfs_image.specs.Header.{Header}
@@ -67,26 +66,26 @@ not_false false p = absurd cc
 
 -- ---- the positions of files
 
-pub files_new : (old new : tree.BTreeSet ℕ) (entries : List Entry) (e : Entry) → tree.Updates nat_cmp old new e.at true → e.header.kind ≡ 2 → HasFiles old entries → HasFiles new (entries ++ e ∷ [])
+pub files_new : (old new : tree.BTreeSet ℕ) (entries : List Entry) (e : Entry) → tree.Updates nat_cmp old new e.at true → (e.header.kind == 2) ≡ true → HasFiles old entries → HasFiles new (entries ++ e ∷ [])
 unfolding is_file_at
 files_new old new entries e updates kind has = λ q.
     updates.0 q
     ∙ ap (λ b. cond b true (tree.contains nat_cmp old q)) (sym (unsigned_ties e.at q))
     ∙ cond_or (e.at == q) (tree.contains nat_cmp old q)
     ∙ ap (λ b. b || ((e.at == q) || false)) (has q)
-    ∙ ap (λ b. list_any (is_file_at q) entries || (b || false)) (sym (both_true (e.at == q) (e.header.kind == 2) (eq-eqb e.header.kind 2 kind)))
+    ∙ ap (λ b. list_any (is_file_at q) entries || (b || false)) (sym (both_true (e.at == q) (e.header.kind == 2) kind))
     ∙ sym (list_any-append (is_file_at q) entries (e ∷ []))
   where
     both_true : (a b : Bool) → b ≡ true → (a && b) ≡ a
     both_true true b p = p
     both_true false b p = refl
 
-pub files_same : (files : tree.BTreeSet ℕ) (entries : List Entry) (e : Entry) → e.header.kind ≢ 2 → HasFiles files entries → HasFiles files (entries ++ e ∷ [])
+pub files_same : (files : tree.BTreeSet ℕ) (entries : List Entry) (e : Entry) → (e.header.kind == 2) ≡ false → HasFiles files entries → HasFiles files (entries ++ e ∷ [])
 unfolding is_file_at
 files_same files entries e other has = λ q.
     has q
     ∙ or_none (list_any (is_file_at q) entries)
-    ∙ ap (λ b. list_any (is_file_at q) entries || (b || false)) (sym (ap (λ b. (e.at == q) && b) (ne_eqb e.header.kind 2 other) ∙ and_false (e.at == q)))
+    ∙ ap (λ b. list_any (is_file_at q) entries || (b || false)) (sym (ap (λ b. (e.at == q) && b) other ∙ and_false (e.at == q)))
     ∙ sym (list_any-append (is_file_at q) entries (e ∷ []))
   where
     or_none : (a : Bool) → a ≡ (a || (false || false))

@@ -9,6 +9,8 @@ use Rattle.std.specs.BTreeSet as tree
 use Rattle.std.specs.BTreeMap as heads_map
 use Rattle.std.specs.Option.{unwrap_or}
 use Rattle.romfs_image.specs.declared.header.Header as code
+use Rattle.romfs_image.specs.declared.kind.HeaderKind.{HeaderKind}
+use Rattle.romfs_image.specs.declared.kind.HeaderKind.TheVariants.{HardLink, Folder, File, SymbolicLink, BlockDevice, CharDevice, Socket, Fifo}
 use Rattle.romfs_image.specs.declared.node.RomNode as node
 use Rattle.romfs_image.specs.declared.walk.Entry as code_entry
 use Rattle.romfs_image.specs.declared.walk.Level.{Level}
@@ -19,8 +21,19 @@ use Rattle.romfs_image.specs.Nodes.{RomValue}
 use Rattle.romfs_image.specs.declared.making.Place.{Place}
 use Rattle.romfs_image.specs.Text.{node_len, first_in, place_at, most_bytes}
 
+-- the number of a type
+abbrev pub kind_number : HeaderKind → ℕ
+kind_number HardLink = 0
+kind_number Folder = 1
+kind_number File = 2
+kind_number SymbolicLink = 3
+kind_number BlockDevice = 4
+kind_number CharDevice = 5
+kind_number Socket = 6
+kind_number Fifo = 7
+
 abbrev pub header_value : code.Header → Header
-header_value h = record { next = h.next; kind = h.kind; exec = h.exec; info = h.info; size = h.size; name = h.name.now; body = h.body }
+header_value h = record { next = h.next; kind = kind_number h.kind; exec = h.exec; info = h.info; size = h.size; name = h.name.now; body = h.body }
 
 abbrev pub node_value : node.RomNode → RomValue
 node_value n = record { parent = n.parent; name = n.name.now; kind = n.kind; bytes = n.bytes.now; exec = n.exec }

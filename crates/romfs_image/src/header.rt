@@ -2,20 +2,14 @@
 
 ghost use Rattle.std.specs.Prelude.{◌≡◌, ◌+◌, ◌-◌, ◌<◌, ◌≤◌, ◌==◌, ◌%◌, ◌^◌, length, take, drop, position, Some, None, MatchResult};
 ghost use Rattle.std.specs.List.{before_first};
-ghost use Rattle.romfs_image.specs.Words.{word_sum};
+ghost use Rattle.romfs_image.specs.Words.{word_sum, padded};
 ghost use Rattle.romfs_image.specs.Header.{name_at, name_end, header_at, header_bytes, file_bytes};
 ghost use Rattle.romfs_image.specs.Fault.{sums_to_zero, is_dots, is_bad_name, is_node, header_fault};
 ghost use Rattle.romfs_image.specs.Code.{header_value};
 
 use crate::fault::RomFault;
+use crate::kind::HeaderKind;
 use byte_words::big_word;
-
-/// The types of headers that aren't passed over.
-pub const LINK: u32 = 0;
-
-pub const FOLDER: u32 = 1;
-
-pub const FILE: u32 = 2;
 
 /// The most bytes of a name.
 const MOST_NAME: usize = 255;
@@ -27,8 +21,7 @@ pub const WORDS_LEN: usize = 16;
 #[derive(Clone, Copy)]
 pub struct Header<'a> {
     pub next: u32,
-    /// 0 hard link, 1 folder, 2 file.
-    pub kind: u32,
+    pub kind: HeaderKind,
     pub exec: bool,
     pub info: u32,
     pub size: u32,
@@ -62,6 +55,14 @@ pub fn name_at(image: &[u8], at: usize) -> &[u8]
     before_zero(image.split_at(image.len().min(at + WORDS_LEN)).1)
 }
 
+/// The next multiple of 16.
+pub fn padded(len: usize) -> usize
+    requires { len ≤ 2 ^ 63 }
+    ensures { result ≡ padded len }
+{
+    (len + 15) / 16 * 16
+}
+
 /// The position behind that name with its zero and padding.
 #[tactic(auto, unfolding(crate::specs::Header::name_end))]
 pub fn name_end(image: &[u8], at: usize) -> usize
@@ -70,7 +71,7 @@ pub fn name_end(image: &[u8], at: usize) -> usize
     ensures value { result ≡ name_end image.now at }
     ensures past { at + 32 ≤ result }
 {
-    at + WORDS_LEN + (name_at(image, at).len() + 1 + 15) / 16 * 16
+    at + WORDS_LEN + padded(name_at(image, at).len() + 1)
 }
 
 /// The header at a position.
@@ -84,7 +85,7 @@ pub fn header_at(image: &[u8], at: usize) -> Header<'_>
     let next = big_word(image, at);
     Header {
         next: next / 16 * 16,
-        kind: next % 8,
+        kind: HeaderKind::of(next),
         exec: next / 8 % 2 == 1,
         info: big_word(image, at + 4) / 16 * 16,
         size: big_word(image, at + 8),
@@ -139,7 +140,7 @@ fn is_bad_name(header: &Header<'_>) -> bool
     name.is_empty()
         || name.len() > MOST_NAME
         || name.contains(&b'/')
-        || (is_dots(name) && header.kind > FOLDER)
+        || (is_dots(name) && !header.kind.is_link() && !header.kind.is_folder())
 }
 
 /// Whether a header is a hard link, a folder or a file that isn't passed over.
@@ -147,7 +148,8 @@ fn is_bad_name(header: &Header<'_>) -> bool
 pub fn is_node(header: &Header<'_>) -> bool
     ensures { result ≡ is_node (header_value header.now) }
 {
-    header.kind <= FILE && !is_dots(header.name)
+    let kind = header.kind;
+    (kind.is_link() || kind.is_folder() || kind.is_file()) && !is_dots(header.name)
 }
 
 /// The header at a position, behind one at `before`, unless it has one of the faults `Header` to `Range`.
@@ -172,7 +174,7 @@ pub fn sound_header(image: &[u8], before: u32, at: u32) -> Result<Header<'_>, Ro
     if at <= before {
         return Err(RomFault::Order);
     }
-    if header.kind == FILE && header.body + header.size as usize > image.len() {
+    if header.kind.is_file() && header.body + header.size as usize > image.len() {
         return Err(RomFault::Range);
     }
     Ok(header)

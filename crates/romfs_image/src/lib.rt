@@ -6,6 +6,7 @@
 
 mod fault;
 mod header;
+mod kind;
 mod laws;
 mod links;
 mod making;

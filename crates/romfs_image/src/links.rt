@@ -4,10 +4,11 @@ ghost use Rattle.std.specs.Prelude.{◌≡◌, ◌+◌, ◌<◌, ◌≤◌, ◌^
 ghost use Rattle.std.specs.List.{list_any};
 ghost use Rattle.romfs_image.specs.declared.fault.RomFault.TheVariants.{Memory};
 ghost use Rattle.romfs_image.specs.Reading.{is_dangling, file_of, node_of, linked, FilesFit};
-ghost use Rattle.romfs_image.specs.Code.{header_value, entry_value, node_value, found, HasFiles, AddsFile, Dangles};
+ghost use Rattle.romfs_image.specs.Code.{kind_number, header_value, entry_value, node_value, found, HasFiles, AddsFile, Dangles};
 
 use crate::fault::RomFault;
-use crate::header::{FILE, FOLDER, Header, LINK, file_bytes, header_at};
+use crate::header::{Header, file_bytes, header_at};
+use crate::kind::HeaderKind;
 use crate::node::{RomKind, RomNode};
 use crate::walk::Entry;
 use std::alloc::{AllocError, Global};
@@ -17,7 +18,7 @@ use std::collections::BTreeSet;
 fn add_file(files: &mut BTreeSet<u32>, entry: &Entry<'_>) -> Result<(), AllocError>
     ensures { OnOk result (AddsFile files.old files.new (entry_value entry.now)) }
 {
-    if entry.header.kind == FILE {
+    if entry.header.kind.is_file() {
         files.insert(entry.at)?;
     }
     Ok(())
@@ -38,7 +39,7 @@ fn files_of(alloc: Global, entries: &[Entry<'_>]) -> Result<BTreeSet<u32>, Alloc
 fn is_dangling(files: &BTreeSet<u32>, entry: &Entry<'_>) -> bool
     ensures { Dangles files.now (entry_value entry.now) result }
 {
-    entry.header.kind == LINK && !files.contains(&entry.header.info)
+    entry.header.kind.is_link() && !files.contains(&entry.header.info)
 }
 
 fn some_dangles(files: &BTreeSet<u32>, entries: &[Entry<'_>]) -> bool
@@ -70,23 +71,21 @@ fn file_of<'a>(image: &'a [u8], entry: &Entry<'a>, header: &Header<'_>) -> RomNo
 #[tactic(auto, unfolding(crate::specs::Reading::node_of))]
 fn node_of<'a>(image: &'a [u8], entry: &Entry<'a>) -> RomNode<'a>
     requires long { length image.now < 2 ^ 32 }
-    requires link { entry.now.header.kind ≡ 0 → entry.now.header.info + 16 ≤ length image.now }
+    requires link { kind_number entry.now.header.kind ≡ 0 → entry.now.header.info + 16 ≤ length image.now }
     ensures { node_value result ≡ node_of image.now (entry_value entry.now) }
 {
     let header = &entry.header;
-    if header.kind == FOLDER {
-        return RomNode {
+    match header.kind {
+        HeaderKind::Folder => RomNode {
             parent: entry.folder,
             name: header.name,
             kind: RomKind::Dir,
             bytes: image.split_at(0).0,
-            exec: entry.header.exec,
-        };
+            exec: header.exec,
+        },
+        HeaderKind::HardLink => file_of(image, entry, &header_at(image, header.info as usize)),
+        _ => file_of(image, entry, header),
     }
-    if header.kind == LINK {
-        return file_of(image, entry, &header_at(image, header.info as usize));
-    }
-    file_of(image, entry, header)
 }
 
 fn nodes_of<'a>(

@@ -8,18 +8,27 @@ ghost use Rattle.romfs_image.specs.declared.fault.MakeFault.TheVariants as MakeF
 ghost use Rattle.romfs_image.specs.Code.{node_value, Places, AreNamed, HasHeads, AreSmall};
 
 use crate::fault::MakeFault;
-use crate::header::sum_of;
+use crate::header::{WORDS_LEN, padded, sum_of};
 use crate::node::{RomKind, RomNode};
 use std::alloc::{AllocError, Global};
 use std::collections::BTreeMap;
 
-/// The executable bit and a folder's type, beside the position of the next header.
+/// A folder's type, 1, and the executable bit, 8, beside the position of the next header.
 const FOLDER_BITS: u32 = 9;
+
+/// A file's type.
+const FILE_BITS: u32 = 2;
+
+/// A file's type and the executable bit.
+const PROGRAM_BITS: u32 = 10;
 
 /// The position of the root's header, and that behind its `..`.
 const ROOT: u32 = 32;
 
 const FIRST_NODE: u32 = 96;
+
+/// The bytes of a folder's `.` and `..`.
+const DOTS_LEN: u32 = 64;
 
 /// The most bytes of an image.
 pub const MOST_BYTES: u32 = 67_108_864;
@@ -39,7 +48,7 @@ fn push_padding(out: &mut Vec<u8>, len: usize) -> Result<(), AllocError>
     requires { len < 2 ^ 63 }
     ensures { OnOk result (out.new.items ≡ out.old.items ++ replicate (padded len - len) 0) }
 {
-    for _ in 0..(len + 15) / 16 * 16 - len {
+    for _ in 0..padded(len) - len {
         out.push(0)?;
     }
     Ok(())
@@ -110,6 +119,15 @@ fn push_dots(
     push_header(out, first, parent, 0, b"..")
 }
 
+/// The bytes of a header with its padded name.
+fn header_len(name: &[u8]) -> u32
+    requires { length name.now ≤ 255 }
+    ensures value { result ≡ header_len name.now }
+    ensures small { result ≤ 272 }
+{
+    (WORDS_LEN + padded(name.len() + 1)) as u32
+}
+
 /// Where a node stands, and what its headers name.
 #[derive(Clone, Copy)]
 pub struct Place {
@@ -140,12 +158,12 @@ fn push_node(out: &mut Vec<u8>, node: &RomNode<'_>, place: &Place) -> Result<(),
     } = *place;
     match node.kind {
         RomKind::Dir => {
-            let list = at + 16 + (node.name.len() as u32 + 1 + 15) / 16 * 16;
+            let list = at + header_len(node.name);
             push_header(out, next + FOLDER_BITS, list, 0, node.name)?;
             push_dots(out, list, at, parent, first)
         }
         RomKind::File => {
-            let bits = if node.exec { 10 } else { 2 };
+            let bits = if node.exec { PROGRAM_BITS } else { FILE_BITS };
             push_header(out, next + bits, 0, node.bytes.len() as u32, node.name)?;
             push_padded(out, node.bytes)
         }
@@ -160,12 +178,11 @@ fn node_len(node: &RomNode<'_>) -> u32
     ensures value { result ≡ node_len (node_value node.now) }
     ensures small { result < 2 ^ 31 }
 {
-    let header = 16 + (node.name.len() as u32 + 1 + 15) / 16 * 16;
     let behind = match node.kind {
-        RomKind::Dir => 64,
-        RomKind::File => (node.bytes.len() as u32 + 15) / 16 * 16,
+        RomKind::Dir => DOTS_LEN,
+        RomKind::File => padded(node.bytes.len()) as u32,
     };
-    header + behind
+    header_len(node.name) + behind
 }
 
 /// The position behind the last node, unless it is above `MOST_BYTES`.

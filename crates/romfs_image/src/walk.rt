@@ -8,7 +8,7 @@ ghost use Rattle.romfs_image.specs.Code.{header_value, entry_level, found, HasNa
 ghost use Rattle.romfs_image.specs.Reading.{FilesFit};
 
 use crate::fault::RomFault;
-use crate::header::{FOLDER, Header, is_node, name_end, sound_header};
+use crate::header::{Header, is_node, name_end, sound_header};
 use std::alloc::{AllocError, Global};
 use std::collections::BTreeSet;
 
@@ -49,7 +49,7 @@ fn go_behind(
     ensures { OnOk result (reverse levels.new.items ≡ levels_behind (header_value header.now) folder number (reverse levels.old.items)) }
 {
     go_on(levels, header.next, folder)?;
-    if is_node(header) && header.kind == FOLDER {
+    if is_node(header) && header.kind.is_folder() {
         go_on(levels, header.info, number)?;
     }
     Ok(())
