@@ -5,6 +5,7 @@ ghost use Rattle.std.specs.List.{before_first};
 ghost use Rattle.romfs_image.specs.Words.{word_sum, padded};
 ghost use Rattle.romfs_image.specs.Header.{name_at, name_end, header_at, header_bytes, file_bytes};
 ghost use Rattle.romfs_image.specs.Fault.{sums_to_zero, is_dots, is_bad_name, is_node, header_fault};
+ghost use Rattle.romfs_image.specs.Text.{header_len};
 ghost use Rattle.romfs_image.specs.Code.{header_value};
 
 use crate::fault::RomFault;
@@ -15,7 +16,7 @@ use byte_words::big_word;
 const MOST_NAME: usize = 255;
 
 /// The bytes of a header's words.
-pub const WORDS_LEN: usize = 16;
+const WORDS_LEN: usize = 16;
 
 /// What stands at a position of an image.
 #[derive(Clone, Copy)]
@@ -63,6 +64,13 @@ pub fn padded(len: usize) -> usize
     (len + 15) / 16 * 16
 }
 
+/// The bytes of a header with its padded name.
+pub fn header_len(name: &[u8]) -> usize
+    ensures { result ≡ header_len name.now }
+{
+    WORDS_LEN + padded(name.len() + 1)
+}
+
 /// The position behind that name with its zero and padding.
 #[tactic(auto, unfolding(crate::specs::Header::name_end))]
 pub fn name_end(image: &[u8], at: usize) -> usize
@@ -71,7 +79,7 @@ pub fn name_end(image: &[u8], at: usize) -> usize
     ensures value { result ≡ name_end image.now at }
     ensures past { at + 32 ≤ result }
 {
-    at + WORDS_LEN + padded(name_at(image, at).len() + 1)
+    at + header_len(name_at(image, at))
 }
 
 /// The header at a position.

@@ -81,7 +81,7 @@ fn node_of<'a>(image: &'a [u8], entry: &Entry<'a>) -> RomNode<'a>
             name: header.name,
             kind: RomKind::Dir,
             bytes: image.split_at(0).0,
-            exec: header.exec,
+            exec: entry.header.exec,
         },
         HeaderKind::HardLink => file_of(image, entry, &header_at(image, header.info as usize)),
         _ => file_of(image, entry, header),

@@ -8,7 +8,7 @@ ghost use Rattle.romfs_image.specs.declared.fault.MakeFault.TheVariants as MakeF
 ghost use Rattle.romfs_image.specs.Code.{node_value, Places, AreNamed, HasHeads, AreSmall};
 
 use crate::fault::MakeFault;
-use crate::header::{WORDS_LEN, padded, sum_of};
+use crate::header::{header_len, padded, sum_of};
 use crate::node::{RomKind, RomNode};
 use std::alloc::{AllocError, Global};
 use std::collections::BTreeMap;
@@ -119,15 +119,6 @@ fn push_dots(
     push_header(out, first, parent, 0, b"..")
 }
 
-/// The bytes of a header with its padded name.
-fn header_len(name: &[u8]) -> u32
-    requires { length name.now ≤ 255 }
-    ensures value { result ≡ header_len name.now }
-    ensures small { result ≤ 272 }
-{
-    (WORDS_LEN + padded(name.len() + 1)) as u32
-}
-
 /// Where a node stands, and what its headers name.
 #[derive(Clone, Copy)]
 pub struct Place {
@@ -158,7 +149,7 @@ fn push_node(out: &mut Vec<u8>, node: &RomNode<'_>, place: &Place) -> Result<(),
     } = *place;
     match node.kind {
         RomKind::Dir => {
-            let list = at + header_len(node.name);
+            let list = at + header_len(node.name) as u32;
             push_header(out, next + FOLDER_BITS, list, 0, node.name)?;
             push_dots(out, list, at, parent, first)
         }
@@ -182,7 +173,7 @@ fn node_len(node: &RomNode<'_>) -> u32
         RomKind::Dir => DOTS_LEN,
         RomKind::File => padded(node.bytes.len()) as u32,
     };
-    header_len(node.name) + behind
+    header_len(node.name) as u32 + behind
 }
 
 /// The position behind the last node, unless it is above `MOST_BYTES`.
@@ -210,7 +201,7 @@ fn headers_of(alloc: Global, nodes: &[RomNode<'_>]) -> Result<Vec<u32>, AllocErr
     requires fit { end_at 96 (map node_value nodes.now) ≤ most_bytes }
     ensures { IfOk result (λ headers. headers.items ≡ headers_of (map node_value nodes.now)) }
 {
-    let mut headers = Vec::with_capacity(alloc, nodes.len())?;
+    let mut headers = Vec::with_capacity(alloc, nodes.len() + 1)?;
     headers.push(ROOT)?;
     let mut at = FIRST_NODE;
     for node in nodes {
@@ -340,7 +331,7 @@ pub fn make(alloc: Global, nodes: &[RomNode<'_>]) -> Result<Vec<u8>, MakeFault>
     let Some(end) = end_of(nodes) else {
         return Err(MakeFault::TooLarge);
     };
-    let mut list = Vec::new(alloc);
+    let mut list = Vec::with_capacity(alloc, end as usize)?;
     push_list(alloc, &mut list, nodes, end)?;
     let mut out = Vec::with_capacity(alloc, end as usize)?;
     push_super(&mut out, end, super_sum(alloc, end, &list)?)?;
