@@ -2,7 +2,7 @@
 ghost use Rattle.command_laws.specs.Beside.{MemoryIsInOrder, MemoryIsRegular, RunsEndEarlyAlike, RunsGoOnWell, RunsOnNeverStray, RunsTellWell};
 ghost use Rattle.command_laws.specs.Headline.{RunsAreRunsAlone};
 ghost use Rattle.command_laws.specs.RunLaws.{RunsWhereItOpens, OpensWhereItStops, RunsStopOrEndEarly, RunsAreAsAlone, EndsAreAsAlone, RunsWaitWell, WorldsAreInOrder, WorldsAreRegular};
-ghost use Rattle.run_setup.specs.Originals.{OriginalsAreSame};
+ghost use Rattle.originals.specs.Originals.{OriginalsAreSame};
 
 /// The headline, of each call of `run`, over any host, sinks, manifest, placement and quanta: where it ends with one of the statuses of a
 /// machine that stopped, the status and both texts are those of the turns of private spaces (with `--go-on`, of the turns over one memory),

@@ -1,4 +1,3 @@
--- OriginalsSame: the program of an ELF file is that of its flat file.
 -- MadePrograms: the program of one line.
 -- OneLine: what one line brings in, where the tree made it or refused it.
 -- Opened: a list opened at one place.
@@ -6,7 +5,6 @@
 -- AllLines: the lines one after the other.
 -- Unchanged: lines bring in files, and change none.
 -- Samples: what a few lines bring in.
-pub mod OriginalsSame
 pub mod MadePrograms
 pub mod OneLine
 pub mod Opened

@@ -1,7 +1,6 @@
 -- The program of one line.
-use Rattle.std.proofs.Common.{◌≡◌, ℕ, ◌≤◌, Fits, w8, get_or, List, take, Some, None, Ok, Err, sym, ap, subst, ◌∙◌, arith, inl, inr}
+use Rattle.std.proofs.Common.{◌≡◌, ℕ, List, take, Some, None, Ok, Err, sym, ap, subst, ◌∙◌, arith, inl, inr}
 use Rattle.std.specs.Prelude.{◌⊎◌}
-use Rattle.byte_words.specs.Numbers.{IsBytes}
 use Rattle.bflt_format.specs.declared.fault.FlatFault.{FlatFault}
 use Rattle.bflt_format.specs.declared.fault.FlatFault.TheVariants as flat_fault
 use Rattle.bflt_format.specs.Values.{Values}
@@ -14,23 +13,18 @@ use Rattle.elf2flt_tool.specs.Fault.{fault}
 use Rattle.elf2flt_tool.specs.Converted.{converted, flat}
 use Rattle.flat_loader.specs.Original.{Original, header_len, flat_original}
 use Rattle.run_setup.specs.declared.fault.LineFault.TheVariants as line
-use Rattle.run_setup.specs.Originals.{elf_original}
+use Rattle.originals.specs.Originals.{elf_original}
 use Rattle.run_setup.specs.Brought.{elf_made, elf_made_of, flat_made, flat_made_of}
 use Rattle.run_setup.specs.Faults.{IsMemory}
-use Rattle.run_setup.proofs.OriginalsSame.{converted_original}
-
-pub bytes_of : (e : List ℕ) → ((i : ℕ) → Fits w8 (get_or e i 0)) → IsBytes e
-bytes_of e fits i = omega (arith, fits i)
 
 -- the flat file that an ELF file is converted to, and its bytes
-pub makes_elf : (e : List ℕ) (stack : ℕ) (f : Values) (bytes : List ℕ) → IsBytes e → stack ≤ 1048576 → fault e ≡ None → f ≡ converted e stack → bytes ≡ spell f
+pub makes_elf : (e : List ℕ) (stack : ℕ) (f : Values) (bytes : List ℕ) → fault e ≡ None → f ≡ converted e stack → flat_original f ≡ elf_original e stack → bytes ≡ spell f
     → elf_made_of e stack ≡ Ok (record { original = flat_original f; header = take header_len (spell f); bytes = bytes })
 unfolding flat
-makes_elf e stack f bytes are limit none is written =
-    let original : elf_original e stack ≡ flat_original f = converted_original e stack are none limit ∙ ap flat_original (sym is) in
+makes_elf e stack f bytes none is original written =
     let spelled : flat e stack ≡ spell f = ap (λ (g : Values). spell g) (sym is) in
     ap (elf_made e stack) none
-    ∙ ap (λ (o : Original). Ok (record { original = o; header = take header_len (flat e stack); bytes = flat e stack })) original
+    ∙ ap (λ (o : Original). Ok (record { original = o; header = take header_len (flat e stack); bytes = flat e stack })) (sym original)
     ∙ ap (λ (y : List ℕ). Ok (record { original = flat_original f; header = take header_len y; bytes = y })) spelled
     ∙ ap (λ (bs : List ℕ). Ok (record { original = flat_original f; header = take header_len (spell f); bytes = bs })) (sym written)
 

@@ -17,7 +17,7 @@ use Rattle.manifest_text.specs.declared.manifest.ItemKind.TheVariants.{Elf, Flat
 use Rattle.manifest_text.specs.Values.{Item}
 use Rattle.run_setup.specs.declared.fault.LineFault.{LineFault}
 use Rattle.run_setup.specs.declared.fault.LineFault.TheVariants as line
-use Rattle.run_setup.specs.Originals.{elf_original}
+use Rattle.originals.specs.Originals.{elf_original}
 
 -- a program is marked in the tree with its place in the list
 pub record Brought : Type 0 where

@@ -1,9 +1,7 @@
--- Originals  the program of an ELF file
 -- Brought    what the item lines of a manifest bring in
 -- Faults     the faults that are none of a line, and those of a place
 -- Programs   the program that the code makes of one line
 -- Making     what the code brings in, as that of the definition
-pub mod Originals
 pub mod Brought
 pub mod Faults
 pub mod Programs

@@ -6,7 +6,7 @@ ghost use Rattle.run_setup.specs.Programs.{Makes};
 
 use crate::fault::LineFault;
 use bflt_format::Flat;
-use elf2flt_tool::flat_file;
+use originals::elf_program;
 use std::alloc::Global;
 
 /// A program, and the bytes of the flat file that stands at its path.
@@ -22,7 +22,7 @@ pub(crate) fn make_elf(alloc: Global, stack: u32, file: &[u8]) -> Result<Made, L
     requires stack_limit { stack ≤ 1048576 }
     ensures { Makes (elf_made_of file.now stack) result }
 {
-    match flat_file(alloc, file, stack) {
+    match elf_program(alloc, file, stack) {
         Ok(flat) => {
             let bytes = flat.write()?;
             Ok(Made { flat, bytes })

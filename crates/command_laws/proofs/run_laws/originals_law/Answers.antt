@@ -1,5 +1,5 @@
 -- By the image law.
-use Rattle.run_setup.proofs.OriginalsSame.{originals_are_same}
+use Rattle.originals.proofs.OriginalsSame.{originals_are_same}
 use Rattle.command_laws.proofs.run_laws.originals_law.Goals as goal
 
 pub returns : goal.returns

@@ -1,17 +1,23 @@
 -- The program of an ELF file is that of its flat file.
-use Rattle.std.proofs.Common.{◌≡◌, ℕ, ◌+◌, ◌*◌, ◌/◌, ◌≤◌, List, None, sym, ap, ◌∙◌}
+use Rattle.std.proofs.Common.{◌≡◌, ℕ, ◌+◌, ◌*◌, ◌/◌, ◌≤◌, Fits, w8, get_or, List, Some, None, Result, Ok, Err, sym, ap, ◌∙◌, arith}
+use Rattle.std.specs.Prelude.{◌⊎◌, MatchResult, IfOk}
 use Rattle.std.proofs.Math.Path.{fun_ext}
 use Rattle.byte_words.specs.Numbers.{IsBytes}
 use Rattle.byte_words.specs.ByteMap.{Bytes}
 use Rattle.flat_layout.specs.Layout.{layout, size_of}
 use Rattle.bflt_format.specs.Values.{Values}
 use Rattle.bflt_format.specs.Image.{flat_image}
+use Rattle.elf2flt_tool.specs.declared.refusal.Refusal.{Refusal}
+use Rattle.elf2flt_tool.specs.declared.refusal.Refusal.TheVariants as refused
 use Rattle.elf2flt_tool.specs.Image.{image}
 use Rattle.elf2flt_tool.specs.Fault.{fault}
 use Rattle.elf2flt_tool.specs.Converted.{converted}
 use Rattle.elf2flt_tool.proofs.ImageLaw.{values_of_flat, image_law}
 use Rattle.flat_loader.specs.Original.{flat_original}
-use Rattle.run_setup.specs.Originals.{elf_original, OriginalsAreSame}
+use Rattle.originals.specs.Originals.{elf_original, OriginalsAreSame}
+
+bytes_of : (e : List ℕ) → ((i : ℕ) → Fits w8 (get_or e i 0)) → IsBytes e
+bytes_of e fits i = omega (arith, fits i)
 
 -- that of the values that the ELF file is converted to
 pub converted_original : (e : List ℕ) (stack : ℕ) → IsBytes e → fault e ≡ None → stack ≤ 1048576 → elf_original e stack ≡ flat_original (converted e stack)
@@ -24,3 +30,10 @@ converted_original e stack bytes none limit =
 pub originals_are_same : OriginalsAreSame
 originals_are_same e stack bytes none limit =
     converted_original e stack bytes none limit ∙ ap flat_original (sym (values_of_flat e stack bytes none limit))
+
+-- and that of the flat file that the conversion gives
+pub program_is : (e : List ℕ) (stack : ℕ) (r : Result Values Refusal) → ((i : ℕ) → Fits w8 (get_or e i 0)) → stack ≤ 1048576
+    → MatchResult r (λ file. (fault e ≡ None) × (file ≡ converted e stack)) (λ refusal. (refusal ≡ refused.Memory) ⊎ (fault e ≡ Some refusal))
+    → IfOk r (λ file. flat_original file ≡ elf_original e stack)
+program_is e stack (Ok file) fits limit are = ap flat_original are.1 ∙ sym (converted_original e stack (bytes_of e fits) are.0 limit)
+program_is e stack (Err refusal) fits limit are = tt

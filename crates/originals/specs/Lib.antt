@@ -1,0 +1,2 @@
+-- Originals  the program of an ELF file
+pub mod Originals
