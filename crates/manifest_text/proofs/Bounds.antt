@@ -7,9 +7,9 @@ use Rattle.std.proofs.lemmas.List.{append-nil}
 use Rattle.manifest_text.specs.declared.fault.ManifestFault.{ManifestFault}
 use Rattle.manifest_text.specs.Values.{Manifest}
 use Rattle.manifest_text.specs.Lines.{Line, Said, nothing, memory, item, start, quanta, repeat, dump, line_said}
-use Rattle.manifest_text.specs.Manifest.{Fault, Draft, draft_of, late_fault, fault_in, all_said, or_later, first_fault, is_stdin, has_stdin, first_or, manifest_by, whole, judged_lines, lines_of, manifest_of}
+use Rattle.manifest_text.specs.Manifest.{Fault, Draft, draft_of, late_fault, fault_in, all_said, or_later, first_fault, repeats, first_or, manifest_by, whole, judged_lines, judged_tree, lines_of, manifest_of, tree_manifest_of}
 use Rattle.manifest_text.specs.Reading.{added, added_line}
-use Rattle.manifest_text.specs.Laws.{IsItem, HasArgument, IsShort, Reasonable, ManifestsAreReasonable}
+use Rattle.manifest_text.specs.Laws.{IsItem, HasArgument, IsShort, Reasonable, ManifestsAreReasonable, TreeManifestsAreReasonable}
 use Rattle.manifest_text.proofs.SaidBounds.{IsSaid, Bounds, line_bounded}
 use Rattle.manifest_text.proofs.Drafts.{line_more}
 
@@ -49,7 +49,7 @@ unfolding late_fault
 added_bounded d nothing is says none = is
 added_bounded d (memory pages) is says none = record { pages = (says, tt); items = is.items; each_item = is.each_item; starts = is.starts; each_start = is.each_start; quanta = is.quanta; each_quantum = is.each_quantum; counts = is.counts }
 added_bounded d (item i) is says none =
-    let fits : nat_le 4096 (length d.items) ≡ false = passed (nat_le 4096 (length d.items)) _ (second_none (is_stdin i.kind && has_stdin d.items) (nat_le 4096 (length d.items)) _ _ none) in
+    let fits : nat_le 4096 (length d.items) ≡ false = passed (nat_le 4096 (length d.items)) _ (second_none (repeats d.items i.kind) (nat_le 4096 (length d.items)) _ _ none) in
     let len = length-append d.items (i ∷ []) in
     let below : length d.items < 4096 = grind (arith, nat_tests) in
     record { pages = is.pages; items = omega (arith, len, below); each_item = all_append IsItem d.items (i ∷ []) is.each_item (says, tt); starts = is.starts; each_start = is.each_start; quanta = is.quanta; each_quantum = is.each_quantum; counts = is.counts }
@@ -125,3 +125,13 @@ judged_reasonable lines None m none is =
 pub manifests_are_reasonable : ManifestsAreReasonable
 unfolding manifest_of
 manifests_are_reasonable text m is = judged_reasonable (lines_of text) (first_fault [] (lines_of text)) m refl is
+
+tree_reasonable : (lines : List Line) (o : Option Fault) (m : Manifest) → first_fault [] lines ≡ o → judged_tree lines o ≡ Ok m → Reasonable m
+tree_reasonable lines (Some fault) m none is = absurd cc
+tree_reasonable lines None m none is =
+    let same : manifest_by (draft_of (all_said lines)) ≡ m = cc in
+    subst Reasonable same (made (draft_of (all_said lines)) (lines_bounded [] lines opening none))
+
+pub tree_manifests_are_reasonable : TreeManifestsAreReasonable
+unfolding tree_manifest_of
+tree_manifests_are_reasonable text m is = tree_reasonable (lines_of text) (first_fault [] (lines_of text)) m refl is

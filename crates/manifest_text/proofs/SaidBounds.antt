@@ -9,11 +9,11 @@ use Rattle.manifest_text.specs.declared.fault.ManifestFault.TheVariants.{BadByte
 use Rattle.manifest_text.specs.declared.keyword.Keyword.{Keyword}
 use Rattle.manifest_text.specs.declared.keyword.Keyword.TheVariants as keyword
 use Rattle.manifest_text.specs.declared.manifest.ItemKind.{ItemKind}
-use Rattle.manifest_text.specs.declared.manifest.ItemKind.TheVariants.{Elf, Flat, File, Dir}
+use Rattle.manifest_text.specs.declared.manifest.ItemKind.TheVariants.{Elf, Flat, File, Dir, Stdin, Root}
 use Rattle.manifest_text.specs.Pieces.{Text, in_front, pieces, space, is_empty, words}
 use Rattle.manifest_text.specs.Numbers.{decimal_value, is_number, is_number_in, number_in, address, colon, is_pair, is_quantum, pair_value, quantum_value}
 use Rattle.manifest_text.specs.Paths.{is_path}
-use Rattle.manifest_text.specs.Lines.{Line, Said, nothing, memory, item, start, quanta, repeat, dump, is_bad_byte, judged, item_said, stacked_said, memory_said, elf_said, flat_said, file_said, dir_said, stdin_said, start_said, quanta_said, repeat_said, dump_of, dump_said, keyword_said, keyword_of, hash, words_said, line_said}
+use Rattle.manifest_text.specs.Lines.{Line, Said, nothing, memory, item, start, quanta, repeat, dump, is_bad_byte, judged, item_said, stacked_said, memory_said, elf_said, flat_said, file_said, dir_said, named_said, start_said, quanta_said, repeat_said, dump_of, dump_said, keyword_said, keyword_of, hash, words_said, line_said}
 use Rattle.manifest_text.specs.Laws.{HasStack, IsItem, HasArgument, IsShort}
 
 abbrev pub IsSaid : Said → Type 0
@@ -116,11 +116,11 @@ dir_bounded line [] = tt
 dir_bounded line (path ∷ []) = item_bounded line Dir path [] 0 empty_ascii refl
 dir_bounded line (path ∷ more ∷ rest) = tt
 
-stdin_bounded : (line : ℕ) (args : List Text) → AllByRecursion IsAscii args → Bounds (stdin_said line args)
-unfolding stdin_said
-stdin_bounded line [] all = tt
-stdin_bounded line (name ∷ []) all = record { name = all.0; stack = refl }
-stdin_bounded line (name ∷ more ∷ rest) all = tt
+named_bounded : (line : ℕ) (kind : ItemKind) (args : List Text) → HasStack kind 0 → AllByRecursion IsAscii args → Bounds (named_said line kind args)
+unfolding named_said
+named_bounded line kind [] has all = tt
+named_bounded line kind (name ∷ []) has all = record { name = all.0; stack = has }
+named_bounded line kind (name ∷ more ∷ rest) has all = tt
 
 memory_bounded : (args : List Text) → Bounds (memory_said args)
 unfolding memory_said
@@ -182,7 +182,8 @@ keyword_bounded line (Some keyword.Elf) args all = elf_bounded line args all
 keyword_bounded line (Some keyword.Flat) args all = flat_bounded line args all
 keyword_bounded line (Some keyword.File) args all = file_bounded line args all
 keyword_bounded line (Some keyword.Dir) args all = dir_bounded line args
-keyword_bounded line (Some keyword.Stdin) args all = stdin_bounded line args all
+keyword_bounded line (Some keyword.Stdin) args all = named_bounded line Stdin args refl all
+keyword_bounded line (Some keyword.Root) args all = named_bounded line Root args refl all
 keyword_bounded line (Some keyword.Start) args all = start_bounded line args
 keyword_bounded line (Some keyword.Quanta) args all = quanta_bounded args
 keyword_bounded line (Some keyword.Repeat) args all = repeat_bounded args

@@ -7,7 +7,7 @@ use Rattle.manifest_text.specs.declared.manifest.ItemKind.{ItemKind}
 use Rattle.manifest_text.specs.declared.manifest.ItemKind.TheVariants.{Elf}
 use Rattle.manifest_text.specs.Values.{Item, Start, Manifest}
 use Rattle.manifest_text.specs.Pieces.{Text}
-use Rattle.manifest_text.specs.Manifest.{manifest_of}
+use Rattle.manifest_text.specs.Manifest.{manifest_of, tree_manifest_of}
 
 -- the stack of an ELF file's program; the others have none
 abbrev pub HasStack : ItemKind → ℕ → Type 0
@@ -38,3 +38,6 @@ pub record Reasonable (m : Manifest) : Type 0 where
 
 abbrev pub ManifestsAreReasonable : Type 0
 ManifestsAreReasonable = (text : Text) (m : Manifest) → manifest_of text ≡ Ok m → Reasonable m
+
+abbrev pub TreeManifestsAreReasonable : Type 0
+TreeManifestsAreReasonable = (text : Text) (m : Manifest) → tree_manifest_of text ≡ Ok m → Reasonable m

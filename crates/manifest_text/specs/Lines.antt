@@ -8,7 +8,7 @@ use Rattle.manifest_text.specs.declared.fault.ManifestFault.TheVariants.{BadByte
 use Rattle.manifest_text.specs.declared.keyword.Keyword.{Keyword}
 use Rattle.manifest_text.specs.declared.keyword.Keyword.TheVariants as keyword
 use Rattle.manifest_text.specs.declared.manifest.ItemKind.{ItemKind}
-use Rattle.manifest_text.specs.declared.manifest.ItemKind.TheVariants.{Elf, Flat, File, Dir, Stdin}
+use Rattle.manifest_text.specs.declared.manifest.ItemKind.TheVariants.{Elf, Flat, File, Dir, Stdin, Root}
 use Rattle.manifest_text.specs.declared.manifest.Dump.{Dump}
 use Rattle.manifest_text.specs.Values.{Item, Start}
 use Rattle.manifest_text.specs.Pieces.{Text, words}
@@ -33,7 +33,7 @@ pub data Said : Type 0 where
 abbrev pub is_bad_byte : ℕ → Bool
 is_bad_byte b = not (nat_le 32 b && nat_le b 126)
 
--- the ten words that a line may begin with
+-- the eleven words that a line may begin with
 unfoldable pub keyword_of : Text → Option Keyword
 keyword_of word =
     if bytes_eq word (codes "memory") then Some keyword.Memory
@@ -42,6 +42,7 @@ keyword_of word =
     else if bytes_eq word (codes "file") then Some keyword.File
     else if bytes_eq word (codes "dir") then Some keyword.Dir
     else if bytes_eq word (codes "stdin") then Some keyword.Stdin
+    else if bytes_eq word (codes "root") then Some keyword.Root
     else if bytes_eq word (codes "start") then Some keyword.Start
     else if bytes_eq word (codes "quanta") then Some keyword.Quanta
     else if bytes_eq word (codes "repeat") then Some keyword.Repeat
@@ -92,10 +93,10 @@ unfoldable pub dir_said : ℕ → List Text → Result Said ManifestFault
 dir_said line (path ∷ []) = item_said line Dir path [] 0
 dir_said line _ = Err WordCount
 
--- `stdin NAME`: the console's input has no path
-unfoldable pub stdin_said : ℕ → List Text → Result Said ManifestFault
-stdin_said line (name ∷ []) = Ok (item (record { line = line; kind = Stdin; path = []; name = name; stack = 0 }))
-stdin_said line _ = Err WordCount
+-- `stdin NAME` and `root NAME`: the console's input has no path, and the nodes of an image have their own
+unfoldable pub named_said : ℕ → ItemKind → List Text → Result Said ManifestFault
+named_said line kind (name ∷ []) = Ok (item (record { line = line; kind = kind; path = []; name = name; stack = 0 }))
+named_said line kind _ = Err WordCount
 
 -- `start PATH`, then any number of words
 unfoldable pub start_said : ℕ → List Text → Result Said ManifestFault
@@ -129,7 +130,8 @@ keyword_said line (Some keyword.Elf) args = elf_said line args
 keyword_said line (Some keyword.Flat) args = flat_said line args
 keyword_said line (Some keyword.File) args = file_said line args
 keyword_said line (Some keyword.Dir) args = dir_said line args
-keyword_said line (Some keyword.Stdin) args = stdin_said line args
+keyword_said line (Some keyword.Stdin) args = named_said line Stdin args
+keyword_said line (Some keyword.Root) args = named_said line Root args
 keyword_said line (Some keyword.Start) args = start_said line args
 keyword_said line (Some keyword.Quanta) args = quanta_said args
 keyword_said line (Some keyword.Repeat) args = repeat_said args

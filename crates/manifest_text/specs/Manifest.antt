@@ -6,7 +6,7 @@ use Rattle.quantum_sched.specs.declared.Quantum.{Quantum}
 use Rattle.manifest_text.specs.declared.fault.ManifestFault.{ManifestFault}
 use Rattle.manifest_text.specs.declared.fault.ManifestFault.TheVariants.{Repeated, TooMany, NoQuanta, NoStart}
 use Rattle.manifest_text.specs.declared.manifest.ItemKind.{ItemKind}
-use Rattle.manifest_text.specs.declared.manifest.ItemKind.TheVariants.{Stdin}
+use Rattle.manifest_text.specs.declared.manifest.ItemKind.TheVariants.{Stdin, Root}
 use Rattle.manifest_text.specs.declared.manifest.Dump.{Dump}
 use Rattle.manifest_text.specs.Values.{Item, Start, Manifest}
 use Rattle.manifest_text.specs.Pieces.{Text, pieces, newline}
@@ -68,13 +68,20 @@ abbrev pub is_stdin : ItemKind → Bool
 is_stdin Stdin = true
 is_stdin _ = false
 
-abbrev pub has_stdin : List Item → Bool
-has_stdin items = list_any (λ i. is_stdin i.kind) items
+abbrev pub is_root : ItemKind → Bool
+is_root Root = true
+is_root _ = false
 
--- one stdin line, and 4096 lines of all five kinds
+-- the lines of these two kinds may stand once
+abbrev pub repeats : List Item → ItemKind → Bool
+repeats items Stdin = list_any (λ i. is_stdin i.kind) items
+repeats items Root = list_any (λ i. is_root i.kind) items
+repeats items _ = false
+
+-- one stdin line, one root line, and 4096 lines of all six kinds
 abbrev pub item_rows : List Item → ItemKind → List (Bool × ManifestFault)
 item_rows items kind =
-    ((is_stdin kind && has_stdin items, Repeated)
+    ((repeats items kind, Repeated)
     ∷ (nat_le 4096 (length items), TooMany)
     ∷ [])
 
@@ -161,3 +168,14 @@ lines_of text = numbered 1 (pieces newline text)
 -- the manifest that the bytes spell, or their first fault
 unfoldable pub manifest_of : Text → Result Manifest Fault
 manifest_of text = judged_lines (lines_of text) (first_fault [] (lines_of text))
+
+-- ---- a manifest for its tree alone
+
+-- no start line and no quanta are asked for
+abbrev pub judged_tree : List Line → Option Fault → Result Manifest Fault
+judged_tree lines (Some fault) = Err fault
+judged_tree lines None = Ok (manifest_by (draft_of (all_said lines)))
+
+-- what the bytes spell, or the first fault of their lines
+unfoldable pub tree_manifest_of : Text → Result Manifest Fault
+tree_manifest_of text = judged_tree (lines_of text) (first_fault [] (lines_of text))

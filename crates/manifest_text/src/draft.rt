@@ -2,8 +2,8 @@
 
 ghost use Rattle.std.specs.Prelude.{◌≡◌, [], ◌∷◌, map, IfOk};
 ghost use Rattle.byte_words.specs.Search.{first};
-ghost use Rattle.manifest_text.specs.Values.{item_value};
-ghost use Rattle.manifest_text.specs.Manifest.{draft_of, is_stdin, has_stdin, item_rows, late_fault, whole};
+ghost use Rattle.manifest_text.specs.Values.{item_value, manifest_value};
+ghost use Rattle.manifest_text.specs.Manifest.{draft_of, is_stdin, is_root, repeats, item_rows, late_fault, manifest_by, whole};
 ghost use Rattle.manifest_text.specs.Reading.{said_value, draft_value, added, Reads};
 
 use crate::fault::{ManifestFault, ManifestRefusal};
@@ -107,14 +107,21 @@ impl Draft {
                 fault: ManifestFault::NoStart,
             });
         }
-        Ok(Manifest {
+        Ok(self.manifest())
+    }
+
+    /// The manifest of all that was said.
+    pub fn manifest(self) -> Manifest
+        ensures { manifest_value result ≡ manifest_by (draft_value self) }
+    {
+        Manifest {
             pages: self.pages.unwrap_or(DEFAULT_PAGES),
             items: self.items,
             starts: self.starts,
             quanta: self.quanta,
             repeat: self.count.unwrap_or(1),
             dumps: self.dumps,
-        })
+        }
     }
 }
 
@@ -122,22 +129,33 @@ impl Draft {
 fn item_fault(items: &[Item], kind: ItemKind) -> Option<ManifestFault>
     ensures { result ≡ first (item_rows (map item_value items.now) kind) }
 {
-    if is_stdin(kind) && has_stdin(items) {
+    if repeats(items, kind) {
         return Some(ManifestFault::Repeated);
     }
     fault_if(items.len() >= MOST_ITEMS, ManifestFault::TooMany)
 }
 
-fn has_stdin(items: &[Item]) -> bool
-    ensures { result ≡ has_stdin (map item_value items.now) }
+/// Whether a line of this kind may stand once, and stands already.
+fn repeats(items: &[Item], kind: ItemKind) -> bool
+    ensures { result ≡ repeats (map item_value items.now) kind }
 {
-    items.iter().any(|item| is_stdin(item.kind))
+    match kind {
+        ItemKind::Stdin => items.iter().any(|item| is_stdin(item.kind)),
+        ItemKind::Root => items.iter().any(|item| is_root(item.kind)),
+        _ => false,
+    }
 }
 
 fn is_stdin(kind: ItemKind) -> bool
     ensures { result ≡ is_stdin kind }
 {
     matches!(kind, ItemKind::Stdin)
+}
+
+fn is_root(kind: ItemKind) -> bool
+    ensures { result ≡ is_root kind }
+{
+    matches!(kind, ItemKind::Root)
 }
 
 fn fault_if(holds: bool, fault: ManifestFault) -> Option<ManifestFault>

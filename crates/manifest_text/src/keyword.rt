@@ -12,6 +12,7 @@ pub(crate) enum Keyword {
     File,
     Dir,
     Stdin,
+    Root,
     Start,
     Quanta,
     Repeat,
@@ -34,6 +35,8 @@ pub fn keyword_of(word: &[u8]) -> Option<Keyword>
         Some(Keyword::Dir)
     } else if word == b"stdin".as_slice() {
         Some(Keyword::Stdin)
+    } else if word == b"root".as_slice() {
+        Some(Keyword::Root)
     } else if word == b"start".as_slice() {
         Some(Keyword::Start)
     } else if word == b"quanta".as_slice() {

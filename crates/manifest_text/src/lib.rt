@@ -16,4 +16,4 @@ mod reading;
 pub use fault::{ManifestFault, ManifestRefusal};
 pub use laws::reasonable_law;
 pub use manifest::{Dump, Item, ItemKind, Manifest, Start};
-pub use reading::read;
+pub use reading::{read, read_tree};

@@ -4,7 +4,7 @@ ghost use Rattle.std.specs.Prelude.{◌≡◌, ◌==◌, map, slice_index, if◌
 ghost use Rattle.std.specs.List.{list_any, list_all};
 ghost use Rattle.manifest_text.specs.Numbers.{is_quantum, quantum_value};
 ghost use Rattle.manifest_text.specs.Values.{texts, vec_texts};
-ghost use Rattle.manifest_text.specs.Lines.{hash, is_bad_byte, item_said, stacked_said, dump_of, memory_said, elf_said, flat_said, file_said, dir_said, stdin_said, start_said, quanta_said, repeat_said, dump_said, keyword_said, words_said, line_said};
+ghost use Rattle.manifest_text.specs.Lines.{hash, is_bad_byte, item_said, stacked_said, dump_of, memory_said, elf_said, flat_said, file_said, dir_said, named_said, start_said, quanta_said, repeat_said, dump_said, keyword_said, words_said, line_said};
 ghost use Rattle.manifest_text.specs.Reading.{Says};
 
 use crate::fault::{ManifestFault, ManifestRefusal};
@@ -105,7 +105,8 @@ fn read_args(
         Some(Keyword::Flat) => read_flat(alloc, number, args),
         Some(Keyword::File) => read_file(alloc, number, args),
         Some(Keyword::Dir) => read_dir(alloc, number, args),
-        Some(Keyword::Stdin) => read_stdin(alloc, number, args),
+        Some(Keyword::Stdin) => read_named(alloc, number, ItemKind::Stdin, args),
+        Some(Keyword::Root) => read_named(alloc, number, ItemKind::Root, args),
         Some(Keyword::Start) => read_start(alloc, number, args),
         Some(Keyword::Quanta) => read_quanta(alloc, number, args),
         Some(Keyword::Repeat) => read_repeat(number, args),
@@ -189,15 +190,20 @@ fn read_dir(alloc: Global, number: u32, args: &[&[u8]]) -> Result<Spoken, Manife
     }
 }
 
-/// `stdin NAME`
-#[tactic(auto, unfolding(crate::specs::Lines::stdin_said))]
-fn read_stdin(alloc: Global, number: u32, args: &[&[u8]]) -> Result<Spoken, ManifestRefusal>
-    ensures { Says number (stdin_said number (texts args.now)) result }
+/// `stdin NAME` and `root NAME`
+#[tactic(auto, unfolding(crate::specs::Lines::named_said))]
+fn read_named(
+    alloc: Global,
+    number: u32,
+    kind: ItemKind,
+    args: &[&[u8]],
+) -> Result<Spoken, ManifestRefusal>
+    ensures { Says number (named_said number kind (texts args.now)) result }
 {
     match args {
         [name] => Ok(Spoken::Item(Item {
             line: number,
-            kind: ItemKind::Stdin,
+            kind,
             path: Vec::new(alloc),
             name: Vec::from_slice(alloc, name)?,
             stack: 0,

@@ -15,15 +15,17 @@ pub enum ItemKind {
     Dir,
     /// The console's input.
     Stdin,
+    /// The files and folders of a romfs image.
+    Root,
 }
 
-/// A line that brings in a file of the host, or makes a folder.
+/// A line that brings in a file of the host, or makes folders.
 #[derive(Drop)]
 pub struct Item {
     /// The line's number, from 1.
     pub line: u32,
     pub kind: ItemKind,
-    /// Where it stands in the machine; empty for the console's input.
+    /// Where it stands in the machine; empty for the console's input and for an image.
     pub path: Vec<u8>,
     /// The host's name of the file; empty for a folder.
     pub name: Vec<u8>,

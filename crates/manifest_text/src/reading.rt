@@ -2,7 +2,7 @@
 
 ghost use Rattle.std.specs.Prelude.{◌≡◌, ◌^◌, ◌<◌, length};
 ghost use Rattle.manifest_text.specs.Values.{texts};
-ghost use Rattle.manifest_text.specs.Manifest.{numbered, manifest_of};
+ghost use Rattle.manifest_text.specs.Manifest.{numbered, lines_of, manifest_of, tree_manifest_of};
 ghost use Rattle.manifest_text.specs.Reading.{draft_value, AddsLine, Drafts, Reads};
 
 use crate::draft::Draft;
@@ -15,17 +15,35 @@ use std::alloc::Global;
 /// The manifest that the bytes spell, or the first fault: of the first line that has one, the first
 /// in the order of `ManifestFault`; behind all lines those of line 0. A text of 2^32 - 1 bytes or
 /// more isn't read: Memory.
-#[tactic(auto, unfolding(crate::specs::Manifest::manifest_of, crate::specs::Manifest::lines_of))]
+#[tactic(auto, unfolding(crate::specs::Manifest::manifest_of))]
 pub fn read(alloc: Global, bytes: &[u8]) -> Result<Manifest, ManifestRefusal>
     ensures { Reads (manifest_of bytes.now) result }
+{
+    let draft = read_draft(alloc, bytes)?;
+    draft.whole()
+}
+
+/// As `read`, for the tree of the item lines alone: it is no fault that no start line and no quanta
+/// are there.
+#[tactic(auto, unfolding(crate::specs::Manifest::tree_manifest_of))]
+pub fn read_tree(alloc: Global, bytes: &[u8]) -> Result<Manifest, ManifestRefusal>
+    ensures { Reads (tree_manifest_of bytes.now) result }
+{
+    let draft = read_draft(alloc, bytes)?;
+    Ok(draft.manifest())
+}
+
+/// What all lines of the bytes say, or the first fault of one.
+#[tactic(auto, unfolding(crate::specs::Manifest::lines_of))]
+fn read_draft(alloc: Global, bytes: &[u8]) -> Result<Draft, ManifestRefusal>
+    ensures { Drafts (lines_of bytes.now) result }
 {
     // The number of each line is a word, and there is one line more, at the most, than bytes.
     if bytes.len() >= u32::MAX as usize {
         return Err(ManifestRefusal::Memory);
     }
     let lines = pieces(alloc, bytes, b'\n')?;
-    let draft = read_lines(alloc, &lines)?;
-    draft.whole()
+    read_lines(alloc, &lines)
 }
 
 fn read_lines(alloc: Global, lines: &[&[u8]]) -> Result<Draft, ManifestRefusal>

@@ -1,6 +1,9 @@
--- The law by its proof over plain values.
-use Rattle.manifest_text.proofs.Bounds.{manifests_are_reasonable}
+-- The laws by their proofs over plain values.
+use Rattle.manifest_text.proofs.Bounds.{manifests_are_reasonable, tree_manifests_are_reasonable}
 use Rattle.manifest_text.proofs.laws.reasonable_law.Goals as goal
 
-pub returns : goal.returns
-returns c = manifests_are_reasonable
+pub returns-clause-whole : goal.returns-clause-whole
+returns-clause-whole c = manifests_are_reasonable
+
+pub returns-clause-tree : goal.returns-clause-tree
+returns-clause-tree c = tree_manifests_are_reasonable

@@ -2,7 +2,7 @@
 use Rattle.std.proofs.Common.{length, sym, ap, ◌∙◌, arith}
 use Rattle.std.proofs.lemmas.List.{length-map}
 use Rattle.manifest_text.proofs.Cutting.{pieces_length}
-use Rattle.manifest_text.proofs.reading.read.Goals as goal
+use Rattle.manifest_text.proofs.reading.read_draft.Goals as goal
 
 pub read_lines-requires : goal.read_lines-requires
 read_lines-requires c =
