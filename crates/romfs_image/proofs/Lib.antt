@@ -5,6 +5,8 @@ pub mod Texts
 pub mod Sums
 pub mod Names
 pub mod Walks
+pub mod Digits
+pub mod Ways
 pub mod Entries
 pub mod Steps
 pub mod Written

@@ -4,6 +4,7 @@
 -- Walk: the headers in the order in which they are read.
 -- Nodes: what an image says, a file or a folder each.
 -- Reading: the nodes of an image, or its first fault.
+-- Paths: the path of a node as text.
 -- Text: the one text that is written for nodes.
 -- Given: which nodes can be written.
 -- Code: what contracts see of the code's types.
@@ -14,6 +15,7 @@ pub mod Fault
 pub mod Walk
 pub mod Nodes
 pub mod Reading
+pub mod Paths
 pub mod Text
 pub mod Given
 pub mod Code

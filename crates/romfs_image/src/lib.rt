@@ -11,6 +11,7 @@ mod laws;
 mod links;
 mod making;
 mod node;
+mod paths;
 mod rom;
 mod walk;
 
@@ -18,4 +19,5 @@ pub use fault::{MakeFault, RomFault};
 pub use laws::{dots_lead, steps_suffice, text_reads};
 pub use making::make;
 pub use node::{RomKind, RomNode};
+pub use paths::push_path;
 pub use rom::Rom;
