@@ -1,4 +1,4 @@
--- OneFileLaws, ConvertLaws, CheckLaws, ListLaws: the laws of the commands of one file.
+-- OneFileLaws, ConvertLaws, CheckLaws, ListLaws, UnromfsLaws: the laws of the commands of one file.
 -- RunLaws: when a run reaches its machine.
 -- BootedRuns: what is said of a run from its opening world on, by the laws of boots, turns and runs.
 -- Headers, GoOn, GoOnTexts, SamePrograms, BothModes: a run that goes on, beside the same run without it.
@@ -10,6 +10,7 @@ mod OneFileLaws
 mod ConvertLaws
 mod CheckLaws
 mod ListLaws
+mod UnromfsLaws
 mod RunLaws
 mod BootedRuns
 mod Headers

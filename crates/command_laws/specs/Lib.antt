@@ -1,7 +1,7 @@
 -- What the calls of single commands do.
 --
 -- OneFileLaws   what the laws of commands that load one file speak of
--- ConvertLaws, CheckLaws, ListLaws   the commands of one file
+-- ConvertLaws, CheckLaws, ListLaws, UnromfsLaws   the commands of one file
 -- Booted        the machine of a run before the first turn, and what is said of a run from there on
 -- RunLaws       when a run reaches its machine
 -- Beside        a run with `--go-on` beside the same run without it
@@ -12,6 +12,7 @@ pub mod OneFileLaws
 pub mod ConvertLaws
 pub mod CheckLaws
 pub mod ListLaws
+pub mod UnromfsLaws
 pub mod Booted
 pub mod RunLaws
 pub mod Beside

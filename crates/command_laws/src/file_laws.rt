@@ -2,6 +2,7 @@
 ghost use Rattle.file_commands.specs.Sizes.{HeaderHasSizes};
 ghost use Rattle.command_laws.specs.ConvertLaws.{ConvertChangesOneFile, ConvertIsDone, ConvertIsRefused, ConvertCompletes};
 ghost use Rattle.command_laws.specs.CheckLaws.{CheckAsksOneLoad, CheckIsDone, CheckIsRefused, CheckCompletes};
+ghost use Rattle.command_laws.specs.UnromfsLaws.{UnromfsAsksOneLoad, UnromfsIsDone, UnromfsIsRefused, UnromfsCompletes};
 ghost use Rattle.command_laws.specs.ListLaws.{ListAsksOneLoad, ListIsDone, ListIsRefused, ListCompletes};
 
 /// Which file changes, when each answer comes, and whose numbers stand in the line.
@@ -27,4 +28,12 @@ pub fn list_law()
     ensures done { ListIsDone }
     ensures refused { ListIsRefused }
     ensures complete { ListCompletes }
+{}
+
+/// When each answer comes, and that its image alone is asked for.
+pub fn unromfs_law()
+    ensures one_load { UnromfsAsksOneLoad }
+    ensures done { UnromfsIsDone }
+    ensures refused { UnromfsIsRefused }
+    ensures complete { UnromfsCompletes }
 {}

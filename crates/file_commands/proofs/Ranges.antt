@@ -5,7 +5,7 @@ use Rattle.page_runs.specs.declared.place.Kind.{Kind}
 use Rattle.region_watch.specs.declared.mode.Mode.{Mode}
 use Rattle.region_watch.specs.declared.mode.Mode.TheVariants.{Halt, GoOn}
 use Rattle.std.specs.Option.{option_and_then}
-use Rattle.file_commands.specs.Arguments.{Invocation, convert, list, check, run, trace, demo, least_stack, most_stack, least_programs, most_programs, stack_of, programs_of, pid_of, only, convert_of, placement_of, mode_of, run_of, counted_of, process_of, trace_of, demo_of, command_of}
+use Rattle.file_commands.specs.Arguments.{Invocation, convert, list, check, run, trace, unromfs, demo, least_stack, most_stack, least_programs, most_programs, stack_of, programs_of, pid_of, only, convert_of, placement_of, mode_of, run_of, counted_of, process_of, trace_of, demo_of, command_of}
 use Rattle.file_commands.proofs.SpelledNumbers.{is_spelled}
 
 -- what the commands ask for of their numbers
@@ -33,7 +33,7 @@ convert_has (elf ∷ flt ∷ option ∷ number ∷ []) =
     either (bytes_eq option (codes "--stack")) (option_map (convert elf flt) (stack_of number)) None (stack_has elf flt number (stack_of number) refl) tt
 convert_has (elf ∷ flt ∷ option ∷ number ∷ word ∷ words) = tt
 
--- ---- `list` and `check`
+-- ---- `list`, `check` and `unromfs`
 
 list_has : (o : Option (List ℕ)) → HasRanges (option_map list o)
 list_has None = tt
@@ -42,6 +42,10 @@ list_has (Some flt) = tt
 check_has : (o : Option (List ℕ)) → HasRanges (option_map check o)
 check_has None = tt
 check_has (Some elf) = tt
+
+unromfs_has : (o : Option (List ℕ)) → HasRanges (option_map unromfs o)
+unromfs_has None = tt
+unromfs_has (Some image) = tt
 
 -- ---- `run` and `trace`
 
@@ -103,8 +107,14 @@ demo_has (number ∷ word ∷ words) = tt
 from_demo : (first : List ℕ) (words : List (List ℕ)) → HasRanges (cond (bytes_eq first (codes "demo")) (demo_of words) None)
 from_demo first words = either (bytes_eq first (codes "demo")) (demo_of words) None (demo_has words) tt
 
-from_trace : (first : List ℕ) (words : List (List ℕ)) → HasRanges (cond (bytes_eq first (codes "trace")) (trace_of words) (cond (bytes_eq first (codes "demo")) (demo_of words) None))
-from_trace first words = either (bytes_eq first (codes "trace")) (trace_of words) _ (trace_has words) (from_demo first words)
+abbrev images_of : (first : List ℕ) (words : List (List ℕ)) → Option Invocation
+images_of first words = cond (bytes_eq first (codes "unromfs")) (option_map unromfs (only words)) (cond (bytes_eq first (codes "demo")) (demo_of words) None)
+
+from_images : (first : List ℕ) (words : List (List ℕ)) → HasRanges (images_of first words)
+from_images first words = either (bytes_eq first (codes "unromfs")) (option_map unromfs (only words)) _ (unromfs_has (only words)) (from_demo first words)
+
+from_trace : (first : List ℕ) (words : List (List ℕ)) → HasRanges (cond (bytes_eq first (codes "trace")) (trace_of words) (images_of first words))
+from_trace first words = either (bytes_eq first (codes "trace")) (trace_of words) _ (trace_has words) (from_images first words)
 
 pub read_in_ranges : (words : List (List ℕ)) → HasRanges (command_of words)
 read_in_ranges [] = tt

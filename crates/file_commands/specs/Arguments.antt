@@ -17,6 +17,7 @@ pub data Invocation : Type 0 where
   check : (elf : List ℕ) → Invocation
   run : (manifest : List ℕ) (log : Bool) (mode : Mode) (kind : Kind) → Invocation
   trace : (manifest : List ℕ) (pid : Option ℕ) (counted : Bool) (kind : Kind) → Invocation
+  unromfs : (image : List ℕ) → Invocation
   demo : (programs : ℕ) → Invocation
 
 -- the bytes of stack that a program gets where no argument says it
@@ -135,7 +136,8 @@ abbrev pub demo_of : List (List ℕ) → Option Invocation
 demo_of (number ∷ []) = option_map demo (programs_of number)
 demo_of words = None
 
--- `convert` with its words, `list FLT`, `check ELF`, `run` and `trace` with their words, and `demo N`; any other arguments are no command
+-- `convert` with its words, `list FLT`, `check ELF`, `run` and `trace` with their words, `unromfs IMG` and `demo N`; any other arguments are no
+-- command
 abbrev pub command_of : List (List ℕ) → Option Invocation
 command_of [] = None
 command_of (first ∷ words) =
@@ -144,6 +146,7 @@ command_of (first ∷ words) =
     else if bytes_eq first (codes "check") then option_map check (only words)
     else if bytes_eq first (codes "run") then run_of words
     else if bytes_eq first (codes "trace") then trace_of words
+    else if bytes_eq first (codes "unromfs") then option_map unromfs (only words)
     else if bytes_eq first (codes "demo") then demo_of words
     else None
 
@@ -161,4 +164,5 @@ invocation (command.List flt) = list flt.now
 invocation (command.Check elf) = check elf.now
 invocation (command.Run manifest log mode kind) = run manifest.now log mode kind
 invocation (command.Trace manifest pid counted kind) = trace manifest.now pid counted kind
+invocation (command.Unromfs image) = unromfs image.now
 invocation (command.Demo programs) = demo programs

@@ -8,7 +8,7 @@
 -- Arguments   the table of commands; Invocation: a command with its arguments
 -- Load        a command that goes on with the file of a load
 -- OneFile     a command that begins with the load of a file
--- Convert, Check, List   the commands of one file
+-- Convert, Check, List, Unromfs   the commands of one file
 -- Items       the loads of the files that a manifest's lines bring in
 --
 -- Observed    what a host or a sink tells at one moment, and its counts: of faults, and a sink's of shortages of memory
@@ -27,6 +27,7 @@ pub mod OneFile
 pub mod Convert
 pub mod Check
 pub mod List
+pub mod Unromfs
 pub mod Items
 pub mod Observed
 pub mod HostCourse

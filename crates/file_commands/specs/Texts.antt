@@ -1,7 +1,9 @@
 -- The texts that users see, each line with its newline. Numbers are decimal.
 -- Listing: the listing of a flat file, and the faults of one.
+-- Images: the nodes of a romfs image, and the faults of one.
 -- Refusals: the faults of a manifest, and of what its lines bring in.
 pub mod Listing
+pub mod Images
 pub mod Refusals
 use Rattle.std.specs.Prelude.{ℕ, ◌-◌, false, List, [], ◌∷◌, ◌++◌, length, replicate, codes, decimal}
 use Rattle.std.specs.Fmt.{digits}

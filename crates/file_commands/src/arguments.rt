@@ -57,6 +57,10 @@ pub enum Command<'a> {
         counted: bool,
         kind: Kind,
     },
+    /// `unromfs IMG`.
+    Unromfs {
+        image: &'a str,
+    },
     /// `demo N`.
     Demo {
         programs: u32,
@@ -234,6 +238,10 @@ pub fn read_arguments(arguments: &[String]) -> Option<Command<'_>>
         }
         "run" => read_run(words),
         "trace" => read_trace(words),
+        "unromfs" => {
+            let image = only(words)?;
+            Some(Command::Unromfs { image })
+        }
         "demo" => read_demo(words),
         _ => None,
     }

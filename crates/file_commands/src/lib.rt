@@ -15,6 +15,7 @@ mod items;
 mod list;
 mod status;
 pub mod texts;
+mod unromfs;
 
 pub use answer::Answer;
 pub use arguments::{Command, DEFAULT_STACK, read_arguments};
@@ -25,3 +26,4 @@ pub use file_load::{FileLoad, load_limited};
 pub use items::{ItemsLoad, load_items};
 pub use list::list_file;
 pub use status::Status;
+pub use unromfs::unromfs_file;

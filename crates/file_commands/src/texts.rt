@@ -1,4 +1,4 @@
-//! The texts that users see; those of a listing stand in `listing`.
+//! The texts that users see; those of a listing stand in `listing`, those of an image in `images`.
 ghost use Rattle.std.specs.Prelude.{◌≡◌, IfOk, IsErr, string_bytes};
 ghost use Rattle.file_commands.specs.Texts.{usage_line, cannot_read_line, cannot_write_line, refused_line, elf_fault_words, layout_fault_words, reloc_fault_words, address_words, reloc_tail, refusal_tail, parts_text, convert_line, check_line, demo_line};
 ghost use Rattle.file_commands.specs.Sizes.{sizes_of};
@@ -10,6 +10,7 @@ use flat_layout::LayoutFault;
 use psabi_relocs::RelocFault;
 use std::alloc::{AllocError, Global};
 
+pub mod images;
 pub mod listing;
 pub mod refusals;
 

@@ -4,14 +4,14 @@ use Rattle.std.specs.Prelude.{option_map}
 use Rattle.std.proofs.lemmas.List.{append-nil}
 use Rattle.host_io.specs.Host.{Told}
 use Rattle.file_commands.specs.Outcome.{Request, load, store, Inputs, name_of}
-use Rattle.file_commands.specs.Arguments.{Invocation, convert, list, check, run, trace, demo, command_of}
+use Rattle.file_commands.specs.Arguments.{Invocation, convert, list, check, run, trace, unromfs, demo, command_of}
 use Rattle.region_watch.specs.declared.mode.Mode.TheVariants.{Halt}
 use Rattle.suite_top.specs.declared.telling.Telling.TheVariants.{Report, Trace}
 use Rattle.suite_top.specs.Result.{command_outcome}
 use Rattle.file_commands.specs.HostCourse.{HostCourse, complete, failed, out_of_memory, AreLoads, IsCourseOf, FaultsAfter, after_answer, after_answers, told_after}
 use Rattle.suite_top.specs.Call.{outcome_of}
 use Rattle.suite_top.specs.HostLaws.{NamesAreAPrefix, NothingIsAsked, OthersChangeNoFile}
-use Rattle.suite_top.proofs.Outcomes.{usage_is_exact, list_requests, check_requests, run_requests}
+use Rattle.suite_top.proofs.Outcomes.{usage_is_exact, list_requests, check_requests, unromfs_requests, run_requests}
 
 -- what a host tells in the end is what its course gives
 pub told_is : (k : Told → Told) (old new : Option Told) (t t_after : Told) → new ≡ option_map k old → old ≡ Some t → new ≡ Some t_after → t_after ≡ k t
@@ -72,6 +72,7 @@ others_load None inputs other = tt
 others_load (Some (convert elf flt stack)) inputs other = absurd (other elf flt stack refl)
 others_load (Some (list flt)) inputs other = subst AreLoads (sym (list_requests flt inputs)) tt
 others_load (Some (check elf)) inputs other = subst AreLoads (sym (check_requests elf inputs)) tt
+others_load (Some (unromfs image)) inputs other = subst AreLoads (sym (unromfs_requests image inputs)) tt
 others_load (Some (run manifest log mode kind)) inputs other = run_requests manifest (Report log) mode kind inputs
 others_load (Some (trace manifest pid counted kind)) inputs other = run_requests manifest (Trace pid counted) Halt kind inputs
 others_load (Some (demo programs)) inputs other = tt

@@ -1,5 +1,5 @@
 -- What the outcome of a command can be.
-use Rattle.std.proofs.Common.{◌≡◌, ℕ, Bool, true, false, cond, List, [], ◌∷◌, length, nat_lt, Option, Some, None, refl, sym, ap, subst, inl, inr}
+use Rattle.std.proofs.Common.{◌≡◌, ℕ, Bool, true, false, cond, List, [], ◌∷◌, length, nat_lt, Option, Some, None, Result, Ok, Err, refl, sym, ap, subst, inl, inr}
 use Rattle.std.specs.Prelude.{◌⊎◌}
 use Rattle.elf2flt_tool.specs.declared.refusal.Refusal.{Refusal}
 use Rattle.bflt_format.specs.declared.fault.FlatFault.{FlatFault}
@@ -14,11 +14,16 @@ use Rattle.file_commands.specs.Texts.Listing.{listing, flat_tail}
 use Rattle.bflt_format.specs.Header.{flat_values}
 use Rattle.file_commands.specs.Ending.{Ending, done_ending, usage_ending, refused_ending}
 use Rattle.file_commands.specs.Outcome.{Request, load, store, failure_ending, Outcome, Inputs, after}
-use Rattle.file_commands.specs.Arguments.{Invocation, convert, list, check, run, trace, demo, IsNoRun, default_stack, command_of}
+use Rattle.file_commands.specs.Arguments.{Invocation, convert, list, check, run, trace, unromfs, demo, IsNoRun, default_stack, command_of}
 use Rattle.file_commands.specs.OneFile.{file_limit, with_found, with_file}
 use Rattle.file_commands.specs.Convert.{judged_outcome, converted_outcome}
 use Rattle.file_commands.specs.Check.{verdict, checked_outcome, check_outcome}
 use Rattle.file_commands.specs.List.{judged_ending, listed_outcome, list_outcome}
+use Rattle.romfs_image.specs.declared.fault.RomFault.{RomFault}
+use Rattle.romfs_image.specs.Nodes.{RomValue}
+use Rattle.romfs_image.specs.Reading.{rom_read}
+use Rattle.file_commands.specs.Unromfs.{read_ending, unmade_outcome, unromfs_outcome}
+use Rattle.file_commands.specs.Texts.Images.{rom_tail, image_listing}
 use Rattle.page_runs.specs.declared.place.Kind.{Kind}
 use Rattle.machine_world.specs.World.{World}
 use Rattle.machine_world.specs.Turns.{End}
@@ -56,10 +61,15 @@ module _ (P : Ending → Type 0) (read : (name : List ℕ) → P (failure_ending
   list_judged y None = done (listing (flat_values y))
   list_judged y (Some first) = refused (flat_tail first)
 
+  unromfs_judged : (r : Result (List RomValue) RomFault) → P (read_ending r)
+  unromfs_judged (Ok nodes) = done (image_listing nodes)
+  unromfs_judged (Err first) = refused (rom_tail first)
+
   pub other_than_run : (k : Invocation) (inputs : Inputs) → IsNoRun (Some k) → P (command_outcome (Some k) inputs).ending
   other_than_run (convert elf flt stack) inputs other = found_ending elf (converted_outcome flt stack) (λ e. convert_judged flt stack e (fault e)) (inputs 0 elf)
   other_than_run (check elf) inputs other = found_ending elf checked_outcome (λ e. check_judged e (fault e)) (inputs 0 elf)
   other_than_run (list flt) inputs other = found_ending flt listed_outcome (λ y. list_judged y (flat_fault y)) (inputs 0 flt)
+  other_than_run (unromfs image) inputs other = found_ending image unmade_outcome (λ y. unromfs_judged (rom_read y)) (inputs 0 image)
   other_than_run (run manifest log mode kind) inputs other = absurd other
   other_than_run (trace manifest pid counted kind) inputs other = absurd other
   other_than_run (demo programs) inputs other = absurd other
@@ -72,6 +82,7 @@ module _ (P : Ending → Type 0) (read : (name : List ℕ) → P (failure_ending
     invoked (convert elf flt stack) inputs = other_than_run (convert elf flt stack) inputs tt
     invoked (check elf) inputs = other_than_run (check elf) inputs tt
     invoked (list flt) inputs = other_than_run (list flt) inputs tt
+    invoked (unromfs image) inputs = other_than_run (unromfs image) inputs tt
 
     pub result_by : P usage_ending → (o : Option Invocation) (inputs : Inputs) → P (command_outcome o inputs).ending
     result_by usage None inputs = usage
@@ -126,6 +137,9 @@ list_requests flt inputs = one_load flt listed_outcome (λ y. refl) (inputs 0 fl
 
 pub check_requests : (elf : List ℕ) (inputs : Inputs) → (check_outcome elf inputs).requests ≡ load elf ∷ []
 check_requests elf inputs = one_load elf checked_outcome (λ e. refl) (inputs 0 elf)
+
+pub unromfs_requests : (image : List ℕ) (inputs : Inputs) → (unromfs_outcome image inputs).requests ≡ load image ∷ []
+unromfs_requests image inputs = one_load image unmade_outcome (λ y. refl) (inputs 0 image)
 
 pub run_requests : (manifest : List ℕ) (telling : Telling) (mode : Mode) (kind : Kind) (inputs : Inputs) → AreLoads (run_outcome manifest telling mode kind inputs).requests
 run_requests = run_by (λ (o : Outcome). AreLoads o.requests) (λ name o are. are) (λ name. tt) (λ tail. tt) (λ telling dumped w end. tt)
