@@ -19,5 +19,5 @@ pub use fault::{MakeFault, RomFault};
 pub use laws::{dots_lead, steps_suffice, text_reads};
 pub use making::make;
 pub use node::{RomKind, RomNode};
-pub use paths::push_path;
+pub use paths::{names_up, push_path};
 pub use rom::Rom;

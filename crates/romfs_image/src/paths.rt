@@ -18,8 +18,8 @@ fn numbered<'a, 'b>(nodes: &'b [RomNode<'a>], number: usize) -> Option<&'b RomNo
     nodes.get(number - 1)
 }
 
-/// The names from the node of a number up to one of the root's list.
-fn names_up<'a>(
+/// The names from the node of a number, counted from 1, up to one of the root's list.
+pub fn names_up<'a>(
     alloc: Global,
     nodes: &[RomNode<'a>],
     number: usize,
