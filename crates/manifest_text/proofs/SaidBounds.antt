@@ -14,12 +14,17 @@ use Rattle.manifest_text.specs.Pieces.{Text, in_front, pieces, space, is_empty, 
 use Rattle.manifest_text.specs.Numbers.{decimal_value, is_number, is_number_in, number_in, address, colon, is_pair, is_quantum, pair_value, quantum_value}
 use Rattle.manifest_text.specs.Paths.{is_path}
 use Rattle.manifest_text.specs.Lines.{Line, Said, nothing, memory, item, start, quanta, repeat, dump, is_bad_byte, judged, item_said, stacked_said, memory_said, elf_said, flat_said, file_said, dir_said, named_said, start_said, quanta_said, repeat_said, dump_of, dump_said, keyword_said, keyword_of, hash, words_said, line_said}
-use Rattle.manifest_text.specs.Laws.{HasStack, IsItem, HasArgument, IsShort}
+use Rattle.manifest_text.specs.Laws.{HasStack, IsItem, HasClearPath, HasArgument, IsShort}
+
+-- a word: its bytes are those of ASCII, and none is zero
+record IsText (text : Text) : Type 0 where
+  ascii : IsAscii text
+  clear : list_all (λ b. not (b == 0)) text ≡ true
 
 abbrev pub IsSaid : Said → Type 0
 IsSaid nothing = Unit {0}
 IsSaid (memory pages) = (1 ≤ pages) × (pages ≤ 16384)
-IsSaid (item i) = IsItem i
+IsSaid (item i) = IsItem i × HasClearPath i
 IsSaid (start s) = HasArgument s
 IsSaid (quanta qs) = AllByRecursion IsShort qs
 IsSaid (repeat count) = count ≤ 1000000
@@ -77,49 +82,49 @@ number_bounded least most text =
 
 -- ---- lines
 
-item_bounded : (line : ℕ) (kind : ItemKind) (path name : Text) (stack : ℕ) → IsAscii name → HasStack kind stack → Bounds (item_said line kind path name stack)
-item_bounded line kind path name stack ascii has =
-    one_row (not (is_path path)) BadPath (item (record { line = line; kind = kind; path = path; name = name; stack = stack })) (λ no. record { name = ascii; stack = has })
+item_bounded : (line : ℕ) (kind : ItemKind) (path name : Text) (stack : ℕ) → list_all (λ b. not (b == 0)) path ≡ true → IsAscii name → HasStack kind stack → Bounds (item_said line kind path name stack)
+item_bounded line kind path name stack clear ascii has =
+    one_row (not (is_path path)) BadPath (item (record { line = line; kind = kind; path = path; name = name; stack = stack })) (λ no. (record { name = ascii; stack = has }, clear))
 
-stacked_bounded : (line : ℕ) (path name : Text) (o : Option ℕ) → IsAscii name → IsInOption 16 1048576 o → Bounds (stacked_said line path name o)
-stacked_bounded line path name None ascii is = tt
-stacked_bounded line path name (Some stack) ascii is = item_bounded line Elf path name stack ascii is
+stacked_bounded : (line : ℕ) (path name : Text) (o : Option ℕ) → list_all (λ b. not (b == 0)) path ≡ true → IsAscii name → IsInOption 16 1048576 o → Bounds (stacked_said line path name o)
+stacked_bounded line path name None clear ascii is = tt
+stacked_bounded line path name (Some stack) clear ascii is = item_bounded line Elf path name stack clear ascii is
 
-elf_bounded : (line : ℕ) (args : List Text) → AllByRecursion IsAscii args → Bounds (elf_said line args)
+elf_bounded : (line : ℕ) (args : List Text) → AllByRecursion IsText args → Bounds (elf_said line args)
 unfolding elf_said
 elf_bounded line [] all = tt
 elf_bounded line (path ∷ []) all = tt
-elf_bounded line (path ∷ name ∷ []) all = item_bounded line Elf path name 4096 all.1.0 (lit≤ tt, lit≤ tt)
-elf_bounded line (path ∷ name ∷ stack ∷ []) all = stacked_bounded line path name (number_in 16 1048576 stack) all.1.0 (number_bounded 16 1048576 stack)
+elf_bounded line (path ∷ name ∷ []) all = item_bounded line Elf path name 4096 all.0.clear all.1.0.ascii (lit≤ tt, lit≤ tt)
+elf_bounded line (path ∷ name ∷ stack ∷ []) all = stacked_bounded line path name (number_in 16 1048576 stack) all.0.clear all.1.0.ascii (number_bounded 16 1048576 stack)
 elf_bounded line (path ∷ name ∷ stack ∷ more ∷ rest) all = tt
 
-flat_bounded : (line : ℕ) (args : List Text) → AllByRecursion IsAscii args → Bounds (flat_said line args)
+flat_bounded : (line : ℕ) (args : List Text) → AllByRecursion IsText args → Bounds (flat_said line args)
 unfolding flat_said
 flat_bounded line [] all = tt
 flat_bounded line (path ∷ []) all = tt
-flat_bounded line (path ∷ name ∷ []) all = item_bounded line Flat path name 0 all.1.0 refl
+flat_bounded line (path ∷ name ∷ []) all = item_bounded line Flat path name 0 all.0.clear all.1.0.ascii refl
 flat_bounded line (path ∷ name ∷ more ∷ rest) all = tt
 
-file_bounded : (line : ℕ) (args : List Text) → AllByRecursion IsAscii args → Bounds (file_said line args)
+file_bounded : (line : ℕ) (args : List Text) → AllByRecursion IsText args → Bounds (file_said line args)
 unfolding file_said
 file_bounded line [] all = tt
 file_bounded line (path ∷ []) all = tt
-file_bounded line (path ∷ name ∷ []) all = item_bounded line File path name 0 all.1.0 refl
+file_bounded line (path ∷ name ∷ []) all = item_bounded line File path name 0 all.0.clear all.1.0.ascii refl
 file_bounded line (path ∷ name ∷ more ∷ rest) all = tt
 
 empty_ascii : IsAscii []
 empty_ascii i = omega arith
 
-dir_bounded : (line : ℕ) (args : List Text) → Bounds (dir_said line args)
+dir_bounded : (line : ℕ) (args : List Text) → AllByRecursion IsText args → Bounds (dir_said line args)
 unfolding dir_said
-dir_bounded line [] = tt
-dir_bounded line (path ∷ []) = item_bounded line Dir path [] 0 empty_ascii refl
-dir_bounded line (path ∷ more ∷ rest) = tt
+dir_bounded line [] all = tt
+dir_bounded line (path ∷ []) all = item_bounded line Dir path [] 0 all.0.clear empty_ascii refl
+dir_bounded line (path ∷ more ∷ rest) all = tt
 
-named_bounded : (line : ℕ) (kind : ItemKind) (args : List Text) → HasStack kind 0 → AllByRecursion IsAscii args → Bounds (named_said line kind args)
+named_bounded : (line : ℕ) (kind : ItemKind) (args : List Text) → HasStack kind 0 → AllByRecursion IsText args → Bounds (named_said line kind args)
 unfolding named_said
 named_bounded line kind [] has all = tt
-named_bounded line kind (name ∷ []) has all = record { name = all.0; stack = has }
+named_bounded line kind (name ∷ []) has all = (record { name = all.0.ascii; stack = has }, refl)
 named_bounded line kind (name ∷ more ∷ rest) has all = tt
 
 memory_bounded : (args : List Text) → Bounds (memory_said args)
@@ -174,14 +179,14 @@ dump_bounded (pid ∷ addr ∷ []) = tt
 dump_bounded (pid ∷ addr ∷ len ∷ []) = dump_of_bounded (number_in 1 1000000 pid) (address addr) (number_in 1 4096 len)
 dump_bounded (pid ∷ addr ∷ len ∷ more ∷ rest) = tt
 
-keyword_bounded : (line : ℕ) (k : Option Keyword) (args : List Text) → AllByRecursion IsAscii args → Bounds (keyword_said line k args)
+keyword_bounded : (line : ℕ) (k : Option Keyword) (args : List Text) → AllByRecursion IsText args → Bounds (keyword_said line k args)
 unfolding keyword_said
 keyword_bounded line None args all = tt
 keyword_bounded line (Some keyword.Memory) args all = memory_bounded args
 keyword_bounded line (Some keyword.Elf) args all = elf_bounded line args all
 keyword_bounded line (Some keyword.Flat) args all = flat_bounded line args all
 keyword_bounded line (Some keyword.File) args all = file_bounded line args all
-keyword_bounded line (Some keyword.Dir) args all = dir_bounded line args
+keyword_bounded line (Some keyword.Dir) args all = dir_bounded line args all
 keyword_bounded line (Some keyword.Stdin) args all = named_bounded line Stdin args refl all
 keyword_bounded line (Some keyword.Root) args all = named_bounded line Root args refl all
 keyword_bounded line (Some keyword.Start) args all = start_bounded line args
@@ -192,12 +197,24 @@ keyword_bounded line (Some keyword.Dump) args all = dump_bounded args
 -- ---- the bytes of words
 
 abbrev Each : Text → Type 0
-Each text = AllByRecursion (λ b. b < 128) text
+Each text = AllByRecursion (λ b. (0 < b) × (b < 128)) text
 
 ascii_of : (text : Text) → Each text → IsAscii text
 ascii_of [] all i = empty_ascii i
-ascii_of (b ∷ bs) all zero = all.0
+ascii_of (b ∷ bs) all zero = all.0.1
 ascii_of (b ∷ bs) all (suc i) = ascii_of bs all.1 i
+
+not_zero : (b : ℕ) → 0 < b → not (b == 0) ≡ true
+not_zero b some = grind (arith, nat_tests)
+
+both_true : (a b : Bool) → a ≡ true → b ≡ true → (a && b) ≡ true
+both_true true true p q = refl
+both_true true false p q = absurd cc
+both_true false b p q = absurd cc
+
+clear_of : (text : Text) → Each text → list_all (λ b. not (b == 0)) text ≡ true
+clear_of [] all = refl
+clear_of (b ∷ bs) all = both_true (not (b == 0)) (list_all (λ b. not (b == 0)) bs) (not_zero b all.0.0) (clear_of bs all.1)
 
 good : (text : Text) → list_any is_bad_byte text ≡ false → Each text
 good [] none = tt
@@ -205,9 +222,10 @@ good (b ∷ bs) none =
     let p = neither (is_bad_byte b) (list_any is_bad_byte bs) none in
     let q = both (nat_le 32 b) (nat_le b 126) (not_false (nat_le 32 b && nat_le b 126) p.0) in
     let high : nat_le b 126 ≡ true = q.1 in
-    (grind (arith, nat_tests), good bs p.1)
+    let low : nat_le 32 b ≡ true = q.0 in
+    ((grind (arith, nat_tests), grind (arith, nat_tests)), good bs p.1)
 
-front_each : (b : ℕ) (ps : List Text) → b < 128 → AllByRecursion Each ps → AllByRecursion Each (in_front b ps)
+front_each : (b : ℕ) (ps : List Text) → (0 < b) × (b < 128) → AllByRecursion Each ps → AllByRecursion Each (in_front b ps)
 front_each b [] is all = ((is, tt), tt)
 front_each b (p ∷ ps) is all = ((is, all.0), all.1)
 
@@ -218,16 +236,16 @@ pieces_each at (b ∷ bs) all =
     by_test (AllByRecursion Each) (b == at) ([] ∷ pieces at bs) (in_front b (pieces at bs))
     (λ yes. (tt, pieces_each at bs all.1)) (λ no. front_each b (pieces at bs) all.0 (pieces_each at bs all.1))
 
-filtered : (p : Text → Bool) (ts : List Text) → AllByRecursion Each ts → AllByRecursion IsAscii (filter p ts)
+filtered : (p : Text → Bool) (ts : List Text) → AllByRecursion Each ts → AllByRecursion IsText (filter p ts)
 filtered p [] all = tt
 filtered p (t ∷ ts) all =
-    by_test (AllByRecursion IsAscii) (p t) (t ∷ filter p ts) (filter p ts) (λ yes. (ascii_of t all.0, filtered p ts all.1)) (λ no. filtered p ts all.1)
+    by_test (AllByRecursion IsText) (p t) (t ∷ filter p ts) (filter p ts) (λ yes. (record { ascii = ascii_of t all.0; clear = clear_of t all.0 }, filtered p ts all.1)) (λ no. filtered p ts all.1)
 
-words_ascii : (text : Text) → list_any is_bad_byte text ≡ false → AllByRecursion IsAscii (words text)
+words_ascii : (text : Text) → list_any is_bad_byte text ≡ false → AllByRecursion IsText (words text)
 unfolding words
 words_ascii text none = filtered (λ piece. not (is_empty piece)) (pieces space text) (pieces_each space text (good text none))
 
-words_bounded : (line : Line) (ws : List Text) → (list_any is_bad_byte line.text ≡ false → AllByRecursion IsAscii ws) → Bounds (words_said line ws)
+words_bounded : (line : Line) (ws : List Text) → (list_any is_bad_byte line.text ≡ false → AllByRecursion IsText ws) → Bounds (words_said line ws)
 unfolding words_said
 words_bounded line [] all = tt
 words_bounded line (word ∷ args) all =

@@ -1,6 +1,6 @@
 -- What holds of every manifest that is read: its counts and numbers are bounded, and its names are text.
-use Rattle.std.specs.Prelude.{◌≡◌, ℕ, ◌<◌, ◌≤◌, length, Ok}
-use Rattle.std.specs.List.{AllByRecursion}
+use Rattle.std.specs.Prelude.{◌≡◌, ℕ, ◌==◌, ◌<◌, ◌≤◌, true, not, length, Ok}
+use Rattle.std.specs.List.{AllByRecursion, list_all}
 use Rattle.std.specs.Str.{IsAscii}
 use Rattle.quantum_sched.specs.declared.Quantum.{Quantum}
 use Rattle.manifest_text.specs.declared.manifest.ItemKind.{ItemKind}
@@ -18,6 +18,10 @@ pub record IsItem (i : Item) : Type 0 where
   pub name : IsAscii i.name
   pub stack : HasStack i.kind i.stack
 
+-- the path has no zero byte
+abbrev pub HasClearPath : Item → Type 0
+HasClearPath i = list_all (λ b. not (b == 0)) i.path ≡ true
+
 -- the first argument is the program's path
 abbrev pub HasArgument : Start → Type 0
 HasArgument s = 0 < length s.args
@@ -30,6 +34,7 @@ pub record Reasonable (m : Manifest) : Type 0 where
   pub most_pages : m.pages ≤ 16384
   pub items : length m.items ≤ 4096
   pub each_item : AllByRecursion IsItem m.items
+  pub each_path : AllByRecursion HasClearPath m.items
   pub starts : length m.starts ≤ 64
   pub each_start : AllByRecursion HasArgument m.starts
   pub quanta : length m.quanta ≤ 65536

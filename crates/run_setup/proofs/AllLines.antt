@@ -7,14 +7,14 @@ use Rattle.run_setup.specs.declared.fault.LineFault.{LineFault}
 use Rattle.run_setup.specs.declared.bringing.RunFiles.{RunFiles}
 use Rattle.run_setup.specs.Brought.{Brought, FaultAt, brought, then_brought, all_brought, nothing_brought}
 use Rattle.run_setup.specs.Faults.{IsMemory}
-use Rattle.run_setup.specs.Making.{brought_value, Added, BroughtSoFar}
+use Rattle.run_setup.specs.Making.{HasPaths, HasNodes, brought_value, Added, BroughtSoFar}
 
 -- before the first line
-pub begins : (items : List Item) (files : List (List ℕ)) (run : RunFiles) → brought_value run ≡ nothing_brought → (length run.paths.items ≡ 0) × (length run.flats.items ≡ 0)
+pub begins : (items : List Item) (files : List (List ℕ)) (run : RunFiles) → brought_value run ≡ nothing_brought → HasPaths run → HasNodes run
     → BroughtSoFar items files run 0
-begins items files run is none = record {
-  paths = none.0 ∙ sym none.1;
-  count = omega (arith, none.1);
+begins items files run is has few = record {
+  paths = has;
+  count = few;
   within = omega arith;
   goes_on = ap (all_brought items files) is;
 }
@@ -33,7 +33,7 @@ module _ (items : List Item) (files : List (List ℕ)) (run : RunFiles) (n : ℕ
     pub brings_more : (new : RunFiles) → Added (brought (brought_value run) item file) run new → BroughtSoFar items files new (n + 1)
     brings_more new added = record {
       paths = added.paths;
-      count = omega (arith, added.count, so_far.count);
+      count = added.count;
       within = omega (arith, ap length opened, length-drop n items);
       goes_on = sym (here ∙ ap (λ (r : Result Brought LineFault). then_brought item r go_on) added.value) ∙ so_far.goes_on;
     }
@@ -44,9 +44,6 @@ module _ (items : List Item) (files : List (List ℕ)) (run : RunFiles) (n : ℕ
       | inl memory ↦ inl memory
       | inr is ↦ inr (sym so_far.goes_on ∙ here ∙ ap (λ (r : Result Brought LineFault). then_brought item r go_on) is)
     ]
-
-  pub brings_few : length run.flats.items ≤ length items
-  brings_few = omega (arith, so_far.count, so_far.within)
 
   pub brings_all : length items ≤ n → all_brought items files nothing_brought ≡ Ok (brought_value run)
   unfolding all_brought

@@ -1,5 +1,5 @@
 -- The program of one line.
-use Rattle.std.proofs.Common.{◌≡◌, ℕ, List, take, Some, None, Ok, Err, sym, ap, subst, ◌∙◌, arith, inl, inr}
+use Rattle.std.proofs.Common.{◌≡◌, ℕ, List, take, Some, None, Ok, Err, sym, ap, subst, ◌∙◌, inl, inr}
 use Rattle.std.specs.Prelude.{◌⊎◌}
 use Rattle.bflt_format.specs.declared.fault.FlatFault.{FlatFault}
 use Rattle.bflt_format.specs.declared.fault.FlatFault.TheVariants as flat_fault

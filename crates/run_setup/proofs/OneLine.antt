@@ -1,5 +1,5 @@
 -- What one line brings in, where the tree made it or refused it.
-use Rattle.std.proofs.Common.{◌≡◌, ℕ, Vec, List, [], ◌∷◌, ◌++◌, length, map, Some, Result, Ok, Err, refl, sym, ap, subst, ◌∙◌, arith, inl, inr, length-append}
+use Rattle.std.proofs.Common.{◌≡◌, ℕ, Vec, List, [], ◌∷◌, ◌++◌, length, map, Some, None, Result, Ok, Err, refl, sym, ap, subst, ◌∙◌, arith, inl, inr, length-append}
 use Rattle.std.specs.Prelude.{◌⊎◌, ⊤}
 use Rattle.std.specs.Result.{IsErr, IsErrAnd}
 use Rattle.std.proofs.lemmas.List.{length-map, map-append}
@@ -10,16 +10,17 @@ use Rattle.mem_files.specs.declared.fault.FileFault.{FileFault}
 use Rattle.mem_files.specs.declared.fault.FileFault.TheVariants.{Errno, Memory}
 use Rattle.mem_files.specs.Inodes.{Inodes}
 use Rattle.mem_files.specs.Calls.{Makes}
-use Rattle.mem_files.specs.Changes.{with_file}
+use Rattle.mem_files.specs.Changes.{with_file, with_folder}
 use Rattle.flat_loader.specs.Original.{flat_original}
 use Rattle.machine_world.specs.World.{Program}
 use Rattle.machine_world.specs.Programs.{programs_of}
 use Rattle.run_setup.specs.declared.fault.LineFault.{LineFault}
 use Rattle.run_setup.specs.declared.fault.LineFault.TheVariants as line
 use Rattle.run_setup.specs.declared.bringing.RunFiles.{RunFiles}
-use Rattle.run_setup.specs.Brought.{Brought, Made, or_errno, with_tree, with_program}
+use Rattle.run_setup.specs.Brought.{Brought, Made, or_errno, with_tree, with_program, file_brought, folder_brought}
 use Rattle.run_setup.specs.Faults.{IsMemory, place_fault}
-use Rattle.run_setup.specs.Making.{header_of, HasPaths, brought_value, Added, Brings}
+use Rattle.run_setup.specs.Making.{header_of, HasPaths, HasNodes, brought_value, Added, Brings}
+use Rattle.run_setup.proofs.Counted.{Counts, file_counts, folder_counts}
 
 -- ---- the tree's answer
 
@@ -36,17 +37,28 @@ refused (Err first) old new Memory made e is with = inl (subst IsMemory (sym is)
 
 -- ---- a file or a folder
 
-pub tree_added : (old new : RunFiles) → HasPaths old → (wanted : Result Inodes log.Errno) (id : ℕ) → Makes wanted old.tree new.tree (Ok id)
+tree_added : (old new : RunFiles) → HasPaths old → HasNodes old → (wanted : Result Inodes log.Errno) (id : ℕ) → ((now : Inodes) → wanted ≡ Ok now → Counts old.tree now) → Makes wanted old.tree new.tree (Ok id)
     → new.paths ≡ old.paths → new.flats ≡ old.flats → new.stdin ≡ old.stdin → Added (or_errno wanted (with_tree (brought_value old))) old new
-tree_added old new has wanted id made paths flats stdin = record {
+tree_added old new has few wanted id counts made paths flats stdin = record {
   value =
       ap (λ (r : Result Inodes log.Errno). or_errno r (with_tree (brought_value old))) (made_is wanted old.tree new.tree id made)
       ∙ ap (λ ps. Ok (record { tree = new.tree; programs = programs_of (paths_of ps.items) old.flats.items; headers = map header_of old.flats.items; stdin = old.stdin.items })) (sym paths)
       ∙ ap (λ fs. Ok (record { tree = new.tree; programs = programs_of (paths_of new.paths.items) fs.items; headers = map header_of fs.items; stdin = old.stdin.items })) (sym flats)
       ∙ ap (λ bs. Ok (record { tree = new.tree; programs = programs_of (paths_of new.paths.items) new.flats.items; headers = map header_of new.flats.items; stdin = bs.items })) (sym stdin);
   paths = ap (λ ps. length ps.items) paths ∙ has ∙ ap (λ fs. length fs.items) (sym flats);
-  count = rw flats (omega arith);
+  count =
+      let more = counts new.tree (made_is wanted old.tree new.tree id made) in
+      let same : length new.flats.items ≡ length old.flats.items = ap (λ fs. length fs.items) flats in
+      record { each = omega (arith, few.each, more.0, same); few = more.1 };
 }
+
+pub file_added : (old new : RunFiles) → HasPaths old → HasNodes old → (path bytes : List ℕ) (id : ℕ) → Makes (with_file old.tree path bytes None) old.tree new.tree (Ok id)
+    → new.paths ≡ old.paths → new.flats ≡ old.flats → new.stdin ≡ old.stdin → Added (file_brought (brought_value old) path bytes) old new
+file_added old new has few path bytes id = tree_added old new has few (with_file old.tree path bytes None) id (file_counts old.tree path bytes None)
+
+pub folder_added : (old new : RunFiles) → HasPaths old → HasNodes old → (path : List ℕ) (id : ℕ) → Makes (with_folder old.tree path) old.tree new.tree (Ok id)
+    → new.paths ≡ old.paths → new.flats ≡ old.flats → new.stdin ≡ old.stdin → Added (folder_brought (brought_value old) path) old new
+folder_added old new has few path id = tree_added old new has few (with_folder old.tree path) id (folder_counts old.tree path)
 
 -- ---- a program
 
@@ -67,7 +79,7 @@ programs_more (p ∷ paths) (g ∷ flats) path f same =
 pub paths_more : {Y : Type 0} (olds news : List (Vec ℕ Y)) (v : Vec ℕ Y) (path : List ℕ) → news ≡ olds ++ v ∷ [] → v.items ≡ path → paths_of news ≡ paths_of olds ++ path ∷ []
 paths_more olds news v path are is = ap paths_of are ∙ map-append (λ p. p.items) olds (v ∷ []) ∙ ap (λ p. paths_of olds ++ p ∷ []) is
 
-module _ (old : RunFiles) (has : HasPaths old) (path : List ℕ) (flat : Values) (bytes : List ℕ) (number : ℕ) (numbered : number ≡ length old.flats.items) where
+module _ (old : RunFiles) (has : HasPaths old) (few : HasNodes old) (path : List ℕ) (flat : Values) (bytes : List ℕ) (number : ℕ) (numbered : number ≡ length old.flats.items) where
   abbrev p : Program
   p = record { path = path; original = flat_original flat }
 
@@ -117,5 +129,7 @@ module _ (old : RunFiles) (has : HasPaths old) (path : List ℕ) (flat : Values)
             ∙ ap (λ (hs : List (List ℕ)). Ok (record { tree = new.tree; programs = (brought_value new).programs; headers = hs; stdin = old.stdin.items })) (sym headers)
             ∙ ap (λ bs. Ok (record { tree = new.tree; programs = (brought_value new).programs; headers = (brought_value new).headers; stdin = bs.items })) (sym stdin);
         paths = omega (arith, len_paths, new_len, len_flats, same);
-        count = omega (arith, len_flats);
+        count =
+            let more = file_counts old.tree path bytes (Some number) new.tree (made_is (with_file old.tree path bytes (Some number)) old.tree new.tree id made) in
+            record { each = omega (arith, few.each, more.0, len_flats); few = more.1 };
       }

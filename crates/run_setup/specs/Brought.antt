@@ -1,5 +1,5 @@
 -- What the item lines of a manifest bring in: files and folders, programs, and the console's input.
-use Rattle.std.specs.Prelude.{ℕ, List, [], ◌∷◌, ◌++◌, length, take, Option, Some, None, Result, Ok, Err}
+use Rattle.std.specs.Prelude.{ℕ, ◌+◌, Bool, true, false, List, [], ◌∷◌, ◌++◌, length, take, Option, Some, None, Result, Ok, Err}
 use Rattle.bflt_format.specs.declared.fault.FlatFault.{FlatFault}
 use Rattle.bflt_format.specs.Header.{flat_values}
 use Rattle.bflt_format.specs.Spelling.{spell}
@@ -13,8 +13,14 @@ use Rattle.mem_files.specs.Changes.{with_file, with_folder}
 use Rattle.flat_loader.specs.Original.{Original, header_len, flat_original}
 use Rattle.machine_world.specs.World.{Program}
 use Rattle.manifest_text.specs.declared.manifest.ItemKind.{ItemKind}
-use Rattle.manifest_text.specs.declared.manifest.ItemKind.TheVariants.{Elf, Flat, File, Dir, Stdin}
+use Rattle.manifest_text.specs.declared.manifest.ItemKind.TheVariants.{Elf, Flat, File, Dir, Stdin, Root}
 use Rattle.manifest_text.specs.Values.{Item}
+use Rattle.romfs_image.specs.declared.fault.RomFault.{RomFault}
+use Rattle.romfs_image.specs.declared.node.RomKind.{RomKind}
+use Rattle.romfs_image.specs.declared.node.RomKind.TheVariants as rom_kind
+use Rattle.romfs_image.specs.Nodes.{RomValue}
+use Rattle.romfs_image.specs.Reading.{rom_read}
+use Rattle.rom_tree.specs.Paths.{rom_path}
 use Rattle.run_setup.specs.declared.fault.LineFault.{LineFault}
 use Rattle.run_setup.specs.declared.fault.LineFault.TheVariants as line
 use Rattle.originals.specs.Originals.{elf_original}
@@ -53,7 +59,7 @@ elf_made_of e stack = elf_made e stack (fault e)
 abbrev pub flat_made_of : (y : List ℕ) → Result Made LineFault
 flat_made_of y = flat_made y (flat_fault y)
 
--- ---- one line
+-- ---- the tree
 
 -- what is made in the tree, or why it can't stand at its path
 abbrev pub or_errno : Result Inodes Errno → (Inodes → Brought) → Result Brought LineFault
@@ -72,13 +78,50 @@ program_brought b path (Err first) = Err first
 abbrev pub with_tree : Brought → Inodes → Brought
 with_tree b tree = record b { tree = tree }
 
+abbrev pub file_brought : Brought → (path bytes : List ℕ) → Result Brought LineFault
+file_brought b path bytes = or_errno (with_file b.tree path bytes None) (with_tree b)
+
+abbrev pub folder_brought : Brought → (path : List ℕ) → Result Brought LineFault
+folder_brought b path = or_errno (with_folder b.tree path) (with_tree b)
+
+-- ---- the nodes of an image
+
+-- an executable file without a fault of a flat file is a program, as that of a flat line; any other is a plain file
+abbrev pub rom_file_brought : Brought → (path bytes : List ℕ) → (exec : Bool) → Option FlatFault → Result Brought LineFault
+rom_file_brought b path bytes true None = program_brought b path (flat_made bytes None)
+rom_file_brought b path bytes true (Some first) = file_brought b path bytes
+rom_file_brought b path bytes false fault = file_brought b path bytes
+
+abbrev pub node_brought : Brought → (path : List ℕ) → RomValue → Result Brought LineFault
+node_brought b path n = of_kind n.kind
+  where
+    of_kind : RomKind → Result Brought LineFault
+    of_kind rom_kind.Dir = folder_brought b path
+    of_kind rom_kind.File = rom_file_brought b path n.bytes n.exec (flat_fault n.bytes)
+
+abbrev pub then_more : Result Brought LineFault → (Brought → Result Brought LineFault) → Result Brought LineFault
+then_more (Ok b) more = more b
+then_more (Err first) more = Err first
+
+-- each node in the order of the walk, up to the first that can't stand at its path; the next one has this number among all
+unfoldable pub nodes_brought : (all : List RomValue) → (number : ℕ) → List RomValue → Brought → Result Brought LineFault
+nodes_brought all number [] b = Ok b
+nodes_brought all number (n ∷ ns) b = then_more (node_brought b (rom_path all number) n) (nodes_brought all (number + 1) ns)
+
+abbrev pub image_brought : Brought → Result (List RomValue) RomFault → Result Brought LineFault
+image_brought b (Ok nodes) = nodes_brought nodes 1 nodes b
+image_brought b (Err first) = Err (line.Rom first)
+
+-- ---- one line
+
 -- with the host's file of the line; a folder has none
 abbrev pub brought_by : ItemKind → Brought → Item → (file : List ℕ) → Result Brought LineFault
 brought_by Elf b i file = program_brought b i.path (elf_made_of file i.stack)
 brought_by Flat b i file = program_brought b i.path (flat_made_of file)
-brought_by File b i file = or_errno (with_file b.tree i.path file None) (with_tree b)
-brought_by Dir b i file = or_errno (with_folder b.tree i.path) (with_tree b)
+brought_by File b i file = file_brought b i.path file
+brought_by Dir b i file = folder_brought b i.path
 brought_by Stdin b i file = Ok (record b { stdin = file })
+brought_by Root b i file = image_brought b (rom_read file)
 
 abbrev pub brought : Brought → Item → (file : List ℕ) → Result Brought LineFault
 brought b i file = brought_by i.kind b i file

@@ -1,9 +1,10 @@
 -- What the code brings in, as that of the definition.
-use Rattle.std.specs.Prelude.{◌≡◌, ◌⊎◌, ⊤, ℕ, ◌+◌, ◌≤◌, List, drop, length, map, take, Result, Ok, Err}
+use Rattle.std.specs.Prelude.{◌≡◌, ◌⊎◌, ⊤, ℕ, ◌<◌, ◌≤◌, List, drop, length, map, take, Result, Ok, Err}
 use Rattle.bflt_format.specs.Values.{Values}
 use Rattle.bflt_format.specs.Spelling.{spell}
 use Rattle.flat_loader.specs.Original.{header_len}
 use Rattle.call_log.specs.Programs.{paths_of}
+use Rattle.mem_files.specs.Inodes.{most_nodes, node_count}
 use Rattle.machine_world.specs.Programs.{programs_of}
 use Rattle.manifest_text.specs.Values.{Item}
 use Rattle.run_setup.specs.declared.fault.LineFault.{LineFault}
@@ -26,11 +27,16 @@ brought_value f = record { tree = f.tree; programs = programs_of (paths_of f.pat
 abbrev pub HasPaths : RunFiles → Type 0
 HasPaths f = length f.paths.items ≡ length f.flats.items
 
--- with what one line brought in, which is one program at most
+-- each program has a node of its own, beside the root, and there are no more nodes than a tree may have
+pub record HasNodes (f : RunFiles) : Type 0 where
+  pub each : length f.flats.items < node_count f.tree
+  pub few : node_count f.tree ≤ most_nodes
+
+-- with what one line brought in
 pub record Added (wanted : Result Brought LineFault) (old new : RunFiles) : Type 0 where
   pub value : wanted ≡ Ok (brought_value new)
   pub paths : HasPaths new
-  pub count : length new.flats.items ≤ length old.flats.items + 1
+  pub count : HasNodes new
 
 -- that of one line, or its fault, or out of memory
 abbrev pub Brings : Result Brought LineFault → (old new : RunFiles) → Result ⊤ LineFault → Type 0
@@ -40,7 +46,7 @@ Brings wanted old new (Err first) = IsMemory first ⊎ (wanted ≡ Err first)
 -- behind the first n lines
 pub record BroughtSoFar (items : List Item) (files : List (List ℕ)) (run : RunFiles) (n : ℕ) : Type 0 where
   pub paths : HasPaths run
-  pub count : length run.flats.items ≤ n
+  pub count : HasNodes run
   pub within : n ≤ length items
   pub goes_on : all_brought (drop n items) (drop n files) (brought_value run) ≡ all_brought items files nothing_brought
 

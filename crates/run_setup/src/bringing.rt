@@ -1,21 +1,26 @@
 //! What a manifest's lines bring in.
 
-ghost use Rattle.std.specs.Prelude.{◌≡◌, ◌<◌, ◌≤◌, ◌^◌, map, length, None, IfOk};
+ghost use Rattle.std.specs.Prelude.{◌≡◌, map, length, IfOk};
 ghost use Rattle.std.specs.List.{AllByRecursion};
-ghost use Rattle.mem_files.specs.Changes.{with_file, with_folder};
 ghost use Rattle.mem_files.specs.Trees.{IsTree, AreNamedAndClosed};
+ghost use Rattle.bflt_format.specs.Fault.{flat_fault};
+ghost use Rattle.romfs_image.specs.Reading.{rom_read};
+ghost use Rattle.romfs_image.specs.Code.{node_value};
 ghost use Rattle.machine_world.specs.Ages.{AreChanged};
 ghost use Rattle.manifest_text.specs.Values.{item_value, vec_texts};
-ghost use Rattle.manifest_text.specs.Laws.{IsItem};
-ghost use Rattle.run_setup.specs.Brought.{nothing_brought, or_errno, with_tree, with_program, brought, all_brought};
-ghost use Rattle.run_setup.specs.Making.{HasPaths, brought_value, Brings, BringsAll};
+ghost use Rattle.manifest_text.specs.Laws.{IsItem, HasClearPath};
+ghost use Rattle.rom_tree.specs.Names.{CanBeWritten};
+ghost use Rattle.run_setup.specs.Brought.{nothing_brought, file_brought, folder_brought, with_program, rom_file_brought, node_brought, nodes_brought, image_brought, brought, all_brought};
+ghost use Rattle.run_setup.specs.Making.{HasPaths, HasNodes, brought_value, Brings, BringsAll};
 ghost use Rattle.run_setup.specs.Programs.{made_value};
 
 use crate::fault::{FaultAt, LineFault};
 use crate::program::{Made, make_elf, make_flat};
-use bflt_format::Flat;
+use bflt_format::{Flat, FlatFault};
 use manifest_text::{Item, ItemKind};
 use mem_files::Tree;
+use rom_tree::path_of;
+use romfs_image::{Rom, RomKind, RomNode};
 use std::alloc::{AllocError, Global};
 
 /// What a run begins with.
@@ -35,13 +40,13 @@ pub struct RunFiles {
 pub fn bring(alloc: Global, items: &[Item], files: Vec<Vec<u8>>) -> Result<RunFiles, FaultAt>
     requires items { AllByRecursion IsItem (map item_value items.now) }
     requires files { length files.items ≡ length items.now }
-    requires few { length items.now < 2 ^ 32 }
     ensures brought { BringsAll (all_brought (map item_value items.now) (vec_texts files.items) nothing_brought) result }
     ensures paths { IfOk result HasPaths }
-    ensures count { IfOk result (λ run. length run.flats.items ≤ length items.now) }
+    ensures count { IfOk result HasNodes }
     ensures unchanged { IfOk result (λ run. AreChanged 0 run.tree) }
     ensures tree { IfOk result (λ run. IsTree run.tree) }
     ensures closed { IfOk result (λ run. AreNamedAndClosed run.tree) }
+    ensures names { AllByRecursion HasClearPath (map item_value items.now) → IfOk result (λ run. CanBeWritten run.tree) }
 {
     let mut run = match RunFiles::new(alloc) {
         Ok(run) => run,
@@ -67,7 +72,8 @@ impl RunFiles {
     /// The root alone, with no program and no input.
     fn new(alloc: Global) -> Result<RunFiles, AllocError>
         ensures brought { IfOk result (λ run. brought_value run ≡ nothing_brought) }
-        ensures none { IfOk result (λ run. (length run.paths.items ≡ 0) × (length run.flats.items ≡ 0)) }
+        ensures paths { IfOk result HasPaths }
+        ensures few { IfOk result HasNodes }
     {
         Ok(RunFiles {
             tree: Tree::new(alloc)?,
@@ -81,7 +87,7 @@ impl RunFiles {
     fn add(&mut self, alloc: Global, item: &Item, file: Vec<u8>) -> Result<(), LineFault>
         requires item { IsItem (item_value item.now) }
         requires paths { HasPaths self.old }
-        requires few { length self.old.flats.items < 2 ^ 32 }
+        requires few { HasNodes self.old }
         ensures { Brings (brought (brought_value self.old) (item_value item.now) file.items) self.old self.new result }
     {
         match item.kind {
@@ -99,13 +105,74 @@ impl RunFiles {
                 self.stdin = file;
                 Ok(())
             }
+            ItemKind::Root => self.add_image(alloc, &file),
+        }
+    }
+
+    /// Adds the nodes of an image.
+    fn add_image(&mut self, alloc: Global, file: &[u8]) -> Result<(), LineFault>
+        requires paths { HasPaths self.old }
+        requires few { HasNodes self.old }
+        ensures { Brings (image_brought (brought_value self.old) (rom_read file.now)) self.old self.new result }
+    {
+        match Rom::read(alloc, file) {
+            Ok(rom) => self.add_nodes(alloc, rom.nodes()),
+            Err(fault) => Err(LineFault::Rom(fault)),
+        }
+    }
+
+    /// Adds nodes in their order.
+    fn add_nodes(&mut self, alloc: Global, nodes: &[RomNode<'_>]) -> Result<(), LineFault>
+        requires paths { HasPaths self.old }
+        requires few { HasNodes self.old }
+        ensures { Brings (nodes_brought (map node_value nodes.now) 1 (map node_value nodes.now) (brought_value self.old)) self.old self.new result }
+    {
+        for (index, node) in nodes.iter().enumerate() {
+            let path = path_of(alloc, nodes, index + 1)?;
+            self.add_node(alloc, &path, node)?;
+        }
+        Ok(())
+    }
+
+    /// Adds a node at its path.
+    fn add_node(&mut self, alloc: Global, path: &[u8], node: &RomNode<'_>) -> Result<(), LineFault>
+        requires paths { HasPaths self.old }
+        requires few { HasNodes self.old }
+        ensures { Brings (node_brought (brought_value self.old) path.now (node_value node.now)) self.old self.new result }
+    {
+        match node.kind {
+            RomKind::Dir => self.add_folder(path),
+            RomKind::File => self.add_rom_file(alloc, path, node.bytes, node.exec),
+        }
+    }
+
+    /// Adds a file of an image, which is a program if it is executable and a flat file without a fault.
+    fn add_rom_file(
+        &mut self,
+        alloc: Global,
+        path: &[u8],
+        bytes: &[u8],
+        exec: bool,
+    ) -> Result<(), LineFault>
+        requires paths { HasPaths self.old }
+        requires few { HasNodes self.old }
+        ensures { Brings (rom_file_brought (brought_value self.old) path.now bytes.now exec (flat_fault bytes.now)) self.old self.new result }
+    {
+        let bytes = Vec::from_slice(alloc, bytes)?;
+        if !exec {
+            return self.add_file(path, bytes);
+        }
+        match Flat::read(alloc, &bytes) {
+            Ok(flat) => self.add_program(alloc, path, Made { flat, bytes }),
+            Err(FlatFault::Memory) => Err(LineFault::Memory),
+            Err(_) => self.add_file(path, bytes),
         }
     }
 
     /// Adds a program, whose number is how many there are already.
     fn add_program(&mut self, alloc: Global, path: &[u8], made: Made) -> Result<(), LineFault>
         requires paths { HasPaths self.old }
-        requires few { length self.old.flats.items < 2 ^ 32 }
+        requires few { HasNodes self.old }
         ensures { Brings (with_program (brought_value self.old) path.now (made_value made)) self.old self.new result }
     {
         let number = self.flats.len() as u32;
@@ -118,9 +185,9 @@ impl RunFiles {
 
     /// Adds a plain file.
     fn add_file(&mut self, path: &[u8], bytes: Vec<u8>) -> Result<(), LineFault>
-        requires { HasPaths self.old }
-        ensures { let b = brought_value self.old in
-            Brings (or_errno (with_file b.tree path.now bytes.items None) (with_tree b)) self.old self.new result }
+        requires paths { HasPaths self.old }
+        requires few { HasNodes self.old }
+        ensures { Brings (file_brought (brought_value self.old) path.now bytes.items) self.old self.new result }
     {
         self.tree.create(path, bytes, None)?;
         Ok(())
@@ -128,9 +195,9 @@ impl RunFiles {
 
     /// Adds a folder.
     fn add_folder(&mut self, path: &[u8]) -> Result<(), LineFault>
-        requires { HasPaths self.old }
-        ensures { let b = brought_value self.old in
-            Brings (or_errno (with_folder b.tree path.now) (with_tree b)) self.old self.new result }
+        requires paths { HasPaths self.old }
+        requires few { HasNodes self.old }
+        ensures { Brings (folder_brought (brought_value self.old) path.now) self.old self.new result }
     {
         self.tree.mkdir(path)?;
         Ok(())

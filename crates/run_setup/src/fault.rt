@@ -7,6 +7,7 @@ use bflt_format::FlatFault;
 use call_log::Errno;
 use elf2flt_tool::Refusal;
 use mem_files::FileFault;
+use romfs_image::RomFault;
 use std::alloc::{AllocError, AllocFailed};
 
 /// Why a line of a manifest is refused.
@@ -18,7 +19,9 @@ pub enum LineFault {
     Elf(Refusal),
     /// The fault of its flat file.
     Flat(FlatFault),
-    /// Its file can't stand at its path.
+    /// The fault of its image.
+    Rom(RomFault),
+    /// Its file, or a node of its image, can't stand at its path.
     Place(Errno),
     /// Its path is that of no program.
     BadStart,

@@ -7,12 +7,12 @@ use Rattle.run_setup.specs.Brought.{nothing_brought}
 use Rattle.run_setup.specs.Making.{BroughtSoFar, brought_value}
 use Rattle.run_setup.proofs.Opened.{opened, each_at}
 use Rattle.run_setup.proofs.Pairs.{pairs, pair_at, none_left}
-use Rattle.run_setup.proofs.AllLines.{begins, brings_more, brings_few, stops_at, brings_all}
-use Rattle.run_setup.proofs.Unchanged.{opening_unchanged, lines_unchanged, lines_tree, lines_closed}
+use Rattle.run_setup.proofs.AllLines.{begins, brings_more, stops_at, brings_all}
+use Rattle.run_setup.proofs.Unchanged.{opening_unchanged, lines_unchanged, lines_tree, lines_closed, lines_written}
 use Rattle.run_setup.proofs.bringing.bring.Goals as goal
 
 pub loop-item-init : goal.loop-item-init
-loop-item-init c = begins _ _ c.in-Ok.run' c.in-Ok.ensures.brought c.in-Ok.ensures.none
+loop-item-init c = begins _ _ c.in-Ok.run' c.in-Ok.ensures.brought c.in-Ok.ensures.paths c.in-Ok.ensures.few
 
 pub add-requires-clause-item : goal.add-requires-clause-item
 add-requires-clause-item c =
@@ -44,7 +44,7 @@ loop-item-preserved c =
     (opened item_value _ _ _ at.first_below at.first) (opened (λ v. v.items) _ _ _ at.second_below at.second) c.add.new.self c.in_default.ensures)
 
 pub returns-clause-count : goal.returns-clause-count
-returns-clause-count c = rw (← length-map c.args.items.now item_value) (brings_few (map item_value c.args.items.now) (vec_texts c.args.files.items) c.loop-item.run (length c.loop-item.yielded) c.loop-item.invariant)
+returns-clause-count c = c.loop-item.invariant.count
 
 pub returns-clause-brought : goal.returns-clause-brought
 returns-clause-brought c =
@@ -63,3 +63,6 @@ returns-clause-tree c = lines_tree (map item_value c.args.items.now) (vec_texts 
 
 pub returns-clause-closed : goal.returns-clause-closed
 returns-clause-closed c = lines_closed (map item_value c.args.items.now) (vec_texts c.args.files.items) (brought_value c.loop-item.run) (returns-clause-brought c)
+
+pub returns-clause-names : goal.returns-clause-names
+returns-clause-names c paths = lines_written (map item_value c.args.items.now) paths (vec_texts c.args.files.items) (brought_value c.loop-item.run) (returns-clause-brought c)
