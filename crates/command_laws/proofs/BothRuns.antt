@@ -16,7 +16,8 @@ use Rattle.file_commands.specs.Outcome.{Request, load, failure_ending, Outcome, 
 use Rattle.file_commands.specs.Load.{at_once, behind, with_limited, with_load}
 use Rattle.file_commands.specs.Items.{load_limit, files_limit, has_file, with_item, with_items}
 use Rattle.suite_top.specs.declared.telling.Telling.{Telling}
-use Rattle.suite_top.specs.Run.{manifest_limit, start_line, opening, boot_fault, mode_ending, booted_ending, brought_ending, files_ending, manifest_outcome, run_outcome}
+use Rattle.file_commands.specs.Manifests.{manifest_limit}
+use Rattle.suite_top.specs.Run.{start_line, opening, boot_fault, mode_ending, booted_ending, brought_ending, files_ending, manifest_outcome, run_outcome}
 
 -- a relation of both outcomes holds if it holds of equal early ends and of what a machine tells, and stays behind a load
 module _ (telling telling_other : Telling) (mode mode_other : Mode) (R : (one other : Outcome) → Type 0) (step : (request : Request) (one other : Outcome) → R one other → R (after request one) (after request other))

@@ -18,7 +18,8 @@ use Rattle.file_commands.specs.Outcome.{Request, load, Outcome, Inputs, after}
 use Rattle.file_commands.specs.Load.{at_once, behind, with_limited, with_load}
 use Rattle.run_setup.specs.Brought.{Brought, FaultAt, nothing_brought, all_brought}
 use Rattle.file_commands.specs.Items.{load_limit, files_limit, has_file, with_item, with_items}
-use Rattle.suite_top.specs.Run.{manifest_limit, start_line, opening, mode_ending, booted_ending, brought_ending, files_ending, items_outcome, manifest_outcome, run_outcome}
+use Rattle.file_commands.specs.Manifests.{manifest_limit}
+use Rattle.suite_top.specs.Run.{start_line, opening, mode_ending, booted_ending, brought_ending, files_ending, items_outcome, manifest_outcome, run_outcome}
 use Rattle.command_laws.specs.Booted.{Booted}
 use Rattle.command_laws.specs.RunLaws.{Opens, IsThere, behind_item, AreThere, opened_outcome, IsStop, IsEarly, RunsWhereItOpens, OpensWhereItStops, RunsStopOrEndEarly}
 use Rattle.suite_top.proofs.RunOutcomes.{run_by, told_status}
@@ -29,20 +30,20 @@ reasonable o = manifests_are_reasonable o.text o.manifest o.reads
 
 -- ---- from what is there to the outcome
 
-is_within : (limit : ℕ) (line : Option ℕ) (name : List ℕ) (o : Option (List ℕ)) (bytes : List ℕ) (rest : List ℕ → Outcome) → o ≡ Some bytes → length bytes ≤ limit → with_limited limit line name o rest ≡ rest bytes
+pub is_within : (limit : ℕ) (line : Option ℕ) (name : List ℕ) (o : Option (List ℕ)) (bytes : List ℕ) (rest : List ℕ → Outcome) → o ≡ Some bytes → length bytes ≤ limit → with_limited limit line name o rest ≡ rest bytes
 is_within limit line name o bytes rest found short =
     let fits : nat_lt limit (length bytes) ≡ false = grind (arith, nat_tests) in
     ap (λ (x : Option (List ℕ)). with_limited limit line name x rest) found
     ∙ ap (λ (b : Bool). cond b (at_once (refused_ending (too_long_at line))) (rest bytes)) fits
 
-abbrev loads_of : List Item → List Request
+abbrev pub loads_of : List Item → List Request
 loads_of items = map (λ i. load i.name) (filter (λ i. has_file i.kind) items)
 
 -- behind all loads
-abbrev behind_all : List Item → Outcome → Outcome
+abbrev pub behind_all : List Item → Outcome → Outcome
 behind_all items x = record { requests = loads_of items ++ x.requests; ending = x.ending }
 
-items_there : (inputs : Inputs) (left : ℕ) (items : List Item) (files : List (List ℕ)) (rest : List (List ℕ) → Outcome) → AreThere inputs left items files → with_items left items rest inputs ≡ behind_all items (rest files)
+pub items_there : (inputs : Inputs) (left : ℕ) (items : List Item) (files : List (List ℕ)) (rest : List (List ℕ) → Outcome) → AreThere inputs left items files → with_items left items rest inputs ≡ behind_all items (rest files)
 unfolding with_items
 items_there inputs left [] [] rest there = refl
 items_there inputs left [] (file ∷ files) rest there = absurd there
@@ -80,7 +81,7 @@ runs_where_it_opens inputs name telling mode kind o =
 
 -- ---- from the status to what is there
 
-within : (limit : ℕ) (line : Option ℕ) (name : List ℕ) (o : Option (List ℕ)) (rest : List ℕ → Outcome) → IsStop (with_limited limit line name o rest).ending.status
+pub within : (limit : ℕ) (line : Option ℕ) (name : List ℕ) (o : Option (List ℕ)) (rest : List ℕ → Outcome) → IsStop (with_limited limit line name o rest).ending.status
     → (bytes : List ℕ) × (o ≡ Some bytes) × (length bytes ≤ limit) × IsStop (rest bytes).ending.status
 within limit line name None rest stop = absurd stop
 within limit line name (Some bytes) rest stop = by_test (nat_lt limit (length bytes)) refl stop
@@ -101,7 +102,7 @@ item_within inputs left item rest stop = by_kind (has_file item.kind) stop
         (file, (found, fits), more)
     by_kind false stops = ([], refl, stops)
 
-items_within : (inputs : Inputs) (left : ℕ) (items : List Item) (rest : List (List ℕ) → Outcome) → IsStop (with_items left items rest inputs).ending.status
+pub items_within : (inputs : Inputs) (left : ℕ) (items : List Item) (rest : List (List ℕ) → Outcome) → IsStop (with_items left items rest inputs).ending.status
     → (files : List (List ℕ)) × AreThere inputs left items files × IsStop (rest files).ending.status
 unfolding with_items
 items_within inputs left [] rest stop = ([], tt, stop)

@@ -1,5 +1,5 @@
 -- What a call of `trace` does.
-use Rattle.std.proofs.Common.{◌≡◌, ℕ, Bool, List, ◌∷◌, Option, ◌⊎◌, inl, inr, refl, ap, ◌∙◌, arith}
+use Rattle.std.proofs.Common.{List, ◌∷◌, inl, inr, refl, ap, arith}
 use Rattle.machine_world.specs.Turns.{turns}
 use Rattle.region_watch.specs.declared.mode.Mode.TheVariants.{Halt}
 use Rattle.file_commands.specs.Arguments.{least_pid, most_pid}

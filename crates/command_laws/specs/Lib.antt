@@ -4,6 +4,7 @@
 -- ConvertLaws, CheckLaws, ListLaws, UnromfsLaws   the commands of one file
 -- Booted        the machine of a run before the first turn, and what is said of a run from there on
 -- RunLaws       when a run reaches its machine
+-- RomfsLaws     the command `romfs`, which loads as a run does
 -- Beside        a run with `--go-on` beside the same run without it
 -- Headline      what a call of `run` that reached its machine did
 -- TraceLaws     the command `trace`, beside the run of its manifest
@@ -15,6 +16,7 @@ pub mod ListLaws
 pub mod UnromfsLaws
 pub mod Booted
 pub mod RunLaws
+pub mod RomfsLaws
 pub mod Beside
 pub mod Headline
 pub mod TraceLaws

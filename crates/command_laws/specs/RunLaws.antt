@@ -12,7 +12,8 @@ use Rattle.file_commands.specs.Ending.{Ending}
 use Rattle.file_commands.specs.Outcome.{load, Outcome, Inputs}
 use Rattle.file_commands.specs.Load.{behind}
 use Rattle.file_commands.specs.Items.{load_limit, files_limit, has_file}
-use Rattle.suite_top.specs.Run.{manifest_limit, mode_ending, run_outcome}
+use Rattle.file_commands.specs.Manifests.{manifest_limit}
+use Rattle.suite_top.specs.Run.{mode_ending, run_outcome}
 use Rattle.command_laws.specs.Booted.{Booted, DoesAsAlone, EndsAsAlone, WaitsToTheEnd, HasWorldsInOrder, HasRegularWorlds}
 
 -- the file of a line that has one is what the next load gives, and isn't longer than the limit of that load

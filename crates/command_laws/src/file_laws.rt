@@ -1,7 +1,8 @@
-//! Laws over every call of the commands of one file. No code runs.
+//! Laws over every call of the commands that run nothing. No code runs.
 ghost use Rattle.file_commands.specs.Sizes.{HeaderHasSizes};
 ghost use Rattle.command_laws.specs.ConvertLaws.{ConvertChangesOneFile, ConvertIsDone, ConvertIsRefused, ConvertCompletes};
 ghost use Rattle.command_laws.specs.CheckLaws.{CheckAsksOneLoad, CheckIsDone, CheckIsRefused, CheckCompletes};
+ghost use Rattle.command_laws.specs.RomfsLaws.{RomfsChangesOneFile, RomfsIsDone, RomfsIsRefused, RomfsCompletes};
 ghost use Rattle.command_laws.specs.UnromfsLaws.{UnromfsAsksOneLoad, UnromfsIsDone, UnromfsIsRefused, UnromfsCompletes};
 ghost use Rattle.command_laws.specs.ListLaws.{ListAsksOneLoad, ListIsDone, ListIsRefused, ListCompletes};
 
@@ -36,4 +37,12 @@ pub fn unromfs_law()
     ensures done { UnromfsIsDone }
     ensures refused { UnromfsIsRefused }
     ensures complete { UnromfsCompletes }
+{}
+
+/// Which file changes, and when each answer comes.
+pub fn romfs_law()
+    ensures files { RomfsChangesOneFile }
+    ensures done { RomfsIsDone }
+    ensures refused { RomfsIsRefused }
+    ensures complete { RomfsCompletes }
 {}

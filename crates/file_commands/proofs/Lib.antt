@@ -2,7 +2,7 @@
 -- Lines, SpelledNumbers, Addresses: the ends and texts of private functions.
 -- Ranges: the numbers of a command that is read.
 -- OneFileSteps: a command that goes on with one file.
--- Conversions, Listed, Unmade: what the commands do behind their load.
+-- Conversions, Listed, Unmade, MadeImages: what the commands do behind their load.
 -- SizesLaw: the numbers of an ELF file in the header of its flat file.
 -- LoadedItems: the loads of a manifest's lines.
 -- Samples, ListSamples: the definitions on the worked example.
@@ -17,6 +17,7 @@ pub mod Addresses
 pub mod Conversions
 pub mod Listed
 pub mod Unmade
+pub mod MadeImages
 pub mod SizesLaw
 pub mod LoadedItems
 pub mod Samples

@@ -5,7 +5,7 @@ use Rattle.page_runs.specs.declared.place.Kind.{Kind}
 use Rattle.region_watch.specs.declared.mode.Mode.{Mode}
 use Rattle.region_watch.specs.declared.mode.Mode.TheVariants.{Halt, GoOn}
 use Rattle.std.specs.Option.{option_and_then}
-use Rattle.file_commands.specs.Arguments.{Invocation, convert, list, check, run, trace, unromfs, demo, least_stack, most_stack, least_programs, most_programs, stack_of, programs_of, pid_of, only, convert_of, placement_of, mode_of, run_of, counted_of, process_of, trace_of, demo_of, command_of}
+use Rattle.file_commands.specs.Arguments.{Invocation, convert, list, check, run, trace, unromfs, demo, least_stack, most_stack, least_programs, most_programs, stack_of, programs_of, pid_of, only, romfs_of, convert_of, placement_of, mode_of, run_of, counted_of, process_of, trace_of, demo_of, command_of}
 use Rattle.file_commands.proofs.SpelledNumbers.{is_spelled}
 
 -- what the commands ask for of their numbers
@@ -46,6 +46,14 @@ check_has (Some elf) = tt
 unromfs_has : (o : Option (List ℕ)) → HasRanges (option_map unromfs o)
 unromfs_has None = tt
 unromfs_has (Some image) = tt
+
+-- ---- `romfs`
+
+romfs_has : (words : List (List ℕ)) → HasRanges (romfs_of words)
+romfs_has [] = tt
+romfs_has (manifest ∷ []) = tt
+romfs_has (manifest ∷ image ∷ []) = tt
+romfs_has (manifest ∷ image ∷ word ∷ words) = tt
 
 -- ---- `run` and `trace`
 
@@ -108,10 +116,12 @@ from_demo : (first : List ℕ) (words : List (List ℕ)) → HasRanges (cond (by
 from_demo first words = either (bytes_eq first (codes "demo")) (demo_of words) None (demo_has words) tt
 
 abbrev images_of : (first : List ℕ) (words : List (List ℕ)) → Option Invocation
-images_of first words = cond (bytes_eq first (codes "unromfs")) (option_map unromfs (only words)) (cond (bytes_eq first (codes "demo")) (demo_of words) None)
+images_of first words = cond (bytes_eq first (codes "romfs")) (romfs_of words) (cond (bytes_eq first (codes "unromfs")) (option_map unromfs (only words)) (cond (bytes_eq first (codes "demo")) (demo_of words) None))
 
 from_images : (first : List ℕ) (words : List (List ℕ)) → HasRanges (images_of first words)
-from_images first words = either (bytes_eq first (codes "unromfs")) (option_map unromfs (only words)) _ (unromfs_has (only words)) (from_demo first words)
+from_images first words =
+    either (bytes_eq first (codes "romfs")) (romfs_of words) _ (romfs_has words)
+    (either (bytes_eq first (codes "unromfs")) (option_map unromfs (only words)) _ (unromfs_has (only words)) (from_demo first words))
 
 from_trace : (first : List ℕ) (words : List (List ℕ)) → HasRanges (cond (bytes_eq first (codes "trace")) (trace_of words) (images_of first words))
 from_trace first words = either (bytes_eq first (codes "trace")) (trace_of words) _ (trace_has words) (from_images first words)

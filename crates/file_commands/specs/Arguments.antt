@@ -17,6 +17,7 @@ pub data Invocation : Type 0 where
   check : (elf : List ℕ) → Invocation
   run : (manifest : List ℕ) (log : Bool) (mode : Mode) (kind : Kind) → Invocation
   trace : (manifest : List ℕ) (pid : Option ℕ) (counted : Bool) (kind : Kind) → Invocation
+  romfs : (manifest image : List ℕ) → Invocation
   unromfs : (image : List ℕ) → Invocation
   demo : (programs : ℕ) → Invocation
 
@@ -86,6 +87,11 @@ abbrev pub only : List (List ℕ) → Option (List ℕ)
 only (word ∷ []) = Some word
 only words = None
 
+-- `MANIFEST IMG`
+abbrev pub romfs_of : List (List ℕ) → Option Invocation
+romfs_of (manifest ∷ image ∷ []) = Some (romfs manifest image)
+romfs_of words = None
+
 -- `ELF FLT` and `ELF FLT --stack N`
 abbrev pub convert_of : List (List ℕ) → Option Invocation
 convert_of (elf ∷ flt ∷ []) = Some (convert elf flt default_stack)
@@ -136,8 +142,8 @@ abbrev pub demo_of : List (List ℕ) → Option Invocation
 demo_of (number ∷ []) = option_map demo (programs_of number)
 demo_of words = None
 
--- `convert` with its words, `list FLT`, `check ELF`, `run` and `trace` with their words, `unromfs IMG` and `demo N`; any other arguments are no
--- command
+-- `convert` with its words, `list FLT`, `check ELF`, `run` and `trace` with their words, `romfs MANIFEST IMG`, `unromfs IMG` and `demo N`; any
+-- other arguments are no command
 abbrev pub command_of : List (List ℕ) → Option Invocation
 command_of [] = None
 command_of (first ∷ words) =
@@ -146,6 +152,7 @@ command_of (first ∷ words) =
     else if bytes_eq first (codes "check") then option_map check (only words)
     else if bytes_eq first (codes "run") then run_of words
     else if bytes_eq first (codes "trace") then trace_of words
+    else if bytes_eq first (codes "romfs") then romfs_of words
     else if bytes_eq first (codes "unromfs") then option_map unromfs (only words)
     else if bytes_eq first (codes "demo") then demo_of words
     else None
@@ -164,5 +171,6 @@ invocation (command.List flt) = list flt.now
 invocation (command.Check elf) = check elf.now
 invocation (command.Run manifest log mode kind) = run manifest.now log mode kind
 invocation (command.Trace manifest pid counted kind) = trace manifest.now pid counted kind
+invocation (command.Romfs manifest image) = romfs manifest.now image.now
 invocation (command.Unromfs image) = unromfs image.now
 invocation (command.Demo programs) = demo programs

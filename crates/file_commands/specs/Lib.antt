@@ -10,6 +10,8 @@
 -- OneFile     a command that begins with the load of a file
 -- Convert, Check, List, Unromfs   the commands of one file
 -- Items       the loads of the files that a manifest's lines bring in
+-- Manifests   what the commands of a manifest share
+-- Romfs       the command `romfs`
 --
 -- Observed    what a host or a sink tells at one moment, and its counts: of faults, and a sink's of shortages of memory
 -- HostCourse  how far a host came with the requests; Performs: what it then tells, and the ending that this gives
@@ -29,6 +31,8 @@ pub mod Check
 pub mod List
 pub mod Unromfs
 pub mod Items
+pub mod Manifests
+pub mod Romfs
 pub mod Observed
 pub mod HostCourse
 pub mod Delivery

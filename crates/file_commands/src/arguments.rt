@@ -1,6 +1,6 @@
 //! The table of commands.
 ghost use Rattle.std.specs.Prelude.{◌≡◌, ◌≤◌, ◌↔◌, IsTrue, map, option_map, string_bytes};
-ghost use Rattle.file_commands.specs.Arguments.{is_between, StartsWell, number_of, kind_of_word, only, convert_of, placement_of, mode_of, run_of, counted_of, process_of, trace_of, demo_of, command_of, invocation};
+ghost use Rattle.file_commands.specs.Arguments.{is_between, StartsWell, number_of, kind_of_word, only, romfs_of, convert_of, placement_of, mode_of, run_of, counted_of, process_of, trace_of, demo_of, command_of, invocation};
 
 use page_runs::Kind;
 use region_watch::Mode;
@@ -56,6 +56,11 @@ pub enum Command<'a> {
         pid: Option<u32>,
         counted: bool,
         kind: Kind,
+    },
+    /// `romfs MANIFEST IMG`.
+    Romfs {
+        manifest: &'a str,
+        image: &'a str,
     },
     /// `unromfs IMG`.
     Unromfs {
@@ -114,6 +119,16 @@ fn only(words: &[String]) -> Option<&str>
 {
     match words {
         [word] => Some(word),
+        _ => None,
+    }
+}
+
+/// The words behind `romfs`.
+fn read_romfs(words: &[String]) -> Option<Command<'_>>
+    ensures { option_map invocation result ≡ romfs_of (map string_bytes words.now) }
+{
+    match words {
+        [manifest, image] => Some(Command::Romfs { manifest, image }),
         _ => None,
     }
 }
@@ -238,6 +253,7 @@ pub fn read_arguments(arguments: &[String]) -> Option<Command<'_>>
         }
         "run" => read_run(words),
         "trace" => read_trace(words),
+        "romfs" => read_romfs(words),
         "unromfs" => {
             let image = only(words)?;
             Some(Command::Unromfs { image })

@@ -68,7 +68,7 @@ fn store_flat<H: Host>(
 }
 
 /// Stores a file, and then has this line for `out`.
-fn store_file<H: Host>(
+pub fn store_file<H: Host>(
     alloc: Global,
     name: &str,
     bytes: &[u8],

@@ -17,7 +17,7 @@ use std::alloc::{AllocError, Global};
 /// The most bytes of all files together.
 const FILES_LIMIT: u32 = 268_435_456;
 
-/// The most bytes of an ELF file.
+/// The most bytes of an ELF file, and of an image.
 const ELF_LIMIT: u32 = 67_108_864;
 
 /// The most bytes of a file that stands in the machine as it is, and of the console's input.
@@ -70,7 +70,9 @@ fn has_file(kind: ItemKind) -> bool
     ensures { result ≡ has_file kind }
 {
     match kind {
-        ItemKind::Elf | ItemKind::Flat | ItemKind::File | ItemKind::Stdin => true,
+        ItemKind::Elf | ItemKind::Flat | ItemKind::File | ItemKind::Stdin | ItemKind::Root => {
+            true
+        }
         ItemKind::Dir => false,
     }
 }
@@ -80,7 +82,7 @@ fn load_limit(kind: ItemKind, left: u32) -> u32
     ensures { result ≡ load_limit kind left }
 {
     match kind {
-        ItemKind::Elf => ELF_LIMIT.min(left),
+        ItemKind::Elf | ItemKind::Root => ELF_LIMIT.min(left),
         ItemKind::Dir => 0,
         ItemKind::Flat | ItemKind::File | ItemKind::Stdin => FILE_LIMIT.min(left),
     }

@@ -25,6 +25,9 @@ usage: flatc COMMAND WORDS
                                               show each system call, as strace would; with
                                               P, 1 to 1000000, those of that process alone;
                                               --count counts the shown calls
+  romfs MANIFEST IMG                          make the files and folders of MANIFEST a
+                                              romfs image, and store it as IMG
+  unromfs IMG                                 write what the romfs image IMG has
   demo N                                      run N small programs, 1 to 64, that need no
                                               file
   --help                                      write this page

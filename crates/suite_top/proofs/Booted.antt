@@ -25,7 +25,8 @@ use Rattle.suite_top.specs.declared.telling.Telling.{Telling}
 use Rattle.file_commands.specs.Ending.{Ending, memory_ending, OrMemory}
 use Rattle.run_setup.specs.Faults.{IsMemory}
 use Rattle.suite_top.specs.Refusing.{told_fault}
-use Rattle.suite_top.specs.Run.{start_line, boot_fault, fault_ending, world_ending, memory_run_ending, mode_ending, booted_ending}
+use Rattle.file_commands.specs.Manifests.{fault_ending}
+use Rattle.suite_top.specs.Run.{start_line, boot_fault, world_ending, memory_run_ending, mode_ending, booted_ending}
 
 -- ---- what no start line changes
 

@@ -1,11 +1,14 @@
 -- The manifest of a demo.
-use Rattle.std.proofs.Common.{◌≡◌, ℕ, zero, suc, ◌+◌, ◌≤◌, List, [], ◌∷◌, ◌++◌, length, map, refl, sym, ap, ◌∙◌, subst, arith, rules, add-one, length-append}
-use Rattle.std.specs.List.{AllByRecursion}
+use Rattle.std.proofs.Common.{◌≡◌, ℕ, zero, suc, ◌+◌, ◌%◌, ◌^◌, ◌≤◌, ◌<◌, Bool, true, false, not, ◌&&◌, List, [], ◌∷◌, ◌++◌, length, map, refl, sym, ap, ◌∙◌, subst, arith, rules, add-one, length-append}
+use Rattle.std.specs.Prelude.{◌==◌, decimal}
+use Rattle.std.specs.List.{AllByRecursion, list_all}
+use Rattle.std.proofs.lemmas.Bool.{ne_eqb}
+use Rattle.std.proofs.lemmas.Fmt.{decimal_by_steps}
 use Rattle.std.proofs.lemmas.List.{map-append}
 use Rattle.page_runs.specs.declared.place.Kind.{Kind}
 use Rattle.page_runs.specs.declared.place.Kind.TheVariants.{First}
 use Rattle.manifest_text.specs.Values.{Manifest}
-use Rattle.manifest_text.specs.Laws.{IsItem, HasArgument, Reasonable}
+use Rattle.manifest_text.specs.Laws.{IsItem, HasClearPath, HasArgument, Reasonable}
 use Rattle.elf_maker.specs.Demo.{demo_file}
 use Rattle.region_watch.specs.declared.mode.Mode.TheVariants.{Halt}
 use Rattle.suite_top.specs.declared.telling.Telling.TheVariants.{Demo}
@@ -42,6 +45,32 @@ module _ {A : Type 0} (of : ℕ → A) where
   pushed value items more item n are is grown =
       ap (map value) grown ∙ map-append value items (item ∷ []) ∙ ap (λ xs. xs ++ value item ∷ []) are ∙ ap (λ x. each_of of n ++ x ∷ []) is ∙ sym (one_more n)
 
+-- the same of the numbers up to n alone
+all_up_to : {A : Type 0} (of : ℕ → A) (P : A → Type 0) (n : ℕ) → ((i : ℕ) → i ≤ n → P (of i)) → AllByRecursion P (each_of of n)
+unfolding each_of
+all_up_to of P zero each = tt
+all_up_to of P (suc n) each = all_append of P (each_of of n) (of (suc n)) (all_up_to of P n (λ i le. each i (omega arith))) (each (suc n) (omega arith))
+
+abbrev is_clear : List ℕ → Bool
+is_clear text = list_all (λ b. not (b == 0)) text
+
+digit_clear : (d : ℕ) → not (48 + d == 0) ≡ true
+digit_clear d = ap not (ne_eqb (48 + d) 0 (λ e. omega (arith, e)))
+
+clear_more : (text : List ℕ) (b : ℕ) → is_clear text ≡ true → not (b == 0) ≡ true → is_clear (text ++ b ∷ []) ≡ true
+clear_more [] b text one = ap (λ (c : Bool). c && true) one
+clear_more (x ∷ xs) b text one = by (not (x == 0)) text (λ rest. clear_more xs b rest one)
+  where
+    by : (c : Bool) → (c && is_clear xs) ≡ true → (is_clear xs ≡ true → is_clear (xs ++ b ∷ []) ≡ true) → (c && is_clear (xs ++ b ∷ [])) ≡ true
+    by true rest more = more rest
+    by false rest more = absurd cc
+
+number_clear : (n : ℕ) → n < 2 ^ 64 → is_clear (decimal n) ≡ true
+number_clear = decimal_by_steps (λ n text. is_clear text ≡ true) (λ n lt. ap (λ (c : Bool). c && true) (digit_clear n)) (λ n text le is. clear_more text (48 + n % 10) is (digit_clear (n % 10)))
+
+has_clear_path : (i : ℕ) → i ≤ 64 → HasClearPath (demo_item i)
+has_clear_path i few = number_clear i (omega arith)
+
 is_item : (i : ℕ) → IsItem (demo_item i)
 is_item i = record { name = search rules; stack = (omega arith, omega arith) }
 
@@ -52,6 +81,7 @@ reasonable n few = record {
   most_pages = omega arith;
   items = omega (arith, length-each_of demo_item n);
   each_item = all_each_of demo_item IsItem is_item n;
+  each_path = all_up_to demo_item HasClearPath n (λ i le. has_clear_path i (omega arith));
   starts = omega (arith, length-each_of demo_start n);
   each_start = all_each_of demo_start HasArgument (λ i. omega arith) n;
   quanta = omega arith;

@@ -1,17 +1,28 @@
 -- What the host was asked, and which files changed.
-use Rattle.std.proofs.Common.{◌≡◌, ℕ, List, [], ◌∷◌, ◌++◌, map, Option, Some, None, refl, sym, ap, subst, ◌∙◌, append_assoc}
-use Rattle.std.specs.Prelude.{option_map}
+use Rattle.std.proofs.Common.{◌≡◌, ℕ, List, [], ◌∷◌, ◌++◌, map, Option, Some, None, refl, sym, ap, subst, ◌∙◌, append_assoc, inl, inr}
+use Rattle.std.specs.Prelude.{◌⊎◌, option_map}
+use Rattle.std.specs.FinMap.{insert}
+use Rattle.std.specs.Option.{option_and_then}
 use Rattle.std.proofs.lemmas.List.{append-nil}
-use Rattle.host_io.specs.Host.{Told}
-use Rattle.file_commands.specs.Outcome.{Request, load, store, Inputs, name_of}
-use Rattle.file_commands.specs.Arguments.{Invocation, convert, list, check, run, trace, unromfs, demo, command_of}
+use Rattle.host_io.specs.Host.{Files, Told}
+use Rattle.page_runs.specs.declared.place.Kind.{Kind}
+use Rattle.file_commands.specs.Outcome.{Request, load, store, Outcome, Inputs, name_of}
+use Rattle.file_commands.specs.Arguments.{Invocation, convert, list, check, run, trace, romfs, unromfs, demo, command_of}
+use Rattle.file_commands.specs.OneFile.{with_found}
+use Rattle.file_commands.specs.Convert.{converted_outcome}
+use Rattle.file_commands.specs.Romfs.{romfs_outcome}
+use Rattle.region_watch.specs.declared.mode.Mode.{Mode}
 use Rattle.region_watch.specs.declared.mode.Mode.TheVariants.{Halt}
+use Rattle.suite_top.specs.declared.telling.Telling.{Telling}
 use Rattle.suite_top.specs.declared.telling.Telling.TheVariants.{Report, Trace}
+use Rattle.suite_top.specs.Run.{run_outcome}
 use Rattle.suite_top.specs.Result.{command_outcome}
 use Rattle.file_commands.specs.HostCourse.{HostCourse, complete, failed, out_of_memory, AreLoads, IsCourseOf, FaultsAfter, after_answer, after_answers, told_after}
 use Rattle.suite_top.specs.Call.{outcome_of}
-use Rattle.suite_top.specs.HostLaws.{NamesAreAPrefix, NothingIsAsked, OthersChangeNoFile}
-use Rattle.suite_top.proofs.Outcomes.{usage_is_exact, list_requests, check_requests, unromfs_requests, run_requests}
+use Rattle.suite_top.specs.HostLaws.{NamesAreAPrefix, NothingIsAsked, stores_of, stored_name, Leaves, OthersChangeNoFile, StoresAreWhole}
+use Rattle.suite_top.proofs.RunOutcomes.{run_by}
+use Rattle.suite_top.proofs.ImageOutcomes.{romfs_by}
+use Rattle.suite_top.proofs.Outcomes.{usage_is_exact, Behind, requests_behind, list_requests, check_requests, unromfs_requests}
 
 -- what a host tells in the end is what its course gives
 pub told_is : (k : Told → Told) (old new : Option Told) (t t_after : Told) → new ≡ option_map k old → old ≡ Some t → new ≡ Some t_after → t_after ≡ k t
@@ -19,7 +30,7 @@ told_is k old new t t_after by is_old is_new = cc
 
 -- ---- names
 
-asked_after : (requests : List Request) (t : Told) → (after_answers t requests).asked ≡ t.asked ++ map name_of requests
+pub asked_after : (requests : List Request) (t : Told) → (after_answers t requests).asked ≡ t.asked ++ map name_of requests
 asked_after [] t = sym (append-nil t.asked)
 asked_after (load name ∷ requests) t = asked_after requests (after_answer t (load name)) ∙ append_assoc t.asked (name ∷ []) (map name_of requests)
 asked_after (store name bytes ∷ requests) t = asked_after requests (after_answer t (store name bytes)) ∙ append_assoc t.asked (name ∷ []) (map name_of requests)
@@ -67,22 +78,65 @@ loads_keep [] t are = refl
 loads_keep (load name ∷ requests) t are = loads_keep requests (after_answer t (load name)) are
 loads_keep (store name bytes ∷ requests) t are = absurd are
 
-others_load : (o : Option Invocation) (inputs : Inputs) → ((elf flt : List ℕ) (stack : ℕ) → o ≡ Some (convert elf flt stack) → ⊥) → AreLoads (command_outcome o inputs).requests
-others_load None inputs other = tt
-others_load (Some (convert elf flt stack)) inputs other = absurd (other elf flt stack refl)
-others_load (Some (list flt)) inputs other = subst AreLoads (sym (list_requests flt inputs)) tt
-others_load (Some (check elf)) inputs other = subst AreLoads (sym (check_requests elf inputs)) tt
-others_load (Some (unromfs image)) inputs other = subst AreLoads (sym (unromfs_requests image inputs)) tt
-others_load (Some (run manifest log mode kind)) inputs other = run_requests manifest (Report log) mode kind inputs
-others_load (Some (trace manifest pid counted kind)) inputs other = run_requests manifest (Trace pid counted) Halt kind inputs
-others_load (Some (demo programs)) inputs other = tt
+-- loads, and behind them one store of the file of this name, if there is one
+abbrev HasStore : Option (List ℕ) → List Request → Type 0
+HasStore stored [] = Unit {0}
+HasStore stored (load name ∷ requests) = HasStore stored requests
+HasStore None (store name bytes ∷ requests) = ⊥
+HasStore (Some wanted) (store name bytes ∷ requests) = (name ≡ wanted) × (requests ≡ [])
 
-files_stay : (requests : List Request) (k : HostCourse) (t : Told) → IsCourseOf requests k → AreLoads requests → (told_after requests k t).files ≡ t.files
-files_stay requests complete t is are = loads_keep requests t are
-files_stay requests (failed done last) t is are = loads_keep done t is.2
-files_stay requests (out_of_memory done) t is are = loads_keep done t is.2
+run_has : (manifest : List ℕ) (telling : Telling) (mode : Mode) (kind : Kind) (inputs : Inputs) → HasStore None (run_outcome manifest telling mode kind inputs).requests
+run_has = run_by (λ (o : Outcome). HasStore None o.requests) (λ name o has. has) (λ name. tt) (λ tail. tt) (λ telling dumped w end. tt)
+
+romfs_has : (manifest image : List ℕ) (inputs : Inputs) → HasStore (Some image) (romfs_outcome manifest image inputs).requests
+romfs_has manifest image inputs =
+    romfs_by (λ (o : Outcome). HasStore (Some image) o.requests) (λ name o has. has) (λ name. tt) (λ tail. tt) image (λ bytes line. (refl, refl)) manifest inputs
+
+behind_has : (flt : List ℕ) (stack : ℕ) (found : Option (List ℕ)) (requests : List Request) → Behind flt stack found requests → HasStore (Some flt) requests
+behind_has flt stack found requests (inl none) = subst (HasStore (Some flt)) (sym none) tt
+behind_has flt stack found requests (inr (e, is, accepted, one)) = subst (HasStore (Some flt)) (sym one) (refl, refl)
+
+command_has : (o : Option Invocation) (inputs : Inputs) → HasStore (option_and_then stores_of o) (command_outcome o inputs).requests
+command_has None inputs = tt
+command_has (Some (convert elf flt stack)) inputs = behind_has flt stack (inputs 0 elf) (with_found elf (inputs 0 elf) (converted_outcome flt stack)).requests (requests_behind elf flt stack (inputs 0 elf))
+command_has (Some (list flt)) inputs = subst (HasStore None) (sym (list_requests flt inputs)) tt
+command_has (Some (check elf)) inputs = subst (HasStore None) (sym (check_requests elf inputs)) tt
+command_has (Some (run manifest log mode kind)) inputs = run_has manifest (Report log) mode kind inputs
+command_has (Some (trace manifest pid counted kind)) inputs = run_has manifest (Trace pid counted) Halt kind inputs
+command_has (Some (romfs manifest image)) inputs = romfs_has manifest image inputs
+command_has (Some (unromfs image)) inputs = subst (HasStore None) (sym (unromfs_requests image inputs)) tt
+command_has (Some (demo programs)) inputs = tt
+
+leaves_same : (stored : Option (List ℕ)) (old new : Files) → new ≡ old → Leaves stored old new
+leaves_same None old new same = same
+leaves_same (Some name) old new same = inl same
+
+leaves_all : (stored : Option (List ℕ)) (requests : List Request) (t : Told) → HasStore stored requests → Leaves stored t.files (after_answers t requests).files
+leaves_all stored [] t has = leaves_same stored t.files t.files refl
+leaves_all stored (load name ∷ requests) t has = leaves_all stored requests (after_answer t (load name)) has
+leaves_all None (store name bytes ∷ requests) t has = absurd has
+leaves_all (Some wanted) (store name bytes ∷ requests) t has =
+    inr (bytes, ap (λ (rest : List Request). (after_answers (after_answer t (store name bytes)) rest).files) has.1 ∙ ap (λ (n : List ℕ). insert t.files n bytes) has.0)
+
+-- ---- by the course that the host took
+
+abbrev EndsWhole : List Request → Told → Files → Type 0
+EndsWhole requests t new = (new ≡ t.files) ⊎ (new ≡ (after_answers t requests).files)
+
+whole_at : (requests : List Request) (k : HostCourse) (t : Told) → IsCourseOf requests k → EndsWhole requests t (told_after requests k t).files
+whole_at requests complete t is = inr refl
+whole_at requests (failed done last) t is = inl (loads_keep done t is.2)
+whole_at requests (out_of_memory done) t is = inl (loads_keep done t is.2)
+
+pub stores_are_whole : StoresAreWhole
+stores_are_whole c t t_after (ending, performs, delivers) is_old is_new =
+    let is = told_is (told_after (outcome_of c).requests performs.course) c.host.told c.host_after.told t t_after performs.told is_old is_new in
+    subst (EndsWhole (outcome_of c).requests t) (sym (ap (λ (u : Told). u.files) is)) (whole_at (outcome_of c).requests performs.course t performs.is_course)
 
 pub others_change_no_file : OthersChangeNoFile
-others_change_no_file c t t_after (ending, performs, delivers) is_old is_new other =
-    let is = told_is (told_after (outcome_of c).requests performs.course) c.host.told c.host_after.told t t_after performs.told is_old is_new in
-    ap (λ (u : Told). u.files) is ∙ files_stay (outcome_of c).requests performs.course t performs.is_course (others_load (command_of c.arguments) c.inputs other)
+others_change_no_file c t t_after meets is_old is_new =
+    elim (stores_are_whole c t t_after meets is_old is_new) [
+      | inl same ↦ leaves_same (stored_name c.arguments) t.files t_after.files same
+      | inr all ↦
+          subst (Leaves (stored_name c.arguments) t.files) (sym all) (leaves_all (stored_name c.arguments) (outcome_of c).requests t (command_has (command_of c.arguments) c.inputs))
+    ]

@@ -14,7 +14,7 @@ use Rattle.file_commands.specs.Texts.Listing.{listing, flat_tail}
 use Rattle.bflt_format.specs.Header.{flat_values}
 use Rattle.file_commands.specs.Ending.{Ending, done_ending, usage_ending, refused_ending}
 use Rattle.file_commands.specs.Outcome.{Request, load, store, failure_ending, Outcome, Inputs, after}
-use Rattle.file_commands.specs.Arguments.{Invocation, convert, list, check, run, trace, unromfs, demo, IsNoRun, default_stack, command_of}
+use Rattle.file_commands.specs.Arguments.{Invocation, convert, list, check, run, trace, romfs, unromfs, demo, IsNoRun, default_stack, command_of}
 use Rattle.file_commands.specs.OneFile.{file_limit, with_found, with_file}
 use Rattle.file_commands.specs.Convert.{judged_outcome, converted_outcome}
 use Rattle.file_commands.specs.Check.{verdict, checked_outcome, check_outcome}
@@ -24,19 +24,16 @@ use Rattle.romfs_image.specs.Nodes.{RomValue}
 use Rattle.romfs_image.specs.Reading.{rom_read}
 use Rattle.file_commands.specs.Unromfs.{read_ending, unmade_outcome, unromfs_outcome}
 use Rattle.file_commands.specs.Texts.Images.{rom_tail, image_listing}
-use Rattle.page_runs.specs.declared.place.Kind.{Kind}
 use Rattle.machine_world.specs.World.{World}
 use Rattle.machine_world.specs.Turns.{End}
-use Rattle.region_watch.specs.declared.mode.Mode.{Mode}
 use Rattle.region_watch.specs.declared.mode.Mode.TheVariants.{Halt}
 use Rattle.suite_top.specs.declared.telling.Telling.{Telling}
 use Rattle.suite_top.specs.declared.telling.Telling.TheVariants.{Report, Trace}
 use Rattle.suite_top.specs.Telling.{told_ending}
-use Rattle.suite_top.specs.Run.{run_outcome}
 use Rattle.suite_top.specs.Result.{command_outcome, result_of}
 use Rattle.suite_top.specs.StatusLaws.{IsOneText, TextsAreApart, UsageIsExact}
-use Rattle.file_commands.specs.HostCourse.{AreLoads}
 use Rattle.suite_top.proofs.RunOutcomes.{run_by, demo_by, told_status}
+use Rattle.suite_top.proofs.ImageOutcomes.{romfs_by}
 
 -- what holds of a refusal and of `rest` holds of what was found
 pub found_by : (P : Outcome → Type 0) (name : List ℕ) (rest : List ℕ → Outcome) (e : List ℕ) → P (record { requests = []; ending = refused_ending too_long_tail }) → P (rest e) → P (with_found name (Some e) rest)
@@ -70,6 +67,7 @@ module _ (P : Ending → Type 0) (read : (name : List ℕ) → P (failure_ending
   other_than_run (check elf) inputs other = found_ending elf checked_outcome (λ e. check_judged e (fault e)) (inputs 0 elf)
   other_than_run (list flt) inputs other = found_ending flt listed_outcome (λ y. list_judged y (flat_fault y)) (inputs 0 flt)
   other_than_run (unromfs image) inputs other = found_ending image unmade_outcome (λ y. unromfs_judged (rom_read y)) (inputs 0 image)
+  other_than_run (romfs manifest image) inputs other = romfs_by (λ (o : Outcome). P o.ending) (λ name o p. p) read refused image (λ bytes line. done line) manifest inputs
   other_than_run (run manifest log mode kind) inputs other = absurd other
   other_than_run (trace manifest pid counted kind) inputs other = absurd other
   other_than_run (demo programs) inputs other = absurd other
@@ -82,6 +80,7 @@ module _ (P : Ending → Type 0) (read : (name : List ℕ) → P (failure_ending
     invoked (convert elf flt stack) inputs = other_than_run (convert elf flt stack) inputs tt
     invoked (check elf) inputs = other_than_run (check elf) inputs tt
     invoked (list flt) inputs = other_than_run (list flt) inputs tt
+    invoked (romfs manifest image) inputs = other_than_run (romfs manifest image) inputs tt
     invoked (unromfs image) inputs = other_than_run (unromfs image) inputs tt
 
     pub result_by : P usage_ending → (o : Option Invocation) (inputs : Inputs) → P (command_outcome o inputs).ending
@@ -140,6 +139,3 @@ check_requests elf inputs = one_load elf checked_outcome (λ e. refl) (inputs 0 
 
 pub unromfs_requests : (image : List ℕ) (inputs : Inputs) → (unromfs_outcome image inputs).requests ≡ load image ∷ []
 unromfs_requests image inputs = one_load image unmade_outcome (λ y. refl) (inputs 0 image)
-
-pub run_requests : (manifest : List ℕ) (telling : Telling) (mode : Mode) (kind : Kind) (inputs : Inputs) → AreLoads (run_outcome manifest telling mode kind inputs).requests
-run_requests = run_by (λ (o : Outcome). AreLoads o.requests) (λ name o are. are) (λ name. tt) (λ tail. tt) (λ telling dumped w end. tt)

@@ -22,7 +22,8 @@ use Rattle.run_setup.specs.Brought.{Brought, FaultAt, nothing_brought, all_broug
 use Rattle.run_setup.specs.Faults.{IsMemory}
 use Rattle.file_commands.specs.ItemLoads.{GaveFiles}
 use Rattle.file_commands.specs.Load.{at_once}
-use Rattle.suite_top.specs.Run.{fault_ending, mode_ending, booted_ending, brought_ending, files_ending, items_outcome, manifest_outcome, start_line, opening}
+use Rattle.file_commands.specs.Manifests.{fault_ending}
+use Rattle.suite_top.specs.Run.{mode_ending, booted_ending, brought_ending, files_ending, items_outcome, manifest_outcome, start_line, opening}
 use Rattle.file_commands.proofs.HostSteps.{asks_nothing}
 use Rattle.suite_top.proofs.RunOutcomes.{told_status}
 

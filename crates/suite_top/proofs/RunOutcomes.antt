@@ -1,9 +1,9 @@
 -- What the outcome of a run can be: loads, one after the other, and then a refusal or the ending of a machine that stopped.
-use Rattle.std.proofs.Common.{ℕ, ◌-◌, Bool, true, false, cond, List, [], ◌∷◌, length, nat_lt, map, Option, Some, None, Result, Ok, Err}
+use Rattle.std.proofs.Common.{ℕ, List, map, Option, Some, None, Result, Ok, Err}
 use Rattle.page_runs.specs.declared.place.Kind.{Kind}
 use Rattle.manifest_text.specs.declared.manifest.Dump.{Dump}
 use Rattle.quantum_sched.specs.declared.Quantum.{Quantum}
-use Rattle.manifest_text.specs.Values.{Item, Manifest}
+use Rattle.manifest_text.specs.Values.{Manifest}
 use Rattle.manifest_text.specs.Manifest.{Fault, manifest_of}
 use Rattle.machine_world.specs.World.{World}
 use Rattle.machine_world.specs.Turns.{End, all_ended, stuck, out_of_quanta, stray_at, log_full, turns}
@@ -14,10 +14,10 @@ use Rattle.region_watch.specs.declared.mode.Mode.TheVariants.{Halt, GoOn}
 use Rattle.flat_machine.specs.Runs.{repeated}
 use Rattle.file_commands.specs.declared.status.Status.{Status}
 use Rattle.file_commands.specs.declared.status.Status.TheVariants.{Done, Stray, OutOfQuanta, LogFull, Stuck}
-use Rattle.file_commands.specs.Texts.Refusals.{manifest_tail, line_tail, too_long_at}
+use Rattle.file_commands.specs.Texts.Refusals.{manifest_tail, line_tail}
 use Rattle.file_commands.specs.Ending.{refused_ending}
 use Rattle.file_commands.specs.Outcome.{load, failure_ending, Outcome, Inputs, after}
-use Rattle.file_commands.specs.Load.{at_once, behind, with_limited, with_load}
+use Rattle.file_commands.specs.Load.{at_once}
 use Rattle.run_setup.specs.Brought.{Brought, FaultAt, nothing_brought, all_brought}
 use Rattle.suite_top.specs.Report.{status_of_end, own_dumps, memory_dumps}
 use Rattle.suite_top.specs.declared.telling.Telling.{Telling}
@@ -26,32 +26,13 @@ use Rattle.suite_top.specs.Telling.{told_ending}
 use Rattle.page_runs.specs.declared.place.Kind.TheVariants.{First}
 use Rattle.elf_maker.specs.Demo.{demo_file}
 use Rattle.suite_top.specs.Demo.{each_of, demo_manifest, demo_ending}
-use Rattle.file_commands.specs.Items.{files_limit, load_limit, has_file, with_item, with_items}
-use Rattle.suite_top.specs.Run.{manifest_limit, start_line, opening, boot_fault, mode_ending, booted_ending, brought_ending, files_ending, manifest_outcome, run_outcome}
+use Rattle.file_commands.specs.Items.{files_limit}
+use Rattle.file_commands.specs.Manifests.{manifest_limit}
+use Rattle.suite_top.proofs.LoadOutcomes.{load_run, items_run}
+use Rattle.suite_top.specs.Run.{start_line, opening, boot_fault, mode_ending, booted_ending, brought_ending, files_ending, manifest_outcome, run_outcome}
 
 -- what holds of each end, and of a load in front of an outcome of which it holds
 module _ (P : Outcome → Type 0) (step : (name : List ℕ) (o : Outcome) → P o → P (after (load name) o)) (read : (name : List ℕ) → P (at_once (failure_ending (load name)))) (refused : (tail : List ℕ) → P (at_once (refused_ending tail))) (told : (telling : Telling) (dumped : List ℕ) (w : World) (end : Option End) → P (at_once (told_ending telling dumped w end))) where
-  limited : (limit : ℕ) (line : Option ℕ) (name : List ℕ) (rest : List ℕ → Outcome) → ((bytes : List ℕ) → P (rest bytes)) → (found : Option (List ℕ)) → P (with_limited limit line name found rest)
-  limited limit line name rest each None = read name
-  limited limit line name rest each (Some bytes) =
-      elim (nat_lt limit (length bytes)) as (λ (b : Bool). P (cond b (at_once (refused_ending (too_long_at line))) (rest bytes))) [ true ↦ refused (too_long_at line) | false ↦ each bytes ]
-
-  item_run : (left : ℕ) (item : Item) (rest : List ℕ → Inputs → Outcome) → ((bytes : List ℕ) (more : Inputs) → P (rest bytes more)) → (inputs : Inputs) → P (with_item left item rest inputs)
-  item_run left item rest each inputs =
-      elim (has_file item.kind) as (λ (b : Bool). P (cond b (with_load (load_limit item.kind left) (Some item.line) item.name rest inputs) (rest [] inputs))) [
-        | true ↦
-            step item.name (with_limited (load_limit item.kind left) (Some item.line) item.name (inputs 0 item.name) (λ bytes. rest bytes (behind inputs)))
-            (limited (load_limit item.kind left) (Some item.line) item.name (λ bytes. rest bytes (behind inputs)) (λ bytes. each bytes (behind inputs)) (inputs 0 item.name))
-        | false ↦ each [] inputs
-      ]
-
-  items_run : (left : ℕ) (items : List Item) (rest : List (List ℕ) → Outcome) → ((files : List (List ℕ)) → P (rest files)) → (inputs : Inputs) → P (with_items left items rest inputs)
-  unfolding with_items
-  items_run left [] rest each inputs = each []
-  items_run left (item ∷ items) rest each inputs =
-      item_run left item (λ bytes. with_items (left - length bytes) items (λ files. rest (bytes ∷ files)))
-      (λ bytes more. items_run (left - length bytes) items (λ files. rest (bytes ∷ files)) (λ files. each (bytes ∷ files)) more) inputs
-
   by_mode : (telling : Telling) (mode : Mode) (quanta : List Quantum) (dumps : List Dump) (headers : List (List ℕ)) (w : World) → P (at_once (mode_ending telling mode quanta dumps headers w))
   by_mode telling Halt quanta dumps headers w = let walk = turns quanta w in told telling (own_dumps walk.world dumps) walk.world walk.end
   by_mode telling GoOn quanta dumps headers w =
@@ -72,14 +53,13 @@ module _ (P : Outcome → Type 0) (step : (name : List ℕ) (o : Outcome) → P 
   from_manifest : (telling : Telling) (mode : Mode) (kind : Kind) (r : Result Manifest Fault) (inputs : Inputs) → P (manifest_outcome telling mode kind r inputs)
   from_manifest telling mode kind (Err first) inputs = refused (manifest_tail first.line first.fault)
   from_manifest telling mode kind (Ok m) inputs =
-      items_run files_limit m.items (λ files. at_once (files_ending telling mode kind m files)) (from_files telling mode kind m) inputs
+      items_run P step read refused files_limit m.items (λ files. at_once (files_ending telling mode kind m files)) (from_files telling mode kind m) inputs
 
   pub run_by : (name : List ℕ) (telling : Telling) (mode : Mode) (kind : Kind) (inputs : Inputs) → P (run_outcome name telling mode kind inputs)
   unfolding run_outcome
   run_by name telling mode kind inputs =
-      let next : List ℕ → Outcome = λ bytes. manifest_outcome telling mode kind (manifest_of bytes) (behind inputs) in
-      step name (with_limited manifest_limit None name (inputs 0 name) next)
-      (limited manifest_limit None name next (λ bytes. from_manifest telling mode kind (manifest_of bytes) (behind inputs)) (inputs 0 name))
+      load_run P step read refused manifest_limit None name (λ bytes. manifest_outcome telling mode kind (manifest_of bytes))
+      (λ bytes more. from_manifest telling mode kind (manifest_of bytes) more) inputs
 
   pub demo_by : (n : ℕ) → P (at_once (demo_ending n))
   unfolding demo_ending

@@ -15,18 +15,15 @@ use Rattle.flat_machine.specs.Runs.{repeated}
 use Rattle.fd_tables.specs.Files.{nothing_open}
 use Rattle.run_setup.specs.declared.fault.LineFault.TheVariants as line
 use Rattle.run_setup.specs.Brought.{Brought, FaultAt, nothing_brought, all_brought}
-use Rattle.file_commands.specs.Texts.Refusals.{manifest_tail, line_tail}
+use Rattle.file_commands.specs.Texts.Refusals.{manifest_tail}
 use Rattle.file_commands.specs.Ending.{Ending, refused_ending}
 use Rattle.file_commands.specs.Outcome.{Outcome, Inputs}
 use Rattle.file_commands.specs.Load.{at_once, with_load}
 use Rattle.file_commands.specs.Items.{files_limit, with_items}
+use Rattle.file_commands.specs.Manifests.{manifest_limit, fault_ending}
 use Rattle.suite_top.specs.declared.telling.Telling.{Telling}
 use Rattle.suite_top.specs.Report.{own_dumps, memory_dumps}
 use Rattle.suite_top.specs.Telling.{told_ending}
-
--- the most bytes of a manifest
-abbrev pub manifest_limit : ℕ
-manifest_limit = 1048576
 
 -- ---- the machine
 
@@ -49,9 +46,6 @@ abbrev pub boot_fault : BootFault → FaultAt
 boot_fault (bad_start number) = record { line = number; fault = line.BadStart }
 boot_fault (args_too_big number) = record { line = number; fault = line.E2big }
 boot_fault (no_run number) = record { line = number; fault = line.NoRun }
-
-abbrev pub fault_ending : FaultAt → Ending
-fault_ending at = refused_ending (line_tail at.line at.fault)
 
 abbrev pub walked_ending : Telling → List Dump → Walk → Ending
 walked_ending telling dumps walk = told_ending telling (own_dumps walk.world dumps) walk.world walk.end

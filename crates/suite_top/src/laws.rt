@@ -1,7 +1,7 @@
 //! Laws over every call of `suite`, by what its clause says. No code runs. Those of one command stand
 //! with the command.
 ghost use Rattle.suite_top.specs.StatusLaws.{AnswersAreWhole, Completes, TextsAreApart, ReadsFail, WritesFail, SinksFail, MemoryIsTold, MemoryIsOneLine, ShortagesStop, UsageIsExact, StackIsSpelled, NoStatusIsAlways};
-ghost use Rattle.suite_top.specs.HostLaws.{NamesAreAPrefix, NothingIsAsked, OthersChangeNoFile};
+ghost use Rattle.suite_top.specs.HostLaws.{NamesAreAPrefix, NothingIsAsked, OthersChangeNoFile, StoresAreWhole};
 
 /// When each status comes, and what was written then; and none but Memory comes always.
 pub fn status_law()
@@ -24,4 +24,5 @@ pub fn host_law()
     ensures names { NamesAreAPrefix }
     ensures untouched { NothingIsAsked }
     ensures others { OthersChangeNoFile }
+    ensures whole { StoresAreWhole }
 {}

@@ -9,18 +9,19 @@ ghost use Rattle.physical_turns.specs.Physical.{has_stray};
 ghost use Rattle.region_watch.specs.declared.mode.Mode.TheVariants.{Halt, GoOn};
 ghost use Rattle.flat_machine.specs.State.{world, one_memory};
 ghost use Rattle.flat_machine.specs.Runs.{repeated};
-ghost use Rattle.file_commands.specs.Ending.{memory_ending, OrMemory};
+ghost use Rattle.file_commands.specs.Ending.{OrMemory};
 ghost use Rattle.file_commands.specs.Observed.{observed};
 ghost use Rattle.file_commands.specs.Answer.{ending_of};
-ghost use Rattle.run_setup.specs.Faults.{IsMemory};
 ghost use Rattle.run_setup.specs.Making.{fault_value, HasPaths, brought_value};
 ghost use Rattle.suite_top.specs.Refusing.{told_fault};
-ghost use Rattle.suite_top.specs.Run.{fault_ending, world_ending, memory_run_ending, brought_ending, files_ending, items_outcome, manifest_outcome, run_outcome};
+ghost use Rattle.suite_top.specs.Run.{world_ending, memory_run_ending, brought_ending, files_ending, items_outcome, manifest_outcome, run_outcome};
 ghost use Rattle.file_commands.specs.HostCourse.{PerformsCommand};
 
 use crate::telling::{Telling, told};
-use file_commands::texts::refusals::{refused_line, refused_manifest};
-use file_commands::{Answer, FileLoad, ItemsLoad, Status, load_items, load_limited};
+use file_commands::texts::refusals::refused_manifest;
+use file_commands::{
+    Answer, FileLoad, ItemsLoad, MANIFEST_LIMIT, Status, load_items, load_limited, refuse_line,
+};
 use flat_machine::{BootRefusal, Machine, Setup};
 use host_io::Host;
 use manifest_text::{Dump, Manifest, ManifestRefusal};
@@ -29,9 +30,6 @@ use quantum_sched::Quantum;
 use region_watch::Mode;
 use run_setup::{FaultAt, LineFault, RunFiles, bring};
 use std::alloc::{AllocError, Global};
-
-/// The most bytes of a manifest.
-const MANIFEST_LIMIT: u32 = 1_048_576;
 
 /// Loads the manifest and the files of its lines, and runs the programs that they bring in.
 pub fn run_file<H: Host, F: Fn(&[Run], u32) -> Option<usize>>(
@@ -193,13 +191,4 @@ fn run_machine<F: Fn(&[Run], u32) -> Option<usize>>(
 {
     let end = machine.run_repeated(quanta, repeat, chooser)?;
     told(alloc, machine, telling, dumps, end)
-}
-
-/// The answer for a line with a fault.
-fn refuse_line(alloc: Global, at: &FaultAt) -> Result<Answer, AllocError>
-    ensures ending { OrMemory (fault_ending (fault_value at.now)) (ending_of result) }
-    ensures memory { IsMemory at.now.fault → ending_of result ≡ memory_ending }
-{
-    let text = refused_line(alloc, at.line, &at.fault);
-    Answer::early(alloc, Status::Refused, text)
 }

@@ -14,8 +14,8 @@ use crate::placements::Placements;
 use crate::run::run_file;
 use crate::telling::Telling;
 use file_commands::{
-    Answer, Command, Status, check_file, convert_file, deliver, list_file, read_arguments, texts,
-    unromfs_file,
+    Answer, Command, Status, check_file, convert_file, deliver, list_file, read_arguments,
+    romfs_file, texts, unromfs_file,
 };
 use host_io::{Host, Sink};
 use page_runs::{Kind, Run};
@@ -85,6 +85,7 @@ where
             let telling = Telling::Trace { pid, counted };
             run_placed(alloc, manifest, telling, Mode::Halt, kind, host, place)
         }
+        Some(Command::Romfs { manifest, image }) => romfs_file(alloc, manifest, image, host),
         Some(Command::Unromfs { image }) => unromfs_file(alloc, image, host),
         Some(Command::Demo { programs }) => run_demo(alloc, programs, &place.first),
         None => Answer::early(alloc, Status::Usage, texts::usage(alloc)),

@@ -7,6 +7,7 @@ use Rattle.run_setup.specs.declared.fault.LineFault.{LineFault}
 use Rattle.run_setup.specs.declared.fault.LineFault.TheVariants as line
 use Rattle.file_commands.specs.Texts.{joined, too_long_tail, refusal_tail}
 use Rattle.file_commands.specs.Texts.Listing.{flat_tail}
+use Rattle.file_commands.specs.Texts.Images.{rom_tail}
 
 -- a fault of a manifest: its number and its name
 abbrev pub manifest_fault_words : ManifestFault → List ℕ
@@ -28,6 +29,7 @@ abbrev pub line_fault_words : LineFault → List ℕ
 line_fault_words line.TooLong = too_long_tail
 line_fault_words (line.Elf refusal) = refusal_tail refusal
 line_fault_words (line.Flat first) = flat_tail first
+line_fault_words (line.Rom first) = rom_tail first
 line_fault_words (line.Place errno) = codes "errno " ++ decimal (errno_number errno)
 line_fault_words line.BadStart = codes "start"
 line_fault_words line.E2big = codes "args"

@@ -4,6 +4,7 @@ ghost use Rattle.file_commands.specs.Texts.{refused_line};
 ghost use Rattle.file_commands.specs.Texts.Refusals.{manifest_fault_words, manifest_tail, line_fault_words, line_tail};
 ghost use Rattle.run_setup.specs.Faults.{IsMemory};
 
+use crate::texts::images::rom_tail;
 use crate::texts::listing::flat_tail;
 use crate::texts::{conversion_tail, refused};
 use manifest_text::ManifestFault;
@@ -53,6 +54,7 @@ fn line_fault_words(alloc: Global, fault: &LineFault) -> Result<String, AllocErr
         LineFault::TooLong => String::from_str(alloc, "too long"),
         LineFault::Elf(refusal) => conversion_tail(alloc, refusal),
         LineFault::Flat(fault) => flat_tail(alloc, *fault),
+        LineFault::Rom(fault) => rom_tail(alloc, *fault),
         LineFault::Place(errno) => {
             let number = errno.number();
             format!(in alloc; "errno {number}")

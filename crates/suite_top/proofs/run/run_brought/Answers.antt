@@ -10,7 +10,8 @@ use Rattle.run_setup.specs.Making.{brought_value}
 use Rattle.flat_machine.specs.Runs.{repeated}
 use Rattle.file_commands.specs.Ending.{OrMemory}
 use Rattle.file_commands.specs.Answer.{ending_of}
-use Rattle.suite_top.specs.Run.{opening, fault_ending}
+use Rattle.file_commands.specs.Manifests.{fault_ending}
+use Rattle.suite_top.specs.Run.{opening}
 use Rattle.run_setup.proofs.Opened.{each_got}
 use Rattle.suite_top.proofs.Booted.{no_event_yet, kind_stays, events_fit, booted, machine_events, machine_kind, ends_as, boots_as, refused_as}
 use Rattle.suite_top.proofs.run.run_brought.Goals as goal

@@ -2,7 +2,8 @@
 use Rattle.std.proofs.Common.{None}
 use Rattle.page_runs.specs.Choosers.{kind_of}
 use Rattle.manifest_text.specs.Manifest.{manifest_of}
-use Rattle.suite_top.specs.Run.{manifest_limit, manifest_outcome, run_outcome}
+use Rattle.file_commands.specs.Manifests.{manifest_limit}
+use Rattle.suite_top.specs.Run.{manifest_outcome, run_outcome}
 use Rattle.file_commands.proofs.HostSteps.{performs_rest}
 use Rattle.suite_top.proofs.run.run_file.Goals as goal
 

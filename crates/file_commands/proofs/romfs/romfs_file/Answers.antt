@@ -1,0 +1,17 @@
+-- The manifest is there, or the command ends without it.
+use Rattle.std.proofs.Common.{None}
+use Rattle.manifest_text.specs.Manifest.{tree_manifest_of}
+use Rattle.file_commands.specs.Manifests.{manifest_limit}
+use Rattle.file_commands.specs.Romfs.{lined_outcome, romfs_outcome}
+use Rattle.file_commands.proofs.HostSteps.{performs_rest}
+use Rattle.file_commands.proofs.romfs.romfs_file.Goals as goal
+
+pub returns-in-Whole : goal.returns-in-Whole
+unfolding romfs_outcome
+returns-in-Whole g c =
+    let performs = rw c.deref.ensures.value at c.romfs_manifest.ensures in
+    performs_rest manifest_limit None c.args.manifest.now (λ bytes. lined_outcome c.args.image.now (tree_manifest_of bytes)) _ _ _ _ _ c.in-Whole.ensures performs
+
+pub returns-in-Ended : goal.returns-in-Ended
+unfolding romfs_outcome
+returns-in-Ended g c = c.in-Ended.ensures (λ bytes. lined_outcome c.args.image.now (tree_manifest_of bytes))
