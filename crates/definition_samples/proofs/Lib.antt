@@ -33,6 +33,9 @@
 -- HostSamples  a host and a sink in memory
 -- BytesSamples  bytes of a process, and the one memory
 -- TopSamples  commands, sizes and reports
+-- StringSamples the strings of an execve, in its environment alone
+-- CourseSamples processes call by call, and the list at its limit
+-- NoteSamples   lines of notes at the edges of their forms
 pub mod Exits
 mod AloneSamples
 pub mod StaysSamples
@@ -68,3 +71,6 @@ mod OwnerSamples
 mod HostSamples
 mod BytesSamples
 mod TopSamples
+mod StringSamples
+mod CourseSamples
+mod NoteSamples

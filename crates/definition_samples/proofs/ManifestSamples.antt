@@ -1,29 +1,29 @@
--- Manifests: one with a line of each of the ten kinds, and lines with a fault.
+-- Manifests: one with a line of each of the eleven kinds, and lines with a fault.
 use Rattle.std.proofs.Common.{◌≡◌, ℕ, List, [], ◌∷◌, ◌++◌, map, Some, None, refl}
 use Rattle.std.specs.Prelude.{codes, replicate, Result, Ok, Err}
 use Rattle.manifest_text.specs.declared.fault.ManifestFault.{ManifestFault}
 use Rattle.manifest_text.specs.declared.fault.ManifestFault.TheVariants.{BadByte, UnknownWord, WordCount, BadNumber, BadPath, Repeated, NoQuanta, NoStart}
 use Rattle.manifest_text.specs.declared.manifest.ItemKind.{ItemKind}
-use Rattle.manifest_text.specs.declared.manifest.ItemKind.TheVariants.{Elf, Flat, File, Dir, Stdin}
+use Rattle.manifest_text.specs.declared.manifest.ItemKind.TheVariants.{Elf, Flat, File, Dir, Stdin, Root}
 use Rattle.manifest_text.specs.Values.{Item, Manifest}
 use Rattle.manifest_text.specs.Pieces.{pieces, words}
 use Rattle.manifest_text.specs.Numbers.{decimal_value, hex_value, is_number_in, number_in, is_address, address_value, address, is_quantum, quantum_value}
 use Rattle.manifest_text.specs.Paths.{is_name, is_path}
-use Rattle.manifest_text.specs.Lines.{Said, memory, dump, repeat, keyword_of, memory_said, elf_said, flat_said, file_said, dir_said, stdin_said, start_said, quanta_said, repeat_said, dump_said, keyword_said, words_said, line_said}
+use Rattle.manifest_text.specs.Lines.{Said, memory, dump, repeat, keyword_of, memory_said, elf_said, flat_said, file_said, dir_said, named_said, start_said, quanta_said, repeat_said, dump_said, keyword_said, words_said, line_said}
 use Rattle.manifest_text.specs.Manifest.{Fault, draft_of, late_fault, all_said, first_fault, lines_of, manifest_of}
 
--- ---- all ten
+-- ---- all eleven
 
-abbrev ten : List ℕ
-ten =
+abbrev eleven : List ℕ
+eleven =
     codes "# two programs\n\nmemory 64\nelf /bin/a a.elf 8192\nelf  /b  b\nflat /c c.flat\ndir /d\n"
-    ++ codes "file /d/e e.txt\nstdin in.txt\nstart /bin/a one two\nquanta 0:100 3:7\nrepeat 20\ndump 1 0x80000fff 16"
+    ++ codes "file /d/e e.txt\nstdin in.txt\nroot r.img\nstart /bin/a one two\nquanta 0:100 3:7\nrepeat 20\ndump 1 0x80000fff 16"
 
 abbrev item_of : (line : ℕ) → ItemKind → (path name : List ℕ) → (stack : ℕ) → Item
 item_of line kind path name stack = record { line = line; kind = kind; path = path; name = name; stack = stack }
 
-says-ten :
-    manifest_of ten
+says-eleven :
+    manifest_of eleven
     ≡ Ok (record {
       pages = 64;
       items =
@@ -33,14 +33,15 @@ says-ten :
           ∷ item_of 7 Dir (codes "/d") [] 0
           ∷ item_of 8 File (codes "/d/e") (codes "e.txt") 0
           ∷ item_of 9 Stdin [] (codes "in.txt") 0
+          ∷ item_of 10 Root [] (codes "r.img") 0
           ∷ [];
-      starts = record { line = 10; args = codes "/bin/a" ∷ codes "one" ∷ codes "two" ∷ [] } ∷ [];
+      starts = record { line = 11; args = codes "/bin/a" ∷ codes "one" ∷ codes "two" ∷ [] } ∷ [];
       quanta = record { pick = 0; count = 100 } ∷ record { pick = 3; count = 7 } ∷ [];
       repeat = 20;
       dumps = record { pid = 1; addr = 0x8000_0fff; len = 16 } ∷ [];
     })
-unfolding pieces words decimal_value hex_value is_number_in is_address address_value is_quantum quantum_value is_name is_path keyword_of memory_said elf_said flat_said file_said dir_said stdin_said start_said quanta_said repeat_said dump_said keyword_said words_said line_said draft_of late_fault all_said first_fault lines_of manifest_of
-says-ten = refl
+unfolding pieces words decimal_value hex_value is_number_in is_address address_value is_quantum quantum_value is_name is_path keyword_of memory_said elf_said flat_said file_said dir_said named_said start_said quanta_said repeat_said dump_said keyword_said words_said line_said draft_of late_fault all_said first_fault lines_of manifest_of
+says-eleven = refl
 
 -- one start and one quantum are all that has to be there
 says-least :
@@ -54,11 +55,11 @@ says-least = refl
 abbrev refused : (line : ℕ) → ManifestFault → Result Manifest Fault
 refused line fault = Err (record { line = line; fault = fault })
 
--- nothing starts; nothing may run; the second input; the second size
+-- nothing starts; nothing may run; the second input; the second image; the second size
 lacks :
-    map manifest_of (codes "" ∷ codes "start /a" ∷ codes "stdin a\nstdin b\n" ∷ codes "memory 1\n# more\nmemory 1\n" ∷ [])
-    ≡ refused 0 NoStart ∷ refused 0 NoQuanta ∷ refused 2 Repeated ∷ refused 3 Repeated ∷ []
-unfolding pieces words decimal_value is_number_in is_name is_path keyword_of memory_said stdin_said start_said keyword_said words_said line_said draft_of late_fault all_said first_fault lines_of manifest_of
+    map manifest_of (codes "" ∷ codes "start /a" ∷ codes "stdin a\nstdin b\n" ∷ codes "root a\nroot b\n" ∷ codes "memory 1\n# more\nmemory 1\n" ∷ [])
+    ≡ refused 0 NoStart ∷ refused 0 NoQuanta ∷ refused 2 Repeated ∷ refused 2 Repeated ∷ refused 3 Repeated ∷ []
+unfolding pieces words decimal_value is_number_in is_name is_path keyword_of memory_said named_said start_said keyword_said words_said line_said draft_of late_fault all_said first_fault lines_of manifest_of
 lacks = refl
 
 -- ---- faults of a line

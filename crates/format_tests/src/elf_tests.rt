@@ -9,38 +9,8 @@ use std::alloc::{AllocError, Global};
 use std::process::Abort;
 use std::test::*;
 
-/// The offsets of the section headers of `ONE_WORD_ELF`, after that of section 0.
-const TEXT: usize = 156;
-
-const DATA: usize = 196;
-
-const SYMTAB: usize = 236;
-
-const STRTAB: usize = 276;
-
-const RELA: usize = 316;
-
-/// Offsets in a section header.
-const KIND: usize = 4;
-
-const FLAGS: usize = 8;
-
-const OFFSET: usize = 16;
-
-const SIZE: usize = 20;
-
-const LINK: usize = 24;
-
-const INFO: usize = 28;
-
-const ENTSIZE: usize = 36;
-
-fn fault_of(bytes: &[u8]) -> Option<ElfFault> {
-    match Elf::read(bytes) {
-        Ok(_) => None,
-        Err(fault) => Some(fault),
-    }
-}
+/// The offset of the size of the table of names, in its section header.
+const NAMES_SIZE: usize = 296;
 
 /// `ONE_WORD_ELF` with some bytes replaced, each given by its offset.
 fn edited(alloc: Global, edits: &[(usize, u8)]) -> Result<Vec<u8>, AllocError> {
@@ -51,109 +21,6 @@ fn edited(alloc: Global, edits: &[(usize, u8)]) -> Result<Vec<u8>, AllocError> {
         }
     }
     Ok(file)
-}
-
-/// The fault of the file that is edited so.
-fn fault_with(alloc: Global, edits: &[(usize, u8)]) -> Result<Option<ElfFault>, AllocError> {
-    let file = edited(alloc, edits)?;
-    Ok(fault_of(&file))
-}
-
-/// The section header table begins at 116 and ends with the file, so no shorter file is read.
-#[test]
-fn a_cut_file_is_refused(rt: HostRuntime) {
-    for n in 0..ONE_WORD_ELF.len() {
-        let want = if n < 52 {
-            ElfFault::Short
-        } else {
-            ElfFault::SectionTable
-        };
-        assert_eq!(rt; fault_of(&ONE_WORD_ELF[..n]), Some(want), "cut to {n}");
-    }
-}
-
-/// Bytes that replace those of `ONE_WORD_ELF`, and the fault that the file then has.
-type Case = (&'static [(usize, u8)], Option<ElfFault>);
-
-/// A file with two faults has the first.
-static FAULTS: [Case; 42] = [
-    (&[], None),
-    // of the header
-    (&[(0, 0x7e), (4, 2)], Some(ElfFault::Magic)),
-    (&[(4, 2), (5, 2)], Some(ElfFault::Class)),
-    (&[(5, 2), (6, 0)], Some(ElfFault::Order)),
-    (&[(6, 0), (16, 3)], Some(ElfFault::Version)),
-    (&[(23, 1)], Some(ElfFault::Version)),
-    (&[(16, 3), (18, 62)], Some(ElfFault::FileType)),
-    (&[(18, 62), (36, 1)], Some(ElfFault::Machine)),
-    (&[(36, 1), (46, 41)], Some(ElfFault::Flags)),
-    (&[(36, 6)], Some(ElfFault::Flags)),
-    (&[(36, 8)], Some(ElfFault::Flags)),
-    (&[(36, 16), (37, 255)], None),
-    (
-        &[(46, 41), (TEXT + SIZE + 3, 1)],
-        Some(ElfFault::SectionTable),
-    ),
-    (&[(48, 0)], Some(ElfFault::SectionTable)),
-    (&[(48, 7)], Some(ElfFault::SectionTable)),
-    (&[(32, 117)], Some(ElfFault::SectionTable)),
-    // of sections: the file ends at 356, which is 0x164; an empty content may stand there, and not behind it
-    (
-        &[(TEXT + SIZE + 3, 1), (80, 7)],
-        Some(ElfFault::SectionRange),
-    ),
-    (&[(TEXT + OFFSET, 0x5c), (TEXT + OFFSET + 1, 1)], None),
-    (
-        &[(TEXT + OFFSET, 0x5d), (TEXT + OFFSET + 1, 1)],
-        Some(ElfFault::SectionRange),
-    ),
-    (&[(TEXT + SIZE + 3, 1), (TEXT + KIND, 8)], None),
-    (&[(TEXT + SIZE + 3, 1), (TEXT + KIND, 0)], None),
-    (
-        &[
-            (TEXT + SIZE, 0),
-            (TEXT + OFFSET, 0x64),
-            (TEXT + OFFSET + 1, 1),
-        ],
-        None,
-    ),
-    (
-        &[
-            (TEXT + SIZE, 0),
-            (TEXT + OFFSET, 0x65),
-            (TEXT + OFFSET + 1, 1),
-        ],
-        Some(ElfFault::SectionRange),
-    ),
-    // of symbol tables
-    (&[(80, 7), (109, 2)], Some(ElfFault::SymbolRange)),
-    (&[(80, 6)], None),
-    (&[(SYMTAB + ENTSIZE, 17)], Some(ElfFault::SymbolRange)),
-    (&[(SYMTAB + SIZE, 33)], Some(ElfFault::SymbolRange)),
-    (&[(SYMTAB + LINK, 2)], Some(ElfFault::SymbolRange)),
-    (&[(SYMTAB + LINK, 6)], Some(ElfFault::SymbolRange)),
-    (&[(STRTAB + SIZE, 1)], Some(ElfFault::SymbolRange)),
-    (&[(STRTAB + SIZE, 1), (80, 0)], None),
-    // of relocations: section 5 is kept, unless it is allocated or its info names a section that isn't
-    (&[(109, 2)], Some(ElfFault::RelaShape)),
-    (&[(RELA + KIND, 9)], Some(ElfFault::RelaShape)),
-    (&[(RELA + ENTSIZE, 8)], Some(ElfFault::RelaShape)),
-    (&[(RELA + SIZE, 11)], Some(ElfFault::RelaShape)),
-    (&[(RELA + LINK, 4)], Some(ElfFault::RelaShape)),
-    (&[(RELA + LINK, 6)], Some(ElfFault::RelaShape)),
-    (&[(RELA + INFO, 6)], Some(ElfFault::RelaShape)),
-    (&[(RELA + INFO, 6), (RELA + FLAGS, 2)], None),
-    (&[(RELA + INFO, 3), (RELA + ENTSIZE, 8)], None),
-    (&[(RELA + INFO, 0), (RELA + KIND, 9)], None),
-    (&[(DATA + FLAGS, 1), (109, 2)], None),
-];
-
-#[test]
-fn faults(rt: HostRuntime) -> Result<(), Fail> {
-    for (edits, want) in &FAULTS {
-        assert_eq!(rt; fault_with(rt.alloc(), edits)?, *want, "{edits:?}");
-    }
-    Ok(())
 }
 
 /// A section's header field by field, whether it is allocated, stored and kept, and its content.
@@ -333,7 +200,7 @@ fn reads_symbols_and_relocations(rt: HostRuntime) -> Result<(), Fail> {
 }
 
 static CUT_EDITS: [(usize, u8); 5] = [
-    (STRTAB + SIZE, 4),
+    (NAMES_SIZE, 4),
     (112, 0xfc),
     (113, 0xff),
     (114, 0xff),

@@ -1,4 +1,5 @@
-//! What a manifest brings into a run, and the machine.
+//! What a manifest brings into a run, the machine, and a call behind a stray access.
 
 mod bringing;
 mod machine;
+mod noted;

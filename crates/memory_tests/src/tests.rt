@@ -3,9 +3,6 @@
 mod accesses;
 mod bytes;
 mod loads;
-mod machine;
-mod maps;
 mod regions;
 mod runs;
 mod spaces;
-mod unmaps;

@@ -32,15 +32,16 @@ fn many(
 }
 
 static EXAMPLE: &str =
-    "# hi\n\nmemory 4\nelf /hi hi.elf\n  flat  /x x.flt\ndir /d\nfile /d/f f.txt\nstdin in.txt\nstart /hi a 7\nquanta 0:100 4294967295:1\nquanta 1:5\nrepeat 3\ndump 2 0x80002040 1";
+    "# hi\n\nmemory 4\nelf /hi hi.elf\n  flat  /x x.flt\ndir /d\nfile /d/f f.txt\nstdin in.txt\nstart /hi a 7\nquanta 0:100 4294967295:1\nquanta 1:5\nrepeat 3\ndump 2 0x80002040 1\nroot r.img";
 
 /// Its lines that bring something in: number, kind, path, name, and stack.
-static ITEMS: [(u32, ItemKind, &[u8], &[u8], u32); 5] = [
+static ITEMS: [(u32, ItemKind, &[u8], &[u8], u32); 6] = [
     (4, ItemKind::Elf, b"/hi", b"hi.elf", 4096),
     (5, ItemKind::Flat, b"/x", b"x.flt", 0),
     (6, ItemKind::Dir, b"/d", b"", 0),
     (7, ItemKind::File, b"/d/f", b"f.txt", 0),
     (8, ItemKind::Stdin, b"", b"in.txt", 0),
+    (14, ItemKind::Root, b"", b"r.img", 0),
 ];
 
 static QUANTA: [Quantum; 3] = [

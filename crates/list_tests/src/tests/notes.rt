@@ -1,17 +1,8 @@
-//! The lines of notes, and the log at its two limits.
+//! The log at the limit of its bytes.
 
-use call_log::{Entry, Errno, Got, How, Log, LogFault, Note, Seen, SeenKind, line};
+use call_log::{Entry, How, Log, LogFault, Note};
 use std::alloc::{AllocError, Global};
 use std::test::*;
-
-/// The line of a note of a run whose one program is `/hi`; empty for a note of another program.
-fn text(alloc: Global, note: &Note) -> Result<Vec<u8>, AllocError> {
-    let paths = [Vec::from_slice(alloc, b"/hi")?];
-    match note {
-        Note::Load { program, .. } if *program > 0 => Ok(Vec::new(alloc)),
-        _ => line(alloc, note, &paths),
-    }
-}
 
 /// A write of so many zeros.
 fn write(alloc: Global, sent: usize) -> Result<Note, AllocError> {
@@ -23,88 +14,6 @@ fn write(alloc: Global, sent: usize) -> Result<Note, AllocError> {
         reply: 3,
         got: Vec::new(alloc),
     }))
-}
-
-fn got(alloc: Global, addr: u32, bytes: &[u8]) -> Result<Got, AllocError> {
-    Ok(Got {
-        addr,
-        bytes: Vec::from_slice(alloc, bytes)?,
-    })
-}
-
-/// A call that was refused, and yet read and wrote bytes.
-fn refused(alloc: Global) -> Result<Note, AllocError> {
-    let mut ranges = Vec::new(alloc);
-    ranges.push(got(alloc, 0x8000_1000, b"\x68")?)?;
-    ranges.push(got(alloc, 0x10, b"\xff\0")?)?;
-    Ok(Note::Call(Entry {
-        pid: 2,
-        call: 65,
-        args: [0, 1, 2, 3, 4, 0xffff_ffff],
-        sent: Vec::from_slice(alloc, b"\x0a\xbc")?,
-        reply: Errno::Enosys.refusal(),
-        got: ranges,
-    }))
-}
-
-/// The notes of `LINES`, by their numbers.
-fn note_of(alloc: Global, number: u32) -> Result<Note, AllocError> {
-    match number {
-        0 => write(alloc, 0),
-        1 => refused(alloc),
-        2 => Ok(Note::Load {
-            pid: 1,
-            program: 0,
-            base: 0x8000_0000,
-            pages: 2,
-        }),
-        3 => Ok(Note::End {
-            pid: 1,
-            how: How::Exit(7),
-        }),
-        4 => Ok(Note::End {
-            pid: 12,
-            how: How::Signal(4),
-        }),
-        _ => Ok(Note::Stray {
-            pid: 1,
-            access: Seen {
-                pc: 0x8000_0088,
-                addr: 0x8000_2040,
-                len: 1,
-                kind: SeenKind::Store,
-            },
-        }),
-    }
-}
-
-static LINES: [(u32, &str); 6] = [
-    (
-        0,
-        "call 1 64 00000001 800000a4 00000003 00000000 00000000 00000000 = 00000003 sent - got -\n",
-    ),
-    (
-        1,
-        "call 2 65 00000000 00000001 00000002 00000003 00000004 ffffffff = ffffffda sent 0abc got 80001000:68 00000010:ff00\n",
-    ),
-    (2, "load 1 /hi base 0x80000000 pages 2\n"),
-    (3, "end 1 exit 7\n"),
-    (4, "end 12 signal 4\n"),
-    (5, "stray 1 pc 0x80000088 addr 0x80002040 len 1 store\n"),
-];
-
-/// Whether the note of this number has this line.
-fn has_line(alloc: Global, number: u32, want: &str) -> Result<bool, AllocError> {
-    let note = note_of(alloc, number)?;
-    Ok(text(alloc, &note)?.as_slice() == want.as_bytes())
-}
-
-#[test]
-fn notes_have_their_lines(rt: HostRuntime) -> Result<(), Fail> {
-    for &(number, line) in &LINES {
-        assert!(rt; has_line(rt.alloc(), number, line)?, "{line}");
-    }
-    Ok(())
 }
 
 /// What is asked of a log.
@@ -179,53 +88,5 @@ fn fills(alloc: Global, log: &mut Log) -> bool {
 fn large_entries_fill_the_log(rt: HostRuntime) -> Result<(), Fail> {
     let mut log = Log::new(rt.alloc())?;
     assert!(rt; fills(rt.alloc(), &mut log));
-    Ok(())
-}
-
-/// The most calls that a log keeps.
-const MOST_CALLS: u32 = 1_048_576;
-
-/// Memory for notes is kept ready and given back, and then kept for one note more than so many calls.
-fn keeps_memory(log: &mut Log) -> Result<bool, AllocError> {
-    log.reserve(7)?;
-    log.unreserve();
-    let none = log.spare() == 0;
-    log.reserve(MOST_CALLS + 1)?;
-    Ok(none && log.spare() == MOST_CALLS + 1)
-}
-
-/// Whether so many calls are kept.
-fn keeps_calls(alloc: Global, log: &mut Log) -> bool {
-    for _ in 0..MOST_CALLS {
-        if answer(alloc, log, Step::Write(0)) != Some(true) {
-            return false;
-        }
-    }
-    true
-}
-
-/// What is asked of the log with so many calls, the answers, how many notes there is memory for then, and how many there
-/// are.
-static LAST_STEPS: [(Step, bool, u32, usize); 3] = [
-    (Step::Room(0), false, 1, 1_048_576),
-    (Step::Write(0), false, 1, 1_048_576),
-    (Step::End, true, 0, 1_048_577),
-];
-
-fn is_full(alloc: Global, log: &mut Log) -> bool {
-    for &(step, done, spare, notes) in &LAST_STEPS {
-        let is_done = answer(alloc, log, step) == Some(done);
-        if !is_done || log.spare() != spare || log.notes().len() != notes {
-            return false;
-        }
-    }
-    true
-}
-
-#[test]
-fn many_calls_fill_the_log(rt: HostRuntime) -> Result<(), Fail> {
-    let mut log = Log::new(rt.alloc())?;
-    let is_ready = keeps_memory(&mut log)?;
-    assert!(rt; is_ready && keeps_calls(rt.alloc(), &mut log) && is_full(rt.alloc(), &mut log));
     Ok(())
 }

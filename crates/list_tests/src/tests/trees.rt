@@ -1,66 +1,17 @@
-//! Whole calls of a tree.
+//! A tree at its limits, and `read_at`, which no run calls.
 
 use call_log::Errno;
-use mem_files::{FileFault, Node, ROOT, Tree};
+use mem_files::{FileFault, Tree};
 use std::alloc::Global;
 use std::test::*;
 
 /// The folder `/d` of number 2, in it the program `ab` of number 3, and the empty file `/f` of number 4.
-pub(super) fn a_tree(alloc: Global) -> Result<Tree, Fail> {
+fn a_tree(alloc: Global) -> Result<Tree, Fail> {
     let mut tree = Tree::new(alloc)?;
     tree.mkdir(b"/d")?;
     tree.create(b"d//ab", b"12".to_vec(alloc)?, Some(7))?;
     tree.create(b"f", Vec::new(alloc), None)?;
     Ok(tree)
-}
-
-/// Numbers, and what is at each: whether a node is, its kind, its size, its changes, its program, and its bytes.
-static NODES: [(u32, bool, Node, u32, u64, Option<u32>, &[u8]); 4] = [
-    (2, true, Node::Dir, 1, 0, None, b""),
-    (3, true, Node::File, 2, 0, Some(7), b"12"),
-    (4, true, Node::File, 0, 0, None, b""),
-    (9, false, Node::File, 0, 0, None, b""),
-];
-
-/// Nodes and indices, and the entry at each.
-static ENTRIES: [(u32, u32, Option<(&[u8], u32)>); 4] = [
-    (2, 0, Some((b"ab", 3))),
-    (2, 1, None),
-    (3, 0, None),
-    (9, 0, None),
-];
-
-/// The first number at which something else is.
-fn other_node(tree: &Tree) -> Option<u32> {
-    for &(id, has, kind, size, change, program, bytes) in &NODES {
-        let is_so = tree.has(id) == has
-            && tree.kind(id) == kind
-            && tree.size(id) == size
-            && tree.change(id) == change
-            && tree.program(id) == program
-            && tree.bytes(id) == bytes;
-        if !is_so {
-            return Some(id);
-        }
-    }
-    None
-}
-
-/// The first node with another entry.
-fn other_entry(tree: &Tree) -> Option<u32> {
-    for &(id, index, entry) in &ENTRIES {
-        if tree.entry(id, index) != entry {
-            return Some(id);
-        }
-    }
-    None
-}
-
-#[test]
-fn a_folder_whose_only_entry_is_a_file(rt: HostRuntime) -> Result<(), Fail> {
-    let tree = a_tree(rt.alloc())?;
-    assert!(rt; other_node(&tree).is_none() && other_entry(&tree).is_none());
-    Ok(())
 }
 
 /// Writes to the file `/f` at a position, and its size and changes then.
@@ -93,54 +44,17 @@ fn is_read(tree: &Tree) -> bool {
     true
 }
 
+/// A file is emptied, and a folder stays.
+fn is_emptied(tree: &mut Tree) -> bool {
+    tree.truncate(4);
+    tree.truncate(2);
+    tree.size(4) == 0 && tree.change(4) == 3 && tree.size(2) == 1
+}
+
 #[test]
 fn writes_and_reads_of_a_file(rt: HostRuntime) -> Result<(), Fail> {
     let mut tree = a_tree(rt.alloc())?;
-    assert!(rt; is_written(&mut tree) && is_read(&tree));
-    tree.truncate(4);
-    tree.truncate(2);
-    assert!(rt; tree.size(4) == 0 && tree.change(4) == 3 && tree.size(2) == 1);
-    Ok(())
-}
-
-/// Paths that aren't taken away, whether as a folder, and why.
-static KEPT: [(&[u8], bool, Errno); 8] = [
-    (b"/d", true, Errno::Enotempty),
-    (b"/d", false, Errno::Eisdir),
-    (b"/f", true, Errno::Enotdir),
-    (b"/g", false, Errno::Enoent),
-    (b"/", true, Errno::Einval),
-    (b"/d/.", true, Errno::Einval),
-    (b"/d/..", true, Errno::Einval),
-    (b"/f/g", false, Errno::Enotdir),
-];
-
-fn keeps_names(tree: &mut Tree) -> bool {
-    for &(path, dir, errno) in &KEPT {
-        if tree.unlink(path, dir) != Err(errno) {
-            return false;
-        }
-    }
-    true
-}
-
-/// Whether a path is taken away, and leads nowhere then.
-fn loses_name(tree: &mut Tree, path: &[u8], dir: bool) -> bool {
-    tree.unlink(path, dir) == Ok(()) && tree.lookup(path) == Ok(None)
-}
-
-/// Whether a file that is held goes with its last use, and its folder then.
-fn loses_names(tree: &mut Tree) -> bool {
-    tree.hold(3);
-    let stays = loses_name(tree, b"/d/ab", false) && tree.size(3) == 2;
-    tree.let_go(3);
-    stays && tree.size(3) == 0 && loses_name(tree, b"/d", true) && tree.size(ROOT) == 1
-}
-
-#[test]
-fn names_go(rt: HostRuntime) -> Result<(), Fail> {
-    let mut tree = a_tree(rt.alloc())?;
-    assert!(rt; keeps_names(&mut tree) && loses_names(&mut tree));
+    assert!(rt; is_written(&mut tree) && is_read(&tree) && is_emptied(&mut tree));
     Ok(())
 }
 
@@ -180,9 +94,9 @@ fn add_long_files(alloc: Global, tree: &mut Tree) -> Result<(), Fail> {
 #[test]
 fn files_are_bounded(rt: HostRuntime) -> Result<(), Fail> {
     let mut tree = a_tree(rt.alloc())?;
-    assert!(rt; writes(&mut tree, &LONG_WRITES));
+    let bounds_each = writes(&mut tree, &LONG_WRITES);
     add_long_files(rt.alloc(), &mut tree)?;
-    assert!(rt; writes(&mut tree, &LAST_WRITES));
+    assert!(rt; bounds_each && writes(&mut tree, &LAST_WRITES));
     Ok(())
 }
 

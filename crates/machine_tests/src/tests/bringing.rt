@@ -9,6 +9,7 @@ use call_log::Errno;
 use elf2flt_tool::Refusal;
 use manifest_text::{Item, ItemKind};
 use mem_files::{Node, Tree};
+use romfs_image::RomFault;
 use run_setup::{FaultAt, LineFault, RunFiles, bring};
 use std::alloc::{AllocError, Global};
 use std::test::*;
@@ -162,6 +163,7 @@ fn last_line(alloc: Global, kind: ItemKind, path: &str) -> Result<Item, AllocErr
         ItemKind::File => line(alloc, 7, ItemKind::File, path, 0),
         ItemKind::Dir => line(alloc, 7, ItemKind::Dir, path, 0),
         ItemKind::Stdin => line(alloc, 7, ItemKind::Stdin, path, 0),
+        ItemKind::Root => line(alloc, 7, ItemKind::Root, path, 0),
     }
 }
 
@@ -185,6 +187,8 @@ enum Told {
     Elf,
     /// The file ends in its header.
     Short,
+    /// It isn't an image.
+    Rom,
     Place(Errno),
     Other,
 }
@@ -193,6 +197,7 @@ fn name_of(fault: &LineFault) -> Told {
     match fault {
         LineFault::Elf(Refusal::Elf(_)) => Told::Elf,
         LineFault::Flat(FlatFault::Short) => Told::Short,
+        LineFault::Rom(RomFault::Short) => Told::Rom,
         LineFault::Place(errno) => Told::Place(*errno),
         _ => Told::Other,
     }
@@ -207,7 +212,7 @@ fn fault_behind(alloc: Global, kind: ItemKind, path: &str) -> Result<Option<(u32
 }
 
 /// Kinds and paths of a line 7, and its fault.
-static FAULTS: [(ItemKind, &str, Option<(u32, Told)>); 6] = [
+static FAULTS: [(ItemKind, &str, Option<(u32, Told)>); 7] = [
     (ItemKind::Elf, "/e", Some((7, Told::Elf))),
     (ItemKind::Flat, "/x", Some((7, Told::Short))),
     (ItemKind::File, "f", Some((7, Told::Place(Errno::Eexist)))),
@@ -222,6 +227,7 @@ static FAULTS: [(ItemKind, &str, Option<(u32, Told)>); 6] = [
         Some((7, Told::Place(Errno::Enotdir))),
     ),
     (ItemKind::Stdin, "", None),
+    (ItemKind::Root, "", Some((7, Told::Rom))),
 ];
 
 #[test]

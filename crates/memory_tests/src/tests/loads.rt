@@ -1,9 +1,7 @@
 //! Programs in their blocks: the worked examples, and what is refused.
 
 use bflt_format::Flat;
-use flat_loader::{
-    LoadRefusal, Loaded, block_len, block_pages, frame_fits, frame_len, load, load_at, stack_len,
-};
+use flat_loader::{LoadRefusal, Loaded, block_len, frame_fits, load, load_at};
 use nommu_regions::Regions;
 use page_runs::{Chooser, Kind, Run, first_fit};
 use phys_mem::PhysMem;
@@ -44,42 +42,31 @@ fn program(alloc: Global, words: &[(u8, u32)]) -> Result<Flat, Fail> {
     Ok(Flat::read(alloc, &file)?)
 }
 
-fn strings(alloc: Global, texts: &[&str]) -> Result<Vec<Vec<u8>>, AllocError> {
-    let mut strings = Vec::new(alloc);
-    for text in texts {
-        strings.push(Vec::from_slice(alloc, text.as_bytes())?)?;
-    }
-    Ok(strings)
+/// The argument `/hi`.
+fn arguments(alloc: Global) -> Result<Vec<Vec<u8>>, AllocError> {
+    let mut arguments = Vec::new(alloc);
+    arguments.push(Vec::from_slice(alloc, b"/hi")?)?;
+    Ok(arguments)
 }
 
-/// Loads where the frame fits and the block lies in memory.
-fn loaded(
-    mem: &mut PhysMem,
-    block: u32,
-    flat: &Flat,
-    args: &[Vec<u8>],
-    env: &[Vec<u8>],
-) -> Option<Regs> {
-    if block % 4096 == 0 && mem.holds(block, block_len(flat)) && frame_fits(flat, args, env) {
-        Some(load_at(mem, block, flat, args, env))
+/// Loads at the start of memory, where the frame fits and the block lies there.
+fn loaded(mem: &mut PhysMem, flat: &Flat, args: &[Vec<u8>]) -> Option<Regs> {
+    if mem.holds(0x8000_0000, block_len(flat)) && frame_fits(flat, args, &[]) {
+        Some(load_at(mem, 0x8000_0000, flat, args, &[]))
     } else {
         None
     }
 }
 
-/// The same of the file with such changes, and with strings.
-fn load_strings(
+/// The same of the file with such changes.
+fn load_changed(
     alloc: Global,
     mem: &mut PhysMem,
-    block: u32,
     words: &[(u8, u32)],
-    args: &[&str],
-    env: &[&str],
 ) -> Result<Option<Regs>, Fail> {
     let flat = program(alloc, words)?;
-    let args = strings(alloc, args)?;
-    let env = strings(alloc, env)?;
-    Ok(loaded(mem, block, &flat, &args, &env))
+    let args = arguments(alloc)?;
+    Ok(loaded(mem, &flat, &args))
 }
 
 /// The registers of a program that begins: pc and sp, and zeros.
@@ -133,49 +120,11 @@ static AT_START: [(u32, u32); 10] = [
 #[test]
 fn program_at_the_start_of_memory(rt: HostRuntime) -> Result<(), Fail> {
     let mut mem = used_memory(rt.alloc())?;
-    let regs = load_strings(rt.alloc(), &mut mem, 0x8000_0000, &[], &["/hi"], &[])?;
+    let regs = load_changed(rt.alloc(), &mut mem, &[])?;
     let is_begun = regs == begun(0x8000_0080, 0x8000_1fe0);
     let is_there = mem.as_slice().starts_with(&HI[..168]);
     let other = other_word(&mem, &AT_START);
     assert!(rt; is_begun && is_there && other.is_none(), "{other:?}");
-    Ok(())
-}
-
-/// Behind a load with several strings, in the third page of four.
-static WITH_STRINGS: [(u32, u32); 12] = [
-    (0x8000_20a8, 0x8000_20a4),
-    (0x8000_3fd0, 3),
-    (0x8000_3fd4, 0x8000_3fec),
-    (0x8000_3fd8, 0x8000_3ff0),
-    (0x8000_3fdc, 0x8000_3ff2),
-    (0x8000_3fe0, 0),
-    (0x8000_3fe4, 0x8000_3ff3),
-    (0x8000_3fe8, 0),
-    (0x8000_3fec, 0x0069_682f),
-    (0x8000_3ff0, 0x4200_0061),
-    (0x8000_3ff4, 0x0000_313d),
-    (0x8000_0000, 0),
-];
-
-static ARGS: [&str; 3] = ["/hi", "a", ""];
-
-static ENV: [&str; 1] = ["B=1"];
-
-#[test]
-fn frames_have_a_length(rt: HostRuntime) -> Result<(), Fail> {
-    let args = strings(rt.alloc(), &ARGS)?;
-    let env = strings(rt.alloc(), &ENV)?;
-    assert!(rt; frame_len(&args, &env) == 39);
-    Ok(())
-}
-
-#[test]
-fn several_strings(rt: HostRuntime) -> Result<(), Fail> {
-    let mut mem = PhysMem::new(rt.alloc(), 4)?;
-    let regs = load_strings(rt.alloc(), &mut mem, 0x8000_2000, &[], &ARGS, &ENV)?;
-    let is_begun = regs == begun(0x8000_2080, 0x8000_3fd0);
-    let other = other_word(&mem, &WITH_STRINGS);
-    assert!(rt; is_begun && other.is_none(), "{other:?}");
     Ok(())
 }
 
@@ -189,33 +138,9 @@ static LOADED: [(u8, u32); 3] = [(24, 4095), (36, 17), (168, 0)];
 #[test]
 fn header_and_a_word_0(rt: HostRuntime) -> Result<(), Fail> {
     let mut mem = PhysMem::new(rt.alloc(), 2)?;
-    let regs = load_strings(rt.alloc(), &mut mem, 0x8000_0000, &HEADER, &["/hi"], &[])?;
+    let regs = load_changed(rt.alloc(), &mut mem, &HEADER)?;
     let want = changed(rt.alloc(), &LOADED)?;
     assert!(rt; regs.is_some() && mem.as_slice().get(..172) == want.get(..172));
-    Ok(())
-}
-
-/// Bytes of a stack that are wanted, the pages of the block, and whether a frame of 20 bytes fits.
-static STACKS: [(u32, u32, bool); 7] = [
-    (0, 1, false),
-    (16, 1, false),
-    (17, 1, true),
-    (3920, 1, true),
-    (3921, 2, true),
-    (4096, 2, true),
-    (0x10_0000, 257, true),
-];
-
-#[test]
-fn sizes_of_stacks(rt: HostRuntime) -> Result<(), Fail> {
-    let args = strings(rt.alloc(), &["/hi"])?;
-    for &(stack, pages, fits) in &STACKS {
-        let flat = program(rt.alloc(), &[(24, stack)])?;
-        let is_so = block_pages(&flat) == pages
-            && stack_len(&flat) % 16 == 0
-            && frame_fits(&flat, &args, &[]) == fits;
-        assert!(rt; is_so, "{stack}");
-    }
     Ok(())
 }
 
@@ -227,7 +152,7 @@ fn load_first(
     words: &[(u8, u32)],
 ) -> Result<Result<Loaded, LoadRefusal>, Fail> {
     let flat = program(alloc, words)?;
-    let args = strings(alloc, &["/hi"])?;
+    let args = arguments(alloc)?;
     let chooser = Chooser::new(Kind::First, |runs: &[Run], need: u32| {
         first_fit(runs, need)
     });

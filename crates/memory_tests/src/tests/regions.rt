@@ -1,12 +1,11 @@
-//! Regions as they come, are used, are cut and go.
+//! Regions as they come, are used and go.
 
-ghost use Rattle.std.specs.Prelude.{◌≡◌, ◌<◌, true, IfSome};
+ghost use Rattle.std.specs.Prelude.{◌<◌, IfSome};
 ghost use Rattle.nommu_regions.specs.Ids.{Lives};
 
 use nommu_regions::{Regions, Source};
 use page_runs::{Chooser, Kind, Run, first_fit};
 use phys_mem::{BASE, PAGE, PhysMem};
-use std::alloc::{AllocError, Global};
 use std::test::*;
 
 /// A new region in the lowest run that fits; none where the memory hasn't as many pages as the regions.
@@ -31,42 +30,10 @@ fn fresh(regions: &mut Regions, memory: &mut PhysMem, pages: u32) -> Option<u32>
     fresh_of(regions, memory, pages, Source::Own)
 }
 
-/// Cuts pages out of a region: the new region above them, if there is one. None where that may not be done.
-fn cut(regions: &mut Regions, id: u32, from: u32, count: u32) -> Option<Option<u32>>
-    requires { Lives regions.old id }
-    ensures { IfSome result (λ upper. Lives regions.new id × IfSome upper (λ upper. Lives regions.new upper)) }
-{
-    let region = regions.region(id);
-    let Source::Own = region.source else {
-        return None;
-    };
-    let end = u64::from(from) + u64::from(count);
-    if region.uses != 1
-        || from < region.first
-        || end > u64::from(region.first) + u64::from(region.pages)
-        || count == 0
-        || count >= region.pages
-    {
-        return None;
-    }
-    Some(regions.cut(id, from, count))
-}
-
 fn is_free(regions: &Regions, want: &[(u32, u32)]) -> bool {
     regions.free().len() == want.len()
         && regions.free().iter().zip(want).all(|(run, (first, count))| run.first == *first
             && run.count == *count)
-}
-
-/// What is in a live region: its first page and its pages, where it has one use of its own pages.
-fn own_pages(regions: &Regions, id: u32) -> Option<(u32, u32)>
-    requires { Lives regions.now id }
-{
-    let region = regions.region(id);
-    match region.source {
-        Source::Own if region.uses == 1 => Some((region.first, region.pages)),
-        _ => None,
-    }
 }
 
 /// Of two uses of three pages the first one that is dropped frees nothing.
@@ -107,112 +74,6 @@ fn uses(rt: HostRuntime) -> Result<(), Fail> {
     let mut regions = Regions::new(rt.alloc(), 8)?;
     let keeps = keeps_its_pages(&mut regions, &mut memory);
     assert!(rt; keeps && frees_its_pages(&mut regions, &mut memory));
-    Ok(())
-}
-
-/// Whether a region of two pages comes and one of eight, whose id is 2.
-fn eight_pages(regions: &mut Regions, memory: &mut PhysMem) -> bool
-    ensures { result ≡ true → Lives regions.new 2 }
-{
-    let _two = fresh(regions, memory, 2);
-    matches!(fresh(regions, memory, 8), Some(2))
-}
-
-/// Cuts of a region of pages 2 to 9 in the middle, at its front and at its end: what its id keeps, what gets a new one, and what is free.
-static CUTS: [(u32, u32, (u32, u32), Option<(u32, u32)>, &[(u32, u32)]); 3] = [
-    (4, 3, (2, 2), Some((7, 3)), &[(4, 3), (10, 2)]),
-    (2, 3, (5, 5), None, &[(2, 3), (10, 2)]),
-    (7, 3, (2, 5), None, &[(7, 5)]),
-];
-
-/// The parts of a region that is cut: that of its id, and the upper one.
-fn parts(
-    regions: &mut Regions,
-    from: u32,
-    count: u32,
-) -> Option<(Option<(u32, u32)>, Option<(u32, u32)>)>
-    requires { Lives regions.old 2 }
-{
-    let upper = match cut(regions, 2, from, count)? {
-        Some(upper) => own_pages(regions, upper),
-        None => None,
-    };
-    Some((own_pages(regions, 2), upper))
-}
-
-/// The same in a memory of its own; none unless just these runs are free then.
-fn cut_once(
-    alloc: Global,
-    from: u32,
-    count: u32,
-    free: &[(u32, u32)],
-) -> Result<Option<(Option<(u32, u32)>, Option<(u32, u32)>)>, AllocError> {
-    let mut memory = PhysMem::new(alloc, 12)?;
-    let mut regions = Regions::new(alloc, 12)?;
-    if !eight_pages(&mut regions, &mut memory) {
-        return Ok(None);
-    }
-    let parts = parts(&mut regions, from, count);
-    Ok(if is_free(&regions, free) { parts } else { None })
-}
-
-#[test]
-fn one_cut(rt: HostRuntime) -> Result<(), Fail> {
-    for &(from, count, kept, upper, free) in &CUTS {
-        let given = cut_once(rt.alloc(), from, count, free)?;
-        assert!(rt; given == Some((Some(kept), upper)), "after {from} {count}");
-    }
-    Ok(())
-}
-
-/// A region of pages 2 to 9 loses its first pages, and later pages too: 2 stays its id, and the page 2 has another one.
-fn cut_at_the_front(regions: &mut Regions, memory: &mut PhysMem) -> Option<bool>
-    requires { Lives regions.old 2 }
-{
-    let first = cut(regions, 2, 2, 3)?;
-    let behind_first = own_pages(regions, 2);
-    let second = cut(regions, 2, 7, 1)?;
-    let between = own_pages(regions, 2);
-    regions.drop_use(2);
-    let is_free = is_free(regions, &[(2, 6), (10, 2)]);
-    let other = fresh(regions, memory, 3)?;
-    let has_cut = first.is_none() && behind_first == Some((5, 5));
-    let has_cut_again = second == Some(8) && between == Some((5, 2));
-    let has_another = other == 5 && own_pages(regions, other) == Some((2, 3));
-    Some(has_cut && has_cut_again && is_free && has_another)
-}
-
-#[test]
-fn ids_after_a_cut_at_the_front(rt: HostRuntime) -> Result<(), Fail> {
-    let mut memory = PhysMem::new(rt.alloc(), 12)?;
-    let mut regions = Regions::new(rt.alloc(), 12)?;
-    let cuts = eight_pages(&mut regions, &mut memory)
-        && cut_at_the_front(&mut regions, &mut memory) == Some(true);
-    assert!(rt; cuts);
-    Ok(())
-}
-
-/// A region of pages 0 to 9 of 12 is cut twice, and then what is left between the two cuts.
-fn cut_three_times(regions: &mut Regions) -> Option<bool>
-    requires { Lives regions.old 0 }
-{
-    let upper = cut(regions, 0, 7, 2)?;
-    let first = upper == Some(9) && is_free(regions, &[(7, 2), (10, 2)]);
-    let back = cut(regions, 0, 3, 1)??;
-    let kept = own_pages(regions, back) == Some((4, 3));
-    let second = kept && is_free(regions, &[(3, 1), (7, 2), (10, 2)]);
-    let none = cut(regions, back, 6, 1)?;
-    let third = none.is_none() && is_free(regions, &[(3, 1), (6, 3), (10, 2)]);
-    Some(first && second && third)
-}
-
-#[test]
-fn more_cuts(rt: HostRuntime) -> Result<(), Fail> {
-    let mut memory = PhysMem::new(rt.alloc(), 12)?;
-    let mut regions = Regions::new(rt.alloc(), 12)?;
-    let cuts = matches!(fresh(&mut regions, &mut memory, 10), Some(0))
-        && cut_three_times(&mut regions) == Some(true);
-    assert!(rt; cuts);
     Ok(())
 }
 

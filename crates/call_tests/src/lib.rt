@@ -1,8 +1,0 @@
-//! Tests of calls of the machine's parts.
-//!
-//! What may stand here: test modules alone. What may not: anything that another crate calls.
-//! They stand apart so that the machine's crates aren't proved a second time with them.
-#![tactic(auto)]
-
-#[cfg(test)]
-mod tests;
