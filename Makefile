@@ -63,6 +63,7 @@ real: build/flatc sdk
 	examples/refused/real
 	examples/makedoc/real
 	examples/where/real
+	examples/romfs/real
 	examples/programs/real
 
 install: build/flatc
