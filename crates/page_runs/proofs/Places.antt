@@ -7,7 +7,7 @@ use Rattle.std.proofs.lemmas.Option.{same_Some, none-some}
 use Rattle.page_runs.specs.declared.place.Kind.{Kind}
 use Rattle.page_runs.specs.declared.place.Kind.TheVariants.{First, Best, Last}
 use Rattle.page_runs.specs.declared.run.Run.{Run}
-use Rattle.page_runs.specs.Place.{Before, IsPlace, Placed, prefers, place_or, place}
+use Rattle.page_runs.specs.Place.{Before, IsPlace, Placed, prefers, place_or, place, first_of, Gets}
 
 -- ---- the computation keeps the rule
 
@@ -95,3 +95,12 @@ one_place kind runs need (Some i) (Some j) p q =
 
 pub is_place : (kind : Kind) (runs : List Run) (need : ℕ) (a : Option ℕ) → Placed kind runs need a → a ≡ place kind runs need
 is_place kind runs need a p = one_place kind runs need _ _ p (placed kind runs need)
+
+-- ---- what a request gets
+
+gets_at : (kind : Kind) (runs : List Run) (need : ℕ) (a : Option ℕ) → Placed kind runs need a → Gets kind runs need (first_of runs a)
+gets_at kind runs need None rule = rule
+gets_at kind runs need (Some i) rule = let there = rule.there in rw there (record { i = i; place = rule; begins = refl })
+
+pub gets : (kind : Kind) (runs : List Run) (need : ℕ) (got : Option ℕ) → got ≡ first_of runs (place kind runs need) → Gets kind runs need got
+gets kind runs need got is = rw is (gets_at kind runs need (place kind runs need) (placed kind runs need))

@@ -45,6 +45,17 @@ abbrev pub first_of : List Run → Option ℕ → Option ℕ
 first_of runs None = None
 first_of runs (Some i) = option_map (λ run. run.first) (slice_get runs i)
 
+-- the run that is taken for a request begins at this page
+pub record BeginsAt (kind : Kind) (runs : List Run) (need first : ℕ) : Type 0 where
+  pub i : ℕ
+  pub place : IsPlace kind runs need i
+  pub begins : place.run.first ≡ first
+
+-- what a request gets: the first page of the run that is taken, or none where every run is shorter
+abbrev pub Gets : Kind → List Run → ℕ → Option ℕ → Type 0
+Gets kind runs need None = (j : ℕ) (other : Run) → slice_get runs j ≡ Some other → other.count < need
+Gets kind runs need (Some first) = BeginsAt kind runs need first
+
 -- for a private function: the better one of the best run so far, by its index and its pages, and the next
 abbrev pub better : Option (ℕ × ℕ) → ℕ → ℕ → ℕ → Option (ℕ × ℕ)
 better None i count need = if nat_lt count need then None else Some (i, count)

@@ -4,7 +4,7 @@ ghost use Rattle.std.specs.Prelude.{◌≡◌, ◌+◌, ◌*◌, ◌<◌, ◌≤
 ghost use Rattle.page_runs.specs.Choosers.{IsChooser, kind_of};
 ghost use Rattle.page_runs.specs.Free.{IsFree, is_free, without, with_free};
 ghost use Rattle.page_runs.specs.Pages.{in_run};
-ghost use Rattle.page_runs.specs.Place.{Placed, place, first_of};
+ghost use Rattle.page_runs.specs.Place.{Placed, Gets, place, first_of};
 
 use crate::chooser::Chooser;
 use crate::edits::{cut_front, index_of, meets_above, meets_below, replace};
