@@ -1,0 +1,165 @@
+//! The loop of instructions that tells what hits.
+
+ghost use Rattle.std.specs.Prelude.{◌≡◌, ◌<◌, ◌≤◌, true, length, IfSome};
+ghost use Rattle.rv32im_step.specs.declared.stop.Stop.TheVariants.{Next};
+ghost use Rattle.region_watch.specs.declared.mode.Mode.TheVariants.{Halt};
+ghost use Rattle.region_watch.specs.Private.{passes, passed_bytes, kept_bytes};
+ghost use Rattle.region_watch.specs.Instructions.{instructions, ran, all_asked};
+ghost use Rattle.region_watch.specs.Strays.{noted_all, noted_stop};
+ghost use Rattle.region_watch.specs.Watched.{first_stray};
+ghost use Rattle.watch_points.specs.Near.{Left, listed, told};
+ghost use Rattle.watch_points.specs.Points.{AreSpans, IsPoint, IsShort, hits_in, kind_of_point, with_hits};
+
+use crate::hits::{Hit, Hits};
+use crate::near::Near;
+use crate::point::WatchPoint;
+use crate::probed::Probed;
+use crate::span::Span;
+use region_watch::{Progress, Watch, run_steps};
+use rv32im_step::{Access, Regs, Stop, step};
+
+/// How far a program came, and the access behind which it left the loop.
+#[derive(Clone, Copy)]
+struct NearRun {
+    progress: Progress,
+    seen: Option<Access>,
+}
+
+/// Carries out up to `count` instructions, and leaves the loop behind the first that made a data access near
+/// what is watched.
+fn run_near(regs: &mut Regs, watch: &mut Watch<'_>, near: Near, count: u32) -> NearRun
+    ensures left { Left count watch.old.mode watch.old.owners.now regs.old watch.old.mem.now (first_stray watch.old) near
+        result.progress.done result.progress.stop regs.new watch.new.mem.now (first_stray watch.new) (listed result.seen) }
+    ensures bound { result.progress.done ≤ count }
+    ensures goes { 0 < count → result.progress.stop ≡ Next → 0 < result.progress.done }
+    ensures owners { watch.new.owners.now ≡ watch.old.owners.now }
+    ensures mode { watch.new.mode ≡ watch.old.mode }
+    ensures same_reference { watch.new.mem.ghost_name ≡ watch.old.mem.ghost_name }
+{
+    let mut bus = Probed {
+        bus: watch,
+        near,
+        seen: None,
+    };
+    for done in 0..count {
+        let stop = step(regs, &mut bus);
+        if stop != Stop::Next {
+            return NearRun {
+                progress: Progress { done, stop },
+                seen: bus.seen,
+            };
+        }
+        if bus.seen.is_some() {
+            return NearRun {
+                progress: Progress {
+                    done: done + 1,
+                    stop,
+                },
+                seen: bus.seen,
+            };
+        }
+    }
+    NearRun {
+        progress: Progress {
+            done: count,
+            stop: Stop::Next,
+        },
+        seen: None,
+    }
+}
+
+/// Adds the access to the hits if it hits.
+fn tell<F: Fn(&[Span], u32, u32) -> bool>(
+    seen: Option<Access>,
+    pid: u32,
+    point: &WatchPoint<F>,
+    spans: &[Span],
+    hits: &mut Hits,
+)
+    requires point { IsPoint F.pre F.post point.now }
+    requires spans { AreSpans spans.now }
+    requires range { IfSome seen (λ access. IsShort access.addr access.len) }
+    ensures { hits.new ≡ with_hits hits.old (told (kind_of_point point.now) spans.now pid (listed seen)) }
+{
+    if let Some(access) = seen {
+        if point.asks(spans, access.addr, access.len) {
+            hits.add(Hit { pid, access });
+        }
+    }
+}
+
+/// `run_watched` where something is watched.
+fn run_probed<F: Fn(&[Span], u32, u32) -> bool>(
+    regs: &mut Regs,
+    watch: &mut Watch<'_>,
+    count: u32,
+    pid: u32,
+    point: &WatchPoint<F>,
+    spans: &[Span],
+    hits: &mut Hits,
+) -> Progress
+    requires point { IsPoint F.pre F.post point.now }
+    requires spans { AreSpans spans.now }
+    ensures leaves { ran regs.new (passed_bytes watch.old.mode watch.old.owners.now watch.new.mem.now) result.done result.stop
+        ≡ instructions count (passes watch.old.mode watch.old.owners.now true) regs.old (passed_bytes watch.old.mode watch.old.owners.now watch.old.mem.now) }
+    ensures frozen { kept_bytes watch.old.mode watch.old.owners.now watch.new.mem.now ≡ kept_bytes watch.old.mode watch.old.owners.now watch.old.mem.now }
+    ensures length { length watch.new.mem.now ≡ length watch.old.mem.now }
+    ensures owners { watch.new.owners.now ≡ watch.old.owners.now }
+    ensures mode { watch.new.mode ≡ watch.old.mode }
+    ensures first { first_stray watch.new ≡ noted_all watch.old.owners.now (first_stray watch.old)
+        (all_asked count (passes watch.old.mode watch.old.owners.now true) regs.old (passed_bytes watch.old.mode watch.old.owners.now watch.old.mem.now)) }
+    ensures halts { watch.old.mode ≡ Halt → first_stray watch.new ≡ noted_stop (first_stray watch.old) result.stop }
+    ensures same_reference { watch.new.mem.ghost_name ≡ watch.old.mem.ghost_name }
+    ensures hits { hits.new ≡ with_hits hits.old (hits_in (kind_of_point point.now) spans.now pid
+        (all_asked count (passes watch.old.mode watch.old.owners.now true) regs.old (passed_bytes watch.old.mode watch.old.owners.now watch.old.mem.now))) }
+{
+    let near = Near::of(spans);
+    let mut done = 0;
+    while done < count {
+        let run = run_near(regs, watch, near, count - done);
+        done += run.progress.done;
+        tell(run.seen, pid, point, spans, hits);
+        if run.progress.stop != Stop::Next {
+            return Progress {
+                done,
+                stop: run.progress.stop,
+            };
+        }
+    }
+    Progress {
+        done: count,
+        stop: Stop::Next,
+    }
+}
+
+/// As `run_steps`, and adds each load and store that was carried out and hits, in their order. Where nothing
+/// is watched it is `run_steps`.
+pub fn run_watched<F: Fn(&[Span], u32, u32) -> bool>(
+    regs: &mut Regs,
+    watch: &mut Watch<'_>,
+    count: u32,
+    pid: u32,
+    point: &WatchPoint<F>,
+    spans: &[Span],
+    hits: &mut Hits,
+) -> Progress
+    requires point { IsPoint F.pre F.post point.now }
+    requires spans { AreSpans spans.now }
+    ensures leaves { ran regs.new (passed_bytes watch.old.mode watch.old.owners.now watch.new.mem.now) result.done result.stop
+        ≡ instructions count (passes watch.old.mode watch.old.owners.now true) regs.old (passed_bytes watch.old.mode watch.old.owners.now watch.old.mem.now) }
+    ensures frozen { kept_bytes watch.old.mode watch.old.owners.now watch.new.mem.now ≡ kept_bytes watch.old.mode watch.old.owners.now watch.old.mem.now }
+    ensures length { length watch.new.mem.now ≡ length watch.old.mem.now }
+    ensures owners { watch.new.owners.now ≡ watch.old.owners.now }
+    ensures mode { watch.new.mode ≡ watch.old.mode }
+    ensures first { first_stray watch.new ≡ noted_all watch.old.owners.now (first_stray watch.old)
+        (all_asked count (passes watch.old.mode watch.old.owners.now true) regs.old (passed_bytes watch.old.mode watch.old.owners.now watch.old.mem.now)) }
+    ensures halts { watch.old.mode ≡ Halt → first_stray watch.new ≡ noted_stop (first_stray watch.old) result.stop }
+    ensures same_reference { watch.new.mem.ghost_name ≡ watch.old.mem.ghost_name }
+    ensures hits { hits.new ≡ with_hits hits.old (hits_in (kind_of_point point.now) spans.now pid
+        (all_asked count (passes watch.old.mode watch.old.owners.now true) regs.old (passed_bytes watch.old.mode watch.old.owners.now watch.old.mem.now))) }
+{
+    if spans.is_empty() {
+        return run_steps(regs, watch, count);
+    }
+    run_probed(regs, watch, count, pid, point, spans, hits)
+}
