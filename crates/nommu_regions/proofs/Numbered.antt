@@ -4,15 +4,16 @@ use Rattle.std.specs.Prelude.{Some, slice_get, slice_set, nat_lt}
 use Rattle.std.specs.List.{swap}
 use Rattle.std.proofs.lemmas.Bool.{cases_lt, ne_eqb, false≢true}
 use Rattle.std.proofs.lemmas.Bool.Decides.{nat_tests}
-use Rattle.std.proofs.lemmas.List.{get_or_read_under}
+use Rattle.std.proofs.lemmas.List.{get_or_past, get_or_read_under}
 use Rattle.std.proofs.lemmas.List.Edits.{swapped_from_swap}
 use Rattle.std.proofs.lemmas.Option.{same_Some, slice_get_within, slice_get_read, get_or_from_slice_get}
+use Rattle.page_runs.specs.Free.{Free, with_free}
 use Rattle.nommu_regions.specs.declared.region.Region.{Region}
-use Rattle.nommu_regions.specs.Regions.{holds, AreRegions, AreFree, IsLive, CanCut, with_uses, before, behind, with_cut}
-use Rattle.nommu_regions.specs.Ids.{Numbered, AreInverse, Lives, OthersStay, UpperPart, has_both, kept_part, region_of, start_of}
+use Rattle.nommu_regions.specs.Regions.{holds, AreRegions, AreFree, IsLive, CanCut, Kept, free_behind, free_of, with_uses, before, behind, with_cut}
+use Rattle.nommu_regions.specs.Ids.{Numbered, AreInverse, IdsBehind, Lives, OthersStay, UpperPart, has_both, has_upper, kept_part, region_of, start_of}
 use Rattle.nommu_regions.proofs.Held.{held_by}
 use Rattle.nommu_regions.proofs.Kept.{get_set, get_other, live_set}
-use Rattle.nommu_regions.proofs.Cut.{IsCut, is_cut, cut_lower, cut_upper, cut_other}
+use Rattle.nommu_regions.proofs.Cut.{IsCut, is_cut, cut_lower, cut_upper, cut_other, freed}
 use Rattle.nommu_regions.proofs.Ids.{id_within, start_within, apart}
 
 abbrev pub table : List Region → List ℕ → Numbered
@@ -212,3 +213,41 @@ others_swapped rs new ids starts st now id f x from count upper at cut inverse r
         let one : holds lives.region (from + count) ≡ true = grind (arith, nat_tests, its, some, at_end, lives.live) in
         let two : holds x (from + count) ≡ true = grind (arith, nat_tests, at.live, cut.first, more) in
         differs (regions.apart (get_or starts other (length rs)) f lives.region x (from + count) lives.there at.there one two)
+
+-- ---- which ids change places
+
+pub ids_stay : (rs new : List Region) (starts : List ℕ) (now : Numbered) (id f : ℕ) (x : Region) (from count : ℕ) → At rs starts now id f x →
+    has_upper x from count ≡ false → (r : Region) → region_of now id ≡ Some r → IdsBehind now (table new starts) r id from count
+ids_stay rs new starts now id f x from count at less r named = rw (← same_region rs starts now id f x r at named) (record {
+  stay = λ none. rw (← at.same) refl;
+  change = λ other yes here. absurd (false≢true (sym less ∙ yes));
+})
+
+pub ids_swapped : (rs new : List Region) (ids starts st : List ℕ) (now : Numbered) (id f : ℕ) (x : Region) (from count upper : ℕ) → At rs starts now id f x →
+    AreInverse ids starts (length rs) → has_upper x from count ≡ true → from + count < length rs → upper ≡ get_or ids (from + count) (length rs) → st ≡ swap starts id upper →
+    (r : Region) → region_of now id ≡ Some r → IdsBehind now (table new st) r id from count
+ids_swapped rs new ids starts st now id f x from count upper at inverse up inside read swaps r named = rw (← same_region rs starts now id f x r at named) (record {
+  stay = λ none. absurd (false≢true (sym none ∙ up));
+  change = λ other yes here. rw (← at.same, is_upper other (subst (λ (s : Numbered). start_of s other ≡ from + count) (sym at.same) here)) swaps;
+})
+  where
+    within : (other : ℕ) → get_or starts other (length rs) ≡ from + count → other < length rs
+    within other here = elim (cases_lt other (length starts)) [
+      | inl less ↦ omega (arith, less, inverse.starts_len)
+      | inr past ↦ absurd (omega (arith, get_or_past starts other (length rs) past, here, inside))
+    ]
+
+    is_upper : (other : ℕ) → get_or starts other (length rs) ≡ from + count → other ≡ upper
+    is_upper other here = sym (inverse.forth other (within other here)) ∙ (ap (λ k. get_or ids k (length rs)) here ∙ sym read)
+
+-- ---- the free runs behind one use less
+
+pub free_last : (rs new : List Region) (starts : List ℕ) (now : Numbered) (id f : ℕ) (x : Region) (free given : Free) → At rs starts now id f x → Kept rs free → Kept new given →
+    given ≡ with_free free x.first x.pages → x.uses ≡ 1 → (r : Region) → region_of now id ≡ Some r → free_of new ≡ free_behind r (free_of now.regions)
+free_last rs new starts now id f x free given at kept after is one r named =
+    rw (← same_region rs starts now id f x r at named, ← at.same, one) (freed rs new free given x.first x.pages kept after is)
+
+pub free_used : (rs new : List Region) (starts : List ℕ) (now : Numbered) (id f : ℕ) (x : Region) (free : Free) → At rs starts now id f x → Kept rs free → Kept new free →
+    x.uses ≢ 1 → (r : Region) → region_of now id ≡ Some r → free_of new ≡ free_behind r (free_of now.regions)
+free_used rs new starts now id f x free at kept after more r named =
+    rw (← same_region rs starts now id f x r at named, ← at.same, ne_eqb x.uses 1 more) (sym after.1 ∙ kept.1)

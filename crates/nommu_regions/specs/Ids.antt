@@ -1,5 +1,6 @@
 -- The ids of regions. An id lasts as long as its region does, also where the region loses its first pages.
-use Rattle.std.specs.Prelude.{ℕ, ◌≡◌, ◌≢◌, ◌+◌, ◌<◌, Bool, true, false, ◌&&◌, nat_lt, if◌then◌else◌, List, length, get_or, slice_get, Option, Some, MatchOption}
+use Rattle.std.specs.Prelude.{ℕ, ◌≡◌, ◌≢◌, ◌+◌, ◌<◌, Bool, true, false, ◌&&◌, not, nat_lt, if◌then◌else◌, List, length, get_or, slice_get, Option, Some, MatchOption}
+use Rattle.std.specs.List.{swap}
 use Rattle.nommu_regions.specs.declared.region.Region.{Region}
 use Rattle.nommu_regions.specs.Regions.{IsLive, before, behind, is_left}
 
@@ -43,6 +44,16 @@ kept_part r from count = if nat_lt r.first from then before r from else behind r
 abbrev pub UpperPart : Numbered → Region → (from count : ℕ) → Option ℕ → Type 0
 UpperPart s r from count upper =
     MatchOption upper (has_both r from count ≡ false) (λ id. (has_both r from count ≡ true) × (region_of s id ≡ Some (behind r (from + count))))
+
+-- pages are left behind the cut alone
+abbrev pub has_upper : Region → (from count : ℕ) → Bool
+has_upper r from count = not (nat_lt r.first from) && is_left r (from + count)
+
+-- where the upper part alone is left, the region's id and that of the first page that is left change places; else each id stays at
+-- its page
+pub record IdsBehind (old new : Numbered) (r : Region) (id from count : ℕ) : Type 0 where
+  pub stay : has_upper r from count ≡ false → new.starts ≡ old.starts
+  pub change : (other : ℕ) → has_upper r from count ≡ true → start_of old other ≡ from + count → new.starts ≡ swap old.starts id other
 
 -- ---- for the private table: which id begins at a page
 

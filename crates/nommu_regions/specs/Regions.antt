@@ -1,7 +1,7 @@
 -- The regions of a memory, as a list with one place per page. A region stands at the number of its first
 -- page. A place whose region has no use is empty.
 use Rattle.std.specs.Prelude.{ℕ, ◌≡◌, ◌+◌, ◌-◌, ◌==◌, ◌<◌, ◌≤◌, Bool, true, false, ◌&&◌, ◌||◌, not, nat_le, nat_lt, if◌then◌else◌, List, [], ◌∷◌, length, position, slice_get, slice_set, Option, Some, None}
-use Rattle.page_runs.specs.Free.{Free, free_runs}
+use Rattle.page_runs.specs.Free.{Free, free_runs, with_free}
 use Rattle.page_runs.specs.Pages.{in_run}
 use Rattle.nommu_regions.specs.declared.region.Region.{Region}
 use Rattle.nommu_regions.specs.declared.region.Source.{Source}
@@ -58,6 +58,10 @@ uses_in (Some r) = r.uses
 
 abbrev pub uses_of : List Region → ℕ → ℕ
 uses_of rs first = uses_in (slice_get rs first)
+
+-- the free runs behind one use less of a region: the last one frees its pages, and any other one none
+abbrev pub free_behind : Region → Free → Free
+free_behind r free = if r.uses == 1 then with_free free r.first r.pages else free
 
 -- ---- copies of files
 

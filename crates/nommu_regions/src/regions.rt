@@ -4,10 +4,10 @@ ghost use Rattle.std.specs.Prelude.{◌≡◌, ◌+◌, ◌-◌, ◌*◌, ◌^�
 ghost use Rattle.std.specs.List.{range_with_len, swap};
 ghost use Rattle.byte_words.specs.Patches.{laid};
 ghost use Rattle.page_runs.specs.Choosers.{IsChooser, kind_of};
-ghost use Rattle.page_runs.specs.Free.{with_free};
-ghost use Rattle.page_runs.specs.Place.{Placed, place, first_of};
-ghost use Rattle.nommu_regions.specs.Regions.{AreRegions, AreFree, IsLive, Kept, CanCut, copy_of, covers, free_of, with_cut, with_uses, uses_of};
-ghost use Rattle.nommu_regions.specs.Ids.{AreIds, AreInverse, Lives, OthersStay, UpperPart, kept_part, region_of, start_of};
+ghost use Rattle.page_runs.specs.Free.{with_free, without};
+ghost use Rattle.page_runs.specs.Place.{Gets, Placed, place, first_of};
+ghost use Rattle.nommu_regions.specs.Regions.{AreRegions, AreFree, IsLive, Kept, CanCut, copy_of, covers, free_behind, free_of, with_cut, with_uses, uses_of};
+ghost use Rattle.nommu_regions.specs.Ids.{AreIds, AreInverse, IdsBehind, Lives, OthersStay, UpperPart, kept_part, region_of, start_of};
 
 use crate::region::{Region, Source};
 use page_runs::{Chooser, Run, Runs};
@@ -115,6 +115,8 @@ impl Regions {
         requires memory { length mem.old ≡ 4096 * length self.old.regions }
         ensures placed { option_map (start_of self.old) result ≡ first_of (free_of self.old.regions).runs (place (kind_of chooser.now) (free_of self.old.regions).runs pages) }
         ensures rule { Placed (kind_of chooser.now) (free_of self.old.regions).runs pages (place (kind_of chooser.now) (free_of self.old.regions).runs pages) }
+        ensures gets { Gets (kind_of chooser.now) (free_of self.old.regions).runs pages (option_map (start_of self.old) result) }
+        ensures front { IfSome result (λ id. free_of self.new.regions ≡ without (free_of self.old.regions) (start_of self.old id) pages) }
         ensures free { IfSome result (λ id. AreFree self.old.regions (start_of self.old id) pages) }
         ensures live { IfSome result (λ id. Lives self.new id) }
         ensures region { IfSome result (λ id. region_of self.new id ≡ Some (record { first = start_of self.old id; pages = pages; source = source; uses = 1 })) }
@@ -159,6 +161,7 @@ impl Regions {
     pub fn drop_use(&mut self, id: u32)
         requires { Lives self.old id }
         ensures uses { self.new ≡ record self.old { regions = with_uses self.old.regions (start_of self.old id) (λ uses. uses - 1) } }
+        ensures free { (r : Region) → region_of self.old id ≡ Some r → free_of self.new.regions ≡ free_behind r (free_of self.old.regions) }
         ensures others { OthersStay id self.old self.new }
     {
         let first = self.starts[id as usize];
@@ -180,6 +183,8 @@ impl Regions {
         ensures free { free_of self.new.regions ≡ with_free (free_of self.old.regions) from count }
         ensures part { (r : Region) → region_of self.old id ≡ Some r → region_of self.new id ≡ Some (kept_part r from count) }
         ensures upper { (r : Region) → region_of self.old id ≡ Some r → UpperPart self.new r from count result }
+        ensures upper_id { IfSome result (λ upper. start_of self.old upper ≡ from + count) }
+        ensures ids { (r : Region) → region_of self.old id ≡ Some r → IdsBehind self.old self.new r id from count }
         ensures others { OthersStay id self.old self.new }
         ensures live { Lives self.new id }
         ensures upper_lives { IfSome result (λ upper. Lives self.new upper) }

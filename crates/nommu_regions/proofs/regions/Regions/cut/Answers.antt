@@ -2,11 +2,12 @@ use Rattle.std.proofs.Common.{◌≡◌, ◌<◌, ◌≤◌, ◌+◌, ◌∙◌,
 use Rattle.std.specs.List.{swap}
 use Rattle.std.specs.Vec.{with_items}
 use Rattle.std.proofs.lemmas.List.{with_items_is, get_or_read_under}
+use Rattle.std.proofs.lemmas.Bool.Decides.{nat_tests}
 use Rattle.std.proofs.lemmas.List.Edits.{length-swap}
 use Rattle.nommu_regions.specs.declared.region.Region.{Region}
 use Rattle.nommu_regions.specs.Regions.{with_cut}
 use Rattle.nommu_regions.proofs.Ids.{id_within}
-use Rattle.nommu_regions.proofs.Numbered.{At, read_at, region_at, lives_at, lives_cut, cut_at, live_kept, live_upper, none_upper, none_lower, part_lower, part_upper, some_upper, others_cut, others_swapped}
+use Rattle.nommu_regions.proofs.Numbered.{At, read_at, region_at, lives_at, lives_cut, cut_at, live_kept, live_upper, none_upper, none_lower, part_lower, part_upper, some_upper, others_cut, others_swapped, ids_stay, ids_swapped, start_at}
 use Rattle.nommu_regions.proofs.regions.Regions.cut.Goals as goal
 
 pub overflow_add-region : goal.overflow_add-region
@@ -182,3 +183,34 @@ returns-clause-live c =
     let at : At c.self.inside.regions.items c.self.inside.starts.items c.args.self.now c.args.id c.index-first.result.now c.index-region.result.now = read_at c.self.inside.regions.items c.self.inside.ids.items c.self.inside.starts.items c.args.self.now c.args.id c.index-first.result.now _ _ c.index-region.result.now c.self.view_is c.self.invariant.1 (lives_cut c.self.inside.regions.items c.self.inside.starts.items c.args.self.now c.args.id c.args.from c.args.count c.requires) c.self.inside.starts.ok.0 c.index-first.ensures c.self.inside.regions.ok.0 c.index-region.ensures in
     let cut = cut_at c.self.inside.regions.items c.self.inside.starts.items c.args.self.now c.args.id c.index-first.result.now c.index-region.result.now c.args.from c.args.count at c.requires in
     live_kept _ c.args.id c.index-region.result.now c.args.from c.args.count cut.one (returns-clause-part c c.index-region.result.now (region_at c.self.inside.regions.items c.self.inside.starts.items c.args.self.now c.args.id c.index-first.result.now c.index-region.result.now at))
+
+pub returns-then-end-region-clause-ids : goal.returns-then-end-region-clause-ids
+returns-then-end-region-clause-ids c r named =
+    let at : At c.self.inside.regions.items c.self.inside.starts.items c.args.self.now c.args.id c.index-first.result.now c.index-region.result.now = read_at c.self.inside.regions.items c.self.inside.ids.items c.self.inside.starts.items c.args.self.now c.args.id c.index-first.result.now _ _ c.index-region.result.now c.self.view_is c.self.invariant.1 (lives_cut c.self.inside.regions.items c.self.inside.starts.items c.args.self.now c.args.id c.args.from c.args.count c.requires) c.self.inside.starts.ok.0 c.index-first.ensures c.self.inside.regions.ok.0 c.index-region.ensures in
+    ids_stay c.self.inside.regions.items _ c.self.inside.starts.items c.args.self.now c.args.id c.index-first.result.now c.index-region.result.now c.args.from c.args.count at (grind (arith, nat_tests, c.if-end-region.true)) r named
+
+pub returns-then-first-from-clause-ids : goal.returns-then-first-from-clause-ids
+returns-then-first-from-clause-ids c r named =
+    let at : At c.self.inside.regions.items c.self.inside.starts.items c.args.self.now c.args.id c.index-first.result.now c.index-region.result.now = read_at c.self.inside.regions.items c.self.inside.ids.items c.self.inside.starts.items c.args.self.now c.args.id c.index-first.result.now _ _ c.index-region.result.now c.self.view_is c.self.invariant.1 (lives_cut c.self.inside.regions.items c.self.inside.starts.items c.args.self.now c.args.id c.args.from c.args.count c.requires) c.self.inside.starts.ok.0 c.index-first.ensures c.self.inside.regions.ok.0 c.index-region.ensures in
+    let begins : c.index-region.result.now.first ≡ c.index-first.result.now = c.self.invariant.0.0.begins c.index-first.result.now c.index-region.result.now at.there at.live in
+    ids_stay c.self.inside.regions.items _ c.self.inside.starts.items c.args.self.now c.args.id c.index-first.result.now c.index-region.result.now c.args.from c.args.count at (grind (arith, nat_tests, c.if-first-from.true, begins)) r named
+
+pub returns-then-first-from-clause-upper_id : goal.returns-then-first-from-clause-upper_id
+returns-then-first-from-clause-upper_id c =
+    let at : At c.self.inside.regions.items c.self.inside.starts.items c.args.self.now c.args.id c.index-first.result.now c.index-region.result.now = read_at c.self.inside.regions.items c.self.inside.ids.items c.self.inside.starts.items c.args.self.now c.args.id c.index-first.result.now _ _ c.index-region.result.now c.self.view_is c.self.invariant.1 (lives_cut c.self.inside.regions.items c.self.inside.starts.items c.args.self.now c.args.id c.args.from c.args.count c.requires) c.self.inside.starts.ok.0 c.index-first.ensures c.self.inside.regions.ok.0 c.index-region.ensures in
+    let cut = cut_at c.self.inside.regions.items c.self.inside.starts.items c.args.self.now c.args.id c.index-first.result.now c.index-region.result.now c.args.from c.args.count at c.requires in
+    let inside : c.index-region.result.now.first + c.index-region.result.now.pages ≤ length c.self.inside.regions.items = c.self.invariant.0.0.inside c.index-first.result.now c.index-region.result.now at.there at.live in
+    let more : c.args.from + c.args.count < c.index-region.result.now.first + c.index-region.result.now.pages = omega (arith, cut.last, c.if-end-region.false) in
+    start_at c.self.inside.regions.items c.self.inside.ids.items c.self.inside.starts.items c.args.self.now (c.args.from + c.args.count) c.index-upper.result.now _ c.self.view_is c.self.invariant.1 (omega (arith, more, inside)) c.self.inside.ids.ok.0 c.index-upper.ensures
+
+pub returns-clause-ids : goal.returns-clause-ids
+returns-clause-ids c r named =
+    let at : At c.self.inside.regions.items c.self.inside.starts.items c.args.self.now c.args.id c.index-first.result.now c.index-region.result.now = read_at c.self.inside.regions.items c.self.inside.ids.items c.self.inside.starts.items c.args.self.now c.args.id c.index-first.result.now _ _ c.index-region.result.now c.self.view_is c.self.invariant.1 (lives_cut c.self.inside.regions.items c.self.inside.starts.items c.args.self.now c.args.id c.args.from c.args.count c.requires) c.self.inside.starts.ok.0 c.index-first.ensures c.self.inside.regions.ok.0 c.index-region.ensures in
+    let cut = cut_at c.self.inside.regions.items c.self.inside.starts.items c.args.self.now c.args.id c.index-first.result.now c.index-region.result.now c.args.from c.args.count at c.requires in
+    let begins : c.index-region.result.now.first ≡ c.index-first.result.now = c.self.invariant.0.0.begins c.index-first.result.now c.index-region.result.now at.there at.live in
+    let inside : c.index-region.result.now.first + c.index-region.result.now.pages ≤ length c.self.inside.regions.items = c.self.invariant.0.0.inside c.index-first.result.now c.index-region.result.now at.there at.live in
+    let more : c.args.from + c.args.count < c.index-region.result.now.first + c.index-region.result.now.pages = omega (arith, cut.last, c.if-end-region.false) in
+    let read : c.index-upper.result.now ≡ get_or c.self.inside.ids.items (c.args.from + c.args.count) (length c.self.inside.regions.items) = get_or_read_under c.self.inside.ids.items (c.args.from + c.args.count) _ c.index-upper.result.now (length c.self.inside.regions.items) c.index-upper.ensures (omega (arith, more, inside, c.self.invariant.1.ids_len, c.self.inside.ids.ok.0)) c.self.inside.ids.ok.0 in
+    let swaps_raw : c.swap_starts.new.starts ≡ swap c.self.inside.starts.items c.args.id c.index-upper.result.now = c.swap_starts.ensures.starts ∙ ap (λ (l : List ℕ). swap l c.args.id c.index-upper.result.now) c.deref_mut-3.ensures.value in
+    let swaps : (with_items c.self.inside.starts c.swap_starts.new.starts).items ≡ swap c.self.inside.starts.items c.args.id c.index-upper.result.now = with_items_is c.self.inside.starts c.swap_starts.new.starts (ap length swaps_raw ∙ (length-swap c.self.inside.starts.items c.args.id c.index-upper.result.now ∙ sym c.self.inside.starts.ok.0)) ∙ swaps_raw in
+    ids_swapped c.self.inside.regions.items _ c.self.inside.ids.items c.self.inside.starts.items _ c.args.self.now c.args.id c.index-first.result.now c.index-region.result.now c.args.from c.args.count c.index-upper.result.now at c.self.invariant.1 (grind (arith, nat_tests, c.if-first-from.false, begins, more)) (omega (arith, more, inside)) read swaps r named

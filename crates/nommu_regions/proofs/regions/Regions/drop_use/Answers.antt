@@ -1,7 +1,7 @@
 use Rattle.std.proofs.Common.{◌≡◌, ◌-◌, ℕ, length, refl, ap, arith}
 use Rattle.page_runs.specs.Free.{Free}
 use Rattle.nommu_regions.proofs.Kept.{kept_used, kept_gone, taken_by}
-use Rattle.nommu_regions.proofs.Numbered.{read_at, inverse_set, uses_is, others_stay}
+use Rattle.nommu_regions.proofs.Numbered.{read_at, inverse_set, uses_is, others_stay, free_last, free_used}
 use Rattle.nommu_regions.proofs.regions.Regions.drop_use.Goals as goal
 
 pub overflow_sub-region : goal.overflow_sub-region
@@ -41,3 +41,9 @@ returns-else-region-eq1-clause-uses c = uses_is c.self.inside.regions.items c.se
 
 pub returns-else-region-eq1-clause-others : goal.returns-else-region-eq1-clause-others
 returns-else-region-eq1-clause-others c = others_stay c.self.inside.regions.items c.self.inside.ids.items c.self.inside.starts.items c.args.self.now c.args.id c.index-first.result.now c.index-region.result.now _ c.self.invariant.1 (read_at c.self.inside.regions.items c.self.inside.ids.items c.self.inside.starts.items c.args.self.now c.args.id c.index-first.result.now _ _ c.index-region.result.now c.self.view_is c.self.invariant.1 c.requires c.self.inside.starts.ok.0 c.index-first.ensures c.self.inside.regions.ok.0 c.index-region.ensures)
+
+pub returns-then-region-eq1-clause-free : goal.returns-then-region-eq1-clause-free
+returns-then-region-eq1-clause-free c r named = free_last c.self.inside.regions.items _ c.self.inside.starts.items c.args.self.now c.args.id c.index-first.result.now c.index-region.result.now c.self.inside.free c.give.new.self (read_at c.self.inside.regions.items c.self.inside.ids.items c.self.inside.starts.items c.args.self.now c.args.id c.index-first.result.now _ _ c.index-region.result.now c.self.view_is c.self.invariant.1 c.requires c.self.inside.starts.ok.0 c.index-first.ensures c.self.inside.regions.ok.0 c.index-region.ensures) c.self.invariant.0 (invariant_of-self c).0 c.give.ensures c.if-region-eq1.true r named
+
+pub returns-else-region-eq1-clause-free : goal.returns-else-region-eq1-clause-free
+returns-else-region-eq1-clause-free c r named = free_used c.self.inside.regions.items _ c.self.inside.starts.items c.args.self.now c.args.id c.index-first.result.now c.index-region.result.now c.self.inside.free (read_at c.self.inside.regions.items c.self.inside.ids.items c.self.inside.starts.items c.args.self.now c.args.id c.index-first.result.now _ _ c.index-region.result.now c.self.view_is c.self.invariant.1 c.requires c.self.inside.starts.ok.0 c.index-first.ensures c.self.inside.regions.ok.0 c.index-region.ensures) c.self.invariant.0 (invariant_of-self-else-region-eq1 c).0 c.if-region-eq1.false r named

@@ -1,4 +1,8 @@
-use Rattle.std.proofs.Common.{◌≡◌, ◌*◌, ◌∙◌, ℕ, length, replicate, refl, arith, ap}
+use Rattle.std.proofs.Common.{◌≡◌, ◌*◌, ◌∙◌, ℕ, length, replicate, refl, arith, ap, sym}
+use Rattle.page_runs.specs.Choosers.{kind_of}
+use Rattle.page_runs.specs.Free.{Free, without}
+use Rattle.page_runs.proofs.Places.{gets}
+use Rattle.nommu_regions.specs.Regions.{free_of}
 use Rattle.nommu_regions.specs.Ids.{Numbered, start_of}
 use Rattle.nommu_regions.proofs.Kept.{kept_fresh, are_free_now}
 use Rattle.byte_words.specs.Patches.{laid}
@@ -81,3 +85,12 @@ pub returns-clause-others : goal.returns-clause-others
 returns-clause-others g c =
     let free = are_free_now c.self.inside.regions.items c.self.inside.regions.items c.self.inside.free c.in_ok-first.first c.args.pages refl c.self.invariant.0 c.requires.pages c.in_ok-first.ensures.free in
     others_set c.self.inside.regions.items c.self.inside.ids.items c.self.inside.starts.items c.args.self.now c.index.result.now c.in_ok-first.first _ c.self.view_is c.self.invariant.1 (λ other differs lives. away_from_free c.self.inside.regions.items c.in_ok-first.first c.args.pages _ c.self.invariant.0.0 free c.requires.pages lives)
+
+pub returns-clause-gets : goal.returns-clause-gets
+returns-clause-gets g c = gets (kind_of c.args.chooser.now) (free_of c.args.self.now.regions).runs c.args.pages _ (returns-clause-placed g c)
+
+pub returns-clause-front : goal.returns-clause-front
+returns-clause-front g c =
+    let free = are_free_now c.self.inside.regions.items c.self.inside.regions.items c.self.inside.free c.in_ok-first.first c.args.pages refl c.self.invariant.0 c.requires.pages c.in_ok-first.ensures.free in
+    let here : start_of c.args.self.now c.index.result.now ≡ c.in_ok-first.first = start_at c.self.inside.regions.items c.self.inside.ids.items c.self.inside.starts.items c.args.self.now c.in_ok-first.first c.index.result.now _ c.self.view_is c.self.invariant.1 (omega (arith, free.inside, c.requires.pages)) c.self.inside.ids.ok.0 c.index.ensures in
+    rw (here, ← c.self.view_is) (sym (invariant_of-self-2 g c).0.1 ∙ (c.in_ok-first.ensures.pages ∙ ap (λ (f : Free). without f c.in_ok-first.first c.args.pages) c.self.invariant.0.1))
