@@ -64,10 +64,6 @@ written_so ns id at bytes some small =
 pub none_written : (ns new : Inodes) → Fits ns → new ≡ ns → Writes (or_no_space new) ns new (Ok tt)
 none_written ns new fits same = subst (λ r. Writes r ns new (Ok tt)) (sym (within new (subst Fits (sym same) fits))) refl
 
-no_memory : (r : Result Inodes log) (old new : Inodes) → new ≡ old → Writes r old new (Err Memory)
-no_memory (Ok now) old new same = same
-no_memory (Err errno) old new same = same
-
 -- a node that was taken out and put back
 module _ (ns : Inodes) (id : ℕ) (n : Inode) (is : inode_at ns id ≡ Some n) where
   at : slice_get ns id ≡ Some (Some n)
@@ -97,7 +93,7 @@ module _ (ns : Inodes) (id : ℕ) (n : Inode) (is : inode_at ns id ≡ Some n) w
   fits_written w m most (Ok done) fits left rest h =
       fits_again m fits (omega (arith, h.1, ap (λ x. length (bytes_in x.content)) h.0)) rest
   fits_written w m most (Err (Errno errno)) fits left rest h = subst Fits (sym (ap (λ x. slice_set (slice_set ns id None) id (Some x)) h.2 ∙ same_again)) fits
-  fits_written w m most (Err Memory) fits left rest h = subst Fits (sym (ap (λ x. slice_set (slice_set ns id None) id (Some x)) h ∙ same_again)) fits
+  fits_written w m most (Err Memory) fits left rest h = subst Fits (sym (ap (λ x. slice_set (slice_set ns id None) id (Some x)) h.1 ∙ same_again)) fits
 
   pub writes : (f : List ℕ → List ℕ) (m : Inode) (new : Inodes) (most : ℕ) (answer : Result ⊤ FileFault) → Fits ns → most ≡ most_of_all - byte_count (slice_set ns id None) → byte_count (slice_set ns id None) ≤ most_of_all
       → new ≡ slice_set (slice_set ns id None) id (Some m) → WritesNode (with_bytes f n) most n m answer → Writes (or_no_space (with_change (λ n. Some (with_bytes f n)) ns id)) ns new answer
@@ -110,7 +106,9 @@ module _ (ns : Inodes) (id : ℕ) (n : Inode) (is : inode_at ns id ≡ Some n) w
       let large : most_of_all < byte_count (slice_set (slice_set ns id None) id (Some (with_bytes f n))) = omega (arith, bytes_again (with_bytes f n), h.1) in
       subst (λ r. Writes r ns new (Err (Errno errno))) (sym (past (with_change (λ n. Some (with_bytes f n)) ns id) (inr (subst (λ ms. most_of_all < byte_count ms) all large)))) (h.0, put ∙ ap (λ x. slice_set (slice_set ns id None) id (Some x)) h.2 ∙ same_again)
   writes f m new most (Err Memory) fits left rest put h =
-      no_memory _ ns new (put ∙ ap (λ x. slice_set (slice_set ns id None) id (Some x)) h ∙ same_again)
+      let all : slice_set (slice_set ns id None) id (Some (with_bytes f n)) ≡ with_change (λ n. Some (with_bytes f n)) ns id = changed_there (λ n. Some (with_bytes f n)) ns id n is in
+      let fit = fits_again (with_bytes f n) fits (omega (arith, h.0, left)) rest in
+      subst (λ r. Writes r ns new (Err Memory)) (sym (within (with_change (λ n. Some (with_bytes f n)) ns id) (subst Fits all fit))) (put ∙ ap (λ x. slice_set (slice_set ns id None) id (Some x)) h.1 ∙ same_again)
 
 -- ---- a new node
 

@@ -12,14 +12,14 @@ Changes (Ok now) old new (Err errno) = ⊥
 Changes (Err first) old new (Ok done) = ⊥
 Changes (Err first) old new (Err errno) = (errno ≡ first) × (new ≡ old)
 
--- the same where memory may be out
+-- the same where memory may be out, which is no answer where the call is refused
 abbrev pub Writes : Result Inodes log.Errno → Inodes → Inodes → Result ⊤ FileFault → Type 0
 Writes (Ok now) old new (Ok done) = new ≡ now
 Writes (Ok now) old new (Err (Errno errno)) = ⊥
 Writes (Ok now) old new (Err Memory) = new ≡ old
 Writes (Err first) old new (Ok done) = ⊥
 Writes (Err first) old new (Err (Errno errno)) = (errno ≡ first) × (new ≡ old)
-Writes (Err first) old new (Err Memory) = new ≡ old
+Writes (Err first) old new (Err Memory) = ⊥
 
 -- the same for a new node: it has the number behind the last one that was given
 abbrev pub Makes : Result Inodes log.Errno → Inodes → Inodes → Result ℕ FileFault → Type 0
@@ -28,4 +28,4 @@ Makes (Ok now) old new (Err (Errno errno)) = ⊥
 Makes (Ok now) old new (Err Memory) = new ≡ old
 Makes (Err first) old new (Ok id) = ⊥
 Makes (Err first) old new (Err (Errno errno)) = (errno ≡ first) × (new ≡ old)
-Makes (Err first) old new (Err Memory) = new ≡ old
+Makes (Err first) old new (Err Memory) = ⊥

@@ -15,8 +15,9 @@ content_value (Folder parent entries) = folder parent entries
 abbrev pub IsSmall : Content → Type 0
 IsSmall content = length (bytes_in content) ≤ most_of_one
 
--- a write that makes `written` of a node, where a file may have so many bytes: a refusal changes nothing
+-- a write that makes `written` of a node, where a file may have so many bytes: a refusal changes nothing, nor does a write that finds no
+-- memory, of which there is none that would be refused
 abbrev pub WritesNode : Inode → ℕ → Inode → Inode → Result ⊤ FileFault → Type 0
 WritesNode written most old new (Ok done) = (new ≡ written) × (length (bytes_in written.content) ≤ most)
 WritesNode written most old new (Err (Errno errno)) = (errno ≡ Enospc) × (most < length (bytes_in written.content)) × (new ≡ old)
-WritesNode written most old new (Err Memory) = new ≡ old
+WritesNode written most old new (Err Memory) = (length (bytes_in written.content) ≤ most) × (new ≡ old)

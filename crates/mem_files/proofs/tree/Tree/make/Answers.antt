@@ -1,7 +1,7 @@
 -- A new node fits, or there is no space.
-use Rattle.std.proofs.Common.{◌≡◌, ◌+◌, ◌<◌, ◌≤◌, Ok, Err, ◌⊎◌, inl, inr, length, refl, sym, ap, subst, ◌∙◌, arith}
+use Rattle.std.proofs.Common.{◌≡◌, ◌+◌, ◌<◌, ◌≤◌, Ok, Err, ◌⊎◌, inl, inr, length, refl, sym, ap, subst, ◌∙◌, arith, rules}
 use Rattle.call_log.specs.declared.errno.Errno.TheVariants.{Enospc}
-use Rattle.mem_files.specs.declared.fault.FileFault.TheVariants.{Errno}
+use Rattle.mem_files.specs.declared.fault.FileFault.TheVariants.{Errno, Memory}
 use Rattle.mem_files.specs.Inodes.{Fits, node_count, byte_count, bytes_in, new_inode, most_nodes, most_of_all}
 use Rattle.mem_files.specs.Calls.{Makes}
 use Rattle.mem_files.specs.Changes.{with_new}
@@ -34,6 +34,19 @@ fits_it c =
 
 pub add-requires-clause-fits : goal.add-requires-clause-fits
 add-requires-clause-fits c = fits_it c
+
+pub returns-in_err-add : goal.returns-in_err-add
+returns-in_err-add c =
+    let ns = c.args.self.now in
+    let content = content_value c.args.content in
+    let small : length (bytes_in content) ≤ 16777216 = omega (arith, ap length c.bytes.ensures, c.if-len-gt-MOST_OF_ONE.false) in
+    let nodes = ap node_count c.self.view_is in
+    let bytes = ap byte_count c.self.view_is in
+    let fit : Fits (with_new ns c.args.place.folder c.args.place.name.now (new_inode content c.args.program)) = fits_new ns c.args.place.folder c.args.place.name.now (new_inode content c.args.program) (omega (arith, c.if-self-ge-MOST_NODES.false, c.self.invariant.0, nodes)) (omega (arith, c.if-len-self.false, c.self.invariant.1, c.self.invariant.2.bytes, bytes, ap length c.bytes.ensures)) in
+    let err : c.from_residual.result ≡ Err Memory = search rules in
+    let same : c.add.new.self ≡ ns = search rules in
+    subst (λ r. Makes r ns c.add.new.self c.from_residual.result) (sym (made_so ns (place_value c.args.place) content c.args.program small fit))
+    (subst (λ r. Makes (Ok (with_new ns c.args.place.folder c.args.place.name.now (new_inode content c.args.program))) ns c.add.new.self r) (sym err) same)
 
 pub returns : goal.returns
 returns c =
