@@ -47,7 +47,7 @@ makes a (Ok now) new (Err (Errno errno)) h = absurd h
 makes a (Ok now) new (Err Memory) h = rw h refl
 makes a (Err fault) new (Ok id) h = absurd h
 makes a (Err fault) new (Err (Errno errno)) h = (rw h.0 refl, rw h.1 refl)
-makes a (Err fault) new (Err Memory) h = rw h refl
+makes a (Err fault) new (Err Memory) h = absurd h
 
 changes : (a : Ask) (w : Result Inodes log.Errno) (new : Inodes) (r : Result ⊤ log.Errno) → Changes w a.rest.tree new r → Answers a (with_ok a w (changes_tree a)) (with_tree a.rest new) (done 0 r)
 changes a (Ok now) new (Ok d) h = rw h refl

@@ -84,7 +84,7 @@ pub makes_same : (w : Result Inodes log.Errno) (old new : Inodes) (fault : FileF
 makes_same (Ok now) old new (Errno errno) h = absurd h
 makes_same (Ok now) old new Memory h = h
 makes_same (Err fault) old new (Errno errno) h = h.1
-makes_same (Err fault) old new Memory h = h
+makes_same (Err fault) old new Memory h = absurd h
 
 -- a descriptor is free, but the file isn't made
 pub new_unmade : (a : Ask) (path : List ℕ) (free : Option ℕ) (new : Inodes) (rest : Rest) (fault : FileFault) → creates (arg a 2) ≡ true → free_of a ≡ free → IsSome free →

@@ -41,7 +41,7 @@ writes_none : (a : Ask) (w : Result Inodes log.Errno) (row : Inodes → Row) (ne
 writes_none a (Ok now) row new (Errno errno) h = absurd h
 writes_none a (Ok now) row new Memory h = rw h refl
 writes_none a (Err first) row new (Errno errno) h = (rw h.0 refl, rw h.1 refl)
-writes_none a (Err first) row new Memory h = rw h refl
+writes_none a (Err first) row new Memory h = absurd h
 
 -- what wasn't
 pub node_refused : (a : Ask) (node at : ℕ) (bytes : List ℕ) (new : Inodes) (fault : FileFault) → Writes (written a.rest.tree node at bytes) a.rest.tree new (Err fault) →
