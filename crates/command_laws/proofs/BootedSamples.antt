@@ -80,6 +80,7 @@ m = record {
   quanta = record { pick = 0; count = 9 } ∷ [];
   repeat = 1;
   dumps = [];
+  watches = [];
 }
 
 manifest_is : manifest_of (codes "memory 4\nflat /a a\nstart /a\nquanta 0:9\n") ≡ Ok m

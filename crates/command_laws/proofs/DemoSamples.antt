@@ -13,6 +13,7 @@ two_programs : demo_manifest 2 ≡ record {
   quanta = record { pick = 0; count = 50 } ∷ record { pick = 1; count = 30 } ∷ record { pick = 2; count = 70 } ∷ [];
   repeat = 100000;
   dumps = [];
+  watches = [];
 }
 unfolding digits demo_manifest each_of
 two_programs = refl

@@ -1,4 +1,4 @@
--- Manifests: one with a line of each of the eleven kinds, and lines with a fault.
+-- Manifests: one with a line of each of the twelve kinds, and lines with a fault.
 use Rattle.std.proofs.Common.{◌≡◌, ℕ, List, [], ◌∷◌, ◌++◌, map, Some, None, refl}
 use Rattle.std.specs.Prelude.{codes, replicate, Result, Ok, Err}
 use Rattle.manifest_text.specs.declared.fault.ManifestFault.{ManifestFault}
@@ -9,21 +9,21 @@ use Rattle.manifest_text.specs.Values.{Item, Manifest}
 use Rattle.manifest_text.specs.Pieces.{pieces, words}
 use Rattle.manifest_text.specs.Numbers.{decimal_value, hex_value, is_number_in, number_in, is_address, address_value, address, is_quantum, quantum_value}
 use Rattle.manifest_text.specs.Paths.{is_name, is_path}
-use Rattle.manifest_text.specs.Lines.{Said, memory, dump, repeat, keyword_of, memory_said, elf_said, flat_said, file_said, dir_said, named_said, start_said, quanta_said, repeat_said, dump_said, keyword_said, words_said, line_said}
+use Rattle.manifest_text.specs.Lines.{Said, memory, dump, watch, repeat, keyword_of, memory_said, elf_said, flat_said, file_said, dir_said, named_said, start_said, quanta_said, repeat_said, dump_said, watch_said, keyword_said, words_said, line_said}
 use Rattle.manifest_text.specs.Manifest.{Fault, draft_of, late_fault, all_said, first_fault, lines_of, manifest_of}
 
--- ---- all eleven
+-- ---- all twelve
 
-abbrev eleven : List ℕ
-eleven =
+abbrev twelve : List ℕ
+twelve =
     codes "# two programs\n\nmemory 64\nelf /bin/a a.elf 8192\nelf  /b  b\nflat /c c.flat\ndir /d\n"
-    ++ codes "file /d/e e.txt\nstdin in.txt\nroot r.img\nstart /bin/a one two\nquanta 0:100 3:7\nrepeat 20\ndump 1 0x80000fff 16"
+    ++ codes "file /d/e e.txt\nstdin in.txt\nroot r.img\nstart /bin/a one two\nquanta 0:100 3:7\nrepeat 20\ndump 1 0x80000fff 16\nwatch 0xfffffffe 2"
 
 abbrev item_of : (line : ℕ) → ItemKind → (path name : List ℕ) → (stack : ℕ) → Item
 item_of line kind path name stack = record { line = line; kind = kind; path = path; name = name; stack = stack }
 
-says-eleven :
-    manifest_of eleven
+says-twelve :
+    manifest_of twelve
     ≡ Ok (record {
       pages = 64;
       items =
@@ -39,14 +39,15 @@ says-eleven :
       quanta = record { pick = 0; count = 100 } ∷ record { pick = 3; count = 7 } ∷ [];
       repeat = 20;
       dumps = record { pid = 1; addr = 0x8000_0fff; len = 16 } ∷ [];
+      watches = record { addr = 0xffff_fffe; len = 2 } ∷ [];
     })
-unfolding pieces words decimal_value hex_value is_number_in is_address address_value is_quantum quantum_value is_name is_path keyword_of memory_said elf_said flat_said file_said dir_said named_said start_said quanta_said repeat_said dump_said keyword_said words_said line_said draft_of late_fault all_said first_fault lines_of manifest_of
-says-eleven = refl
+unfolding pieces words decimal_value hex_value is_number_in is_address address_value is_quantum quantum_value is_name is_path keyword_of memory_said elf_said flat_said file_said dir_said named_said start_said quanta_said repeat_said dump_said watch_said keyword_said words_said line_said draft_of late_fault all_said first_fault lines_of manifest_of
+says-twelve = refl
 
 -- one start and one quantum are all that has to be there
 says-least :
     manifest_of (codes "start /a\nquanta 4294967295:1000000\n")
-    ≡ Ok (record { pages = 256; items = []; starts = record { line = 1; args = codes "/a" ∷ [] } ∷ []; quanta = record { pick = 0xffff_ffff; count = 1000000 } ∷ []; repeat = 1; dumps = [] })
+    ≡ Ok (record { pages = 256; items = []; starts = record { line = 1; args = codes "/a" ∷ [] } ∷ []; quanta = record { pick = 0xffff_ffff; count = 1000000 } ∷ []; repeat = 1; dumps = []; watches = [] })
 unfolding pieces words decimal_value is_number_in is_quantum quantum_value is_name is_path keyword_of start_said quanta_said keyword_said words_said line_said draft_of late_fault all_said first_fault lines_of manifest_of
 says-least = refl
 
@@ -86,6 +87,13 @@ bad-dump :
     ≡ Ok (dump (record { pid = 1; addr = 0; len = 4096 })) ∷ replicate 3 (Err BadNumber)
 unfolding pieces words decimal_value hex_value is_number_in is_address address_value keyword_of dump_said keyword_said words_said line_said
 bad-dump = refl
+
+-- all bytes but the first, and then one past the last; no bytes; a length above a word; an address without 0x; no length, and a word more
+bad-watch :
+    map said (codes "watch 0x1 4294967295" ∷ codes "watch 0x2 4294967295" ∷ codes "watch 0x0 0" ∷ codes "watch 0x0 4294967296" ∷ codes "watch 80000000 4" ∷ codes "watch 0x0" ∷ codes "watch 1 0x0 4" ∷ [])
+    ≡ Ok (watch (record { addr = 1; len = 0xffff_ffff })) ∷ replicate 4 (Err BadNumber) ++ replicate 2 (Err WordCount)
+unfolding pieces words decimal_value hex_value is_number_in is_address address_value keyword_of watch_said keyword_said words_said line_said
+bad-watch = refl
 
 bad-repeat :
     map said (codes "repeat 1000000" ∷ codes "repeat 1000001" ∷ codes "repeat 007" ∷ [])

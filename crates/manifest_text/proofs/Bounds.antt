@@ -6,10 +6,10 @@ use Rattle.std.proofs.lemmas.Bool.Decides.{nat_tests}
 use Rattle.std.proofs.lemmas.List.{append-nil}
 use Rattle.manifest_text.specs.declared.fault.ManifestFault.{ManifestFault}
 use Rattle.manifest_text.specs.Values.{Manifest}
-use Rattle.manifest_text.specs.Lines.{Line, Said, nothing, memory, item, start, quanta, repeat, dump, line_said}
+use Rattle.manifest_text.specs.Lines.{Line, Said, nothing, memory, item, start, quanta, repeat, dump, watch, line_said}
 use Rattle.manifest_text.specs.Manifest.{Fault, Draft, draft_of, late_fault, fault_in, all_said, or_later, first_fault, repeats, first_or, manifest_by, whole, judged_lines, judged_tree, lines_of, manifest_of, tree_manifest_of}
 use Rattle.manifest_text.specs.Reading.{added, added_line}
-use Rattle.manifest_text.specs.Laws.{IsItem, HasClearPath, HasArgument, IsShort, Reasonable, ManifestsAreReasonable, TreeManifestsAreReasonable}
+use Rattle.manifest_text.specs.Laws.{IsItem, HasClearPath, HasArgument, IsShort, IsWatch, AreWatches, Reasonable, ManifestsAreReasonable, TreeManifestsAreReasonable}
 use Rattle.manifest_text.proofs.SaidBounds.{IsSaid, Bounds, line_bounded}
 use Rattle.manifest_text.proofs.Drafts.{line_more}
 
@@ -30,6 +30,8 @@ record IsDraft (d : Draft) : Type 0 where
   quanta : length d.quanta ≤ 65536
   each_quantum : AllByRecursion IsShort d.quanta
   counts : AllByRecursion IsRepeat d.counts
+  watches : length d.watches ≤ 64
+  each_watch : AreWatches d.watches
 
 all_append : {A : Type 0} (P : A → Type 0) (xs ys : List A) → AllByRecursion P xs → AllByRecursion P ys → AllByRecursion P (xs ++ ys)
 all_append P [] ys all more = more
@@ -48,24 +50,29 @@ second_none false b one two h = h
 added_bounded : (d : Draft) (said : Said) → IsDraft d → IsSaid said → late_fault d said ≡ None → IsDraft (added d said)
 unfolding late_fault
 added_bounded d nothing is says none = is
-added_bounded d (memory pages) is says none = record { pages = (says, tt); items = is.items; each_item = is.each_item; each_path = is.each_path; starts = is.starts; each_start = is.each_start; quanta = is.quanta; each_quantum = is.each_quantum; counts = is.counts }
+added_bounded d (memory pages) is says none = record { pages = (says, tt); items = is.items; each_item = is.each_item; each_path = is.each_path; starts = is.starts; each_start = is.each_start; quanta = is.quanta; each_quantum = is.each_quantum; counts = is.counts; watches = is.watches; each_watch = is.each_watch }
 added_bounded d (item i) is says none =
     let fits : nat_le 4096 (length d.items) ≡ false = passed (nat_le 4096 (length d.items)) _ (second_none (repeats d.items i.kind) (nat_le 4096 (length d.items)) _ _ none) in
     let len = length-append d.items (i ∷ []) in
     let below : length d.items < 4096 = grind (arith, nat_tests) in
-    record { pages = is.pages; items = omega (arith, len, below); each_item = all_append IsItem d.items (i ∷ []) is.each_item (says.0, tt); each_path = all_append HasClearPath d.items (i ∷ []) is.each_path (says.1, tt); starts = is.starts; each_start = is.each_start; quanta = is.quanta; each_quantum = is.each_quantum; counts = is.counts }
+    record { pages = is.pages; items = omega (arith, len, below); each_item = all_append IsItem d.items (i ∷ []) is.each_item (says.0, tt); each_path = all_append HasClearPath d.items (i ∷ []) is.each_path (says.1, tt); starts = is.starts; each_start = is.each_start; quanta = is.quanta; each_quantum = is.each_quantum; counts = is.counts; watches = is.watches; each_watch = is.each_watch }
 added_bounded d (start s) is says none =
     let fits : nat_le 64 (length d.starts) ≡ false = passed (nat_le 64 (length d.starts)) _ none in
     let len = length-append d.starts (s ∷ []) in
     let below : length d.starts < 64 = grind (arith, nat_tests) in
-    record { pages = is.pages; items = is.items; each_item = is.each_item; each_path = is.each_path; starts = omega (arith, len, below); each_start = all_append HasArgument d.starts (s ∷ []) is.each_start (says, tt); quanta = is.quanta; each_quantum = is.each_quantum; counts = is.counts }
+    record { pages = is.pages; items = is.items; each_item = is.each_item; each_path = is.each_path; starts = omega (arith, len, below); each_start = all_append HasArgument d.starts (s ∷ []) is.each_start (says, tt); quanta = is.quanta; each_quantum = is.each_quantum; counts = is.counts; watches = is.watches; each_watch = is.each_watch }
 added_bounded d (quanta qs) is says none =
     let fits : nat_lt 65536 (length d.quanta + length qs) ≡ false = passed (nat_lt 65536 (length d.quanta + length qs)) _ none in
     let len = length-append d.quanta qs in
     let below : length d.quanta + length qs ≤ 65536 = grind (arith, nat_tests) in
-    record { pages = is.pages; items = is.items; each_item = is.each_item; each_path = is.each_path; starts = is.starts; each_start = is.each_start; quanta = omega (arith, len, below); each_quantum = all_append IsShort d.quanta qs is.each_quantum says; counts = is.counts }
-added_bounded d (repeat count) is says none = record { pages = is.pages; items = is.items; each_item = is.each_item; each_path = is.each_path; starts = is.starts; each_start = is.each_start; quanta = is.quanta; each_quantum = is.each_quantum; counts = (says, tt) }
-added_bounded d (dump x) is says none = record { pages = is.pages; items = is.items; each_item = is.each_item; each_path = is.each_path; starts = is.starts; each_start = is.each_start; quanta = is.quanta; each_quantum = is.each_quantum; counts = is.counts }
+    record { pages = is.pages; items = is.items; each_item = is.each_item; each_path = is.each_path; starts = is.starts; each_start = is.each_start; quanta = omega (arith, len, below); each_quantum = all_append IsShort d.quanta qs is.each_quantum says; counts = is.counts; watches = is.watches; each_watch = is.each_watch }
+added_bounded d (repeat count) is says none = record { pages = is.pages; items = is.items; each_item = is.each_item; each_path = is.each_path; starts = is.starts; each_start = is.each_start; quanta = is.quanta; each_quantum = is.each_quantum; counts = (says, tt); watches = is.watches; each_watch = is.each_watch }
+added_bounded d (dump x) is says none = record { pages = is.pages; items = is.items; each_item = is.each_item; each_path = is.each_path; starts = is.starts; each_start = is.each_start; quanta = is.quanta; each_quantum = is.each_quantum; counts = is.counts; watches = is.watches; each_watch = is.each_watch }
+added_bounded d (watch w) is says none =
+    let fits : nat_le 64 (length d.watches) ≡ false = passed (nat_le 64 (length d.watches)) _ none in
+    let len = length-append d.watches (w ∷ []) in
+    let below : length d.watches < 64 = grind (arith, nat_tests) in
+    record { pages = is.pages; items = is.items; each_item = is.each_item; each_path = is.each_path; starts = is.starts; each_start = is.each_start; quanta = is.quanta; each_quantum = is.each_quantum; counts = is.counts; watches = omega (arith, len, below); each_watch = all_append IsWatch d.watches (w ∷ []) is.each_watch (says, tt) }
 
 added_line_bounded : (d : Draft) (r : Result Said ManifestFault) → IsDraft d → Bounds r → fault_in d r ≡ None → IsDraft (added_line d r)
 added_line_bounded d (Ok said) is says none = added_bounded d said is says none
@@ -87,7 +94,7 @@ lines_bounded before (line ∷ lines) is none =
 
 opening : IsDraft (draft_of (all_said []))
 unfolding draft_of all_said
-opening = record { pages = tt; items = lit≤ tt; each_item = tt; each_path = tt; starts = lit≤ tt; each_start = tt; quanta = lit≤ tt; each_quantum = tt; counts = tt }
+opening = record { pages = tt; items = lit≤ tt; each_item = tt; each_path = tt; starts = lit≤ tt; each_start = tt; quanta = lit≤ tt; each_quantum = tt; counts = tt; watches = lit≤ tt; each_watch = tt }
 
 first_pages : (ns : List ℕ) → AllByRecursion IsPages ns → IsPages (first_or 256 ns)
 first_pages [] all = (lit≤ tt, lit≤ tt)
@@ -109,6 +116,8 @@ made d is = record {
   quanta = is.quanta;
   each_quantum = is.each_quantum;
   repeat = first_repeat d.counts is.counts;
+  watches = is.watches;
+  each_watch = is.each_watch;
 }
 
 whole_is : (d : Draft) (m : Manifest) → whole d ≡ Ok m → manifest_by d ≡ m

@@ -8,8 +8,8 @@ use Rattle.std.proofs.lemmas.Grind.{flat_map-append}
 use Rattle.std.proofs.lemmas.List.Elements.{filter_map-append}
 use Rattle.manifest_text.specs.declared.fault.ManifestFault.{ManifestFault}
 use Rattle.manifest_text.specs.declared.fault.ManifestFault.TheVariants.{Repeated}
-use Rattle.manifest_text.specs.Lines.{Line, Said, nothing, memory, item, start, quanta, repeat, dump, line_said}
-use Rattle.manifest_text.specs.Manifest.{Draft, pages_in, item_in, start_in, quanta_in, count_in, dump_in, draft_of, late_fault, fault_in, ok_said, all_said, or_later, first_fault, numbered}
+use Rattle.manifest_text.specs.Lines.{Line, Said, nothing, memory, item, start, quanta, repeat, dump, watch, line_said}
+use Rattle.manifest_text.specs.Manifest.{Draft, pages_in, item_in, start_in, quanta_in, count_in, dump_in, watch_in, draft_of, late_fault, fault_in, ok_said, all_said, or_later, first_fault, numbered}
 use Rattle.manifest_text.specs.declared.fault.ManifestRefusal.{ManifestRefusal}
 use Rattle.manifest_text.specs.declared.fault.ManifestRefusal.TheVariants.{At, Memory}
 use Rattle.manifest_text.specs.Pieces.{Text}
@@ -25,6 +25,7 @@ module _ (saids : List Said) (said : Said) where
     quanta = flat_map quanta_in saids ++ flat_map quanta_in (said ∷ []);
     counts = filter_map count_in saids ++ filter_map count_in (said ∷ []);
     dumps = filter_map dump_in saids ++ filter_map dump_in (said ∷ []);
+    watches = filter_map watch_in saids ++ filter_map watch_in (said ∷ []);
   }
 
   in_parts : draft_of (saids ++ said ∷ []) ≡ with_parts
@@ -36,6 +37,7 @@ module _ (saids : List Said) (said : Said) where
     flat_map-append quanta_in saids (said ∷ []),
     filter_map-append count_in saids (said ∷ []),
     filter_map-append dump_in saids (said ∷ []),
+    filter_map-append watch_in saids (said ∷ []),
   ) refl
 
 and_false : (b : Bool) → (b && false) ≡ false
@@ -50,13 +52,14 @@ none_yet (x ∷ xs) h =
 
 pub draft_more : (saids : List Said) (said : Said) → late_fault (draft_of saids) said ≡ None → draft_of (saids ++ said ∷ []) ≡ added (draft_of saids) said
 unfolding draft_of late_fault with_parts
-draft_more saids nothing h = in_parts saids nothing ∙ rw (append-nil (filter_map pages_in saids), append-nil (filter_map item_in saids), append-nil (filter_map start_in saids), append-nil (flat_map quanta_in saids), append-nil (filter_map count_in saids), append-nil (filter_map dump_in saids)) refl
-draft_more saids (memory pages) h = in_parts saids (memory pages) ∙ rw (none_yet (filter_map pages_in saids) h, append-nil (filter_map item_in saids), append-nil (filter_map start_in saids), append-nil (flat_map quanta_in saids), append-nil (filter_map count_in saids), append-nil (filter_map dump_in saids)) refl
-draft_more saids (item i) h = in_parts saids (item i) ∙ rw (append-nil (filter_map pages_in saids), append-nil (filter_map start_in saids), append-nil (flat_map quanta_in saids), append-nil (filter_map count_in saids), append-nil (filter_map dump_in saids)) refl
-draft_more saids (start s) h = in_parts saids (start s) ∙ rw (append-nil (filter_map pages_in saids), append-nil (filter_map item_in saids), append-nil (flat_map quanta_in saids), append-nil (filter_map count_in saids), append-nil (filter_map dump_in saids)) refl
-draft_more saids (quanta qs) h = in_parts saids (quanta qs) ∙ rw (append-nil (filter_map pages_in saids), append-nil (filter_map item_in saids), append-nil (filter_map start_in saids), append-nil qs, append-nil (filter_map count_in saids), append-nil (filter_map dump_in saids)) refl
-draft_more saids (repeat n) h = in_parts saids (repeat n) ∙ rw (append-nil (filter_map pages_in saids), append-nil (filter_map item_in saids), append-nil (filter_map start_in saids), append-nil (flat_map quanta_in saids), none_yet (filter_map count_in saids) h, append-nil (filter_map dump_in saids)) refl
-draft_more saids (dump d) h = in_parts saids (dump d) ∙ rw (append-nil (filter_map pages_in saids), append-nil (filter_map item_in saids), append-nil (filter_map start_in saids), append-nil (flat_map quanta_in saids), append-nil (filter_map count_in saids)) refl
+draft_more saids nothing h = in_parts saids nothing ∙ rw (append-nil (filter_map pages_in saids), append-nil (filter_map item_in saids), append-nil (filter_map start_in saids), append-nil (flat_map quanta_in saids), append-nil (filter_map count_in saids), append-nil (filter_map dump_in saids), append-nil (filter_map watch_in saids)) refl
+draft_more saids (memory pages) h = in_parts saids (memory pages) ∙ rw (none_yet (filter_map pages_in saids) h, append-nil (filter_map item_in saids), append-nil (filter_map start_in saids), append-nil (flat_map quanta_in saids), append-nil (filter_map count_in saids), append-nil (filter_map dump_in saids), append-nil (filter_map watch_in saids)) refl
+draft_more saids (item i) h = in_parts saids (item i) ∙ rw (append-nil (filter_map pages_in saids), append-nil (filter_map start_in saids), append-nil (flat_map quanta_in saids), append-nil (filter_map count_in saids), append-nil (filter_map dump_in saids), append-nil (filter_map watch_in saids)) refl
+draft_more saids (start s) h = in_parts saids (start s) ∙ rw (append-nil (filter_map pages_in saids), append-nil (filter_map item_in saids), append-nil (flat_map quanta_in saids), append-nil (filter_map count_in saids), append-nil (filter_map dump_in saids), append-nil (filter_map watch_in saids)) refl
+draft_more saids (quanta qs) h = in_parts saids (quanta qs) ∙ rw (append-nil (filter_map pages_in saids), append-nil (filter_map item_in saids), append-nil (filter_map start_in saids), append-nil qs, append-nil (filter_map count_in saids), append-nil (filter_map dump_in saids), append-nil (filter_map watch_in saids)) refl
+draft_more saids (repeat n) h = in_parts saids (repeat n) ∙ rw (append-nil (filter_map pages_in saids), append-nil (filter_map item_in saids), append-nil (filter_map start_in saids), append-nil (flat_map quanta_in saids), none_yet (filter_map count_in saids) h, append-nil (filter_map dump_in saids), append-nil (filter_map watch_in saids)) refl
+draft_more saids (dump d) h = in_parts saids (dump d) ∙ rw (append-nil (filter_map pages_in saids), append-nil (filter_map item_in saids), append-nil (filter_map start_in saids), append-nil (flat_map quanta_in saids), append-nil (filter_map count_in saids), append-nil (filter_map watch_in saids)) refl
+draft_more saids (watch w) h = in_parts saids (watch w) ∙ rw (append-nil (filter_map pages_in saids), append-nil (filter_map item_in saids), append-nil (filter_map start_in saids), append-nil (flat_map quanta_in saids), append-nil (filter_map count_in saids), append-nil (filter_map dump_in saids)) refl
 
 -- ---- one more line
 

@@ -1,6 +1,6 @@
 -- What a line says is bounded.
-use Rattle.std.proofs.Common.{◌≡◌, ℕ, zero, suc, ◌-◌, ◌^◌, ◌<◌, ◌≤◌, Bool, true, false, cond, List, [], ◌∷◌, map, Option, Some, None, Result, Ok, Err, refl, sym, arith, lit≤}
-use Rattle.std.specs.Prelude.{not, ◌&&◌, ◌||◌, ◌==◌, nat_le, slice_index}
+use Rattle.std.proofs.Common.{◌≡◌, ℕ, zero, suc, ◌+◌, ◌-◌, ◌^◌, ◌<◌, ◌≤◌, Bool, true, false, cond, List, [], ◌∷◌, map, Option, Some, None, Result, Ok, Err, refl, sym, arith, lit≤}
+use Rattle.std.specs.Prelude.{not, ◌&&◌, ◌||◌, ◌==◌, nat_le, nat_lt, slice_index}
 use Rattle.std.specs.List.{AllByRecursion, filter, list_all, list_any}
 use Rattle.std.specs.Str.{IsAscii}
 use Rattle.std.proofs.lemmas.Bool.Decides.{nat_tests}
@@ -13,8 +13,8 @@ use Rattle.manifest_text.specs.declared.manifest.ItemKind.TheVariants.{Elf, Flat
 use Rattle.manifest_text.specs.Pieces.{Text, in_front, pieces, space, is_empty, words}
 use Rattle.manifest_text.specs.Numbers.{decimal_value, is_number, is_number_in, number_in, address, colon, is_pair, is_quantum, pair_value, quantum_value}
 use Rattle.manifest_text.specs.Paths.{is_path}
-use Rattle.manifest_text.specs.Lines.{Line, Said, nothing, memory, item, start, quanta, repeat, dump, is_bad_byte, judged, item_said, stacked_said, memory_said, elf_said, flat_said, file_said, dir_said, named_said, start_said, quanta_said, repeat_said, dump_of, dump_said, keyword_said, keyword_of, hash, words_said, line_said}
-use Rattle.manifest_text.specs.Laws.{HasStack, IsItem, HasClearPath, HasArgument, IsShort}
+use Rattle.manifest_text.specs.Lines.{Line, Said, nothing, memory, item, start, quanta, repeat, dump, watch, is_bad_byte, judged, item_said, stacked_said, memory_said, elf_said, flat_said, file_said, dir_said, named_said, start_said, quanta_said, repeat_said, dump_of, dump_said, watch_of, watch_said, keyword_said, keyword_of, hash, words_said, line_said}
+use Rattle.manifest_text.specs.Laws.{HasStack, IsItem, HasClearPath, HasArgument, IsShort, IsWatch}
 
 -- a word: its bytes are those of ASCII, and none is zero
 record IsText (text : Text) : Type 0 where
@@ -29,6 +29,7 @@ IsSaid (start s) = HasArgument s
 IsSaid (quanta qs) = AllByRecursion IsShort qs
 IsSaid (repeat count) = count ≤ 1000000
 IsSaid (dump d) = Unit {0}
+IsSaid (watch w) = IsWatch w
 
 abbrev pub Bounds : Result Said ManifestFault → Type 0
 Bounds (Ok said) = IsSaid said
@@ -179,6 +180,22 @@ dump_bounded (pid ∷ addr ∷ []) = tt
 dump_bounded (pid ∷ addr ∷ len ∷ []) = dump_of_bounded (number_in 1 1000000 pid) (address addr) (number_in 1 4096 len)
 dump_bounded (pid ∷ addr ∷ len ∷ more ∷ rest) = tt
 
+ends_in : (addr len : ℕ) → nat_lt (2 ^ 32) (addr + len) ≡ false → addr + len ≤ 2 ^ 32
+ends_in addr len fits = grind (arith, nat_tests)
+
+watch_of_bounded : (addr len : Option ℕ) → IsInOption 1 (2 ^ 32 - 1) len → Bounds (watch_of addr len)
+watch_of_bounded None len is = tt
+watch_of_bounded (Some addr) None is = tt
+watch_of_bounded (Some addr) (Some len) is =
+    one_row (nat_lt (2 ^ 32) (addr + len)) BadNumber (watch (record { addr = addr; len = len })) (λ no. record { some = is.0; ends = ends_in addr len no })
+
+watch_bounded : (args : List Text) → Bounds (watch_said args)
+unfolding watch_said
+watch_bounded [] = tt
+watch_bounded (addr ∷ []) = tt
+watch_bounded (addr ∷ len ∷ []) = watch_of_bounded (address addr) (number_in 1 (2 ^ 32 - 1) len) (number_bounded 1 (2 ^ 32 - 1) len)
+watch_bounded (addr ∷ len ∷ more ∷ rest) = tt
+
 keyword_bounded : (line : ℕ) (k : Option Keyword) (args : List Text) → AllByRecursion IsText args → Bounds (keyword_said line k args)
 unfolding keyword_said
 keyword_bounded line None args all = tt
@@ -193,6 +210,7 @@ keyword_bounded line (Some keyword.Start) args all = start_bounded line args
 keyword_bounded line (Some keyword.Quanta) args all = quanta_bounded args
 keyword_bounded line (Some keyword.Repeat) args all = repeat_bounded args
 keyword_bounded line (Some keyword.Dump) args all = dump_bounded args
+keyword_bounded line (Some keyword.Watch) args all = watch_bounded args
 
 -- ---- the bytes of words
 

@@ -1,10 +1,11 @@
 -- What holds of every manifest that is read: its counts and numbers are bounded, and its names are text.
-use Rattle.std.specs.Prelude.{◌≡◌, ℕ, ◌==◌, ◌<◌, ◌≤◌, true, not, length, Ok}
+use Rattle.std.specs.Prelude.{◌≡◌, ℕ, ◌+◌, ◌^◌, ◌==◌, ◌<◌, ◌≤◌, true, not, List, length, Ok}
 use Rattle.std.specs.List.{AllByRecursion, list_all}
 use Rattle.std.specs.Str.{IsAscii}
 use Rattle.quantum_sched.specs.declared.Quantum.{Quantum}
 use Rattle.manifest_text.specs.declared.manifest.ItemKind.{ItemKind}
 use Rattle.manifest_text.specs.declared.manifest.ItemKind.TheVariants.{Elf}
+use Rattle.manifest_text.specs.declared.manifest.WatchLine.{WatchLine}
 use Rattle.manifest_text.specs.Values.{Item, Start, Manifest}
 use Rattle.manifest_text.specs.Pieces.{Text}
 use Rattle.manifest_text.specs.Manifest.{manifest_of, tree_manifest_of}
@@ -29,6 +30,14 @@ HasArgument s = 0 < length s.args
 abbrev pub IsShort : Quantum → Type 0
 IsShort q = q.count ≤ 1000000
 
+-- a range with a byte, which doesn't pass the last byte that has an address
+pub record IsWatch (w : WatchLine) : Type 0 where
+  pub some : 0 < w.len
+  pub ends : w.addr + w.len ≤ 2 ^ 32
+
+abbrev pub AreWatches : List WatchLine → Type 0
+AreWatches watches = AllByRecursion IsWatch watches
+
 pub record Reasonable (m : Manifest) : Type 0 where
   pub some_pages : 1 ≤ m.pages
   pub most_pages : m.pages ≤ 16384
@@ -40,6 +49,8 @@ pub record Reasonable (m : Manifest) : Type 0 where
   pub quanta : length m.quanta ≤ 65536
   pub each_quantum : AllByRecursion IsShort m.quanta
   pub repeat : m.repeat ≤ 1000000
+  pub watches : length m.watches ≤ 64
+  pub each_watch : AreWatches m.watches
 
 abbrev pub ManifestsAreReasonable : Type 0
 ManifestsAreReasonable = (text : Text) (m : Manifest) → manifest_of text ≡ Ok m → Reasonable m

@@ -1,5 +1,5 @@
 -- What a line says by itself, or its first fault.
-use Rattle.std.specs.Prelude.{ℕ, ◌==◌, Bool, not, ◌&&◌, nat_le, if◌then◌else◌, List, [], ◌∷◌, map, codes, bytes_eq, slice_index, Option, Some, None, Result, Ok, Err}
+use Rattle.std.specs.Prelude.{ℕ, ◌+◌, ◌-◌, ◌^◌, ◌==◌, Bool, not, ◌&&◌, nat_le, nat_lt, if◌then◌else◌, List, [], ◌∷◌, map, codes, bytes_eq, slice_index, Option, Some, None, Result, Ok, Err}
 use Rattle.std.specs.List.{list_any, list_all}
 use Rattle.byte_words.specs.Search.{first}
 use Rattle.quantum_sched.specs.declared.Quantum.{Quantum}
@@ -10,6 +10,7 @@ use Rattle.manifest_text.specs.declared.keyword.Keyword.TheVariants as keyword
 use Rattle.manifest_text.specs.declared.manifest.ItemKind.{ItemKind}
 use Rattle.manifest_text.specs.declared.manifest.ItemKind.TheVariants.{Elf, Flat, File, Dir, Stdin, Root}
 use Rattle.manifest_text.specs.declared.manifest.Dump.{Dump}
+use Rattle.manifest_text.specs.declared.manifest.WatchLine.{WatchLine}
 use Rattle.manifest_text.specs.Values.{Item, Start}
 use Rattle.manifest_text.specs.Pieces.{Text, words}
 use Rattle.manifest_text.specs.Numbers.{decimal_value, is_number_in, number_in, address, is_quantum, quantum_value}
@@ -28,12 +29,13 @@ pub data Said : Type 0 where
   quanta : List Quantum → Said
   repeat : ℕ → Said
   dump : Dump → Said
+  watch : WatchLine → Said
 
 -- outside 0x20 to 0x7e
 abbrev pub is_bad_byte : ℕ → Bool
 is_bad_byte b = not (nat_le 32 b && nat_le b 126)
 
--- the eleven words that a line may begin with
+-- the twelve words that a line may begin with
 unfoldable pub keyword_of : Text → Option Keyword
 keyword_of word =
     if bytes_eq word (codes "memory") then Some keyword.Memory
@@ -47,6 +49,7 @@ keyword_of word =
     else if bytes_eq word (codes "quanta") then Some keyword.Quanta
     else if bytes_eq word (codes "repeat") then Some keyword.Repeat
     else if bytes_eq word (codes "dump") then Some keyword.Dump
+    else if bytes_eq word (codes "watch") then Some keyword.Watch
     else None
 
 -- the first row that holds is the fault, and where none does the line says this
@@ -122,6 +125,16 @@ unfoldable pub dump_said : List Text → Result Said ManifestFault
 dump_said (pid ∷ addr ∷ len ∷ []) = dump_of (number_in 1 1000000 pid) (address addr) (number_in 1 4096 len)
 dump_said _ = Err WordCount
 
+-- a range, which doesn't pass the last byte that has an address
+abbrev pub watch_of : Option ℕ → Option ℕ → Result Said ManifestFault
+watch_of (Some addr) (Some len) = judged ((nat_lt (2 ^ 32) (addr + len), BadNumber) ∷ []) (watch (record { addr = addr; len = len }))
+watch_of _ _ = Err BadNumber
+
+-- `watch ADDR LEN`
+unfoldable pub watch_said : List Text → Result Said ManifestFault
+watch_said (addr ∷ len ∷ []) = watch_of (address addr) (number_in 1 (2 ^ 32 - 1) len)
+watch_said _ = Err WordCount
+
 -- by the line's first word, from the words behind it
 unfoldable pub keyword_said : ℕ → Option Keyword → List Text → Result Said ManifestFault
 keyword_said line None args = Err UnknownWord
@@ -136,6 +149,7 @@ keyword_said line (Some keyword.Start) args = start_said line args
 keyword_said line (Some keyword.Quanta) args = quanta_said args
 keyword_said line (Some keyword.Repeat) args = repeat_said args
 keyword_said line (Some keyword.Dump) args = dump_said args
+keyword_said line (Some keyword.Watch) args = watch_said args
 
 abbrev pub hash : ℕ
 hash = 35

@@ -8,9 +8,10 @@ use Rattle.manifest_text.specs.declared.fault.ManifestFault.TheVariants.{Repeate
 use Rattle.manifest_text.specs.declared.manifest.ItemKind.{ItemKind}
 use Rattle.manifest_text.specs.declared.manifest.ItemKind.TheVariants.{Stdin, Root}
 use Rattle.manifest_text.specs.declared.manifest.Dump.{Dump}
+use Rattle.manifest_text.specs.declared.manifest.WatchLine.{WatchLine}
 use Rattle.manifest_text.specs.Values.{Item, Start, Manifest}
 use Rattle.manifest_text.specs.Pieces.{Text, pieces, newline}
-use Rattle.manifest_text.specs.Lines.{Line, Said, nothing, memory, item, start, quanta, repeat, dump, line_said}
+use Rattle.manifest_text.specs.Lines.{Line, Said, nothing, memory, item, start, quanta, repeat, dump, watch, line_said}
 
 -- a fault of the line with this number; 0 is the manifest as a whole
 pub record Fault : Type 0 where
@@ -43,6 +44,10 @@ abbrev pub dump_in : Said → Option Dump
 dump_in (dump d) = Some d
 dump_in _ = None
 
+abbrev pub watch_in : Said → Option WatchLine
+watch_in (watch w) = Some w
+watch_in _ = None
+
 -- what is said by lines, each in its order
 pub record Draft : Type 0 where
   pub pages : List ℕ
@@ -51,6 +56,7 @@ pub record Draft : Type 0 where
   pub quanta : List Quantum
   pub counts : List ℕ
   pub dumps : List Dump
+  pub watches : List WatchLine
 
 unfoldable pub draft_of : List Said → Draft
 draft_of saids = record {
@@ -60,6 +66,7 @@ draft_of saids = record {
   quanta = flat_map quanta_in saids;
   counts = filter_map count_in saids;
   dumps = filter_map dump_in saids;
+  watches = filter_map watch_in saids;
 }
 
 -- ---- the faults of a line behind others
@@ -93,6 +100,7 @@ late_rows d (start s) = (nat_le 64 (length d.starts), TooMany) ∷ []
 late_rows d (quanta qs) = (nat_lt 65536 (length d.quanta + length qs), TooMany) ∷ []
 late_rows d (repeat count) = (nat_lt 0 (length d.counts), Repeated) ∷ []
 late_rows d (dump x) = (nat_le 64 (length d.dumps), TooMany) ∷ []
+late_rows d (watch w) = (nat_le 64 (length d.watches), TooMany) ∷ []
 
 -- the first fault of what a line says
 unfoldable pub late_fault : Draft → Said → Option ManifestFault
@@ -137,6 +145,7 @@ manifest_by d = record {
   quanta = d.quanta;
   repeat = first_or 1 d.counts;
   dumps = d.dumps;
+  watches = d.watches;
 }
 
 -- the faults of the manifest as a whole: each quanta line has a quantum

@@ -8,7 +8,7 @@ use Rattle.manifest_text.specs.declared.line.Spoken.TheVariants as spoken
 use Rattle.manifest_text.specs.declared.draft.Draft.{Draft as Stored}
 use Rattle.manifest_text.specs.declared.manifest.Manifest.{Manifest as StoredManifest}
 use Rattle.manifest_text.specs.Values.{Manifest, item_value, start_value, manifest_value}
-use Rattle.manifest_text.specs.Lines.{Line, line_said, Said, nothing, memory, item, start, quanta, repeat, dump}
+use Rattle.manifest_text.specs.Lines.{Line, line_said, Said, nothing, memory, item, start, quanta, repeat, dump, watch}
 use Rattle.manifest_text.specs.Manifest.{Fault, Draft, draft_of, fault_in, all_said, first_fault}
 
 abbrev pub said_value : Spoken → Said
@@ -19,6 +19,7 @@ said_value (spoken.Start s) = start (start_value s)
 said_value (spoken.Quanta qs) = quanta qs.items
 said_value (spoken.Repeat count) = repeat count
 said_value (spoken.Dump d) = dump d
+said_value (spoken.Watch w) = watch w
 
 abbrev pub listed : Option ℕ → List ℕ
 listed None = []
@@ -32,6 +33,7 @@ draft_value d = record {
   quanta = d.quanta.items;
   counts = listed d.count;
   dumps = d.dumps.items;
+  watches = d.watches.items;
 }
 
 -- the answer for a line of this number: what is said, or that fault, or no answer for want of memory
@@ -49,6 +51,7 @@ added d (start s) = record d { starts = d.starts ++ s ∷ [] }
 added d (quanta qs) = record d { quanta = d.quanta ++ qs }
 added d (repeat count) = record d { counts = count ∷ [] }
 added d (dump x) = record d { dumps = d.dumps ++ x ∷ [] }
+added d (watch w) = record d { watches = d.watches ++ w ∷ [] }
 
 abbrev pub added_line : Draft → Result Said ManifestFault → Draft
 added_line d (Ok said) = added d said

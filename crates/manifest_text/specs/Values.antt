@@ -3,6 +3,7 @@ use Rattle.std.specs.Prelude.{ℕ, List, map, Vec}
 use Rattle.quantum_sched.specs.declared.Quantum.{Quantum}
 use Rattle.manifest_text.specs.declared.manifest.ItemKind.{ItemKind}
 use Rattle.manifest_text.specs.declared.manifest.Dump.{Dump}
+use Rattle.manifest_text.specs.declared.manifest.WatchLine.{WatchLine}
 use Rattle.manifest_text.specs.declared.manifest.Item.{Item as StoredItem}
 use Rattle.manifest_text.specs.declared.manifest.Start.{Start as StoredStart}
 use Rattle.manifest_text.specs.declared.manifest.Manifest.{Manifest as Stored}
@@ -28,6 +29,7 @@ pub record Manifest : Type 0 where
   pub quanta : List Quantum
   pub repeat : ℕ
   pub dumps : List Dump
+  pub watches : List WatchLine
 
 -- slices and vectors as the texts that they hold
 abbrev pub texts : List (Bor (List ℕ)) → List (List ℕ)
@@ -50,4 +52,5 @@ manifest_value s = record {
   quanta = s.quanta.items;
   repeat = s.repeat;
   dumps = s.dumps.items;
+  watches = s.watches.items;
 }

@@ -8,7 +8,7 @@ ghost use Rattle.manifest_text.specs.Reading.{said_value, draft_value, added, Re
 
 use crate::fault::{ManifestFault, ManifestRefusal};
 use crate::line::Spoken;
-use crate::manifest::{Dump, Item, ItemKind, Manifest, Start};
+use crate::manifest::{Dump, Item, ItemKind, Manifest, Start, WatchLine};
 use quantum_sched::Quantum;
 use std::alloc::{AllocError, Global};
 
@@ -20,6 +20,9 @@ const MOST_STARTS: usize = 64;
 
 /// The most dump lines.
 const MOST_DUMPS: usize = 64;
+
+/// The most watch lines.
+const MOST_WATCHES: usize = 64;
 
 /// The most quanta of all lines.
 const MOST_QUANTA: usize = 65_536;
@@ -36,6 +39,7 @@ pub(crate) struct Draft {
     pub quanta: Vec<Quantum>,
     pub count: Option<u32>,
     pub dumps: Vec<Dump>,
+    pub watches: Vec<WatchLine>,
 }
 
 impl Draft {
@@ -50,6 +54,7 @@ impl Draft {
             quanta: Vec::new(alloc),
             count: None,
             dumps: Vec::new(alloc),
+            watches: Vec::new(alloc),
         }
     }
 
@@ -72,6 +77,10 @@ impl Draft {
             }
             Spoken::Repeat(_) => fault_if(self.count.is_some(), ManifestFault::Repeated),
             Spoken::Dump(_) => fault_if(self.dumps.len() >= MOST_DUMPS, ManifestFault::TooMany),
+            Spoken::Watch(_) => fault_if(
+                self.watches.len() >= MOST_WATCHES,
+                ManifestFault::TooMany,
+            ),
         }
     }
 
@@ -87,6 +96,7 @@ impl Draft {
             Spoken::Quanta(quanta) => self.quanta.extend_from_slice(&quanta)?,
             Spoken::Repeat(count) => self.count = Some(count),
             Spoken::Dump(dump) => self.dumps.push(dump)?,
+            Spoken::Watch(watch) => self.watches.push(watch)?,
         }
         Ok(())
     }
@@ -121,6 +131,7 @@ impl Draft {
             quanta: self.quanta,
             repeat: self.count.unwrap_or(1),
             dumps: self.dumps,
+            watches: self.watches,
         }
     }
 }

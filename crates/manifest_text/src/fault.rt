@@ -10,7 +10,7 @@ use std::alloc::{AllocError, AllocFailed};
 pub enum ManifestFault {
     /// The line has a byte outside 0x20 to 0x7e.
     BadByte,
-    /// Its first word isn't one of the eleven.
+    /// Its first word isn't one of the twelve.
     UnknownWord,
     /// It has too few or too many words.
     WordCount,

@@ -17,6 +17,7 @@ pub(crate) enum Keyword {
     Quanta,
     Repeat,
     Dump,
+    Watch,
 }
 
 #[tactic(auto, unfolding(crate::specs::Lines::keyword_of))]
@@ -45,6 +46,8 @@ pub fn keyword_of(word: &[u8]) -> Option<Keyword>
         Some(Keyword::Repeat)
     } else if word == b"dump".as_slice() {
         Some(Keyword::Dump)
+    } else if word == b"watch".as_slice() {
+        Some(Keyword::Watch)
     } else {
         None
     }

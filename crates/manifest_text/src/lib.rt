@@ -15,5 +15,5 @@ mod reading;
 
 pub use fault::{ManifestFault, ManifestRefusal};
 pub use laws::reasonable_law;
-pub use manifest::{Dump, Item, ItemKind, Manifest, Start};
+pub use manifest::{Dump, Item, ItemKind, Manifest, Start, WatchLine};
 pub use reading::{read, read_tree};

@@ -4,12 +4,12 @@ ghost use Rattle.std.specs.Prelude.{◌≡◌, ◌==◌, map, slice_index, if◌
 ghost use Rattle.std.specs.List.{list_any, list_all};
 ghost use Rattle.manifest_text.specs.Numbers.{is_quantum, quantum_value};
 ghost use Rattle.manifest_text.specs.Values.{texts, vec_texts};
-ghost use Rattle.manifest_text.specs.Lines.{hash, is_bad_byte, item_said, stacked_said, dump_of, memory_said, elf_said, flat_said, file_said, dir_said, named_said, start_said, quanta_said, repeat_said, dump_said, keyword_said, words_said, line_said};
+ghost use Rattle.manifest_text.specs.Lines.{hash, is_bad_byte, item_said, stacked_said, dump_of, watch_of, memory_said, elf_said, flat_said, file_said, dir_said, named_said, start_said, quanta_said, repeat_said, dump_said, watch_said, keyword_said, words_said, line_said};
 ghost use Rattle.manifest_text.specs.Reading.{Says};
 
 use crate::fault::{ManifestFault, ManifestRefusal};
 use crate::keyword::{Keyword, keyword_of};
-use crate::manifest::{Dump, Item, ItemKind, Start};
+use crate::manifest::{Dump, Item, ItemKind, Start, WatchLine};
 use crate::numbers::{address, number_in, quantum};
 use crate::paths::is_path;
 use crate::pieces::words;
@@ -29,6 +29,7 @@ pub(crate) enum Spoken {
     Quanta(Vec<Quantum>),
     Repeat(u32),
     Dump(Dump),
+    Watch(WatchLine),
 }
 
 /// Reads the line of this number.
@@ -111,6 +112,7 @@ fn read_args(
         Some(Keyword::Quanta) => read_quanta(alloc, number, args),
         Some(Keyword::Repeat) => read_repeat(number, args),
         Some(Keyword::Dump) => read_dump(number, args),
+        Some(Keyword::Watch) => read_watch(number, args),
     }
 }
 
@@ -330,6 +332,28 @@ fn read_range(
 {
     match (pid, addr, len) {
         (Some(pid), Some(addr), Some(len)) => Ok(Spoken::Dump(Dump { pid, addr, len })),
+        _ => Err(refusal(line, ManifestFault::BadNumber)),
+    }
+}
+
+/// `watch ADDR LEN`
+#[tactic(auto, unfolding(crate::specs::Lines::watch_said))]
+fn read_watch(number: u32, args: &[&[u8]]) -> Result<Spoken, ManifestRefusal>
+    ensures { Says number (watch_said (texts args.now)) result }
+{
+    match args {
+        [addr, len] => read_watched(number, address(addr), number_in(len, 1, u32::MAX)),
+        _ => Err(refusal(number, ManifestFault::WordCount)),
+    }
+}
+
+fn read_watched(line: u32, addr: Option<u32>, len: Option<u32>) -> Result<Spoken, ManifestRefusal>
+    ensures { Says line (watch_of addr len) result }
+{
+    match (addr, len) {
+        (Some(addr), Some(len)) if u64::from(addr) + u64::from(len) <= 1 << 32 => {
+            Ok(Spoken::Watch(WatchLine { addr, len }))
+        }
         _ => Err(refusal(line, ManifestFault::BadNumber)),
     }
 }

@@ -51,6 +51,14 @@ pub struct Dump {
     pub len: u32,
 }
 
+/// Bytes of memory whose loads and stores are shown where a run is watched.
+#[derive(Clone, Copy, PartialEq, Eq)]
+pub struct WatchLine {
+    pub addr: u32,
+    /// In bytes, at least 1; the range doesn't pass 2^32.
+    pub len: u32,
+}
+
 /// A whole manifest.
 #[derive(Drop)]
 pub struct Manifest {
@@ -62,4 +70,5 @@ pub struct Manifest {
     /// How often the quanta are gone through.
     pub repeat: u32,
     pub dumps: Vec<Dump>,
+    pub watches: Vec<WatchLine>,
 }

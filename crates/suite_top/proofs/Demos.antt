@@ -87,6 +87,8 @@ reasonable n few = record {
   quanta = omega arith;
   each_quantum = search rules;
   repeat = omega arith;
+  watches = omega arith;
+  each_watch = tt;
 }
 
 pub items_are : (n : ℕ) → (demo_manifest n).items ≡ each_of demo_item n

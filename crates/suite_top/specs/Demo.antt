@@ -46,6 +46,7 @@ demo_manifest n = record {
   quanta = demo_quanta;
   repeat = demo_repeat;
   dumps = [];
+  watches = [];
 }
 
 -- a run with these files, which takes the first free run that fits

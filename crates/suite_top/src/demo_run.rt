@@ -66,6 +66,7 @@ fn demo_manifest(alloc: Global, programs: u32) -> Result<Manifest, AllocError>
         quanta,
         repeat: REPEAT,
         dumps: Vec::new(alloc),
+        watches: Vec::new(alloc),
     })
 }
 
