@@ -1,8 +1,9 @@
 //! The regions of a memory.
 
-ghost use Rattle.std.specs.Prelude.{◌≡◌, ◌+◌, ◌-◌, ◌*◌, ◌^◌, ◌<◌, ◌≤◌, List, ℕ, Some, IfOk, IfSome, MatchOption, length, option_map, replicate, slice_set, true};
+ghost use Rattle.std.specs.Prelude.{◌≡◌, ◌+◌, ◌-◌, ◌*◌, ◌^◌, ◌<◌, ◌≤◌, List, ℕ, Some, IfOk, IfSome, MatchOption, is_some, length, option_map, replicate, slice_set, true};
 ghost use Rattle.std.specs.List.{range_with_len, swap};
 ghost use Rattle.byte_words.specs.Patches.{laid};
+ghost use Rattle.page_runs.specs.declared.place.Kind.{Kind};
 ghost use Rattle.page_runs.specs.Choosers.{IsChooser, kind_of};
 ghost use Rattle.page_runs.specs.Free.{with_free, without};
 ghost use Rattle.page_runs.specs.Place.{Gets, Placed, place, first_of};
@@ -10,7 +11,7 @@ ghost use Rattle.nommu_regions.specs.Regions.{AreRegions, AreFree, IsLive, Kept,
 ghost use Rattle.nommu_regions.specs.Ids.{AreIds, AreInverse, IdsBehind, Lives, OthersStay, UpperPart, kept_part, region_of, start_of};
 
 use crate::region::{Region, Source};
-use page_runs::{Chooser, Run, Runs};
+use page_runs::{Chooser, Run, Runs, first_fit};
 use phys_mem::{BASE, PAGE, PhysMem};
 use std::alloc::{AllocError, Global};
 use std::marker::Model;
@@ -81,6 +82,14 @@ impl Regions {
         ensures { result.now ≡ (free_of self.now.regions).runs }
     {
         self.free.list()
+    }
+
+    /// Whether a free run has so many pages, whichever is taken of those that have.
+    #[tactic(auto, using(page_runs::proofs::Places::same_fits))]
+    pub fn fits(&self, pages: u32) -> bool
+        ensures { (kind : Kind) → is_some (place kind (free_of self.now.regions).runs pages) ≡ result }
+    {
+        first_fit(self.free(), pages).is_some()
     }
 
     /// The region of an id.

@@ -1,6 +1,6 @@
 -- The placement by its rule and by its computation.
 use Rattle.std.proofs.Common.{◌≡◌, ℕ, zero, suc, ◌≤◌, ◌<◌, inl, inr, Bool, true, false, List, [], ◌∷◌, arith, refl, ap, sym}
-use Rattle.std.specs.Prelude.{Option, Some, None, slice_get, nat_le, ◌&&◌, if◌then◌else◌}
+use Rattle.std.specs.Prelude.{Option, Some, None, is_some, slice_get, nat_le, ◌&&◌, if◌then◌else◌}
 use Rattle.std.proofs.lemmas.Bool.{cases_lt, false≢true}
 use Rattle.std.proofs.lemmas.Bool.Decides.{nat_tests}
 use Rattle.std.proofs.lemmas.Option.{same_Some, none-some}
@@ -104,3 +104,14 @@ gets_at kind runs need (Some i) rule = let there = rule.there in rw there (recor
 
 pub gets : (kind : Kind) (runs : List Run) (need : ℕ) (got : Option ℕ) → got ≡ first_of runs (place kind runs need) → Gets kind runs need got
 gets kind runs need got is = rw is (gets_at kind runs need (place kind runs need) (placed kind runs need))
+
+-- ---- a run fits, whichever is taken
+
+fits_alike : (kind : Kind) (runs : List Run) (need : ℕ) (a b : Option ℕ) → Placed kind runs need a → Placed First runs need b → is_some a ≡ is_some b
+fits_alike kind runs need None None p q = refl
+fits_alike kind runs need None (Some j) p q = absurd (omega (arith, p j q.run q.there, q.fits))
+fits_alike kind runs need (Some i) None p q = absurd (omega (arith, q i p.run p.there, p.fits))
+fits_alike kind runs need (Some i) (Some j) p q = refl
+
+pub same_fits : (kind : Kind) (runs : List Run) (need : ℕ) → is_some (place kind runs need) ≡ is_some (place First runs need)
+same_fits kind runs need = fits_alike kind runs need _ _ (placed kind runs need) (placed First runs need)
