@@ -71,10 +71,14 @@ abbrev pub rest_asked : Stop → ℕ → (ℕ → Bool) → Regs → Bytes → L
 rest_asked Next n w regs m = all_asked n w regs m
 rest_asked other n w regs m = []
 
+-- k instructions were carried out before
+abbrev pub behind_first : ℕ → Ran → Ran
+behind_first k r = record r { done = k + r.done }
+
 -- `done` instructions of `n` were carried out, and the last step ended so: these and those that are left give the whole
 pub record Left (n : ℕ) (mode : Mode) (table : List PageOwner) (regs : Regs) (mem : List ℕ) (first : Option Access) (near : Near)
     (done : ℕ) (stop : Stop) (after : Regs) (now : List ℕ) (last : Option Access) (seen : List Access) : Type 0 where
-  pub whole : (λ r. record r { done = done + r.done }) (rest_ran stop (n - done) (passes mode table true) after (passed_bytes mode table now))
+  pub whole : behind_first done (rest_ran stop (n - done) (passes mode table true) after (passed_bytes mode table now))
       ≡ instructions n (passes mode table true) regs (passed_bytes mode table mem)
   pub frozen : kept_bytes mode table now ≡ kept_bytes mode table mem
   pub length : length now ≡ length mem

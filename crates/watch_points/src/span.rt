@@ -13,15 +13,17 @@ pub struct Span {
 }
 
 /// Whether one of the `len` bytes at `addr` is in the span.
+#[tactic(auto, using(crate::proofs::Spans::meets_is))]
 fn meets(span: Span, addr: u32, len: u32) -> bool
     ensures { result ≡ any_pass (in_span span) addr len }
 {
     let end = u64::from(addr) + u64::from(len);
     let span_end = u64::from(span.addr) + u64::from(span.len);
-    u64::from(addr.max(span.addr)) < end.min(span_end)
+    len > 0 && span.len > 0 && u64::from(addr) < span_end && u64::from(span.addr) < end
 }
 
 /// Whether all of the `len` bytes at `addr` are in the span.
+#[tactic(auto, using(crate::proofs::Spans::holds_is))]
 fn holds(span: Span, addr: u32, len: u32) -> bool
     ensures { result ≡ all_pass (in_span span) addr len }
 {
