@@ -21,6 +21,7 @@
 -- Left       what a mapping more leaves of a space, the regions and memory
 -- Chosen     what `map` chooses
 -- Fresh      a run that is taken is free
+-- Refused    ENOMEM is due where no run fits, and only there
 -- Names      mappings and their regions after a mapping more
 -- NamesMore  the same after a mapping of a copy more
 -- FilePages  pages of a file, byte by byte
@@ -51,6 +52,7 @@ pub mod Copies
 pub mod Left
 pub mod Chosen
 pub mod Fresh
+pub mod Refused
 pub mod Names
 pub mod NamesMore
 pub mod FilePages

@@ -33,7 +33,7 @@ block_mapping first pages = record {
   source = Own;
 }
 
--- the region is large enough for an image that ends so many bytes behind the block's first one, and for a stack
+-- the region has just the pages that an image, which ends so many bytes behind the block's first one, and a stack take
 abbrev pub FitsBlock : Region → ℕ → ℕ → Type 0
 FitsBlock r end stack = (header_len ≤ end) × (r.pages ≡ (end + stack + (page_size - 1)) / page_size)
 

@@ -1,12 +1,14 @@
 //! Mappings that come (Linux, mmap(2) and "No-MMU memory mapping support").
 
-ghost use Rattle.std.specs.Prelude.{ℕ, List, ◌≡◌, ◌+◌, ◌-◌, ◌*◌, ◌^◌, ◌<◌, ◌≤◌, [], ◌∷◌, ◌++◌, Some, IfOk, OnOk, IfSome, length, option_map, slice_get, take, drop, vec_capacity};
+ghost use Rattle.std.specs.Prelude.{ℕ, List, ◌≡◌, ◌+◌, ◌-◌, ◌*◌, ◌^◌, ◌<◌, ◌≤◌, [], ◌∷◌, ◌++◌, false, Some, None, Err, IfOk, OnOk, IfSome, is_some, length, option_map, slice_get, take, drop, vec_capacity};
 ghost use Rattle.std.specs.List.{sum_by};
 ghost use Rattle.page_runs.specs.Choosers.{IsChooser, kind_of};
+ghost use Rattle.page_runs.specs.Place.{place};
 ghost use Rattle.mem_files.specs.Inodes.{bytes_of};
 ghost use Rattle.nommu_regions.specs.declared.region.Source.TheVariants.{Own};
-ghost use Rattle.nommu_regions.specs.Regions.{AreRegions};
+ghost use Rattle.nommu_regions.specs.Regions.{AreRegions, free_of};
 ghost use Rattle.nommu_regions.specs.Ids.{Lives, region_of, start_of};
+ghost use Rattle.mmap_rules.specs.declared.maps.MapFault.TheVariants.{Enomem};
 ghost use Rattle.mmap_rules.specs.Owners.{IsTable};
 ghost use Rattle.mmap_rules.specs.Held.{AreMappings, places_of};
 ghost use Rattle.mmap_rules.specs.Want.{AsksPages};
@@ -277,13 +279,13 @@ impl Space {
         requires run { IsNewRun run.now.pages run.now.writes run.now.anonymous run.now.source }
         requires bytes { length bytes.now ≤ 4096 * run.now.pages }
         ensures maps { Maps (in_fresh_run (sides self.old regions.old.regions mem.old) (kind_of chooser.now) run.now.pages run.now.writes run.now.anonymous run.now.source (filled (4096 * run.now.pages) bytes.now)) (sides self.old regions.old.regions mem.old) (sides self.new regions.new.regions mem.new) result }
+        ensures refused { is_some (place (kind_of chooser.now) (free_of regions.old.regions).runs run.now.pages) ≡ false → result ≡ Err Enomem }
         ensures ids { regions.new.starts ≡ regions.old.starts }
     {
-        let places = if run.anonymous {
-            run.pages.min(regions.pages())
-        } else {
-            1
-        };
+        if !regions.fits(run.pages) {
+            return Err(MapFault::Enomem);
+        }
+        let places = if run.anonymous { run.pages } else { 1 };
         make_room(&mut self.maps, places)?;
         let Some(id) = regions.fresh(mem, run.pages, run.source, chooser) else {
             return Err(MapFault::Enomem);
@@ -296,6 +298,7 @@ impl Space {
 
     /// Maps what is wanted, and gives the address of its first byte. Pages of a file that aren't written are shared with the lowest
     /// copy that has them, where there is one; all else gets a run of its own. Each region keeps its id, and a refusal changes nothing.
+    /// Where no run fits it asks for no memory.
     pub fn map<F: Fn(&[Run], u32) -> Option<usize>>(
         &mut self,
         regions: &mut Regions,
@@ -311,6 +314,7 @@ impl Space {
         requires few { AreFew regions.old.regions }
         requires want { AsksPages want }
         ensures maps { Maps (mapped (sides self.old regions.old.regions mem.old) (kind_of chooser.now) (bytes_of tree.now (file_in want)) want) (sides self.old regions.old.regions mem.old) (sides self.new regions.new.regions mem.new) result }
+        ensures refused { mapped (sides self.old regions.old.regions mem.old) (kind_of chooser.now) (bytes_of tree.now (file_in want)) want ≡ None → result ≡ Err Enomem }
         ensures ids { regions.new.starts ≡ regions.old.starts }
         ensures copies { AllHold regions.old.regions mem.old tree.now → IsKnown tree.now want → AllHold regions.new.regions mem.new tree.now }
         ensures bytes { AllHold regions.old.regions mem.old tree.now → IsKnown tree.now want → IfOk result (λ addr. pages_at mem.new (page_at addr) (pages_of want) ≡ wanted_bytes tree.now want) }
