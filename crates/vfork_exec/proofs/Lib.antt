@@ -4,6 +4,7 @@
 -- Families  those that have ended
 -- Holds     what holds of the list at every moment, call by call
 -- Ready     who is among those that may run can run
+-- Others    what a call leaves of the processes that it isn't about
 -- Values    which process lives, and what is kept of it, behind each call
 pub mod Keyed
 pub mod Places
@@ -12,3 +13,4 @@ pub mod Families
 mod Holds
 pub mod Ready
 pub mod Values
+pub mod Others

@@ -73,7 +73,7 @@ module _ {P : Type 0} where
 
   -- ---- a process leaves its space
 
-  process_exec : (s : Listed P) (at pid : ℕ) → process (with_exec s at) pid ≡ option_map (λ e. with_state e (resumed at e.state)) (process s pid)
+  pub process_exec : (s : Listed P) (at pid : ℕ) → process (with_exec s at) pid ≡ option_map (λ e. with_state e (resumed at e.state)) (process s pid)
   process_exec s at pid = find_map pid_of pid_of pid (λ (e : Entry P). with_state e (resumed at e.state)) (λ e. refl) s.entries
 
   pub value_exec : (s : Listed P) (at pid : ℕ) → value_at (with_exec s at) pid ≡ value_at s pid

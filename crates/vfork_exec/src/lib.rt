@@ -7,7 +7,9 @@ mod ended;
 mod entries;
 mod entry;
 mod family;
+mod laws;
 mod procs;
 
 pub use family::{Ended, State, Waited, Who};
+pub use laws::others_law;
 pub use procs::Procs;

@@ -101,7 +101,6 @@ impl<P> Procs<P> {
 
     /// A process has a space of its own from now on: the parent that stood still for it goes on.
     pub fn exec_done(&mut self, pid: u32)
-        requires { Lives self.old pid }
         ensures { self.new ≡ with_exec self.old pid }
     {
         resume(&mut self.entries, pid);
