@@ -10,8 +10,8 @@ pub mod Relocs
 pub mod Image
 pub mod Word
 pub mod Cover
-pub mod Walk
 pub mod Fault
+pub mod Walk
 pub mod Converted
 pub mod Same
 pub mod Laws

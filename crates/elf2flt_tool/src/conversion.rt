@@ -5,10 +5,11 @@ ghost use Rattle.elf32_reader.specs.Accepted.{IsAccepted};
 ghost use Rattle.byte_words.specs.Patches.{bytes_below};
 ghost use Rattle.flat_layout.specs.Fault.{layout_fault};
 ghost use Rattle.flat_layout.specs.Layout.{layout as layout_of};
-ghost use Rattle.elf2flt_tool.specs.Fault.{address_of, fault};
+ghost use Rattle.elf2flt_tool.specs.Fault.{address_of, fault, relocs_fault};
 ghost use Rattle.elf2flt_tool.specs.Image.{bare};
 ghost use Rattle.elf2flt_tool.specs.Word.{records, word_at};
 ghost use Rattle.elf2flt_tool.specs.Converted.{converted, flat};
+ghost use Rattle.elf2flt_tool.specs.Walk.{IsPlaced};
 
 use crate::collect::find_all;
 use crate::image::{linked_bytes, with_numbers};
@@ -27,11 +28,13 @@ const HEADER_LEN: u32 = 64;
 /// The stack is a multiple of this many bytes.
 const STACK_UNIT: u32 = 16;
 
-/// The recorded words of a file, and their places, ascending and distinct.
+/// What the conversion keeps of the walk over the relocations.
 #[derive(Drop)]
-struct Recorded {
-    words: Vec<Word>,
-    places: Vec<u32>,
+pub struct Placed {
+    /// The numbers at which recorded words begin, ascending and distinct.
+    pub places: Vec<u32>,
+    /// The lowest of them whose word meets the bytes of another relocation.
+    pub met: Option<u32>,
 }
 
 /// The linked address of the byte with a number.
@@ -41,35 +44,52 @@ fn address_of(layout: &Layout, number: u32) -> u32
     number.wrapping_add(layout.v0)
 }
 
-/// What a file records, if none of its kept relocations has a fault. `image` has its linked bytes.
-fn find_recorded(
+/// Where a file records words, if none of its kept relocations has a fault. Of the walk no more than this is left: it takes
+/// more memory than the image.
+fn find_places(alloc: Global, elf: &Elf<'_>, layout: &Layout) -> Result<Placed, Refusal>
+    requires accepted { IsAccepted elf.now }
+    requires no_fault { layout_fault elf.now ≡ None }
+    requires layout { layout.now ≡ layout_of elf.now }
+    ensures { MatchResult result
+        (λ placed. IsPlaced elf.now placed)
+        (λ refusal. (refusal ≡ Refusal.Memory) ⊎ (relocs_fault elf.now ≡ Some refusal)) }
+{
+    let found = find_all(alloc, elf, layout)?;
+    let places = places_of(alloc, &found.cover.words)?;
+    let met = lowest_met(&found.cover, &found.words);
+    Ok(Placed { places, met })
+}
+
+/// The recorded words, if each points into the image and none meets another relocation. `image` has the file's linked
+/// bytes.
+fn words_placed(
     alloc: Global,
     elf: &Elf<'_>,
     layout: &Layout,
     image: &[u8],
-) -> Result<Recorded, Refusal>
+    placed: &Placed,
+) -> Result<Vec<Word>, Refusal>
     requires accepted { IsAccepted elf.now }
     requires no_fault { layout_fault elf.now ≡ None }
     requires layout { layout.now ≡ layout_of elf.now }
     requires image { image.now ≡ bytes_below (layout.now.text + layout.now.data_len) (bare elf.now) }
+    requires placed { IsPlaced elf.now placed.now }
     ensures { MatchResult result
-        (λ found. (fault elf.now ≡ None) × (found.words.items ≡ map (word_at layout.now image.now) (records elf.now)) × (found.places.items ≡ records elf.now))
+        (λ words. (fault elf.now ≡ None) × (words.items ≡ map (word_at layout.now image.now) (records elf.now)))
         (λ refusal. (refusal ≡ Refusal.Memory) ⊎ (fault elf.now ≡ Some refusal)) }
 {
-    let found = find_all(alloc, elf, layout)?;
-    let places = places_of(alloc, &found.cover.words)?;
-    let words = words_at(alloc, layout, image, &places)?;
+    let words = words_at(alloc, layout, image, &placed.places)?;
     if let Some(number) = lowest_outside(layout, &words) {
         return Err(Refusal::TargetOutside {
             place: address_of(layout, number),
         });
     }
-    if let Some(number) = lowest_met(&found.cover, &found.words) {
+    if let Some(number) = placed.met {
         return Err(Refusal::WordOverlap {
             place: address_of(layout, number),
         });
     }
-    Ok(Recorded { words, places })
+    Ok(words)
 }
 
 /// The flat file of a linked file that was read and laid out.
@@ -87,9 +107,10 @@ fn converted_flat(
         (λ flat. (fault elf.now ≡ None) × (flat ≡ converted elf.now stack))
         (λ refusal. (refusal ≡ Refusal.Memory) ⊎ (fault elf.now ≡ Some refusal)) }
 {
+    let placed = find_places(alloc, elf, layout)?;
     let image = linked_bytes(alloc, elf, layout)?;
-    let found = find_recorded(alloc, elf, layout, &image)?;
-    let body = with_numbers(image, &found.words);
+    let words = words_placed(alloc, elf, layout, &image, &placed)?;
+    let body = with_numbers(image, &words);
     let stack = stack.div_ceil(STACK_UNIT) * STACK_UNIT;
     let entry = HEADER_LEN + layout.entry;
     Ok(Flat::of(
@@ -99,7 +120,7 @@ fn converted_flat(
         layout.bss,
         stack,
         body,
-        found.places,
+        placed.places,
     ))
 }
 

@@ -44,7 +44,7 @@ pub fn words_at(
     requires { All (λ place. place + 4 ≤ length image.now) places.now }
     ensures { IfOk result (λ words. words.items ≡ map (word_at layout.now image.now) places.now) }
 {
-    let mut words = Vec::new(alloc);
+    let mut words = Vec::with_capacity(alloc, places.len())?;
     for place in places {
         words.push(word_at(layout, image, *place))?;
     }

@@ -1,4 +1,5 @@
-use Rattle.std.proofs.Common.{◌≡◌, ◌+◌, ◌*◌, ◌/◌, ◌∙◌, map, sym, ap, subst, arith, None}
+use Rattle.std.proofs.Common.{◌≡◌, ◌+◌, ◌*◌, ◌/◌, ◌∙◌, map, sym, ap, subst, inl, inr, arith, None}
+use Rattle.std.proofs.lemmas.Result.{err_from_is_err_and}
 use Rattle.bflt_format.specs.Spelling.{spell}
 use Rattle.bflt_format.specs.Fault.{flat_fault}
 use Rattle.bflt_format.specs.Header.{flat_values}
@@ -6,16 +7,25 @@ use Rattle.bflt_format.proofs.Spelled.{values_back, no_fault}
 use Rattle.elf2flt_tool.specs.Word.{records, word_at}
 use Rattle.elf2flt_tool.specs.Converted.{converted}
 use Rattle.elf2flt_tool.proofs.Laid.{is_laid}
+use Rattle.elf2flt_tool.proofs.Faults.{fault-relocs}
 use Rattle.elf2flt_tool.proofs.Spelled.{spells_converted}
 use Rattle.elf2flt_tool.proofs.Assembled.{words-below, assembled}
 use Rattle.elf2flt_tool.proofs.conversion.converted_flat.Goals as goal
+
+pub returns-in_err-placed : goal.returns-in_err-placed
+returns-in_err-placed c =
+    let p = err_from_is_err_and c.from_residual.result c.from_residual.ensures.1 in
+    rw (p.1, p.2) (elim c.in_err-placed.ensures [
+      | inl memory ↦ inl memory
+      | inr is ↦ inr (fault-relocs c.args.elf.now _ c.requires.accepted.no_fault c.requires.no_fault is)
+    ])
 
 pub with_numbers-body-requires : goal.with_numbers-body-requires
 with_numbers-body-requires c =
     let e = c.args.elf.now in
     let l = c.args.layout.now in
-    let words = c.deref-2.ensures.value ∙ c.in_ok-found.ensures.1 ∙ ap (λ image. map (word_at l image) (records e)) c.deref.ensures.value in
-    words-below e l _ _ c.requires.accepted.bytes c.in_ok-found.ensures.0 c.requires.layout c.in_ok-image.ensures words
+    let words = c.deref-2.ensures.value ∙ c.in_ok-words.ensures.1 ∙ ap (λ image. map (word_at l image) (records e)) c.deref.ensures.value in
+    words-below e l _ _ c.requires.accepted.bytes c.in_ok-words.ensures.0 c.requires.layout c.in_ok-image.ensures words
 
 pub overflow_add-entry : goal.overflow_add-entry
 overflow_add-entry c =
@@ -30,24 +40,24 @@ of-requires-clause-no_fault c =
     let e = c.args.elf.now in
     let l = c.args.layout.now in
     let rounded : c.div_ceil-stack.result * 16 ≡ (c.args.stack + 15) / 16 * 16 = omega (arith, c.div_ceil-stack.ensures) in
-    let words = c.deref-2.ensures.value ∙ c.in_ok-found.ensures.1 ∙ ap (λ image. map (word_at l image) (records e)) c.deref.ensures.value in
-    let same = assembled e l c.args.stack _ _ _ _ _ c.requires.accepted.bytes c.in_ok-found.ensures.0 c.requires.layout rounded c.in_ok-image.ensures words c.with_numbers-body.ensures c.in_ok-found.ensures.2 in
-    subst (λ f. flat_fault (spell f) ≡ None) (sym same) (no_fault (converted e c.args.stack) (spells_converted e c.args.stack c.requires.accepted.bytes c.in_ok-found.ensures.0 c.requires.stack_limit))
+    let words = c.deref-2.ensures.value ∙ c.in_ok-words.ensures.1 ∙ ap (λ image. map (word_at l image) (records e)) c.deref.ensures.value in
+    let same = assembled e l c.args.stack _ _ _ _ _ c.requires.accepted.bytes c.in_ok-words.ensures.0 c.requires.layout rounded c.in_ok-image.ensures words c.with_numbers-body.ensures c.in_ok-placed.ensures.places in
+    subst (λ f. flat_fault (spell f) ≡ None) (sym same) (no_fault (converted e c.args.stack) (spells_converted e c.args.stack c.requires.accepted.bytes c.in_ok-words.ensures.0 c.requires.stack_limit))
 
 pub of-requires-clause-values : goal.of-requires-clause-values
 of-requires-clause-values c =
     let e = c.args.elf.now in
     let l = c.args.layout.now in
     let rounded : c.div_ceil-stack.result * 16 ≡ (c.args.stack + 15) / 16 * 16 = omega (arith, c.div_ceil-stack.ensures) in
-    let words = c.deref-2.ensures.value ∙ c.in_ok-found.ensures.1 ∙ ap (λ image. map (word_at l image) (records e)) c.deref.ensures.value in
-    let same = assembled e l c.args.stack _ _ _ _ _ c.requires.accepted.bytes c.in_ok-found.ensures.0 c.requires.layout rounded c.in_ok-image.ensures words c.with_numbers-body.ensures c.in_ok-found.ensures.2 in
-    subst (λ f. flat_values (spell f) ≡ f) (sym same) (values_back (converted e c.args.stack) (spells_converted e c.args.stack c.requires.accepted.bytes c.in_ok-found.ensures.0 c.requires.stack_limit))
+    let words = c.deref-2.ensures.value ∙ c.in_ok-words.ensures.1 ∙ ap (λ image. map (word_at l image) (records e)) c.deref.ensures.value in
+    let same = assembled e l c.args.stack _ _ _ _ _ c.requires.accepted.bytes c.in_ok-words.ensures.0 c.requires.layout rounded c.in_ok-image.ensures words c.with_numbers-body.ensures c.in_ok-placed.ensures.places in
+    subst (λ f. flat_values (spell f) ≡ f) (sym same) (values_back (converted e c.args.stack) (spells_converted e c.args.stack c.requires.accepted.bytes c.in_ok-words.ensures.0 c.requires.stack_limit))
 
 pub returns : goal.returns
 returns c =
     let e = c.args.elf.now in
     let l = c.args.layout.now in
     let rounded : c.div_ceil-stack.result * 16 ≡ (c.args.stack + 15) / 16 * 16 = omega (arith, c.div_ceil-stack.ensures) in
-    let words = c.deref-2.ensures.value ∙ c.in_ok-found.ensures.1 ∙ ap (λ image. map (word_at l image) (records e)) c.deref.ensures.value in
-    let same = assembled e l c.args.stack _ _ _ _ _ c.requires.accepted.bytes c.in_ok-found.ensures.0 c.requires.layout rounded c.in_ok-image.ensures words c.with_numbers-body.ensures c.in_ok-found.ensures.2 in
-    (c.in_ok-found.ensures.0, c.of.ensures ∙ same)
+    let words = c.deref-2.ensures.value ∙ c.in_ok-words.ensures.1 ∙ ap (λ image. map (word_at l image) (records e)) c.deref.ensures.value in
+    let same = assembled e l c.args.stack _ _ _ _ _ c.requires.accepted.bytes c.in_ok-words.ensures.0 c.requires.layout rounded c.in_ok-image.ensures words c.with_numbers-body.ensures c.in_ok-placed.ensures.places in
+    (c.in_ok-words.ensures.0, c.of.ensures ∙ same)
