@@ -86,6 +86,15 @@ module _ {A : Type 0} (key : A → ℕ) (k : ℕ) where
     | inr is ↦ rw (place_head x xs false is, find_head x xs false is) (lt_both (place_of key k xs) (length xs) ∙ is_there xs)
   ]
 
+  -- where there is no such item nothing changes
+  pub none_changed : (f : A → A) (xs : List A) → is_some (find key k xs) ≡ false → change key k f xs ≡ xs
+  unfolding find change
+  none_changed f [] none = refl
+  none_changed f (x ∷ xs) none = elim (decide (key x == k)) [
+    | inl is ↦ let wrong : true ≡ false = ap is_some (sym (find_head x xs true is)) ∙ none in absurd cc
+    | inr is ↦ change_head f x xs false is ∙ ap (λ (ys : List A). x ∷ ys) (none_changed f xs (ap is_some (sym (find_head x xs false is)) ∙ none))
+  ]
+
   pub change_at : (f : A → A) (xs : List A) (x : A) → find key k xs ≡ Some x → set xs (place_of key k xs) (f x) ≡ change key k f xs
   unfolding find
   change_at f [] x h = absurd cc

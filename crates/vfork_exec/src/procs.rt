@@ -3,7 +3,7 @@
 ghost use Rattle.std.specs.Prelude.{◌≡◌, ℕ, ◌<◌, ◌≤◌, ◌^◌, length, map, reverse, slice_get, is_some, nat_le, Some, IfOk};
 ghost use Rattle.std.specs.Borrow.{sem};
 ghost use Rattle.vfork_exec.specs.declared.entry.Entry.{Entry as Process};
-ghost use Rattle.vfork_exec.specs.Procs.{most_entries, none_yet, count, Starts, Forks, with_exec, with_end, looked, with_wait, with_wait_on, with_wake, Lives, CanRun, process, value_at, parent_at, pid_of, ready, ready_pids, borrows, with_entry};
+ghost use Rattle.vfork_exec.specs.Procs.{most_entries, none_yet, count, Starts, Forks, with_exec, with_end, looked, with_wait, with_wait_on, with_wake, Lives, process, value_at, parent_at, pid_of, ready, ready_pids, borrows, with_entry};
 ghost use Rattle.vfork_exec.specs.Keyed.{place_of, Falls};
 
 use crate::ended::{add_ended, first_ended, forget_first};
@@ -159,13 +159,15 @@ impl<P> Procs<P> {
         Ok(told)
     }
 
-    /// A process waits on the pipe with this number, any number: it can't run until `wake` is called of it.
+    /// A process waits on the pipe with this number, any number: it can't run until `wake` is called of it. One that doesn't live
+    /// waits on none.
     pub fn wait_on(&mut self, pid: u32, pipe: u32)
-        requires { CanRun self.old pid }
         ensures { self.new ≡ with_wait_on self.old pid pipe }
     {
-        let at = self.place(pid);
-        self.entries[at].state = State::OnPipe(pipe);
+        if self.lives(pid) {
+            let at = self.place(pid);
+            self.entries[at].state = State::OnPipe(pipe);
+        }
     }
 
     /// The processes that wait on this pipe, which may be gone, may run, and make their calls anew.
