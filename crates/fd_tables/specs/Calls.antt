@@ -34,6 +34,11 @@ Pipes None old t cloexec new (Ok ends) = ⊥
 Pipes None old t cloexec new (Err (Errno errno)) = (errno ≡ Emfile) × (new ≡ old)
 Pipes None old t cloexec new (Err Memory) = new ≡ old
 
+-- without free descriptors the answer is EMFILE, and not that memory is out
+abbrev pub IsFull : {A B : Type 0} → Option A → Result B FdFault → Type 0
+IsFull (Some free) result = ⊤
+IsFull None result = result ≡ Err (Errno Emfile)
+
 -- a fault for another cause than memory, or none
 abbrev pub IsNotMemory : Result ℕ FdFault → Type 0
 IsNotMemory (Ok fd) = ⊤

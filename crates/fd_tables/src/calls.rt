@@ -4,7 +4,7 @@ ghost use Rattle.std.specs.Prelude.{◌≡◌, ◌^◌, ◌<◌, ◌≤◌, IfOk
 ghost use Rattle.fd_tables.specs.Kept.{KeepsSpare, UsesOneFile};
 ghost use Rattle.fd_tables.specs.Files.{free_number, lowest_free, view};
 ghost use Rattle.fd_tables.specs.Changes.{storage, with_open_file, closed, dropped, duplicated, replaced};
-ghost use Rattle.fd_tables.specs.Calls.{Opens, IsNotMemory, dup_number, Duplicates, dup3_fault, close_fault, Does};
+ghost use Rattle.fd_tables.specs.Calls.{Opens, IsFull, IsNotMemory, dup_number, Duplicates, dup3_fault, close_fault, Does};
 
 use crate::fault::FdFault;
 use crate::files::Files;
@@ -33,6 +33,7 @@ impl Files {
     #[tactic(auto, unfolding(crate::specs::Changes::opened))]
     pub fn open(&mut self, tree: &mut Tree, table: u32, node: u32, way: Way) -> Result<u32, FdFault>
         ensures opens { Opens (lowest_free self.old.open_files table) (storage tree.old self.old.open_files) table node way (storage tree.new self.new.open_files) result }
+        ensures full { IsFull (lowest_free self.old.open_files table) result }
         ensures ready { 1 ≤ self.old.spare → IsNotMemory result }
         ensures number { IfOk result (λ _. free_number self.old.open_files.files < 2 ^ 32) }
         ensures uses { UsesOneFile self.old self.new }

@@ -7,7 +7,7 @@ ghost use Rattle.fd_tables.specs.Kept.{KeepsSpare};
 ghost use Rattle.fd_tables.specs.Files.{free_number, two_free};
 ghost use Rattle.fd_tables.specs.Pipes.{most_held, pipe_id, pipe_view, pipe_bytes, pipe_taken, pipe_put, without_end, marked, with_pipe};
 ghost use Rattle.fd_tables.specs.Changes.{with_end, piped};
-ghost use Rattle.fd_tables.specs.Calls.{Pipes, Unmarks};
+ghost use Rattle.fd_tables.specs.Calls.{IsFull, Pipes, Unmarks};
 
 use crate::fault::FdFault;
 use crate::files::Files;
@@ -26,6 +26,7 @@ impl Files {
     #[tactic(auto, unfolding(crate::specs::Changes::piped))]
     pub fn pipe(&mut self, table: u32, cloexec: bool) -> Result<Ends, FdFault>
         ensures pipes { Pipes (two_free self.old.open_files table) self.old.open_files table cloexec self.new.open_files result }
+        ensures full { IsFull (two_free self.old.open_files table) result }
         ensures spare { self.old.spare ≤ self.new.spare + 2 }
         ensures ready { 1 ≤ self.old.spare → 1 ≤ self.new.spare }
         ensures spare_tables { self.old.spare_tables ≤ self.new.spare_tables }
