@@ -56,7 +56,7 @@ pub fn last_fit(runs: &[Run], need: u32) -> Option<usize>
     let mut i = runs.len();
     while i > 0 {
         i -= 1;
-        if runs[i].count >= need {
+        if need <= runs[i].count {
             return Some(i);
         }
     }
