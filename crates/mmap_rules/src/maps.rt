@@ -286,6 +286,8 @@ impl Space {
             return Err(MapFault::Enomem);
         }
         let places = if run.anonymous { run.pages } else { 1 };
+        let most = regions.pages();
+        prove!(places <= most);
         make_room(&mut self.maps, places)?;
         let Some(id) = regions.fresh(mem, run.pages, run.source, chooser) else {
             return Err(MapFault::Enomem);

@@ -1,13 +1,25 @@
 use Rattle.std.proofs.Common.{◌≡◌, ◌+◌, ◌-◌, ◌*◌, ◌^◌, ◌∙◌, length, sym, ap, subst, arith}
 use Rattle.std.proofs.lemmas.Option.{same_Some}
+use Rattle.page_runs.specs.declared.place.Kind.TheVariants.{First}
 use Rattle.nommu_regions.specs.declared.region.Region.{Region}
 use Rattle.nommu_regions.specs.Ids.{Numbered, start_of}
 use Rattle.mmap_rules.specs.Held.{Held, page_address}
 use Rattle.mmap_rules.specs.Sides.{NameRegions}
 use Rattle.mmap_rules.proofs.Mapped.{places_at_least}
+use Rattle.mmap_rules.proofs.Fresh.{fits_inside}
 use Rattle.mmap_rules.proofs.FreshRuns.{run_can}
 use Rattle.mmap_rules.proofs.Left.{sides_same, held_more, run_filled}
 use Rattle.mmap_rules.proofs.space.Space.map_fresh.Goals as goal
+use Rattle.mmap_rules.proofs.space.Space.map_fresh.Goals.{then-run, else-run}
+
+-- no more places than memory has pages
+pub prove-unreachable-requires : goal.prove-unreachable-requires
+prove-unreachable-requires g c =
+    let inside = fits_inside c.args.regions.now.regions First c.args.run.now.pages c.requires.run.some (c.fits.ensures First ∙ c.if-not-fits.false) in
+    elim c.if-run.branch [
+      | then-run w ↦ omega (arith, inside, w.places-is, c.if-prove.true, c.pages-most.ensures.pages)
+      | else-run w ↦ omega (arith, w.places-is, c.if-prove.true, c.pages-most.ensures.some)
+    ]
 
 pub make_room-requires-clause-some : goal.make_room-requires-clause-some
 make_room-requires-clause-some g c = places_at_least (length c.self.inside.owners) c.self.inside.maps.items c.self.invariant.1
