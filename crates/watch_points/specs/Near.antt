@@ -1,5 +1,5 @@
 -- For the private functions: the accesses near what is watched, and what is left of a run that left its loop.
-use Rattle.std.specs.Prelude.{◌≡◌, ℕ, ◌+◌, ◌-◌, ◌*◌, ◌^◌, ◌%◌, ◌≤◌, Bool, true, false, ◌&&◌, nat_le, if◌then◌else◌, Option, Some, None, List, [], ◌∷◌, ◌++◌, map, filter, length}
+use Rattle.std.specs.Prelude.{◌≡◌, ℕ, ◌+◌, ◌-◌, ◌^◌, ◌%◌, Bool, true, ◌&&◌, nat_le, if◌then◌else◌, Option, Some, None, List, [], ◌∷◌, ◌++◌, map, filter, length}
 use Rattle.std.proofs.Common.{refl, ap, sym, ◌∙◌}
 use Rattle.byte_words.specs.ByteMap.{Bytes}
 use Rattle.rv32im_step.specs.declared.access.Access.{Access}
@@ -81,9 +81,9 @@ pub record Left (n : ℕ) (mode : Mode) (table : List PageOwner) (regs : Regs) (
   pub whole : behind_first done (rest_ran stop (n - done) (passes mode table true) after (passed_bytes mode table now))
       ≡ instructions n (passes mode table true) regs (passed_bytes mode table mem)
   pub frozen : kept_bytes mode table now ≡ kept_bytes mode table mem
-  pub length : length now ≡ length mem
-  pub first : noted_all table last (rest_asked stop (n - done) (passes mode table true) after (passed_bytes mode table now))
+  pub size : length now ≡ length mem
+  pub strays : noted_all table last (rest_asked stop (n - done) (passes mode table true) after (passed_bytes mode table now))
       ≡ noted_all table first (all_asked n (passes mode table true) regs (passed_bytes mode table mem))
   pub halts : mode ≡ Halt → last ≡ noted_stop first stop
-  pub near : seen ++ near_in near (rest_asked stop (n - done) (passes mode table true) after (passed_bytes mode table now))
+  pub told : seen ++ near_in near (rest_asked stop (n - done) (passes mode table true) after (passed_bytes mode table now))
       ≡ near_in near (all_asked n (passes mode table true) regs (passed_bytes mode table mem))

@@ -1,6 +1,6 @@
 //! The loop of instructions that tells what hits.
 
-ghost use Rattle.std.specs.Prelude.{◌≡◌, ◌<◌, ◌≤◌, true, length, IfSome};
+ghost use Rattle.std.specs.Prelude.{◌≡◌, ◌<◌, ◌≤◌, true, length, None, IfSome};
 ghost use Rattle.rv32im_step.specs.declared.stop.Stop.TheVariants.{Next};
 ghost use Rattle.region_watch.specs.declared.mode.Mode.TheVariants.{Halt};
 ghost use Rattle.region_watch.specs.Private.{passes, passed_bytes, kept_bytes};
@@ -27,6 +27,36 @@ struct NearRun {
 
 /// Carries out up to `count` instructions, and leaves the loop behind the first that made a data access near
 /// what is watched.
+fn near_steps(regs: &mut Regs, bus: &mut Probed<'_, Watch<'_>>, count: u32) -> Progress
+    requires fresh { bus.old.seen ≡ None }
+    ensures left { Left count bus.old.bus.now.mode bus.old.bus.now.owners.now regs.old bus.old.bus.now.mem.now (first_stray bus.old.bus.now) bus.old.near
+        result.done result.stop regs.new bus.new.bus.now.mem.now (first_stray bus.new.bus.now) (listed bus.new.seen) }
+    ensures bound { result.done ≤ count }
+    ensures goes { 0 < count → result.stop ≡ Next → 0 < result.done }
+    ensures owners { bus.new.bus.now.owners.now ≡ bus.old.bus.now.owners.now }
+    ensures mode { bus.new.bus.now.mode ≡ bus.old.bus.now.mode }
+    ensures same_reference { bus.new.bus.now.mem.ghost_name ≡ bus.old.bus.now.mem.ghost_name }
+    ensures same_watch { bus.new.bus.ghost_name ≡ bus.old.bus.ghost_name }
+{
+    for done in 0..count {
+        let stop = step(regs, bus);
+        if stop != Stop::Next {
+            return Progress { done, stop };
+        }
+        if bus.seen.is_some() {
+            return Progress {
+                done: done + 1,
+                stop,
+            };
+        }
+    }
+    Progress {
+        done: count,
+        stop: Stop::Next,
+    }
+}
+
+/// `near_steps` over a bus of its own, with the access behind which it left the loop.
 fn run_near(regs: &mut Regs, watch: &mut Watch<'_>, near: Near, count: u32) -> NearRun
     ensures left { Left count watch.old.mode watch.old.owners.now regs.old watch.old.mem.now (first_stray watch.old) near
         result.progress.done result.progress.stop regs.new watch.new.mem.now (first_stray watch.new) (listed result.seen) }
@@ -41,30 +71,10 @@ fn run_near(regs: &mut Regs, watch: &mut Watch<'_>, near: Near, count: u32) -> N
         near,
         seen: None,
     };
-    for done in 0..count {
-        let stop = step(regs, &mut bus);
-        if stop != Stop::Next {
-            return NearRun {
-                progress: Progress { done, stop },
-                seen: bus.seen,
-            };
-        }
-        if bus.seen.is_some() {
-            return NearRun {
-                progress: Progress {
-                    done: done + 1,
-                    stop,
-                },
-                seen: bus.seen,
-            };
-        }
-    }
+    let progress = near_steps(regs, &mut bus, count);
     NearRun {
-        progress: Progress {
-            done: count,
-            stop: Stop::Next,
-        },
-        seen: None,
+        progress,
+        seen: bus.seen,
     }
 }
 
