@@ -1,18 +1,24 @@
 -- What an index says of the first entries of its section.
-use Rattle.std.proofs.Common.{◌≡◌, ℕ, ◌+◌, List, Some, None, if◌then◌else◌, refl, add-one}
+use Rattle.std.proofs.Common.{◌≡◌, ℕ, ◌+◌, ◌==◌, Bool, true, false, List, Option, Some, None, if◌then◌else◌, refl, sym, add-one}
 use Rattle.std.specs.Ordering.{nat_cmp}
 use Rattle.std.specs.Option.{option_or}
 use Rattle.std.specs.BTreeMap as tree
+use Rattle.elf32_reader.specs.declared.section.Section.{Section}
 use Rattle.elf32_reader.specs.Relas.{rela_count}
 use Rattle.psabi_relocs.specs.declared.pairs.Pairs.{Pairs}
 use Rattle.psabi_relocs.specs.declared.reloc.Reloc.{Reloc}
+use Rattle.psabi_relocs.specs.declared.row.Row.{Row}
+use Rattle.psabi_relocs.specs.declared.row.Row.TheVariants.{Unknown, Mark, Pointer, Absolute, Relative, Call, GotHi20, Low, Group}
+use Rattle.psabi_relocs.specs.declared.row.Shape.TheVariants.{Word, High, LowI, LowS, Branch, Jump}
 use Rattle.psabi_relocs.specs.declared.row.Width.{Width}
 use Rattle.psabi_relocs.specs.declared.row.Width.TheVariants.{Bits8, Bits16, Bits32, Bits6, Uleb128}
 use Rattle.psabi_relocs.specs.declared.group.Sum.{Sum}
 use Rattle.psabi_relocs.specs.Search.{first_below}
+use Rattle.psabi_relocs.specs.Class.{is_moving}
+use Rattle.psabi_relocs.specs.Row.{is_high, is_low, is_joined}
 use Rattle.psabi_relocs.specs.Reloc.{reloc, target_section}
 use Rattle.psabi_relocs.specs.Pair.{is_high_at, high_of, names, low_of}
-use Rattle.psabi_relocs.specs.Group.{entry_step, sum_below}
+use Rattle.psabi_relocs.specs.Group.{row_step, entry_step, sum_below}
 use Rattle.psabi_relocs.specs.Sums.{no_sums, sums_or_none, sum_of}
 use Rattle.psabi_relocs.specs.Index.{IsPairs}
 use Rattle.psabi_relocs.proofs.IndexSearches.{first_below_next}
@@ -42,6 +48,65 @@ pub record Notes (e : List ℕ) (i n : ℕ) (r : Reloc) (old new : Pairs) : Type
   pub high : (q : ℕ) → tree.get nat_cmp new.high q ≡ option_or (tree.get nat_cmp old.high q) (if is_high_at q r then Some n else None)
   pub low : (q : ℕ) → tree.get nat_cmp new.low q ≡ option_or (tree.get nat_cmp old.low q) (if names (target_section e i) q r then Some n else None)
   pub sums : (q : ℕ) (width : Width) → sum_of width (sums_or_none (tree.get nat_cmp new.sums q)) ≡ entry_step q width r (sum_of width (sums_or_none (tree.get nat_cmp old.sums q)))
+
+-- an entry that is by itself changes nothing
+module _ (r : Reloc) (alone : is_joined r.row ≡ false) where
+  no_high : (row : Row) → is_joined row ≡ false → is_high row ≡ false
+  no_high (Relative High) is = absurd cc
+  no_high (Relative Word) is = refl
+  no_high (Relative LowI) is = refl
+  no_high (Relative LowS) is = refl
+  no_high (Relative Branch) is = refl
+  no_high (Relative Jump) is = refl
+  no_high GotHi20 is = absurd cc
+  no_high Unknown is = refl
+  no_high Mark is = refl
+  no_high Pointer is = refl
+  no_high (Absolute shape) is = refl
+  no_high Call is = refl
+  no_high (Low shape) is = refl
+  no_high (Group width step) is = refl
+
+  no_low : (row : Row) → is_joined row ≡ false → is_low row ≡ false
+  no_low (Low shape) is = absurd cc
+  no_low (Relative shape) is = refl
+  no_low GotHi20 is = refl
+  no_low Unknown is = refl
+  no_low Mark is = refl
+  no_low Pointer is = refl
+  no_low (Absolute shape) is = refl
+  no_low Call is = refl
+  no_low (Group width step) is = refl
+
+  no_step : (width : Width) (row : Row) (moves : Bool) (s : Sum) → is_joined row ≡ false → row_step width row moves s ≡ s
+  no_step width (Group own step) moves s is = absurd cc
+  no_step width (Low shape) moves s is = refl
+  no_step width (Relative shape) moves s is = refl
+  no_step width GotHi20 moves s is = refl
+  no_step width Unknown moves s is = refl
+  no_step width Mark moves s is = refl
+  no_step width Pointer moves s is = refl
+  no_step width (Absolute shape) moves s is = refl
+  no_step width Call moves s is = refl
+
+  or_none : {A : Type 0} (o : Option A) → o ≡ option_or o None
+  or_none None = refl
+  or_none (Some x) = refl
+
+  or_same : {A : Type 0} (b : Bool) (x y : A) → x ≡ y → y ≡ (if b then x else y)
+  or_same true x y same = sym same
+  or_same false x y same = refl
+
+  pub unpaired_high : (q n : ℕ) (o : Option ℕ) → o ≡ option_or o (if is_high_at q r then Some n else None)
+  unfolding is_high_at
+  unpaired_high q n o = rw (no_high r.row alone) (or_none o)
+
+  pub unpaired_low : (s : Section) (q n : ℕ) (o : Option ℕ) → o ≡ option_or o (if names s q r then Some n else None)
+  unfolding names
+  unpaired_low s q n o = rw (no_low r.row alone) (or_none o)
+
+  pub ungrouped : (q : ℕ) (width : Width) (s : Sum) → s ≡ entry_step q width r s
+  ungrouped q width s = or_same (r.place == q) (row_step width r.row (is_moving r.class) s) s (no_step width r.row (is_moving r.class) s alone)
 
 pub one_more : (e : List ℕ) (i n : ℕ) (old new : Pairs) → HasEntries e i n old → Notes e i n (reloc e i n) old new → HasEntries e i (n + 1) new
 one_more e i n old new before step = record {

@@ -100,3 +100,11 @@ is_high _ = false
 abbrev pub is_low : Row → Bool
 is_low (Low shape) = true
 is_low _ = false
+
+-- entries of the row pair with others, or are steps of a group
+abbrev pub is_joined : Row → Bool
+is_joined GotHi20 = true
+is_joined (Relative High) = true
+is_joined (Low shape) = true
+is_joined (Group width step) = true
+is_joined _ = false

@@ -1,13 +1,14 @@
 //! The index of a kept section: what its entries need of one another.
 
-ghost use Rattle.std.specs.Prelude.{◌≡◌, ℕ, ◌&&◌, ◌==◌, true, if◌then◌else◌, None, Some, IfOk, OnOk};
+ghost use Rattle.std.specs.Prelude.{◌≡◌, ℕ, ◌&&◌, ◌==◌, ◌<◌, true, if◌then◌else◌, None, Some, IfOk, OnOk};
 ghost use Rattle.std.specs.Ordering.{nat_cmp};
 ghost use Rattle.std.specs.Option.{option_or};
 ghost use Rattle.std.specs.BTreeMap as tree;
-ghost use Rattle.elf32_reader.specs.Relas.{is_kept};
+ghost use Rattle.elf32_reader.specs.Relas.{is_kept, rela_count};
 ghost use Rattle.psabi_relocs.specs.declared.row.Width.{Width};
 ghost use Rattle.psabi_relocs.specs.Class.{is_moving};
-ghost use Rattle.psabi_relocs.specs.Row.{is_high, is_low};
+ghost use Rattle.psabi_relocs.specs.Row.{is_high, is_low, is_joined};
+ghost use Rattle.psabi_relocs.specs.Reloc.{reloc};
 ghost use Rattle.psabi_relocs.specs.Bytes.{holds};
 ghost use Rattle.psabi_relocs.specs.Pair.{is_high_at, names};
 ghost use Rattle.psabi_relocs.specs.Group.{entry_step};
@@ -21,6 +22,7 @@ use crate::row::{Row, Shape};
 use elf32_reader::{Elf, Section};
 use std::alloc::{AllocError, Global};
 use std::collections::BTreeMap;
+use std::collections::btree_map::Entry;
 
 /// A kept section's entries by address.
 #[derive(Drop)]
@@ -42,10 +44,23 @@ pub fn note_first(
     ensures { OnOk result ((q : ℕ) →
         tree.get nat_cmp firsts.new q ≡ option_or (tree.get nat_cmp firsts.old q) (if address == q then Some index else None)) }
 {
-    if !firsts.contains_key(&address) {
-        firsts.insert(address, index)?;
+    match firsts.entry(address)? {
+        Entry::Occupied(_) => {}
+        Entry::Vacant(free) => {
+            free.insert(index);
+        }
     }
     Ok(())
+}
+
+/// Whether entries of a row pair with others, or are steps of a group.
+fn is_joined(row: Row) -> bool
+    ensures { result ≡ is_joined row }
+{
+    matches!(
+        row,
+        Row::GotHi20 | Row::Relative(Shape::High) | Row::Low(_) | Row::Group(_, _)
+    )
 }
 
 /// Whether an entry has the high part of a pair.
@@ -136,6 +151,31 @@ impl Pairs {
         note_step(&mut self.sums, reloc)
     }
 
+    /// Takes in entry `entry` of the kept section `section`, which applies to `target`. Of an entry that neither pairs nor
+    /// groups no more is read than its type.
+    fn note_entry(
+        &mut self,
+        elf: &Elf<'_>,
+        section: u32,
+        target: &Section,
+        entry: u32,
+    ) -> Result<(), AllocError>
+        requires kept { is_kept elf.now section ≡ true }
+        requires entry { entry < rela_count elf.now section }
+        requires room { (width : Width) → CanStep (sum_of width (sums_or_none (tree.get nat_cmp self.old.sums (reloc elf.now section entry).place))) }
+        ensures high { OnOk result ((q : ℕ) →
+            tree.get nat_cmp self.new.high q ≡ option_or (tree.get nat_cmp self.old.high q) (if is_high_at q (reloc elf.now section entry) then Some entry else None)) }
+        ensures low { OnOk result ((q : ℕ) →
+            tree.get nat_cmp self.new.low q ≡ option_or (tree.get nat_cmp self.old.low q) (if names target.now q (reloc elf.now section entry) then Some entry else None)) }
+        ensures sums { OnOk result ((q : ℕ) (width : Width) →
+            sum_of width (sums_or_none (tree.get nat_cmp self.new.sums q)) ≡ entry_step q width (reloc elf.now section entry) (sum_of width (sums_or_none (tree.get nat_cmp self.old.sums q)))) }
+    {
+        if !is_joined(Row::of(elf.rela(section, entry).kind)) {
+            return Ok(());
+        }
+        self.note(target, &reloc_at(elf, section, entry), entry)
+    }
+
     /// The index of the kept section `section`. It takes memory for the entries that pair or group alone: one
     /// node for all that stand at one place or name one address. The time is n log n in the entries. Only out of
     /// memory is an `Err`.
@@ -150,7 +190,7 @@ impl Pairs {
             sums: BTreeMap::new(alloc),
         };
         for entry in 0..elf.relas(section) {
-            pairs.note(&target, &reloc_at(elf, section, entry), entry)?;
+            pairs.note_entry(elf, section, &target, entry)?;
         }
         Ok(pairs)
     }

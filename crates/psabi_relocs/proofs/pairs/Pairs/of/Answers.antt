@@ -1,6 +1,7 @@
 use Rattle.std.proofs.Common.{◌≡◌, refl, subst, arith}
 use Rattle.elf32_reader.specs.Relas.{rela_count}
 use Rattle.elf32_reader.proofs.Places.{is_kept_below, is_kept_info}
+use Rattle.psabi_relocs.specs.Reloc.{reloc}
 use Rattle.psabi_relocs.proofs.IndexSearches.{first_below_zero}
 use Rattle.psabi_relocs.proofs.IndexEntries.{HasEntries, sum_below_zero, one_more, all_entries}
 use Rattle.psabi_relocs.proofs.GroupCounts.{can_step}
@@ -19,17 +20,20 @@ loop-entry-init c = record {
   sums = λ q width. rw c.new-3.ensures.empty (sum_below_zero _ _ q width);
 }
 
-pub note-requires : goal.note-requires
-note-requires c =
-    let place = c.reloc_at.result.place in
+pub note_entry-requires : goal.note_entry-requires
+note_entry-requires c =
+    let e = c.args.elf.now in
+    let place = (reloc e c.args.section c.loop-entry.entry).place in
     record {
-      room = λ width. rw (c.loop-entry.invariant.sums place width) (can_step c.args.elf.now c.args.section place width c.loop-entry.entry (omega arith));
+      kept = c.requires.kept;
+      entry = omega arith;
+      room = λ width. rw (c.loop-entry.invariant.sums place width) (can_step e c.args.section place width c.loop-entry.entry (omega arith));
     }
 
 pub loop-entry-preserved : goal.loop-entry-preserved
 loop-entry-preserved c =
-    let step = rw (c.section-target.ensures, c.section.ensures, c.reloc_at.ensures.value) at c.in_ok-note.ensures in
-    one_more c.args.elf.now c.args.section c.loop-entry.entry c.loop-entry.pairs c.note.new.self c.loop-entry.invariant (
+    let step = rw (c.section-target.ensures, c.section.ensures) at c.in_ok-note_entry.ensures in
+    one_more c.args.elf.now c.args.section c.loop-entry.entry c.loop-entry.pairs c.note_entry.new.self c.loop-entry.invariant (
     record { high = step.high; low = step.low; sums = step.sums })
 
 pub returns : goal.returns
