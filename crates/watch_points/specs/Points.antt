@@ -1,5 +1,5 @@
 -- Which data accesses are told, and what is kept of them. The words are this project's; RISC-V debug specification, "Trigger
--- Module", has a trigger match the address and size of a load or store in the same way.
+-- Module", has triggers that fire on loads and stores by their addresses.
 use Rattle.std.specs.Prelude.{ℕ, zero, suc, ◌+◌, ◌-◌, ◌^◌, ◌≡◌, ◌<◌, ◌≤◌, Bool, true, false, ◌&&◌, ◌||◌, nat_le, nat_lt, min, List, [], ◌++◌, map, filter, take, length}
 use Rattle.std.specs.Borrow.{Bor}
 use Rattle.std.specs.List.{All, list_any}

@@ -27,6 +27,7 @@ struct NearRun {
 
 /// Carries out up to `count` instructions, and leaves the loop behind the first that made a data access near
 /// what is watched.
+#[inline]
 fn near_steps(regs: &mut Regs, bus: &mut Probed<'_, Watch<'_>>, count: u32) -> Progress
     requires fresh { bus.old.seen ≡ None }
     ensures left { Left count bus.old.bus.now.mode bus.old.bus.now.owners.now regs.old bus.old.bus.now.mem.now (first_stray bus.old.bus.now) bus.old.near
