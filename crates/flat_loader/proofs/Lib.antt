@@ -5,6 +5,7 @@
 -- Images    the bytes of a loaded image, by place
 -- Written   memory after loading, by address
 -- Started   a program in a run of pages
+-- Refused   a load that isn't refused
 -- Begun     the parts of a space at its start
 -- AloneSamples  a program by itself, on worked examples
 pub mod Laying
@@ -16,3 +17,4 @@ pub mod Written
 pub mod Started
 pub mod Begun
 mod AloneSamples
+pub mod Refused

@@ -1,5 +1,5 @@
 -- A program loaded into a run of free pages, with a space and registers; or the reason why it is not.
-use Rattle.std.specs.Prelude.{ℕ, ◌≡◌, ◌+◌, true, false, List, length, take, slice_range, slice_set, Option, Some, None, Result, Ok, Err}
+use Rattle.std.specs.Prelude.{ℕ, ◌≡◌, ◌+◌, Bool, true, false, List, length, take, slice_range, slice_set, Option, Some, None, Result, Ok, Err, ⊤}
 use Rattle.byte_words.specs.ByteMap.{byte_of}
 use Rattle.page_runs.specs.declared.place.Kind.{Kind}
 use Rattle.page_runs.specs.Place.{place, first_of}
@@ -64,3 +64,17 @@ Loads kind f args env old mem_old new mem_new (Err E2big) =
 Loads kind f args env old mem_old new mem_new (Err NoRun) =
     (frame_fits (flat_original f) args env ≡ true) × ((block_page kind old (block_pages (flat_original f)) ≡ None) × ((new ≡ old) × (mem_new ≡ mem_old)))
 Loads kind f args env old mem_old new mem_new (Err Memory) = (new ≡ old) × (mem_new ≡ mem_old)
+
+-- why a program can't be loaded, whatever memory the host has
+abbrev pub load_refusal : Kind → Values → List (List ℕ) → List (List ℕ) → List Region → Option LoadRefusal
+load_refusal kind f args env old = first_of_two (frame_fits (flat_original f) args env) (block_page kind old (block_pages (flat_original f)))
+  where
+    first_of_two : Bool → Option ℕ → Option LoadRefusal
+    first_of_two false page = Some E2big
+    first_of_two true None = Some NoRun
+    first_of_two true (Some page) = None
+
+-- it is answered then, and not that memory is out
+abbrev pub RefusesLoad : Option LoadRefusal → Result Loaded LoadRefusal → Type 0
+RefusesLoad None result = ⊤
+RefusesLoad (Some first) result = result ≡ Err first

@@ -11,7 +11,7 @@ ghost use Rattle.flat_loader.specs.Original.{flat_original, header_len, block_le
 ghost use Rattle.flat_loader.specs.Frame.{texts, frame_fits};
 ghost use Rattle.flat_loader.specs.Placed.{image_patches};
 ghost use Rattle.flat_loader.specs.Begin.{flat_loading, own_range, in_block, begin_bytes, begin_regs};
-ghost use Rattle.flat_loader.specs.Loads.{Loads};
+ghost use Rattle.flat_loader.specs.Loads.{Loads, RefusesLoad, load_refusal};
 
 use crate::block::{HEADER_LEN, block_len, block_pages, image_len, stack_len};
 use crate::frame::{frame_fits, frame_len, frame_start, write_frame};
@@ -122,15 +122,19 @@ pub fn load<F: Fn(&[Run], u32) -> Option<usize>>(
     requires chooser { IsChooser F.pre F.post chooser.now }
     requires memory { length mem.old ≡ 4096 * length regions.old.regions }
     ensures loads { Loads (kind_of chooser.now) flat.now (texts args.now) (texts env.now) regions.old.regions mem.old regions.new.regions mem.new result }
+    ensures refused { RefusesLoad (load_refusal (kind_of chooser.now) flat.now (texts args.now) (texts env.now) regions.old.regions) result }
     ensures ids { regions.new.starts ≡ regions.old.starts }
 {
     if !frame_fits(flat, args, env) {
         return Err(LoadRefusal::E2big);
     }
+    let pages = block_pages(flat);
+    if !regions.fits(pages) {
+        return Err(LoadRefusal::NoRun);
+    }
     let Ok(room) = SpaceRoom::new(alloc, regions.pages()) else {
         return Err(LoadRefusal::Memory);
     };
-    let pages = block_pages(flat);
     let Some(id) = regions.fresh(mem, pages, Source::Own, chooser) else {
         return Err(LoadRefusal::NoRun);
     };

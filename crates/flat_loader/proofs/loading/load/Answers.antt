@@ -11,6 +11,7 @@ use Rattle.flat_loader.specs.Original.{flat_original, block_pages}
 use Rattle.flat_loader.specs.Frame.{texts}
 use Rattle.flat_loader.specs.Loads.{block_page, block_region}
 use Rattle.flat_loader.proofs.Started.{block_fits, space_started, length-run_cleared, outside_cleared}
+use Rattle.flat_loader.proofs.Refused.{not_refused}
 use Rattle.flat_loader.proofs.loading.load.Goals as goal
 
 pub new-space-requires-clause-fits : goal.new-space-requires-clause-fits
@@ -57,3 +58,9 @@ returns-clause-loads g c =
       others = λ a out. c.load_at-regs.ensures.others a out ∙ outside_cleared f page args env c.args.mem.now c.fresh.new.mem fits cleared a out;
       len = c.load_at-regs.ensures.length ∙ length-run_cleared c.args.mem.now c.fresh.new.mem (4096 * page) (4096 * block_pages (flat_original f)) fits cleared;
     }
+
+-- memory is asked for a program that can be loaded
+pub returns-in_default-clause-refused : goal.returns-in_default-clause-refused
+returns-in_default-clause-refused g c =
+    not_refused (kind_of c.args.chooser.now) c.args.flat.now (texts c.args.args.now) (texts c.args.env.now) c.args.regions.now.regions _ (sym c.frame_fits.ensures ∙ c.if-not-frame_fits.false)
+    c.block_pages-pages.result c.block_pages-pages.ensures.value (c.fits.ensures (kind_of c.args.chooser.now) ∙ c.if-not-fits.false)
