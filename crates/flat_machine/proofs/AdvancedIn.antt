@@ -45,7 +45,7 @@ use Rattle.flat_machine.specs.State.{is_whole, mode_within}
 use Rattle.flat_machine.specs.LeavesIn.{HaltsWithin}
 use Rattle.kept_parts.proofs.Abouts.{some_about}
 use Rattle.flat_machine.proofs.Within.{writable_own, table_inside}
-use Rattle.flat_machine.proofs.Passed.{as_table, owned_ran, owned_frozen}
+use Rattle.flat_machine.proofs.Passed.{AsTable, as_table, owned_ran, owned_frozen}
 use Rattle.flat_machine.proofs.Advanced.{Ranged, after, entered, home_of, has_space, halts_within, after_regular, after_ready, lives_in, has_in, procs_in, frozen_in, after_copies, left, after_leads, after_halts}
 
 -- the addresses of memory are those of its pages
@@ -69,11 +69,11 @@ module _ (headers : List (List ℕ)) (a : About) (k : Kept) (pid count : ℕ) (e
   abbrev new : Physical
   new = physical_of headers (later done a) (after k pid e.value regs now)
 
-  lives_old : find pid_of pid old.world.procs ≡ Some (process_of e)
+  pub lives_old : find pid_of pid old.world.procs ≡ Some (process_of e)
   unfolding physical_of
   lives_old = lives_in k pid count e h table now regs done stop r a
 
-  has_old : find id_of e.value.space old.world.spaces ≡ Some found
+  pub has_old : find id_of e.value.space old.world.spaces ≡ Some found
   unfolding physical_of
   has_old = has_in k pid count e h table now regs done stop r a
 
@@ -94,7 +94,7 @@ module _ (headers : List (List ℕ)) (a : About) (k : Kept) (pid count : ℕ) (e
   -- ---- over its own bytes
 
   module _ (reaches : Reaches Own (length k.regions) h table) where
-    may_inside : IsWithin (in_pages (length k.regions)) (writable_in h.maps)
+    pub may_inside : IsWithin (in_pages (length k.regions)) (writable_in h.maps)
     may_inside =
         subst (λ (w : ℕ → Bool). IsWithin (in_pages (length k.regions)) w) reaches.writes
         (subst (λ (n : ℕ). IsWithin (in_pages n) (owns table true)) reaches.long (table_inside table true))
@@ -121,10 +121,10 @@ module _ (headers : List (List ℕ)) (a : About) (k : Kept) (pid count : ℕ) (e
   -- ---- over all of memory
 
   module _ (reaches : Reaches Whole (length k.regions) h table) (strayed : has_stray k.notes ≡ true) where
-    whole_read : (mem : List ℕ) → length mem ≡ 4096 * length k.regions → own_bytes table mem ≡ physical mem
+    pub whole_read : (mem : List ℕ) → length mem ≡ 4096 * length k.regions → own_bytes table mem ≡ physical mem
     whole_read mem paged = ap (λ (test : ℕ → Bool). only test (physical mem)) reaches.reads ∙ all_pages (length k.regions) mem paged
 
-    whole_ran : ran regs (physical now) done stop ≡ instructions count (in_memory old.world) e.value.regs old.memory
+    pub whole_ran : ran regs (physical now) done stop ≡ instructions count (in_memory old.world) e.value.regs old.memory
     unfolding physical_of
     whole_ran =
         let was = whole_read k.mem r.regular.memory in
@@ -288,25 +288,47 @@ pub reach_paged : (reach : Reach) (k : Kept) (whole table : List PageOwner) (h :
 reach_paged reach k whole table h regular is reaches =
     let long = reaches.long in omega (arith, (whole_pages (length k.regions) whole is).0, long, regular.memory)
 
+-- a table of just the bytes within reach, and what the instructions leave by it
+pub record ByTable (reach : Reach) (k : Kept) (pid count : ℕ) (task : Task) (h : Held) (mode : Mode) (table : List PageOwner) (now : List ℕ) (regs : Regs) (done : ℕ) (stop : Stop) : Type 0 where
+  pub entry : Entry Task
+  pub value : entry.value ≡ task
+  pub passed : AsTable reach (length k.regions) h mode table
+  pub ranged : Ranged k pid count entry h passed.table now regs done stop
+
+pub by_table : (reach : Reach) (k : Kept) (pid count : ℕ) (task : Task) (x : Option Held) (h : Held) (mode : Mode) (table seen : List PageOwner) (was now : List ℕ) (regs : Regs) (done : ℕ) (stop : Stop)
+    → IsRegular k → value_at k.procs pid ≡ Some task → x ≡ get_or k.spaces task.space x → x ≡ Some h
+    → owns table false ≡ own_in h.maps → owns table true ≡ writable_in h.maps → length table ≡ h.pages → mode ≡ mode_within reach → seen ≡ table → was ≡ k.mem
+    → ran regs (passed_bytes mode seen now) done stop ≡ instructions count (passes mode seen true) task.regs (passed_bytes mode seen was)
+    → kept_bytes mode seen now ≡ kept_bytes mode seen was → length now ≡ length was → ByTable reach k pid count task h mode table now regs done stop
+by_table reach k pid count task x h mode table seen was now regs done stop regular is at space own writes long within sees before leaves same stays =
+    let e = entered k.procs pid task is in
+    let live = has_space k pid task regular.0 is in
+    let home = home_of k.spaces task.space x h live at space in
+    let paged = space_long k task.space x h table regular.0 live at space long in
+    let passed = as_table reach (length k.regions) h mode table within (record { reads = own; writes = writes; long = paged }) in
+    record {
+      entry = e.entry;
+      value = e.value;
+      passed = passed;
+      ranged = record {
+        regular = regular.0;
+        copies = regular.1;
+        lives = e.there;
+        home = subst (λ (t : Task). slice_get k.spaces t.space ≡ Some (Some h)) (sym e.value) home;
+        leaves = owned_ran reach (length k.regions) h mode table passed k.mem now count e.entry.value.regs regs done stop
+            (subst (λ (t : Task). ran regs (passed_bytes mode table now) done stop ≡ instructions count (passes mode table true) t.regs (passed_bytes mode table k.mem)) (sym e.value)
+            (rw (sees, before) at leaves));
+        frozen = owned_frozen reach (length k.regions) h mode table passed k.mem now (rw (sees, before) at same);
+        length = rw before at stays;
+      };
+    }
+
 pub advances : (reach : Reach) (k : Kept) (pid count : ℕ) (task : Task) (x : Option Held) (h : Held) (mode : Mode) (table seen : List PageOwner) (was now : List ℕ) (regs : Regs) (done : ℕ) (stop : Stop)
     → IsRegular k → CanRun k.procs pid → has_stray k.notes ≡ is_whole reach → value_at k.procs pid ≡ Some task → x ≡ get_or k.spaces task.space x → x ≡ Some h
     → owns table false ≡ own_in h.maps → owns table true ≡ writable_in h.maps → length table ≡ h.pages → mode ≡ mode_within reach → seen ≡ table → was ≡ k.mem
     → ran regs (passed_bytes mode seen now) done stop ≡ instructions count (passes mode seen true) task.regs (passed_bytes mode seen was)
     → kept_bytes mode seen now ≡ kept_bytes mode seen was → length now ≡ length was → Advances reach k (after k pid task regs now) pid count done stop
 advances reach k pid count task x h mode table seen was now regs done stop regular ready strayed is at space own writes long within sees before leaves same stays =
-    let e = entered k.procs pid task is in
-    let live = has_space k pid task regular.0 is in
-    let home = home_of k.spaces task.space x h live at space in
-    let paged = space_long k task.space x h table regular.0 live at space long in
-    let passed = as_table reach (length k.regions) h mode table within (record { reads = own; writes = writes; long = paged }) in
-    subst (λ (t : Task). Advances reach k (after k pid t regs now) pid count done stop) e.value (advances_in reach k pid count e.entry h passed.table now regs done stop (record {
-      regular = regular.0;
-      copies = regular.1;
-      lives = e.there;
-      home = subst (λ (t : Task). slice_get k.spaces t.space ≡ Some (Some h)) (sym e.value) home;
-      leaves = owned_ran reach (length k.regions) h mode table passed k.mem now count e.entry.value.regs regs done stop
-          (subst (λ (t : Task). ran regs (passed_bytes mode table now) done stop ≡ instructions count (passes mode table true) t.regs (passed_bytes mode table k.mem)) (sym e.value)
-          (rw (sees, before) at leaves));
-      frozen = owned_frozen reach (length k.regions) h mode table passed k.mem now (rw (sees, before) at same);
-      length = rw before at stays;
-    }) passed.reaches strayed ready)
+    let t = by_table reach k pid count task x h mode table seen was now regs done stop regular is at space own writes long within sees before leaves same stays in
+    subst (λ (v : Task). Advances reach k (after k pid v regs now) pid count done stop) t.value
+    (advances_in reach k pid count t.entry h t.passed.table now regs done stop t.ranged t.passed.reaches strayed ready)

@@ -18,6 +18,12 @@
 -- HoldFiles  live copies hold their file behind it
 -- TurnsOf   what holds of a machine behind a turn
 -- RoundsIn  runs by quanta in the one memory, and up to their first stray access
+-- HitsAsked  what an instruction asks hits only where it is carried out
+-- HitsOn    the hits of a turn go on behind its events
+-- HitsAdvanced  the hits of instructions of one process
+-- HitsTurned  and of a turn
+-- HitsRounds  and of runs by quanta
+-- HitsRoundsIn  and of those in the one memory
 -- Waiting   who waits in a machine's world, and why where a run is stuck
 -- Readers   what the fields of a machine say of its world
 -- Copies    the own bytes of a process, in the one memory
@@ -44,6 +50,12 @@ pub mod TakenBack
 pub mod HoldFiles
 pub mod TurnsOf
 pub mod RoundsIn
+pub mod HitsAsked
+pub mod HitsOn
+pub mod HitsAdvanced
+pub mod HitsTurned
+pub mod HitsRounds
+pub mod HitsRoundsIn
 pub mod Waiting
 pub mod Copies
 pub mod Found

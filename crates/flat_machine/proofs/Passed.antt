@@ -8,7 +8,7 @@ use Rattle.mmap_rules.specs.Held.{Held}
 use Rattle.mmap_rules.specs.Owners.{owns}
 use Rattle.region_watch.specs.declared.mode.Mode.{Mode}
 use Rattle.region_watch.specs.Private.{only, physical, own_bytes, frozen, in_pages, passes, passed_bytes, kept_bytes}
-use Rattle.region_watch.specs.Instructions.{ran, instructions}
+use Rattle.region_watch.specs.Instructions.{ran, instructions, all_asked}
 use Rattle.kept_parts.specs.declared.reach.Reach.{Reach}
 use Rattle.kept_parts.specs.declared.reach.Reach.TheVariants.{Own, Whole}
 use Rattle.kept_parts.specs.Reach.{Reaches, whole_page, whole_table}
@@ -45,3 +45,9 @@ module _ (reach : Reach) (pages : ℕ) (h : Held) (mode : Mode) (seen : List Pag
 
   pub owned_frozen : kept_bytes mode seen now ≡ kept_bytes mode seen was → frozen t.table now ≡ frozen t.table was
   owned_frozen kept = subst (λ (w : ℕ → Bool). only (λ a. not (w a)) (physical now) ≡ only (λ a. not (w a)) (physical was)) (t.owned true) kept
+
+  -- and ask
+  pub owned_asked : (count : ℕ) (old : Regs) → all_asked count (passes mode seen true) old (passed_bytes mode seen was) ≡ all_asked count (owns t.table true) old (own_bytes t.table was)
+  owned_asked count old =
+      ap (λ (w : ℕ → Bool). all_asked count w old (passed_bytes mode seen was)) (t.owned true)
+      ∙ ap (λ (r : ℕ → Bool). all_asked count (owns t.table true) old (only r (physical was))) (t.owned false)

@@ -32,7 +32,7 @@ use Rattle.flat_machine.proofs.Picks.{may_run}
 use Rattle.flat_machine.proofs.Readers.{loads_programs, loaded_notes}
 
 -- an end that is told is there
-ends_is : (o : Option End) (end : Told) → Ends o end → (e : End) × (o ≡ Some e)
+pub ends_is : (o : Option End) (end : Told) → Ends o end → (e : End) × (o ≡ Some e)
 ends_is (Some e) end x = (e, refl)
 ends_is None told.AllEnded x = absurd x
 ends_is None (told.Stray seen) x = absurd x

@@ -65,7 +65,7 @@ module _ (q : Quantum) (p : Physical) where
     }
 
     -- a turn that doesn't stray is a turn of all of memory
-    as_whole : (reach : Reach) (r : Result (Option Told) AllocError) → is_stray r ≡ false → TurnLeavesIn reach pid q.count p done new r → TurnLeavesIn Whole pid q.count p done new r
+    pub as_whole : (reach : Reach) (r : Result (Option Told) AllocError) → is_stray r ≡ false → TurnLeavesIn reach pid q.count p done new r → TurnLeavesIn Whole pid q.count p done new r
     as_whole Whole r calm x = x
     as_whole Own (Ok None) calm x = x
     as_whole Own (Ok (Some told.LogFull)) calm x = x

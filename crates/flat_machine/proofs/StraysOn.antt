@@ -90,10 +90,10 @@ module _ (pid : ℕ) (at mid : Physical) (x : StraysIn pid at mid) where
   was_noted : has_stray mid.world.notes ≡ true
   was_noted = ap (λ (p : Physical). has_stray p.world.notes) x.noted
 
-  before_is : physical_event at pid ≡ carried_out mid pid
+  pub before_is : physical_event at pid ≡ carried_out mid pid
   before_is = event_in_strays at pid x.access x.first ∙ ap (λ (p : Physical). carried_out p pid) (sym x.noted)
 
-  behind_is : physical_event mid pid ≡ carried_out mid pid
+  pub behind_is : physical_event mid pid ≡ carried_out mid pid
   behind_is = event_in_calm mid pid (noted_unstrayed mid pid was_noted)
 
   module _ (may : MayRun mid.world pid) where

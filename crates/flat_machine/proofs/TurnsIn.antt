@@ -176,10 +176,10 @@ module _ (headers : List (List ℕ)) (a : About) (mid new : Kept) (pid : ℕ) wh
   within_ends Own x = x
   within_ends Whole x = x
 
-  record Went_in (over : Bool) : Type 0 where
-    now : Physical
-    is : physical_event old_in pid ≡ goes now over
-    same : now ≡ new_in
+  pub record Went_in (over : Bool) : Type 0 where
+    pub now : Physical
+    pub is : physical_event old_in pid ≡ goes now over
+    pub same : now ≡ new_in
 
   on_is : (o : Outcome_in) → physical_event old_in pid ≡ o → CarriedIn headers a o mid new pid (Ok after.GoesOn) → Went_in false
   on_is (goes now over) is x = record { now = now; is = is ∙ ap (λ (b : Bool). goes now b) x.1; same = x.0 }
@@ -221,7 +221,7 @@ module _ (kind : Kind) (flats : List Values) (reach : Reach) (mid new : Kept) (p
 
   module _ (carried : reach ≡ Own → (a : About) → a.kind ≡ kind → AreFlats a.programs flats → Carried a (event (world_of a mid) pid) mid new pid (Ok after.GoesOn))
       (memory : (a : About) → a.kind ≡ kind → AreFlats a.programs flats → CarriedWithin reach hs a mid new pid (Ok after.GoesOn)) where
-    one_in : (a : About) → a.kind ≡ kind → AreFlats a.programs flats → Went_in hs a mid new pid false
+    pub one_in : (a : About) → a.kind ≡ kind → AreFlats a.programs flats → Went_in hs a mid new pid false
     one_in a so are = on_is hs a mid new pid (physical_event (physical_of hs a mid) pid) refl (within_on hs a mid new pid reach (memory a so are))
 
     pub continues : Continues kind flats reach pid mid new
@@ -242,7 +242,7 @@ module _ (kind : Kind) (flats : List Values) (reach : Reach) (mid new : Kept) (p
 
   module _ (carried : reach ≡ Own → (a : About) → a.kind ≡ kind → AreFlats a.programs flats → Carried a (event (world_of a mid) pid) mid new pid (Ok after.TurnEnds))
       (memory : (a : About) → a.kind ≡ kind → AreFlats a.programs flats → CarriedWithin reach hs a mid new pid (Ok after.TurnEnds)) where
-    last_in : (a : About) → a.kind ≡ kind → AreFlats a.programs flats → Went_in hs a mid new pid true
+    pub last_in : (a : About) → a.kind ≡ kind → AreFlats a.programs flats → Went_in hs a mid new pid true
     last_in a so are = ends_is hs a mid new pid (physical_event (physical_of hs a mid) pid) refl (within_ends hs a mid new pid reach (memory a so are))
 
     pub ends_notes : has_stray new.notes ≡ is_whole reach
@@ -275,7 +275,7 @@ pub record IsStopped (reach : Reach) (pid : ℕ) (mid new : Kept) (end : Told) :
   pub strays : (access : Access) → end ≡ told.Stray access → CanRun mid.procs pid → CanRun new.procs pid
 
 module _ (headers : List (List ℕ)) (a : About) (mid new : Kept) (pid : ℕ) where
-  never : (o : Outcome_in) (end : Told) → end ≢ told.LogFull → CarriedIn headers a o mid new pid (Ok (after.RunEnds end)) → ⊥
+  pub never : (o : Outcome_in) (end : Told) → end ≢ told.LogFull → CarriedIn headers a o mid new pid (Ok (after.RunEnds end)) → ⊥
   never (goes now over) told.AllEnded other x = absurd x
   never (goes now over) (told.Stray access) other x = absurd x
   never (goes now over) told.Stuck other x = absurd x
@@ -292,9 +292,9 @@ module _ (headers : List (List ℕ)) (a : About) (mid new : Kept) (pid : ℕ) wh
   never nobody told.OutOfQuanta other x = absurd x
   never nobody told.LogFull other x = absurd x
 
-  record IsFull_in : Type 0 where
-    now : Physical
-    is : physical_event (physical_of headers a mid) pid ≡ no_room now
+  pub record IsFull_in : Type 0 where
+    pub now : Physical
+    pub is : physical_event (physical_of headers a mid) pid ≡ no_room now
     there : now ≡ physical_of headers a mid
     same : new ≡ mid
 
@@ -303,7 +303,7 @@ module _ (headers : List (List ℕ)) (a : About) (mid new : Kept) (pid : ℕ) wh
   full_is (no_room now) is x = record { now = now; is = is; there = x.0; same = x.1 }
   full_is nobody is x = absurd x
 
-  within_full : (reach : Reach) → CarriedWithin reach headers a mid new pid (Ok (after.RunEnds told.LogFull)) → IsFull_in
+  pub within_full : (reach : Reach) → CarriedWithin reach headers a mid new pid (Ok (after.RunEnds told.LogFull)) → IsFull_in
   within_full Own x = full_is (physical_event (physical_of headers a mid) pid) refl x
   within_full Whole x = full_is (physical_event (physical_of headers a mid) pid) refl x
 

@@ -4,6 +4,8 @@
 -- Leaves    what an event, a turn and some quanta leave
 -- RunsIn    the same of a run that goes on behind its first stray access, over one memory
 -- LeavesIn  and of its events and turns
+-- Hits      which accesses of a run hit what is watched
+-- HitsLeft  and what is kept of those of a turn and of a run
 -- OwnBytes  bytes of a process
 -- Inside    the fields of `Machine` as what it keeps
 pub mod State
@@ -12,5 +14,7 @@ pub mod Runs
 pub mod Leaves
 pub mod LeavesIn
 pub mod RunsIn
+pub mod Hits
+pub mod HitsLeft
 pub mod OwnBytes
 pub mod Inside

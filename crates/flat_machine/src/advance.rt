@@ -11,11 +11,16 @@ ghost use Rattle.kept_parts.specs.InMemory.{physical_of};
 ghost use Rattle.kept_parts.specs.Stands.{About, later, world_of};
 ghost use Rattle.flat_machine.specs.State.{is_whole, mode_within};
 ghost use Rattle.flat_machine.specs.LeavesIn.{HaltsWithin};
+ghost use Rattle.watch_points.specs.Points.{AreSpans, IsPoint, kind_of_point};
+ghost use Rattle.flat_machine.specs.Hits.{turn_hits, turn_hits_in};
+ghost use Rattle.flat_machine.specs.HitsLeft.{HitsLead};
 
+use crate::watcher::Watcher;
 use kept_parts::{KeptParts, Reach};
 use mmap_rules::Space;
-use region_watch::{Mode, Progress, Watch, Window, run_steps};
+use region_watch::{Mode, Progress, Watch, Window};
 use rv32im_step::Stop;
+use watch_points::{Hits, Span, run_watched};
 
 /// The own bytes of the program's block.
 fn window(space: &Space) -> Window
@@ -44,7 +49,16 @@ fn mode_within(reach: Reach) -> Mode
 }
 
 /// Carries out up to `count` instructions of a process that may run, within this reach, and stops at the first that isn't carried out.
-pub(crate) fn advance(parts: &mut KeptParts, pid: u32, count: u32, reach: Reach) -> Progress
+pub(crate) fn advance<G: Fn(&[Span], u32, u32) -> bool>(
+    parts: &mut KeptParts,
+    pid: u32,
+    count: u32,
+    reach: Reach,
+    watcher: &Watcher<'_, G>,
+    hits: &mut Hits,
+) -> Progress
+    requires point { IsPoint G.pre G.post watcher.now.point.now }
+    requires spans { AreSpans watcher.now.spans.now }
     requires ready { CanRun parts.old.procs pid }
     requires strayed { has_stray parts.old.notes ≡ is_whole reach }
     ensures ready { CanRun parts.new.procs pid }
@@ -57,6 +71,10 @@ pub(crate) fn advance(parts: &mut KeptParts, pid: u32, count: u32, reach: Reach)
     ensures halts { reach ≡ Own → (a : About) → Halts (world_of (later result.done a) parts.new) pid count result.done result.stop }
     ensures leads_in { (headers : List (List ℕ)) → (a : About) → LeadsIn pid (physical_of headers a parts.old) result.done (physical_of headers (later result.done a) parts.new) }
     ensures halts_in { (headers : List (List ℕ)) → (a : About) → HaltsWithin reach (physical_of headers (later result.done a) parts.new) pid count result.done result.stop }
+    ensures hits { reach ≡ Own → (a : About) →
+        HitsLead (turn_hits (kind_of_point watcher.now.point.now) watcher.now.spans.now pid) hits.old hits.new (world_of a parts.old) result.done (world_of (later result.done a) parts.new) }
+    ensures hits_in { (headers : List (List ℕ)) → (a : About) →
+        HitsLead (turn_hits_in (kind_of_point watcher.now.point.now) watcher.now.spans.now pid) hits.old hits.new (physical_of headers a parts.old) result.done (physical_of headers (later result.done a) parts.new) }
 {
     let task = parts.procs.get_mut(pid);
     match &parts.spaces[task.space as usize] {
@@ -67,7 +85,15 @@ pub(crate) fn advance(parts: &mut KeptParts, pid: u32, count: u32, reach: Reach)
                 mode_within(reach),
                 window(space),
             );
-            run_steps(&mut task.regs, &mut watch, count)
+            run_watched(
+                &mut task.regs,
+                &mut watch,
+                count,
+                pid,
+                watcher.point,
+                watcher.spans,
+                hits,
+            )
         }
         None => Progress {
             done: 0,

@@ -10,6 +10,7 @@ mod bytes;
 mod machine;
 mod run;
 mod turn;
+mod watcher;
 
 pub use boot::{BootRefusal, Setup};
 pub use machine::Machine;

@@ -20,15 +20,20 @@ ghost use Rattle.flat_machine.specs.Runs.{Ends, Runs, KeepsStays, KeepsWaits, Wa
 ghost use Rattle.flat_machine.specs.RunsIn.{ends_astray, IsHalting, RunsIn, GoesOn, StaysHalted};
 ghost use Rattle.flat_machine.specs.Leaves.{Leaves, TurnLeaves};
 ghost use Rattle.flat_machine.specs.LeavesIn.{LeavesIn, LeavesFirst, TurnLeavesIn, reach_behind, has_rest, is_undone, is_stray};
+ghost use Rattle.watch_points.specs.Points.{AreSpans, IsPoint, kind_of_point};
+ghost use Rattle.flat_machine.specs.Hits.{turn_hits, turn_hits_in};
+ghost use Rattle.flat_machine.specs.HitsLeft.{TurnHits, TurnHitsIn, HitsLeave, HitsLeaveIn, HitsFollow, HitsFollowIn, NoneWhereHalted};
 
 use crate::machine::Machine;
 use crate::turn::{TurnEnd, tell_copies, turn};
+use crate::watcher::Watcher;
 use page_runs::{Chooser, Run};
 use quantum_sched::{Quantum, pick};
 use region_watch::Mode;
 use rv32im_step::Access;
 use std::alloc::AllocError;
 use syscall_layer::Parts;
+use watch_points::{Hits, PointKind, Span, WatchPoint, touches};
 
 /// Why a run stops.
 #[derive(Clone, Copy, PartialEq, Eq)]
@@ -97,13 +102,17 @@ fn is_undone(events: u32, end: &Result<Option<End>, AllocError>) -> bool
 
 impl Machine {
     /// Gives a process its turn within reach of the machine.
-    fn turn_of<F: Fn(&[Run], u32) -> Option<usize>>(
+    fn turn_of<F: Fn(&[Run], u32) -> Option<usize>, G: Fn(&[Span], u32, u32) -> bool>(
         &mut self,
         pid: u32,
         count: u32,
         chooser: &Chooser<F>,
+        watcher: &Watcher<'_, G>,
+        hits: &mut Hits,
     ) -> TurnEnd
         requires chooser { IsChooser F.pre F.post chooser.now }
+        requires point { IsPoint G.pre G.post watcher.now.point.now }
+        requires spans { AreSpans watcher.now.spans.now }
         requires ready { CanRun self.old.kept.procs pid }
         requires kind { kind_of chooser.now ≡ self.old.kind }
         requires events { self.old.events + count < 2 ^ 64 }
@@ -120,20 +129,26 @@ impl Machine {
         ensures copies { self.old.reach ≡ Own → HoldsFiles self.new.kept }
         ensures leaves { self.old.reach ≡ Own → TurnLeaves pid count (world self.old) result.events (world self.new) result.end }
         ensures memory { TurnLeavesIn self.old.reach pid count (one_memory self.old) result.events (one_memory self.new) result.end }
+        ensures hits { self.old.reach ≡ Own → TurnHits (turn_hits (kind_of_point watcher.now.point.now) watcher.now.spans.now pid) hits.old hits.new count (world self.old) result.events result.end }
+        ensures hits_in { TurnHitsIn (turn_hits_in (kind_of_point watcher.now.point.now) watcher.now.spans.now pid) hits.old hits.new count (one_memory self.old) result.events (one_memory self.new) result.end }
     {
-        let TurnEnd { events, end } = turn(&mut self.parts, pid, count, chooser);
+        let TurnEnd { events, end } = turn(&mut self.parts, pid, count, chooser, watcher, hits);
         self.events += u64::from(events);
         TurnEnd { events, end }
     }
 
     /// Gives the process of a quantum its turn. A run that goes on has what is left of the turn behind the first stray access too; where
     /// memory ends in the event of that access, its note is taken back.
-    fn take_turn<F: Fn(&[Run], u32) -> Option<usize>>(
+    fn take_turn<F: Fn(&[Run], u32) -> Option<usize>, G: Fn(&[Span], u32, u32) -> bool>(
         &mut self,
         quantum: Quantum,
         chooser: &Chooser<F>,
+        watcher: &Watcher<'_, G>,
+        hits: &mut Hits,
     ) -> Result<Option<End>, AllocError>
         requires chooser { IsChooser F.pre F.post chooser.now }
+        requires point { IsPoint G.pre G.post watcher.now.point.now }
+        requires spans { AreSpans watcher.now.spans.now }
         requires kind { kind_of chooser.now ≡ self.old.kind }
         requires events { self.old.events + quantum.count < 2 ^ 64 }
         ensures kind { self.new.kind ≡ self.old.kind }
@@ -144,13 +159,15 @@ impl Machine {
         ensures leaves { IsHalting self.old → Leaves (quantum ∷ []) (world self.old) (world self.new) result }
         ensures memory { self.old.mode ≡ GoOn → LeavesIn (quantum ∷ []) (one_memory self.old) (one_memory self.new) result }
         ensures first { self.old.mode ≡ GoOn → has_stray (world self.old).notes ≡ false → LeavesFirst (quantum ∷ []) (world self.old) (world self.new) result }
+        ensures hits { IsHalting self.old → HitsLeave (kind_of_point watcher.now.point.now) watcher.now.spans.now hits.old hits.new (quantum ∷ []) (world self.old) (world self.new) result }
+        ensures hits_in { self.old.mode ≡ GoOn → HitsLeaveIn (kind_of_point watcher.now.point.now) watcher.now.spans.now hits.old hits.new (quantum ∷ []) (one_memory self.old) (one_memory self.new) result }
     {
         let Some(pid) = chosen(&self.parts, quantum) else {
             return Ok(Some(none_runs(&self.parts)));
         };
-        let TurnEnd { events, end } = self.turn_of(pid, quantum.count, chooser);
+        let TurnEnd { events, end } = self.turn_of(pid, quantum.count, chooser, watcher, hits);
         if has_rest(&self.parts, &end) {
-            let rest = self.turn_of(pid, quantum.count - events, chooser);
+            let rest = self.turn_of(pid, quantum.count - events, chooser, watcher, hits);
             if is_undone(rest.events, &rest.end) {
                 self.parts.take_back();
             }
@@ -160,12 +177,16 @@ impl Machine {
     }
 
     /// Gives each quantum its turn, until the run stops.
-    fn round<F: Fn(&[Run], u32) -> Option<usize>>(
+    fn round<F: Fn(&[Run], u32) -> Option<usize>, G: Fn(&[Span], u32, u32) -> bool>(
         &mut self,
         quanta: &[Quantum],
         chooser: &Chooser<F>,
+        watcher: &Watcher<'_, G>,
+        hits: &mut Hits,
     ) -> Result<Option<End>, AllocError>
         requires chooser { IsChooser F.pre F.post chooser.now }
+        requires point { IsPoint G.pre G.post watcher.now.point.now }
+        requires spans { AreSpans watcher.now.spans.now }
         requires kind { kind_of chooser.now ≡ self.old.kind }
         requires events { self.old.events + sum_by (λ q. q.count) quanta.now < 2 ^ 64 }
         ensures kind { self.new.kind ≡ self.old.kind }
@@ -176,9 +197,11 @@ impl Machine {
         ensures leaves { IsHalting self.old → Leaves quanta.now (world self.old) (world self.new) result }
         ensures memory { self.old.mode ≡ GoOn → LeavesIn quanta.now (one_memory self.old) (one_memory self.new) result }
         ensures first { self.old.mode ≡ GoOn → has_stray (world self.old).notes ≡ false → LeavesFirst quanta.now (world self.old) (world self.new) result }
+        ensures hits { IsHalting self.old → HitsLeave (kind_of_point watcher.now.point.now) watcher.now.spans.now hits.old hits.new quanta.now (world self.old) (world self.new) result }
+        ensures hits_in { self.old.mode ≡ GoOn → HitsLeaveIn (kind_of_point watcher.now.point.now) watcher.now.spans.now hits.old hits.new quanta.now (one_memory self.old) (one_memory self.new) result }
     {
         for quantum in quanta {
-            if let Some(end) = self.take_turn(*quantum, chooser)? {
+            if let Some(end) = self.take_turn(*quantum, chooser, watcher, hits)? {
                 return Ok(Some(end));
             }
         }
@@ -235,14 +258,89 @@ impl Machine {
         ensures alone { IsHalting self.old → KeepsStays (repeated count quanta.now) self.old self.new result }
         ensures halted { StaysHalted self.old self.new result }
     {
+        let point = WatchPoint::new(PointKind::Touch, |spans: &[Span], addr: u32, len: u32| {
+            touches(spans, addr, len)
+        });
+        let mut hits = Hits::none(*self.paths.allocator());
+        self.run_repeated_watched(quanta, count, chooser, &point, &[], &mut hits)
+    }
+
+    /// As `run`, and adds each load and store that was carried out and hits, in their order.
+    pub fn run_watched<F: Fn(&[Run], u32) -> Option<usize>, G: Fn(&[Span], u32, u32) -> bool>(
+        &mut self,
+        quanta: &[Quantum],
+        chooser: &Chooser<F>,
+        point: &WatchPoint<G>,
+        spans: &[Span],
+        hits: &mut Hits,
+    ) -> Result<End, AllocError>
+        requires chooser { IsChooser F.pre F.post chooser.now }
+        requires point { IsPoint G.pre G.post point.now }
+        requires spans { AreSpans spans.now }
+        requires kind { kind_of chooser.now ≡ self.old.kind }
+        requires events { self.old.events + sum_by (λ q. q.count) quanta.now < 2 ^ 64 }
+        ensures kind { self.new.kind ≡ self.old.kind }
+        ensures mode { self.new.mode ≡ self.old.mode }
+        ensures events { self.new.events ≤ self.old.events + sum_by (λ q. q.count) quanta.now }
+        ensures turns { IsHalting self.old → Runs quanta.now self.old self.new result }
+        ensures memory { self.old.mode ≡ GoOn → RunsIn quanta.now self.old self.new result }
+        ensures first { self.old.mode ≡ GoOn → has_stray (world self.old).notes ≡ false → GoesOn quanta.now self.old self.new result }
+        ensures quiet { IsHalting self.old → ends_astray result ≡ false → IsHalting self.new }
+        ensures copies { IsHalting self.old → HoldsFiles self.new.kept }
+        ensures waits { IsHalting self.old → KeepsWaits self.old self.new }
+        ensures stuck { IsHalting self.old → WaitsWhereStuck self.old self.new result }
+        ensures alone { IsHalting self.old → KeepsStays quanta.now self.old self.new result }
+        ensures halted { StaysHalted self.old self.new result }
+        ensures hits { IsHalting self.old → HitsFollow (kind_of_point point.now) spans.now hits.old hits.new quanta.now self.old self.new result }
+        ensures hits_in { self.old.mode ≡ GoOn → HitsFollowIn (kind_of_point point.now) spans.now hits.old hits.new quanta.now self.old self.new result }
+        ensures none_halted { NoneWhereHalted self.old hits.old hits.new }
+    {
+        self.run_repeated_watched(quanta, 1, chooser, point, spans, hits)
+    }
+
+    /// `run_watched` of the quanta so many times.
+    pub fn run_repeated_watched<
+        F: Fn(&[Run], u32) -> Option<usize>,
+        G: Fn(&[Span], u32, u32) -> bool,
+    >(
+        &mut self,
+        quanta: &[Quantum],
+        count: u32,
+        chooser: &Chooser<F>,
+        point: &WatchPoint<G>,
+        spans: &[Span],
+        hits: &mut Hits,
+    ) -> Result<End, AllocError>
+        requires chooser { IsChooser F.pre F.post chooser.now }
+        requires point { IsPoint G.pre G.post point.now }
+        requires spans { AreSpans spans.now }
+        requires kind { kind_of chooser.now ≡ self.old.kind }
+        requires events { self.old.events + count * sum_by (λ q. q.count) quanta.now < 2 ^ 64 }
+        ensures kind { self.new.kind ≡ self.old.kind }
+        ensures mode { self.new.mode ≡ self.old.mode }
+        ensures events { self.new.events ≤ self.old.events + count * sum_by (λ q. q.count) quanta.now }
+        ensures turns { IsHalting self.old → Runs (repeated count quanta.now) self.old self.new result }
+        ensures memory { self.old.mode ≡ GoOn → RunsIn (repeated count quanta.now) self.old self.new result }
+        ensures first { self.old.mode ≡ GoOn → has_stray (world self.old).notes ≡ false → GoesOn (repeated count quanta.now) self.old self.new result }
+        ensures quiet { IsHalting self.old → ends_astray result ≡ false → IsHalting self.new }
+        ensures copies { IsHalting self.old → HoldsFiles self.new.kept }
+        ensures waits { IsHalting self.old → KeepsWaits self.old self.new }
+        ensures stuck { IsHalting self.old → WaitsWhereStuck self.old self.new result }
+        ensures alone { IsHalting self.old → KeepsStays (repeated count quanta.now) self.old self.new result }
+        ensures halted { StaysHalted self.old self.new result }
+        ensures hits { IsHalting self.old → HitsFollow (kind_of_point point.now) spans.now hits.old hits.new (repeated count quanta.now) self.old self.new result }
+        ensures hits_in { self.old.mode ≡ GoOn → HitsFollowIn (kind_of_point point.now) spans.now hits.old hits.new (repeated count quanta.now) self.old self.new result }
+        ensures none_halted { NoneWhereHalted self.old hits.old hits.new }
+    {
         if let Some(access) = self.parts.halted_at() {
             return Ok(End::Stray(access));
         }
         // Both for their clauses: as long as nothing strayed the world is in order, and copies hold their files.
         let _kind = self.kind();
         tell_copies(&self.parts);
+        let watcher = Watcher { point, spans };
         for _time in 0..count {
-            if let Some(end) = self.round(quanta, chooser)? {
+            if let Some(end) = self.round(quanta, chooser, &watcher, hits)? {
                 return Ok(end);
             }
         }

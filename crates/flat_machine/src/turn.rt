@@ -19,9 +19,13 @@ ghost use Rattle.flat_machine.specs.declared.turn.After.TheVariants.{RunEnds};
 ghost use Rattle.flat_machine.specs.Leaves.{Carried, TellsStray, TurnLeaves};
 ghost use Rattle.flat_machine.specs.State.{is_whole};
 ghost use Rattle.flat_machine.specs.LeavesIn.{CarriedIn, CarriedWithin, StandsWithin, TurnLeavesIn, reach_behind};
+ghost use Rattle.watch_points.specs.Points.{AreSpans, IsPoint, kind_of_point};
+ghost use Rattle.flat_machine.specs.Hits.{turn_hits, turn_hits_in};
+ghost use Rattle.flat_machine.specs.HitsLeft.{TurnHits, TurnHitsIn};
 
 use crate::advance::advance;
 use crate::run::End;
+use crate::watcher::Watcher;
 use bflt_format::Flat;
 use kept_parts::{KeptParts, Reach, Served};
 use mmap_rules::Owners;
@@ -29,6 +33,7 @@ use page_runs::{Chooser, Run};
 use rv32im_step::{Access, Stop};
 use std::alloc::AllocError;
 use syscall_layer::{Parts, serve_within};
+use watch_points::{Hits, Span};
 
 /// The signal of an access outside memory.
 const SIGSEGV: u8 = 11;
@@ -126,7 +131,7 @@ pub(crate) struct TurnEnd {
 }
 
 /// Up to `count` events of a process that may run, within this reach.
-fn turn_within<F: Fn(&[Run], u32) -> Option<usize>>(
+fn turn_within<F: Fn(&[Run], u32) -> Option<usize>, G: Fn(&[Span], u32, u32) -> bool>(
     parts: &mut KeptParts,
     pid: u32,
     count: u32,
@@ -134,8 +139,12 @@ fn turn_within<F: Fn(&[Run], u32) -> Option<usize>>(
     chooser: &Chooser<F>,
     reach: Reach,
     whole: &Owners,
+    watcher: &Watcher<'_, G>,
+    hits: &mut Hits,
 ) -> TurnEnd
     requires chooser { IsChooser F.pre F.post chooser.now }
+    requires point { IsPoint G.pre G.post watcher.now.point.now }
+    requires spans { AreSpans watcher.now.spans.now }
     requires ready { CanRun parts.old.procs pid }
     requires whole { whole.now ≡ whole_table (length parts.old.regions) }
     requires strayed { has_stray parts.old.notes ≡ is_whole reach }
@@ -150,10 +159,14 @@ fn turn_within<F: Fn(&[Run], u32) -> Option<usize>>(
         TurnLeaves pid count (world_of a parts.old) result.events (world_of (later result.events a) parts.new) result.end }
     ensures memory { (a : About) → a.kind ≡ kind_of chooser.now → AreFlats a.programs programs.now →
         TurnLeavesIn reach pid count (physical_of (headers_of programs.now) a parts.old) result.events (physical_of (headers_of programs.now) (later result.events a) parts.new) result.end }
+    ensures hits { reach ≡ Own → (a : About) → a.kind ≡ kind_of chooser.now → AreFlats a.programs programs.now →
+        TurnHits (turn_hits (kind_of_point watcher.now.point.now) watcher.now.spans.now pid) hits.old hits.new count (world_of a parts.old) result.events result.end }
+    ensures hits_in { (a : About) → a.kind ≡ kind_of chooser.now → AreFlats a.programs programs.now →
+        TurnHitsIn (turn_hits_in (kind_of_point watcher.now.point.now) watcher.now.spans.now pid) hits.old hits.new count (physical_of (headers_of programs.now) a parts.old) result.events (physical_of (headers_of programs.now) (later result.events a) parts.new) result.end }
 {
     let mut events = 0;
     while events < count {
-        let progress = advance(parts, pid, count - events, reach);
+        let progress = advance(parts, pid, count - events, reach, watcher, hits);
         events += progress.done;
         if progress.stop == Stop::Next {
             return TurnEnd {
@@ -210,13 +223,17 @@ pub(crate) fn tell_copies(parts: &Parts)
 }
 
 /// Up to `count` events of a process that may run, within what the run reaches.
-pub(crate) fn turn<F: Fn(&[Run], u32) -> Option<usize>>(
+pub(crate) fn turn<F: Fn(&[Run], u32) -> Option<usize>, G: Fn(&[Span], u32, u32) -> bool>(
     parts: &mut Parts,
     pid: u32,
     count: u32,
     chooser: &Chooser<F>,
+    watcher: &Watcher<'_, G>,
+    hits: &mut Hits,
 ) -> TurnEnd
     requires chooser { IsChooser F.pre F.post chooser.now }
+    requires point { IsPoint G.pre G.post watcher.now.point.now }
+    requires spans { AreSpans watcher.now.spans.now }
     requires ready { CanRun parts.old.kept.procs pid }
     ensures programs { parts.new.programs ≡ parts.old.programs }
     ensures mode { parts.new.mode ≡ parts.old.mode }
@@ -231,6 +248,10 @@ pub(crate) fn turn<F: Fn(&[Run], u32) -> Option<usize>>(
         TurnLeaves pid count (world_of a parts.old.kept) result.events (world_of (later result.events a) parts.new.kept) result.end }
     ensures memory { (a : About) → a.kind ≡ kind_of chooser.now → AreFlats a.programs parts.old.programs →
         TurnLeavesIn (reach_of parts.old.noted) pid count (physical_of (headers_of parts.old.programs) a parts.old.kept) result.events (physical_of (headers_of parts.old.programs) (later result.events a) parts.new.kept) result.end }
+    ensures hits { reach_of parts.old.noted ≡ Own → (a : About) → a.kind ≡ kind_of chooser.now → AreFlats a.programs parts.old.programs →
+        TurnHits (turn_hits (kind_of_point watcher.now.point.now) watcher.now.spans.now pid) hits.old hits.new count (world_of a parts.old.kept) result.events result.end }
+    ensures hits_in { (a : About) → a.kind ≡ kind_of chooser.now → AreFlats a.programs parts.old.programs →
+        TurnHitsIn (turn_hits_in (kind_of_point watcher.now.point.now) watcher.now.spans.now pid) hits.old hits.new count (physical_of (headers_of parts.old.programs) a parts.old.kept) result.events (physical_of (headers_of parts.old.programs) (later result.events a) parts.new.kept) result.end }
 {
     let reach = parts.reach();
     let TurnEnd { events, end } = turn_within(
@@ -241,6 +262,8 @@ pub(crate) fn turn<F: Fn(&[Run], u32) -> Option<usize>>(
         chooser,
         reach,
         &parts.whole,
+        watcher,
+        hits,
     );
     parts.noted = is_noted(reach, &end);
     tell_copies(parts);

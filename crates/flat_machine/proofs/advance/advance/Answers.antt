@@ -6,124 +6,170 @@ use Rattle.kept_parts.specs.Inside.{kept_of}
 use Rattle.flat_machine.proofs.Advanced.{has_space, never_none, below}
 use Rattle.flat_machine.proofs.AdvancedIn.{space_paged, advances}
 use Rattle.flat_machine.proofs.NoneDone.{none_done}
+use Rattle.flat_machine.proofs.HitsAdvanced.{advance_hits}
+use Rattle.watch_points.specs.Points.{kind_of_point}
 use Rattle.flat_machine.proofs.advance.advance.Goals as goal
 
 pub index-requires : goal.index-requires
-index-requires c =
+index-requires g c =
     let h = has_space (kept_of c.parts.inside) c.args.pid c.get_mut-task.result.now c.parts.invariant.0.0 c.get_mut-task.ensures.value in
     omega (arith, below c.parts.inside.spaces.items c.get_mut-task.result.now.space h)
 
 pub with_window-watch-requires-clause-paged : goal.with_window-watch-requires-clause-paged
-with_window-watch-requires-clause-paged c =
+with_window-watch-requires-clause-paged g c =
     space_paged (kept_of c.parts.inside) c.args.pid c.get_mut-task.result.now c.index.result.now c.in-Some.space c.owners.result.now c.parts.invariant.0.0
     c.get_mut-task.ensures.value c.index.ensures c.in-Some.is c.owners.ensures.pages
 
 pub invariant_of-parts : goal.invariant_of-parts
-invariant_of-parts c =
+invariant_of-parts g c =
     let ready = subst (λ (k : Kept). CanRun k.procs c.args.pid) (sym c.parts.view_is) c.requires.ready in
     let strayed = rw (← c.parts.view_is) at c.requires.strayed in (
       (advances c.args.reach (kept_of c.parts.inside) c.args.pid c.args.count c.get_mut-task.result.now c.index.result.now c.in-Some.space c.with_window-watch.result.mode c.owners.result.now
-          c.with_window-watch.result.owners.now c.with_window-watch.result.mem.now c.run_steps.new.watch.mem.now c.run_steps.new.regs c.run_steps.result.done c.run_steps.result.stop
+          c.with_window-watch.result.owners.now c.with_window-watch.result.mem.now c.run_watched.new.watch.mem.now c.run_watched.new.regs c.run_watched.result.done c.run_watched.result.stop
           c.parts.invariant.0 ready strayed c.get_mut-task.ensures.value c.index.ensures c.in-Some.is
           c.owners.ensures.own c.owners.ensures.writable c.owners.ensures.pages (c.with_window-watch.ensures.mode ∙ c.mode_within.ensures) c.with_window-watch.ensures.owners c.with_window-watch.ensures.mem
-          c.run_steps.ensures.leaves c.run_steps.ensures.frozen c.run_steps.ensures.length).regular,
+          c.run_watched.ensures.leaves c.run_watched.ensures.frozen c.run_watched.ensures.length).regular,
       c.parts.invariant.1,
     )
 
 pub returns-in-Some-clause-ready : goal.returns-in-Some-clause-ready
-returns-in-Some-clause-ready c =
+returns-in-Some-clause-ready g c =
     let ready = subst (λ (k : Kept). CanRun k.procs c.args.pid) (sym c.parts.view_is) c.requires.ready in
     let strayed = rw (← c.parts.view_is) at c.requires.strayed in
     (advances c.args.reach (kept_of c.parts.inside) c.args.pid c.args.count c.get_mut-task.result.now c.index.result.now c.in-Some.space c.with_window-watch.result.mode c.owners.result.now
-    c.with_window-watch.result.owners.now c.with_window-watch.result.mem.now c.run_steps.new.watch.mem.now c.run_steps.new.regs c.run_steps.result.done c.run_steps.result.stop
+    c.with_window-watch.result.owners.now c.with_window-watch.result.mem.now c.run_watched.new.watch.mem.now c.run_watched.new.regs c.run_watched.result.done c.run_watched.result.stop
     c.parts.invariant.0 ready strayed c.get_mut-task.ensures.value c.index.ensures c.in-Some.is
     c.owners.ensures.own c.owners.ensures.writable c.owners.ensures.pages (c.with_window-watch.ensures.mode ∙ c.mode_within.ensures) c.with_window-watch.ensures.owners c.with_window-watch.ensures.mem
-    c.run_steps.ensures.leaves c.run_steps.ensures.frozen c.run_steps.ensures.length).ready
+    c.run_watched.ensures.leaves c.run_watched.ensures.frozen c.run_watched.ensures.length).ready
 
 pub returns-in-Some-clause-within : goal.returns-in-Some-clause-within
-returns-in-Some-clause-within c =
+returns-in-Some-clause-within g c =
     let ready = subst (λ (k : Kept). CanRun k.procs c.args.pid) (sym c.parts.view_is) c.requires.ready in
     let strayed = rw (← c.parts.view_is) at c.requires.strayed in
     (advances c.args.reach (kept_of c.parts.inside) c.args.pid c.args.count c.get_mut-task.result.now c.index.result.now c.in-Some.space c.with_window-watch.result.mode c.owners.result.now
-    c.with_window-watch.result.owners.now c.with_window-watch.result.mem.now c.run_steps.new.watch.mem.now c.run_steps.new.regs c.run_steps.result.done c.run_steps.result.stop
+    c.with_window-watch.result.owners.now c.with_window-watch.result.mem.now c.run_watched.new.watch.mem.now c.run_watched.new.regs c.run_watched.result.done c.run_watched.result.stop
     c.parts.invariant.0 ready strayed c.get_mut-task.ensures.value c.index.ensures c.in-Some.is
     c.owners.ensures.own c.owners.ensures.writable c.owners.ensures.pages (c.with_window-watch.ensures.mode ∙ c.mode_within.ensures) c.with_window-watch.ensures.owners c.with_window-watch.ensures.mem
-    c.run_steps.ensures.leaves c.run_steps.ensures.frozen c.run_steps.ensures.length).within
+    c.run_watched.ensures.leaves c.run_watched.ensures.frozen c.run_watched.ensures.length).within
 
 pub returns-in-Some-clause-still : goal.returns-in-Some-clause-still
-returns-in-Some-clause-still c none =
+returns-in-Some-clause-still g c none =
     let v = c.parts.view_is in
     rw (← v) (none_done c.args.reach (kept_of c.parts.inside) c.args.pid c.args.count c.get_mut-task.result.now c.in-Some.space c.with_window-watch.result.mode c.owners.result.now
-    c.with_window-watch.result.owners.now c.with_window-watch.result.mem.now c.run_steps.new.watch.mem.now c.run_steps.new.regs c.run_steps.result.done c.run_steps.result.stop
+    c.with_window-watch.result.owners.now c.with_window-watch.result.mem.now c.run_watched.new.watch.mem.now c.run_watched.new.regs c.run_watched.result.done c.run_watched.result.stop
     c.get_mut-task.ensures.value c.owners.ensures.own c.owners.ensures.writable (c.with_window-watch.ensures.mode ∙ c.mode_within.ensures) c.with_window-watch.ensures.owners c.with_window-watch.ensures.mem
-    c.run_steps.ensures.leaves c.run_steps.ensures.frozen none)
+    c.run_watched.ensures.leaves c.run_watched.ensures.frozen none)
 
 pub returns-in-Some-clause-leads : goal.returns-in-Some-clause-leads
-returns-in-Some-clause-leads c =
+returns-in-Some-clause-leads g c =
     let v = c.parts.view_is in
     let ready = subst (λ (k : Kept). CanRun k.procs c.args.pid) (sym c.parts.view_is) c.requires.ready in
     let strayed = rw (← c.parts.view_is) at c.requires.strayed in
     rw (← v) (advances c.args.reach (kept_of c.parts.inside) c.args.pid c.args.count c.get_mut-task.result.now c.index.result.now c.in-Some.space c.with_window-watch.result.mode c.owners.result.now
-    c.with_window-watch.result.owners.now c.with_window-watch.result.mem.now c.run_steps.new.watch.mem.now c.run_steps.new.regs c.run_steps.result.done c.run_steps.result.stop
+    c.with_window-watch.result.owners.now c.with_window-watch.result.mem.now c.run_watched.new.watch.mem.now c.run_watched.new.regs c.run_watched.result.done c.run_watched.result.stop
     c.parts.invariant.0 ready strayed c.get_mut-task.ensures.value c.index.ensures c.in-Some.is
     c.owners.ensures.own c.owners.ensures.writable c.owners.ensures.pages (c.with_window-watch.ensures.mode ∙ c.mode_within.ensures) c.with_window-watch.ensures.owners c.with_window-watch.ensures.mem
-    c.run_steps.ensures.leaves c.run_steps.ensures.frozen c.run_steps.ensures.length).leads
+    c.run_watched.ensures.leaves c.run_watched.ensures.frozen c.run_watched.ensures.length).leads
 
 pub returns-in-Some-clause-halts : goal.returns-in-Some-clause-halts
-returns-in-Some-clause-halts c =
+returns-in-Some-clause-halts g c =
     let ready = subst (λ (k : Kept). CanRun k.procs c.args.pid) (sym c.parts.view_is) c.requires.ready in
     let strayed = rw (← c.parts.view_is) at c.requires.strayed in
     (advances c.args.reach (kept_of c.parts.inside) c.args.pid c.args.count c.get_mut-task.result.now c.index.result.now c.in-Some.space c.with_window-watch.result.mode c.owners.result.now
-    c.with_window-watch.result.owners.now c.with_window-watch.result.mem.now c.run_steps.new.watch.mem.now c.run_steps.new.regs c.run_steps.result.done c.run_steps.result.stop
+    c.with_window-watch.result.owners.now c.with_window-watch.result.mem.now c.run_watched.new.watch.mem.now c.run_watched.new.regs c.run_watched.result.done c.run_watched.result.stop
     c.parts.invariant.0 ready strayed c.get_mut-task.ensures.value c.index.ensures c.in-Some.is
     c.owners.ensures.own c.owners.ensures.writable c.owners.ensures.pages (c.with_window-watch.ensures.mode ∙ c.mode_within.ensures) c.with_window-watch.ensures.owners c.with_window-watch.ensures.mem
-    c.run_steps.ensures.leaves c.run_steps.ensures.frozen c.run_steps.ensures.length).halts
+    c.run_watched.ensures.leaves c.run_watched.ensures.frozen c.run_watched.ensures.length).halts
 
 pub returns-in-Some-clause-leads_in : goal.returns-in-Some-clause-leads_in
-returns-in-Some-clause-leads_in c =
+returns-in-Some-clause-leads_in g c =
     let v = c.parts.view_is in
     let ready = subst (λ (k : Kept). CanRun k.procs c.args.pid) (sym c.parts.view_is) c.requires.ready in
     let strayed = rw (← c.parts.view_is) at c.requires.strayed in
     rw (← v) (advances c.args.reach (kept_of c.parts.inside) c.args.pid c.args.count c.get_mut-task.result.now c.index.result.now c.in-Some.space c.with_window-watch.result.mode c.owners.result.now
-    c.with_window-watch.result.owners.now c.with_window-watch.result.mem.now c.run_steps.new.watch.mem.now c.run_steps.new.regs c.run_steps.result.done c.run_steps.result.stop
+    c.with_window-watch.result.owners.now c.with_window-watch.result.mem.now c.run_watched.new.watch.mem.now c.run_watched.new.regs c.run_watched.result.done c.run_watched.result.stop
     c.parts.invariant.0 ready strayed c.get_mut-task.ensures.value c.index.ensures c.in-Some.is
     c.owners.ensures.own c.owners.ensures.writable c.owners.ensures.pages (c.with_window-watch.ensures.mode ∙ c.mode_within.ensures) c.with_window-watch.ensures.owners c.with_window-watch.ensures.mem
-    c.run_steps.ensures.leaves c.run_steps.ensures.frozen c.run_steps.ensures.length).leads_in
+    c.run_watched.ensures.leaves c.run_watched.ensures.frozen c.run_watched.ensures.length).leads_in
 
 pub returns-in-Some-clause-halts_in : goal.returns-in-Some-clause-halts_in
-returns-in-Some-clause-halts_in c =
+returns-in-Some-clause-halts_in g c =
     let ready = subst (λ (k : Kept). CanRun k.procs c.args.pid) (sym c.parts.view_is) c.requires.ready in
     let strayed = rw (← c.parts.view_is) at c.requires.strayed in
     (advances c.args.reach (kept_of c.parts.inside) c.args.pid c.args.count c.get_mut-task.result.now c.index.result.now c.in-Some.space c.with_window-watch.result.mode c.owners.result.now
-    c.with_window-watch.result.owners.now c.with_window-watch.result.mem.now c.run_steps.new.watch.mem.now c.run_steps.new.regs c.run_steps.result.done c.run_steps.result.stop
+    c.with_window-watch.result.owners.now c.with_window-watch.result.mem.now c.run_watched.new.watch.mem.now c.run_watched.new.regs c.run_watched.result.done c.run_watched.result.stop
     c.parts.invariant.0 ready strayed c.get_mut-task.ensures.value c.index.ensures c.in-Some.is
     c.owners.ensures.own c.owners.ensures.writable c.owners.ensures.pages (c.with_window-watch.ensures.mode ∙ c.mode_within.ensures) c.with_window-watch.ensures.owners c.with_window-watch.ensures.mem
-    c.run_steps.ensures.leaves c.run_steps.ensures.frozen c.run_steps.ensures.length).halts_in
+    c.run_watched.ensures.leaves c.run_watched.ensures.frozen c.run_watched.ensures.length).halts_in
 
 pub invariant_of-parts-in-None : goal.invariant_of-parts-in-None
-invariant_of-parts-in-None c = absurd (never_none c.parts.inside.spaces.items c.get_mut-task.result.now.space c.index.result.now
+invariant_of-parts-in-None g c = absurd (never_none c.parts.inside.spaces.items c.get_mut-task.result.now.space c.index.result.now
     (has_space (kept_of c.parts.inside) c.args.pid c.get_mut-task.result.now c.parts.invariant.0.0 c.get_mut-task.ensures.value) c.index.ensures c.in-None.is)
 
 pub returns-in-None-clause-ready : goal.returns-in-None-clause-ready
-returns-in-None-clause-ready c = absurd (never_none c.parts.inside.spaces.items c.get_mut-task.result.now.space c.index.result.now
+returns-in-None-clause-ready g c = absurd (never_none c.parts.inside.spaces.items c.get_mut-task.result.now.space c.index.result.now
     (has_space (kept_of c.parts.inside) c.args.pid c.get_mut-task.result.now c.parts.invariant.0.0 c.get_mut-task.ensures.value) c.index.ensures c.in-None.is)
 
 pub returns-in-None-clause-still : goal.returns-in-None-clause-still
-returns-in-None-clause-still c = absurd (never_none c.parts.inside.spaces.items c.get_mut-task.result.now.space c.index.result.now
+returns-in-None-clause-still g c = absurd (never_none c.parts.inside.spaces.items c.get_mut-task.result.now.space c.index.result.now
     (has_space (kept_of c.parts.inside) c.args.pid c.get_mut-task.result.now c.parts.invariant.0.0 c.get_mut-task.ensures.value) c.index.ensures c.in-None.is)
 
 pub returns-in-None-clause-leads : goal.returns-in-None-clause-leads
-returns-in-None-clause-leads c = absurd (never_none c.parts.inside.spaces.items c.get_mut-task.result.now.space c.index.result.now
+returns-in-None-clause-leads g c = absurd (never_none c.parts.inside.spaces.items c.get_mut-task.result.now.space c.index.result.now
     (has_space (kept_of c.parts.inside) c.args.pid c.get_mut-task.result.now c.parts.invariant.0.0 c.get_mut-task.ensures.value) c.index.ensures c.in-None.is)
 
 pub returns-in-None-clause-halts : goal.returns-in-None-clause-halts
-returns-in-None-clause-halts c = absurd (never_none c.parts.inside.spaces.items c.get_mut-task.result.now.space c.index.result.now
+returns-in-None-clause-halts g c = absurd (never_none c.parts.inside.spaces.items c.get_mut-task.result.now.space c.index.result.now
     (has_space (kept_of c.parts.inside) c.args.pid c.get_mut-task.result.now c.parts.invariant.0.0 c.get_mut-task.ensures.value) c.index.ensures c.in-None.is)
 
 pub returns-in-None-clause-leads_in : goal.returns-in-None-clause-leads_in
-returns-in-None-clause-leads_in c = absurd (never_none c.parts.inside.spaces.items c.get_mut-task.result.now.space c.index.result.now
+returns-in-None-clause-leads_in g c = absurd (never_none c.parts.inside.spaces.items c.get_mut-task.result.now.space c.index.result.now
     (has_space (kept_of c.parts.inside) c.args.pid c.get_mut-task.result.now c.parts.invariant.0.0 c.get_mut-task.ensures.value) c.index.ensures c.in-None.is)
 
 pub returns-in-None-clause-halts_in : goal.returns-in-None-clause-halts_in
-returns-in-None-clause-halts_in c = absurd (never_none c.parts.inside.spaces.items c.get_mut-task.result.now.space c.index.result.now
+returns-in-None-clause-halts_in g c = absurd (never_none c.parts.inside.spaces.items c.get_mut-task.result.now.space c.index.result.now
+    (has_space (kept_of c.parts.inside) c.args.pid c.get_mut-task.result.now c.parts.invariant.0.0 c.get_mut-task.ensures.value) c.index.ensures c.in-None.is)
+
+pub returns-in-Some-clause-hits : goal.returns-in-Some-clause-hits
+returns-in-Some-clause-hits g c =
+    let v = c.parts.view_is in
+    let ready = subst (λ (k : Kept). CanRun k.procs c.args.pid) (sym c.parts.view_is) c.requires.ready in
+    let strayed = rw (← c.parts.view_is) at c.requires.strayed in
+    let advanced =
+    (advances c.args.reach (kept_of c.parts.inside) c.args.pid c.args.count c.get_mut-task.result.now c.index.result.now c.in-Some.space c.with_window-watch.result.mode c.owners.result.now
+    c.with_window-watch.result.owners.now c.with_window-watch.result.mem.now c.run_watched.new.watch.mem.now c.run_watched.new.regs c.run_watched.result.done c.run_watched.result.stop
+    c.parts.invariant.0 ready strayed c.get_mut-task.ensures.value c.index.ensures c.in-Some.is
+    c.owners.ensures.own c.owners.ensures.writable c.owners.ensures.pages (c.with_window-watch.ensures.mode ∙ c.mode_within.ensures) c.with_window-watch.ensures.owners c.with_window-watch.ensures.mem
+    c.run_watched.ensures.leaves c.run_watched.ensures.frozen c.run_watched.ensures.length) in
+    rw (← v) (advance_hits (kind_of_point c.args.watcher.now.point.now) c.args.watcher.now.spans.now c.args.hits.now c.run_watched.new.hits c.args.reach (kept_of c.parts.inside) c.args.pid c.args.count
+    c.get_mut-task.result.now c.index.result.now c.in-Some.space c.with_window-watch.result.mode c.owners.result.now
+    c.with_window-watch.result.owners.now c.with_window-watch.result.mem.now c.run_watched.new.watch.mem.now c.run_watched.new.regs c.run_watched.result.done c.run_watched.result.stop
+    c.run_watched.ensures.hits advanced c.parts.invariant.0 strayed c.get_mut-task.ensures.value c.index.ensures c.in-Some.is
+    c.owners.ensures.own c.owners.ensures.writable c.owners.ensures.pages (c.with_window-watch.ensures.mode ∙ c.mode_within.ensures) c.with_window-watch.ensures.owners c.with_window-watch.ensures.mem
+    c.run_watched.ensures.leaves c.run_watched.ensures.frozen c.run_watched.ensures.length).own
+
+pub returns-in-Some-clause-hits_in : goal.returns-in-Some-clause-hits_in
+returns-in-Some-clause-hits_in g c =
+    let v = c.parts.view_is in
+    let ready = subst (λ (k : Kept). CanRun k.procs c.args.pid) (sym c.parts.view_is) c.requires.ready in
+    let strayed = rw (← c.parts.view_is) at c.requires.strayed in
+    let advanced =
+    (advances c.args.reach (kept_of c.parts.inside) c.args.pid c.args.count c.get_mut-task.result.now c.index.result.now c.in-Some.space c.with_window-watch.result.mode c.owners.result.now
+    c.with_window-watch.result.owners.now c.with_window-watch.result.mem.now c.run_watched.new.watch.mem.now c.run_watched.new.regs c.run_watched.result.done c.run_watched.result.stop
+    c.parts.invariant.0 ready strayed c.get_mut-task.ensures.value c.index.ensures c.in-Some.is
+    c.owners.ensures.own c.owners.ensures.writable c.owners.ensures.pages (c.with_window-watch.ensures.mode ∙ c.mode_within.ensures) c.with_window-watch.ensures.owners c.with_window-watch.ensures.mem
+    c.run_watched.ensures.leaves c.run_watched.ensures.frozen c.run_watched.ensures.length) in
+    rw (← v) (advance_hits (kind_of_point c.args.watcher.now.point.now) c.args.watcher.now.spans.now c.args.hits.now c.run_watched.new.hits c.args.reach (kept_of c.parts.inside) c.args.pid c.args.count
+    c.get_mut-task.result.now c.index.result.now c.in-Some.space c.with_window-watch.result.mode c.owners.result.now
+    c.with_window-watch.result.owners.now c.with_window-watch.result.mem.now c.run_watched.new.watch.mem.now c.run_watched.new.regs c.run_watched.result.done c.run_watched.result.stop
+    c.run_watched.ensures.hits advanced c.parts.invariant.0 strayed c.get_mut-task.ensures.value c.index.ensures c.in-Some.is
+    c.owners.ensures.own c.owners.ensures.writable c.owners.ensures.pages (c.with_window-watch.ensures.mode ∙ c.mode_within.ensures) c.with_window-watch.ensures.owners c.with_window-watch.ensures.mem
+    c.run_watched.ensures.leaves c.run_watched.ensures.frozen c.run_watched.ensures.length).memory
+
+pub returns-in-None-clause-hits : goal.returns-in-None-clause-hits
+returns-in-None-clause-hits g c = absurd (never_none c.parts.inside.spaces.items c.get_mut-task.result.now.space c.index.result.now
+    (has_space (kept_of c.parts.inside) c.args.pid c.get_mut-task.result.now c.parts.invariant.0.0 c.get_mut-task.ensures.value) c.index.ensures c.in-None.is)
+
+pub returns-in-None-clause-hits_in : goal.returns-in-None-clause-hits_in
+returns-in-None-clause-hits_in g c = absurd (never_none c.parts.inside.spaces.items c.get_mut-task.result.now.space c.index.result.now
     (has_space (kept_of c.parts.inside) c.args.pid c.get_mut-task.result.now c.parts.invariant.0.0 c.get_mut-task.ensures.value) c.index.ensures c.in-None.is)

@@ -14,6 +14,10 @@ use Rattle.flat_machine.specs.declared.turn.After.TheVariants.{RunEnds}
 use Rattle.kept_parts.proofs.Abouts.{some_about}
 use Rattle.flat_machine.proofs.Turned.{reached_none, reached_on, halts_stands, turn_all, turn_ends, turn_stops, turn_fails}
 use Rattle.flat_machine.proofs.TurnsIn.{all_within, less_within, standing, reached_in_none, reached_in_on, continues, ends_notes, ends_regions, turn_ends_in, is_stopped, turn_stops_in, fails_same, still_within, turn_fails_in, turn_all_in}
+use Rattle.kept_parts.specs.Stands.{world_of}
+use Rattle.watch_points.specs.Points.{kind_of_point}
+use Rattle.flat_machine.specs.Hits.{turn_hits, turn_hits_in}
+use Rattle.flat_machine.proofs.HitsTurned.{hits_reached_none, hits_reached_on, event_hits, event_hits_in, turn_hits_over, turn_hits_over_in, turn_hits_stop, turn_hits_stop_in, turn_hits_all, turn_hits_all_in, turn_hits_fail, turn_hits_fail_in}
 use Rattle.flat_machine.proofs.turn.turn_within.Goals as goal
 
 pub loop-events-init : goal.loop-events-init
@@ -24,6 +28,8 @@ loop-events-init g c = record {
   regions = refl;
   leads = λ own. reached_none (kind_of c.args.chooser.now) c.args.programs.now c.args.pid c.args.parts.now;
   leads_in = reached_in_none (kind_of c.args.chooser.now) c.args.programs.now c.args.pid c.args.parts.now;
+  hits = λ own. hits_reached_none (turn_hits (kind_of_point c.args.watcher.now.point.now) c.args.watcher.now.spans.now c.args.pid) world_of (kind_of c.args.chooser.now) c.args.programs.now c.args.hits.now c.args.parts.now;
+  hits_in = hits_reached_none (turn_hits_in (kind_of_point c.args.watcher.now.point.now) c.args.watcher.now.spans.now c.args.pid) (physical_of (headers_of c.args.programs.now)) (kind_of c.args.chooser.now) c.args.programs.now c.args.hits.now c.args.parts.now;
   still = λ none. refl;
   marks = λ none. none;
 }
@@ -103,6 +109,17 @@ loop-events-preserved g c =
       leads_in = reached_in_on (kind_of c.args.chooser.now) c.args.programs.now c.args.pid c.args.parts.now c.advance-progress.new.parts c.next_event.new.parts (c.loop-events.events + c.advance-progress.result.done) 1
           (reached_in_on (kind_of c.args.chooser.now) c.args.programs.now c.args.pid c.args.parts.now c.loop-events.parts c.advance-progress.new.parts c.loop-events.events c.advance-progress.result.done c.loop-events.invariant.leads_in
           (λ b same are. c.advance-progress.ensures.leads_in (headers_of c.args.programs.now) b)) on.leads_in;
+      hits = λ own. hits_reached_on (turn_hits (kind_of_point c.args.watcher.now.point.now) c.args.watcher.now.spans.now c.args.pid) world_of (kind_of c.args.chooser.now) c.args.programs.now c.args.hits.now c.advance-progress.new.hits c.advance-progress.new.hits c.args.parts.now c.advance-progress.new.parts c.next_event.new.parts
+          (c.loop-events.events + c.advance-progress.result.done) 1
+          (hits_reached_on (turn_hits (kind_of_point c.args.watcher.now.point.now) c.args.watcher.now.spans.now c.args.pid) world_of (kind_of c.args.chooser.now) c.args.programs.now c.args.hits.now c.loop-events.hits c.advance-progress.new.hits c.args.parts.now c.loop-events.parts c.advance-progress.new.parts
+          c.loop-events.events c.advance-progress.result.done (c.loop-events.invariant.hits own) (λ b same are. c.advance-progress.ensures.hits own b))
+          (event_hits (kind_of_point c.args.watcher.now.point.now) c.args.watcher.now.spans.now (kind_of c.args.chooser.now) c.args.programs.now c.advance-progress.new.parts c.next_event.new.parts c.args.pid c.advance-progress.result.stop (halts_stands c.advance-progress.new.parts c.args.pid (c.args.count - c.loop-events.events) c.advance-progress.result.done c.advance-progress.result.stop other (c.advance-progress.ensures.halts own)) c.advance-progress.new.hits (carried own));
+      hits_in = hits_reached_on (turn_hits_in (kind_of_point c.args.watcher.now.point.now) c.args.watcher.now.spans.now c.args.pid) (physical_of (headers_of c.args.programs.now)) (kind_of c.args.chooser.now) c.args.programs.now c.args.hits.now c.advance-progress.new.hits c.advance-progress.new.hits c.args.parts.now c.advance-progress.new.parts c.next_event.new.parts
+          (c.loop-events.events + c.advance-progress.result.done) 1
+          (hits_reached_on (turn_hits_in (kind_of_point c.args.watcher.now.point.now) c.args.watcher.now.spans.now c.args.pid) (physical_of (headers_of c.args.programs.now)) (kind_of c.args.chooser.now) c.args.programs.now c.args.hits.now c.loop-events.hits c.advance-progress.new.hits c.args.parts.now c.loop-events.parts c.advance-progress.new.parts
+          c.loop-events.events c.advance-progress.result.done c.loop-events.invariant.hits_in (λ b same are. c.advance-progress.ensures.hits_in (headers_of c.args.programs.now) b))
+          (event_hits_in (kind_of_point c.args.watcher.now.point.now) c.args.watcher.now.spans.now (kind_of c.args.chooser.now) c.args.programs.now c.args.reach c.advance-progress.new.parts c.next_event.new.parts c.args.pid (ap has_stray c.advance-progress.ensures.notes ∙ c.loop-events.invariant.notes) c.advance-progress.result.stop (λ own. halts_stands c.advance-progress.new.parts c.args.pid (c.args.count - c.loop-events.events) c.advance-progress.result.done c.advance-progress.result.stop other (c.advance-progress.ensures.halts own))
+          (standing c.args.reach c.advance-progress.new.parts c.args.pid (c.args.count - c.loop-events.events) c.advance-progress.result.done c.advance-progress.result.stop other c.advance-progress.ensures.halts_in (headers_of c.args.programs.now)) c.advance-progress.new.hits carried memory);
       still = λ none. absurd (omega (arith, none));
       marks = λ none. c.in-Ok-GoesOn.ensures.marks (ap (λ (f : OpenFiles). f.changed) c.advance-progress.ensures.files ∙ c.loop-events.invariant.marks none);
     }
@@ -253,3 +270,91 @@ returns-in-Ok-RunEnds-clause-marks g c none =
 pub returns-in-Err-clause-marks : goal.returns-in-Err-clause-marks
 returns-in-Err-clause-marks g c none =
     c.in-Err.ensures.marks (ap (λ (f : OpenFiles). f.changed) c.advance-progress.ensures.files ∙ c.loop-events.invariant.marks none)
+
+-- ---- hits
+
+pub returns-then-eq-clause-hits : goal.returns-then-eq-clause-hits
+returns-then-eq-clause-hits g c own =
+    let is : c.advance-progress.result.stop ≡ Next = search rules in
+    let less = c.loop-events-test.true in
+    let all = all_within c.args.reach (physical_of (headers_of c.args.programs.now) (later c.advance-progress.result.done some_about) c.advance-progress.new.parts) c.args.pid (c.args.count - c.loop-events.events)
+    c.advance-progress.result.done c.advance-progress.result.stop is (c.advance-progress.ensures.halts_in (headers_of c.args.programs.now) some_about) in
+    turn_hits_all (kind_of_point c.args.watcher.now.point.now) c.args.watcher.now.spans.now (kind_of c.args.chooser.now) c.args.programs.now c.args.hits.now c.advance-progress.new.hits c.args.parts.now c.advance-progress.new.parts c.args.pid (c.loop-events.events + c.advance-progress.result.done) c.args.count (omega arith)
+    (hits_reached_on (turn_hits (kind_of_point c.args.watcher.now.point.now) c.args.watcher.now.spans.now c.args.pid) world_of (kind_of c.args.chooser.now) c.args.programs.now c.args.hits.now c.loop-events.hits c.advance-progress.new.hits c.args.parts.now c.loop-events.parts c.advance-progress.new.parts
+    c.loop-events.events c.advance-progress.result.done (c.loop-events.invariant.hits own) (λ b same are. c.advance-progress.ensures.hits own b))
+
+pub returns-then-eq-clause-hits_in : goal.returns-then-eq-clause-hits_in
+returns-then-eq-clause-hits_in g c =
+    let is : c.advance-progress.result.stop ≡ Next = search rules in
+    let less = c.loop-events-test.true in
+    let all = all_within c.args.reach (physical_of (headers_of c.args.programs.now) (later c.advance-progress.result.done some_about) c.advance-progress.new.parts) c.args.pid (c.args.count - c.loop-events.events)
+    c.advance-progress.result.done c.advance-progress.result.stop is (c.advance-progress.ensures.halts_in (headers_of c.args.programs.now) some_about) in
+    turn_hits_all_in (kind_of_point c.args.watcher.now.point.now) c.args.watcher.now.spans.now (kind_of c.args.chooser.now) c.args.programs.now c.args.hits.now c.advance-progress.new.hits c.args.parts.now c.advance-progress.new.parts c.advance-progress.new.parts c.args.pid (c.loop-events.events + c.advance-progress.result.done) c.args.count (omega arith)
+    (hits_reached_on (turn_hits_in (kind_of_point c.args.watcher.now.point.now) c.args.watcher.now.spans.now c.args.pid) (physical_of (headers_of c.args.programs.now)) (kind_of c.args.chooser.now) c.args.programs.now c.args.hits.now c.loop-events.hits c.advance-progress.new.hits c.args.parts.now c.loop-events.parts c.advance-progress.new.parts
+    c.loop-events.events c.advance-progress.result.done c.loop-events.invariant.hits_in (λ b same are. c.advance-progress.ensures.hits_in (headers_of c.args.programs.now) b))
+
+pub returns-in-Ok-TurnEnds-clause-hits : goal.returns-in-Ok-TurnEnds-clause-hits
+returns-in-Ok-TurnEnds-clause-hits g c own =
+    let carried = rw c.in-Ok-TurnEnds.field-0-is at c.in-Ok-TurnEnds.ensures.carried in
+    let other : c.advance-progress.result.stop ≢ Next = search rules in
+    let less = less_within c.args.reach c.advance-progress.new.parts c.args.pid (c.args.count - c.loop-events.events) c.advance-progress.result.done c.advance-progress.result.stop other c.advance-progress.ensures.halts_in in
+    turn_hits_over (kind_of_point c.args.watcher.now.point.now) c.args.watcher.now.spans.now (kind_of c.args.chooser.now) c.args.programs.now c.advance-progress.new.parts c.next_event.new.parts c.args.pid c.advance-progress.result.stop (halts_stands c.advance-progress.new.parts c.args.pid (c.args.count - c.loop-events.events) c.advance-progress.result.done c.advance-progress.result.stop other (c.advance-progress.ensures.halts own))
+    c.args.hits.now c.advance-progress.new.hits c.args.parts.now (c.loop-events.events + c.advance-progress.result.done) c.args.count (omega arith)
+    (hits_reached_on (turn_hits (kind_of_point c.args.watcher.now.point.now) c.args.watcher.now.spans.now c.args.pid) world_of (kind_of c.args.chooser.now) c.args.programs.now c.args.hits.now c.loop-events.hits c.advance-progress.new.hits c.args.parts.now c.loop-events.parts c.advance-progress.new.parts
+    c.loop-events.events c.advance-progress.result.done (c.loop-events.invariant.hits own) (λ b same are. c.advance-progress.ensures.hits own b)) (carried own)
+
+pub returns-in-Ok-TurnEnds-clause-hits_in : goal.returns-in-Ok-TurnEnds-clause-hits_in
+returns-in-Ok-TurnEnds-clause-hits_in g c =
+    let carried = rw c.in-Ok-TurnEnds.field-0-is at c.in-Ok-TurnEnds.ensures.carried in
+    let memory = rw c.in-Ok-TurnEnds.field-0-is at c.in-Ok-TurnEnds.ensures.memory in
+    let other : c.advance-progress.result.stop ≢ Next = search rules in
+    let less = less_within c.args.reach c.advance-progress.new.parts c.args.pid (c.args.count - c.loop-events.events) c.advance-progress.result.done c.advance-progress.result.stop other c.advance-progress.ensures.halts_in in
+    turn_hits_over_in (kind_of_point c.args.watcher.now.point.now) c.args.watcher.now.spans.now (kind_of c.args.chooser.now) c.args.programs.now c.args.reach c.advance-progress.new.parts c.next_event.new.parts c.args.pid (ap has_stray c.advance-progress.ensures.notes ∙ c.loop-events.invariant.notes) c.advance-progress.result.stop (λ own. halts_stands c.advance-progress.new.parts c.args.pid (c.args.count - c.loop-events.events) c.advance-progress.result.done c.advance-progress.result.stop other (c.advance-progress.ensures.halts own))
+    (standing c.args.reach c.advance-progress.new.parts c.args.pid (c.args.count - c.loop-events.events) c.advance-progress.result.done c.advance-progress.result.stop other c.advance-progress.ensures.halts_in (headers_of c.args.programs.now)) c.args.hits.now c.advance-progress.new.hits c.args.parts.now (c.loop-events.events + c.advance-progress.result.done) c.args.count (omega arith)
+    (hits_reached_on (turn_hits_in (kind_of_point c.args.watcher.now.point.now) c.args.watcher.now.spans.now c.args.pid) (physical_of (headers_of c.args.programs.now)) (kind_of c.args.chooser.now) c.args.programs.now c.args.hits.now c.loop-events.hits c.advance-progress.new.hits c.args.parts.now c.loop-events.parts c.advance-progress.new.parts
+    c.loop-events.events c.advance-progress.result.done c.loop-events.invariant.hits_in (λ b same are. c.advance-progress.ensures.hits_in (headers_of c.args.programs.now) b)) carried memory
+
+pub returns-in-Ok-RunEnds-clause-hits : goal.returns-in-Ok-RunEnds-clause-hits
+returns-in-Ok-RunEnds-clause-hits g c own =
+    let carried = rw c.in-Ok-RunEnds.field-0-is at c.in-Ok-RunEnds.ensures.carried in
+    let other : c.advance-progress.result.stop ≢ Next = search rules in
+    let less = less_within c.args.reach c.advance-progress.new.parts c.args.pid (c.args.count - c.loop-events.events) c.advance-progress.result.done c.advance-progress.result.stop other c.advance-progress.ensures.halts_in in
+    turn_hits_stop (kind_of_point c.args.watcher.now.point.now) c.args.watcher.now.spans.now (kind_of c.args.chooser.now) c.args.programs.now c.advance-progress.new.parts c.next_event.new.parts c.args.pid c.advance-progress.result.stop (halts_stands c.advance-progress.new.parts c.args.pid (c.args.count - c.loop-events.events) c.advance-progress.result.done c.advance-progress.result.stop other (c.advance-progress.ensures.halts own))
+    c.args.hits.now c.advance-progress.new.hits c.args.parts.now (c.loop-events.events + c.advance-progress.result.done) c.args.count (omega arith)
+    (hits_reached_on (turn_hits (kind_of_point c.args.watcher.now.point.now) c.args.watcher.now.spans.now c.args.pid) world_of (kind_of c.args.chooser.now) c.args.programs.now c.args.hits.now c.loop-events.hits c.advance-progress.new.hits c.args.parts.now c.loop-events.parts c.advance-progress.new.parts
+    c.loop-events.events c.advance-progress.result.done (c.loop-events.invariant.hits own) (λ b same are. c.advance-progress.ensures.hits own b)) c.in-Ok-RunEnds.end (carried own)
+
+pub returns-in-Ok-RunEnds-clause-hits_in : goal.returns-in-Ok-RunEnds-clause-hits_in
+returns-in-Ok-RunEnds-clause-hits_in g c =
+    let carried = rw c.in-Ok-RunEnds.field-0-is at c.in-Ok-RunEnds.ensures.carried in
+    let memory = rw c.in-Ok-RunEnds.field-0-is at c.in-Ok-RunEnds.ensures.memory in
+    let other : c.advance-progress.result.stop ≢ Next = search rules in
+    let less = less_within c.args.reach c.advance-progress.new.parts c.args.pid (c.args.count - c.loop-events.events) c.advance-progress.result.done c.advance-progress.result.stop other c.advance-progress.ensures.halts_in in
+    turn_hits_stop_in (kind_of_point c.args.watcher.now.point.now) c.args.watcher.now.spans.now (kind_of c.args.chooser.now) c.args.programs.now c.args.reach c.advance-progress.new.parts c.next_event.new.parts c.args.pid (ap has_stray c.advance-progress.ensures.notes ∙ c.loop-events.invariant.notes) c.advance-progress.result.stop (λ own. halts_stands c.advance-progress.new.parts c.args.pid (c.args.count - c.loop-events.events) c.advance-progress.result.done c.advance-progress.result.stop other (c.advance-progress.ensures.halts own))
+    (standing c.args.reach c.advance-progress.new.parts c.args.pid (c.args.count - c.loop-events.events) c.advance-progress.result.done c.advance-progress.result.stop other c.advance-progress.ensures.halts_in (headers_of c.args.programs.now)) c.args.hits.now c.advance-progress.new.hits c.args.parts.now (c.loop-events.events + c.advance-progress.result.done) c.args.count (omega arith)
+    (hits_reached_on (turn_hits_in (kind_of_point c.args.watcher.now.point.now) c.args.watcher.now.spans.now c.args.pid) (physical_of (headers_of c.args.programs.now)) (kind_of c.args.chooser.now) c.args.programs.now c.args.hits.now c.loop-events.hits c.advance-progress.new.hits c.args.parts.now c.loop-events.parts c.advance-progress.new.parts
+    c.loop-events.events c.advance-progress.result.done c.loop-events.invariant.hits_in (λ b same are. c.advance-progress.ensures.hits_in (headers_of c.args.programs.now) b)) c.in-Ok-RunEnds.end carried memory
+
+pub returns-in-Err-clause-hits : goal.returns-in-Err-clause-hits
+returns-in-Err-clause-hits g c own =
+    turn_hits_fail (kind_of_point c.args.watcher.now.point.now) c.args.watcher.now.spans.now (kind_of c.args.chooser.now) c.args.programs.now c.args.hits.now c.advance-progress.new.hits c.args.parts.now c.advance-progress.new.parts c.args.pid (c.loop-events.events + c.advance-progress.result.done) c.args.count c.in-Err.error
+    (hits_reached_on (turn_hits (kind_of_point c.args.watcher.now.point.now) c.args.watcher.now.spans.now c.args.pid) world_of (kind_of c.args.chooser.now) c.args.programs.now c.args.hits.now c.loop-events.hits c.advance-progress.new.hits c.args.parts.now c.loop-events.parts c.advance-progress.new.parts
+    c.loop-events.events c.advance-progress.result.done (c.loop-events.invariant.hits own) (λ b same are. c.advance-progress.ensures.hits own b))
+
+pub returns-in-Err-clause-hits_in : goal.returns-in-Err-clause-hits_in
+returns-in-Err-clause-hits_in g c =
+    turn_hits_fail_in (kind_of_point c.args.watcher.now.point.now) c.args.watcher.now.spans.now (kind_of c.args.chooser.now) c.args.programs.now c.args.hits.now c.advance-progress.new.hits c.args.parts.now c.advance-progress.new.parts c.next_event.new.parts c.args.pid (c.loop-events.events + c.advance-progress.result.done) c.args.count c.in-Err.error
+    (hits_reached_on (turn_hits_in (kind_of_point c.args.watcher.now.point.now) c.args.watcher.now.spans.now c.args.pid) (physical_of (headers_of c.args.programs.now)) (kind_of c.args.chooser.now) c.args.programs.now c.args.hits.now c.loop-events.hits c.advance-progress.new.hits c.args.parts.now c.loop-events.parts c.advance-progress.new.parts
+    c.loop-events.events c.advance-progress.result.done c.loop-events.invariant.hits_in (λ b same are. c.advance-progress.ensures.hits_in (headers_of c.args.programs.now) b))
+
+pub returns-clause-hits : goal.returns-clause-hits
+returns-clause-hits g c own =
+    let past = c.loop-events-test.false in
+    turn_hits_all (kind_of_point c.args.watcher.now.point.now) c.args.watcher.now.spans.now (kind_of c.args.chooser.now) c.args.programs.now c.args.hits.now c.loop-events.hits c.args.parts.now c.loop-events.parts c.args.pid c.loop-events.events c.args.count (omega (arith, c.loop-events.invariant.within))
+    (c.loop-events.invariant.hits own)
+
+pub returns-clause-hits_in : goal.returns-clause-hits_in
+returns-clause-hits_in g c =
+    let past = c.loop-events-test.false in
+    turn_hits_all_in (kind_of_point c.args.watcher.now.point.now) c.args.watcher.now.spans.now (kind_of c.args.chooser.now) c.args.programs.now c.args.hits.now c.loop-events.hits c.args.parts.now c.loop-events.parts c.loop-events.parts c.args.pid c.loop-events.events c.args.count (omega (arith, c.loop-events.invariant.within))
+    c.loop-events.invariant.hits_in

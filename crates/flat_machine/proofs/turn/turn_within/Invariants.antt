@@ -7,6 +7,11 @@ use Rattle.kept_parts.specs.declared.reach.Reach.TheVariants.{Own}
 use Rattle.flat_machine.specs.State.{is_whole}
 use Rattle.flat_machine.proofs.Turned.{Reached}
 use Rattle.flat_machine.proofs.TurnsIn.{ReachedIn}
+use Rattle.kept_parts.specs.InMemory.{headers_of, physical_of}
+use Rattle.kept_parts.specs.Stands.{world_of}
+use Rattle.watch_points.specs.Points.{kind_of_point}
+use Rattle.flat_machine.specs.Hits.{turn_hits, turn_hits_in}
+use Rattle.flat_machine.proofs.HitsTurned.{HitsReached}
 use Rattle.flat_machine.proofs.turn.turn_within.Given as goal
 
 abbrev pub invariant-loop-events : goal.invariant-loop-events
@@ -17,6 +22,8 @@ invariant-loop-events g l = record {
   regions : length l.parts.regions ≡ length l.fn.parts.regions;
   leads : l.reach ≡ Own → Reached (kind_of l.chooser) l.programs l.pid l.fn.parts l.events l.parts;
   leads_in : ReachedIn (kind_of l.chooser) l.programs l.pid l.fn.parts l.events l.parts;
+  hits : l.reach ≡ Own → HitsReached (turn_hits (kind_of_point l.watcher.point.now) l.watcher.spans.now l.pid) world_of (kind_of l.chooser) l.programs l.fn.hits l.hits l.fn.parts l.events l.parts;
+  hits_in : HitsReached (turn_hits_in (kind_of_point l.watcher.point.now) l.watcher.spans.now l.pid) (physical_of (headers_of l.programs)) (kind_of l.chooser) l.programs l.fn.hits l.hits l.fn.parts l.events l.parts;
   still : l.events ≡ 0 → l.parts ≡ l.fn.parts;
   marks : l.fn.parts.files.changed ≡ [] → l.parts.files.changed ≡ [];
 }

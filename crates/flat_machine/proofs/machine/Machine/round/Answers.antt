@@ -9,6 +9,10 @@ use Rattle.flat_machine.specs.LeavesIn.{is_stray}
 use Rattle.flat_machine.specs.State.{world, one_memory}
 use Rattle.flat_machine.proofs.Rounds.{round_on, round_ends, round_fails}
 use Rattle.flat_machine.proofs.RoundsIn.{first_quiet, round_on_in, round_ends_in, round_fails_in, round_first, round_first_over, first_fails}
+use Rattle.watch_points.specs.Points.{kind_of_point}
+use Rattle.flat_machine.specs.Hits.{hits, hits_in_memory}
+use Rattle.flat_machine.proofs.HitsRounds.{come_none, hits_round_on, hits_round_ends, hits_round_fails}
+use Rattle.flat_machine.proofs.HitsRoundsIn.{hits_round_on_in, hits_round_ends_in, hits_round_fails_in}
 use Rattle.flat_machine.proofs.machine.Machine.round.Goals as goal
 
 pub loop-quantum-init : goal.loop-quantum-init
@@ -20,6 +24,8 @@ loop-quantum-init g c = record {
   comes = λ halting. comes_none (world c.args.self.now);
   memory = λ go. comes_in_none (one_memory c.args.self.now);
   first = λ go quiet. first_quiet [] (world c.args.self.now) (world c.args.self.now) (Ok None) quiet (comes_none (world c.args.self.now));
+  hits = λ halting. come_none (hits (kind_of_point c.args.watcher.now.point.now) c.args.watcher.now.spans.now) c.args.hits.now (world c.args.self.now);
+  hits_in = λ go. come_none (hits_in_memory (kind_of_point c.args.watcher.now.point.now) c.args.watcher.now.spans.now) c.args.hits.now (one_memory c.args.self.now);
   events = omega arith;
 }
 
@@ -64,6 +70,8 @@ loop-quantum-preserved g c =
     let leaves = rw c.in_default.is at c.in_ok-end.ensures.leaves in
     let memory = rw c.in_default.is at c.in_ok-end.ensures.memory in
     let first = rw c.in_default.is at c.in_ok-end.ensures.first in
+    let hits = rw c.in_default.is at c.in_ok-end.ensures.hits in
+    let hits_in = rw c.in_default.is at c.in_ok-end.ensures.hits_in in
     record {
       kind = c.in_ok-end.ensures.kind ∙ c.loop-quantum.invariant.kind;
       mode = c.in_ok-end.ensures.mode ∙ c.loop-quantum.invariant.mode;
@@ -75,6 +83,8 @@ loop-quantum-preserved g c =
           (c.loop-quantum.invariant.memory go) (memory (c.loop-quantum.invariant.mode ∙ go));
       first = λ go quiet. round_first c.args.quanta.now c.loop-quantum.quantum-index (record { pick = 0; count = 0 }) c.loop-quantum-test.true (world c.args.self.now) c.loop-quantum.self c.take_turn.new.self
           (c.loop-quantum.invariant.first go quiet) (Ok None) (memory (c.loop-quantum.invariant.mode ∙ go)) (first (c.loop-quantum.invariant.mode ∙ go));
+      hits = λ halting. hits_round_on (kind_of_point c.args.watcher.now.point.now) c.args.watcher.now.spans.now c.args.quanta.now c.loop-quantum.quantum-index (record { pick = 0; count = 0 }) c.loop-quantum-test.true c.args.hits.now c.loop-quantum.hits c.take_turn.new.hits (world c.args.self.now) (world c.loop-quantum.self) (world c.take_turn.new.self) (c.loop-quantum.invariant.hits halting) (hits (c.loop-quantum.invariant.halts halting));
+      hits_in = λ go. hits_round_on_in (kind_of_point c.args.watcher.now.point.now) c.args.watcher.now.spans.now c.args.quanta.now c.loop-quantum.quantum-index (record { pick = 0; count = 0 }) c.loop-quantum-test.true c.args.hits.now c.loop-quantum.hits c.take_turn.new.hits (one_memory c.args.self.now) (one_memory c.loop-quantum.self) (one_memory c.take_turn.new.self) (c.loop-quantum.invariant.hits_in go) (hits_in (c.loop-quantum.invariant.mode ∙ go));
       events = omega (arith, c.loop-quantum.invariant.events);
     }
 
@@ -92,3 +102,25 @@ returns-in-Some-clause-copies g c halting held = c.in_ok-end.ensures.copies (c.l
 
 pub returns-clause-copies : goal.returns-clause-copies
 returns-clause-copies g c halting held = c.loop-quantum.invariant.copies halting held
+
+pub returns-in_err-end-clause-hits : goal.returns-in_err-end-clause-hits
+returns-in_err-end-clause-hits g c halting =
+    hits_round_fails (kind_of_point c.args.watcher.now.point.now) c.args.watcher.now.spans.now c.args.quanta.now c.loop-quantum.quantum-index (record { pick = 0; count = 0 }) c.loop-quantum-test.true c.args.hits.now c.loop-quantum.hits c.take_turn.new.hits (world c.args.self.now) (world c.loop-quantum.self) (world c.take_turn.new.self)
+    (c.loop-quantum.invariant.hits halting) c.from_residual.result c.from_residual.ensures.0 (c.loop-quantum.invariant.comes halting) (c.in_err-end.ensures.hits (c.loop-quantum.invariant.halts halting))
+
+pub returns-in_err-end-clause-hits_in : goal.returns-in_err-end-clause-hits_in
+returns-in_err-end-clause-hits_in g c go =
+    hits_round_fails_in (kind_of_point c.args.watcher.now.point.now) c.args.watcher.now.spans.now c.args.quanta.now c.loop-quantum.quantum-index (record { pick = 0; count = 0 }) c.loop-quantum-test.true c.args.hits.now c.loop-quantum.hits c.take_turn.new.hits (one_memory c.args.self.now) (one_memory c.loop-quantum.self) (one_memory c.take_turn.new.self)
+    (c.loop-quantum.invariant.hits_in go) c.from_residual.result c.from_residual.ensures.0 (c.loop-quantum.invariant.memory go) (c.in_err-end.ensures.hits_in (c.loop-quantum.invariant.mode ∙ go))
+
+pub returns-in-Some-clause-hits : goal.returns-in-Some-clause-hits
+returns-in-Some-clause-hits g c halting =
+    let hits = rw c.in-Some.is at (c.in_ok-end.ensures.hits (c.loop-quantum.invariant.halts halting)) in
+    hits_round_ends (kind_of_point c.args.watcher.now.point.now) c.args.watcher.now.spans.now c.args.quanta.now c.loop-quantum.quantum-index (record { pick = 0; count = 0 }) c.loop-quantum-test.true c.args.hits.now c.loop-quantum.hits c.take_turn.new.hits (world c.args.self.now) (world c.loop-quantum.self) (world c.take_turn.new.self)
+    (c.loop-quantum.invariant.hits halting) c.in-Some.end hits
+
+pub returns-in-Some-clause-hits_in : goal.returns-in-Some-clause-hits_in
+returns-in-Some-clause-hits_in g c go =
+    let hits = rw c.in-Some.is at (c.in_ok-end.ensures.hits_in (c.loop-quantum.invariant.mode ∙ go)) in
+    hits_round_ends_in (kind_of_point c.args.watcher.now.point.now) c.args.watcher.now.spans.now c.args.quanta.now c.loop-quantum.quantum-index (record { pick = 0; count = 0 }) c.loop-quantum-test.true c.args.hits.now c.loop-quantum.hits c.take_turn.new.hits (one_memory c.args.self.now) (one_memory c.loop-quantum.self) (one_memory c.take_turn.new.self)
+    (c.loop-quantum.invariant.hits_in go) c.in-Some.end hits

@@ -21,6 +21,10 @@ use Rattle.flat_machine.proofs.Rounds.{quantum_none, quantum_leaves}
 use Rattle.flat_machine.proofs.RoundsIn.{quantum_none_in, quantum_leaves_in, quantum_goes_past, stray_of, stray_reach, calm_reach, first_none, first_quiet, past_by, chosen_in, may_run_in, tells_in, own_here}
 use Rattle.flat_machine.proofs.StraysOn.{taken_in}
 use Rattle.flat_machine.proofs.TakenBack.{back, loads_back, memory_back, quiet_back, rest_strays, order_back, parts_back, undone_has}
+use Rattle.watch_points.specs.Points.{kind_of_point}
+use Rattle.flat_machine.specs.HitsLeft.{HitsLeaveIn}
+use Rattle.flat_machine.proofs.HitsRounds.{none_hit, turn_hits_leave}
+use Rattle.flat_machine.proofs.HitsRoundsIn.{none_hit_in, turn_hits_leave_in, quantum_hits_past}
 use Rattle.flat_machine.proofs.machine.Machine.take_turn.Goals as goal
 
 pub returns-in_default-clause-leaves : goal.returns-in_default-clause-leaves
@@ -195,3 +199,84 @@ pub returns-clause-copies : goal.returns-clause-copies
 returns-clause-copies g c halting held =
     let v = c.self.view_is in
     c.turn_of-events.ensures.copies (own_here c.args.self.now halting.quiet (rw (← v) c.self.invariant.strayed))
+
+-- ---- hits
+
+pub returns-in_default-clause-hits : goal.returns-in_default-clause-hits
+returns-in_default-clause-hits g c halting =
+    let s = state_of c.self.inside in
+    let v = c.self.view_is in
+    rw (← v) (none_hit (kind_of_point c.args.watcher.now.point.now) c.args.watcher.now.spans.now c.args.quantum (world s) c.args.hits.now (sym (c.in_default.ensures.picked (about_of s))))
+
+pub returns-in_default-clause-hits_in : goal.returns-in_default-clause-hits_in
+returns-in_default-clause-hits_in g c go =
+    let s = state_of c.self.inside in
+    let v = c.self.view_is in
+    rw (← v) (none_hit_in (kind_of_point c.args.watcher.now.point.now) c.args.watcher.now.spans.now c.args.quantum (one_memory s) c.args.hits.now (chosen_in s c.args.quantum.pick None (sym (c.in_default.ensures.picked (about_of s)))))
+
+pub returns-then-is_undone-clause-hits_in : goal.returns-then-is_undone-clause-hits_in
+returns-then-is_undone-clause-hits_in g c go =
+    let s = state_of c.self.inside in
+    let v = c.self.view_is in
+    let has : has_rest c.self-2.inside.parts.mode c.turn_of-events.result.end ≡ true = sym c.has_rest.ensures ∙ c.if-has_rest.true in
+    let strays : is_stray c.turn_of-events.result.end ≡ true = rest_strays c.self-2.inside.parts.mode c.turn_of-events.result.end has in
+    let reached : c.turn_of-events.new.self.reach ≡ Whole = c.turn_of-events.ensures.reach ∙ stray_reach c.args.self.now.reach c.turn_of-events.result.end strays in
+    let rest = subst (λ (reach : Reach). TurnLeavesIn reach c.in-Some.pid (c.args.quantum.count - c.turn_of-events.result.events) (one_memory c.turn_of-events.new.self) c.turn_of-rest.result.events
+    (one_memory c.turn_of-rest.new.self) c.turn_of-rest.result.end) reached c.turn_of-rest.ensures.memory in
+    let picks : picked c.args.quantum.pick (ready_pids (world c.args.self.now).procs) ≡ Some c.in-Some.pid = rw (← v) (sym (c.in-Some.ensures.picked (about_of s))) in
+    let at = stray_of c.turn_of-events.result.end strays in
+    let on = c.turn_of-events.ensures.strays at.0 at.1 in
+    let past =
+    quantum_hits_past (kind_of_point c.args.watcher.now.point.now) c.args.watcher.now.spans.now c.args.quantum c.in-Some.pid c.turn_of-events.result.events c.turn_of-rest.result.events (one_memory c.args.self.now) (one_memory c.turn_of-events.new.self) (one_memory c.turn_of-rest.new.self)
+    (chosen_in c.args.self.now c.args.quantum.pick (Some c.in-Some.pid) picks) on.0 (may_run_in c.turn_of-events.new.self c.in-Some.pid on.1) c.args.hits.now c.turn_of-events.new.hits c.turn_of-rest.new.hits c.args.self.now.reach
+    c.turn_of-events.result.end c.turn_of-rest.result.end strays c.turn_of-events.ensures.memory c.turn_of-events.ensures.hits_in rest c.turn_of-rest.ensures.hits_in in
+    let undone : is_undone c.turn_of-rest.result.events c.turn_of-rest.result.end ≡ true = sym c.is_undone.ensures ∙ c.if-is_undone.true in
+    let new = state_of c.self-then-has_rest.inside in
+    let is : taken_in (is_undone c.turn_of-rest.result.events c.turn_of-rest.result.end) (one_memory c.turn_of-rest.new.self) ≡ one_memory (back new) =
+    (λ i. taken_in (undone i) (one_memory (sym c.self-then-has_rest.view_is i))) ∙ sym (memory_back new) in
+    let left = subst (λ (x : State). TurnLeavesIn Whole c.in-Some.pid (c.args.quantum.count - c.turn_of-events.result.events) (one_memory c.turn_of-events.new.self) c.turn_of-rest.result.events (one_memory x)
+    c.turn_of-rest.result.end) (sym c.self-then-has_rest.view_is) rest in
+    let quiet : has_stray (drop 1 new.kept.notes) ≡ false =
+    quiet_back c.in-Some.pid c.args.quantum.count (c.args.quantum.count - c.turn_of-events.result.events) c.turn_of-events.result.events c.turn_of-rest.result.events c.args.self.now
+    c.turn_of-events.new.self new c.turn_of-events.result.end c.turn_of-rest.result.end strays c.turn_of-events.ensures.memory undone left in
+    let taken = parts_back c.self-then-has_rest.inside.parts _ c.take_back.ensures quiet in
+    rw taken (subst (λ (p : Physical). HitsLeaveIn (kind_of_point c.args.watcher.now.point.now) c.args.watcher.now.spans.now c.args.hits.now c.turn_of-rest.new.hits (c.args.quantum ∷ []) (one_memory c.args.self.now) p c.turn_of-rest.result.end) is past)
+
+pub returns-else-is_undone-clause-hits_in : goal.returns-else-is_undone-clause-hits_in
+returns-else-is_undone-clause-hits_in g c go =
+    let s = state_of c.self.inside in
+    let v = c.self.view_is in
+    let has : has_rest c.self-2.inside.parts.mode c.turn_of-events.result.end ≡ true = sym c.has_rest.ensures ∙ c.if-has_rest.true in
+    let strays : is_stray c.turn_of-events.result.end ≡ true = rest_strays c.self-2.inside.parts.mode c.turn_of-events.result.end has in
+    let reached : c.turn_of-events.new.self.reach ≡ Whole = c.turn_of-events.ensures.reach ∙ stray_reach c.args.self.now.reach c.turn_of-events.result.end strays in
+    let rest = subst (λ (reach : Reach). TurnLeavesIn reach c.in-Some.pid (c.args.quantum.count - c.turn_of-events.result.events) (one_memory c.turn_of-events.new.self) c.turn_of-rest.result.events
+    (one_memory c.turn_of-rest.new.self) c.turn_of-rest.result.end) reached c.turn_of-rest.ensures.memory in
+    let picks : picked c.args.quantum.pick (ready_pids (world c.args.self.now).procs) ≡ Some c.in-Some.pid = rw (← v) (sym (c.in-Some.ensures.picked (about_of s))) in
+    let at = stray_of c.turn_of-events.result.end strays in
+    let on = c.turn_of-events.ensures.strays at.0 at.1 in
+    let past =
+    quantum_hits_past (kind_of_point c.args.watcher.now.point.now) c.args.watcher.now.spans.now c.args.quantum c.in-Some.pid c.turn_of-events.result.events c.turn_of-rest.result.events (one_memory c.args.self.now) (one_memory c.turn_of-events.new.self) (one_memory c.turn_of-rest.new.self)
+    (chosen_in c.args.self.now c.args.quantum.pick (Some c.in-Some.pid) picks) on.0 (may_run_in c.turn_of-events.new.self c.in-Some.pid on.1) c.args.hits.now c.turn_of-events.new.hits c.turn_of-rest.new.hits c.args.self.now.reach
+    c.turn_of-events.result.end c.turn_of-rest.result.end strays c.turn_of-events.ensures.memory c.turn_of-events.ensures.hits_in rest c.turn_of-rest.ensures.hits_in in
+    let kept : is_undone c.turn_of-rest.result.events c.turn_of-rest.result.end ≡ false = sym c.is_undone.ensures ∙ c.if-is_undone.false in
+    subst (λ (b : Bool). HitsLeaveIn (kind_of_point c.args.watcher.now.point.now) c.args.watcher.now.spans.now c.args.hits.now c.turn_of-rest.new.hits (c.args.quantum ∷ []) (one_memory c.args.self.now) (taken_in b (one_memory c.turn_of-rest.new.self)) c.turn_of-rest.result.end) kept past
+
+pub returns-clause-hits : goal.returns-clause-hits
+returns-clause-hits g c halting =
+    let s = state_of c.self.inside in
+    let v = c.self.view_is in
+    let quiet = halting.quiet in
+    let own : c.args.self.now.reach ≡ Own = own_here c.args.self.now quiet (rw (← v) c.self.invariant.strayed) in
+    let picks : picked c.args.quantum.pick (ready_pids (world c.args.self.now).procs) ≡ Some c.in-Some.pid = rw (← v) (sym (c.in-Some.ensures.picked (about_of s))) in
+    turn_hits_leave (kind_of_point c.args.watcher.now.point.now) c.args.watcher.now.spans.now c.args.quantum (world c.args.self.now) c.in-Some.pid picks c.args.hits.now c.turn_of-events.new.hits c.turn_of-events.result.events (world c.turn_of-events.new.self) c.turn_of-events.result.end
+    (c.turn_of-events.ensures.leaves own) (c.turn_of-events.ensures.hits own)
+
+pub returns-clause-hits_in : goal.returns-clause-hits_in
+returns-clause-hits_in g c go =
+    let s = state_of c.self.inside in
+    let v = c.self.view_is in
+    let picks : picked c.args.quantum.pick (ready_pids (world c.args.self.now).procs) ≡ Some c.in-Some.pid = rw (← v) (sym (c.in-Some.ensures.picked (about_of s))) in
+    let goes : c.self-2.inside.parts.mode ≡ GoOn = ap (λ (x : State). x.mode) c.self-2.view_is ∙ c.turn_of-events.ensures.mode ∙ go in
+    let calm : is_stray c.turn_of-events.result.end ≡ false = ap (λ (m : Mode). has_rest m c.turn_of-events.result.end) (sym goes) ∙ sym c.has_rest.ensures ∙ c.if-has_rest.false in
+    turn_hits_leave_in (kind_of_point c.args.watcher.now.point.now) c.args.watcher.now.spans.now c.args.quantum (one_memory c.args.self.now) c.in-Some.pid (chosen_in c.args.self.now c.args.quantum.pick (Some c.in-Some.pid) picks) c.args.hits.now c.turn_of-events.new.hits
+    c.turn_of-events.result.events (one_memory c.turn_of-events.new.self) c.args.self.now.reach c.turn_of-events.result.end calm c.turn_of-events.ensures.memory c.turn_of-events.ensures.hits_in

@@ -79,3 +79,28 @@ returns-clause-copies g c own =
     (physical_of (headers_of m.parts.programs) (later c.turn-events.result.events a) c.turn-events.new.parts.kept) c.turn-events.result.end) here (c.turn-events.ensures.memory a so are) in
     turn_holds (headers_of m.parts.programs) a (later c.turn-events.result.events a) c.args.pid c.args.count c.turn-events.result.events m.parts.kept c.turn-events.new.parts.kept c.turn-events.result.end memory
     c.turn-events.ensures.sound (c.turn-events.ensures.notes ∙ ap (λ (reach : Reach). is_whole (reach_behind reach c.turn-events.result.end)) here) c.turn-events.ensures.copies
+
+pub returns-clause-hits : goal.returns-clause-hits
+returns-clause-hits g c own =
+    let m = c.self.inside in
+    let s = state_of m in
+    let a = about_of s in
+    let same : length s.paths ≡ length s.programs = length-map m.paths.items (λ path. path.items) ∙ c.self.invariant.paths in
+    let so = ap (λ (x : State). x.kind) c.self.view_is ∙ sym c.requires.kind in
+    let are = are_flats s.paths s.programs same in
+    let v = c.self.view_is in
+    let here = ap (λ (x : State). x.reach) v ∙ own in
+    let hits = c.turn-events.ensures.hits here a so are in
+    rw (← v) hits
+
+pub returns-clause-hits_in : goal.returns-clause-hits_in
+returns-clause-hits_in g c =
+    let m = c.self.inside in
+    let s = state_of m in
+    let a = about_of s in
+    let same : length s.paths ≡ length s.programs = length-map m.paths.items (λ path. path.items) ∙ c.self.invariant.paths in
+    let so = ap (λ (x : State). x.kind) c.self.view_is ∙ sym c.requires.kind in
+    let are = are_flats s.paths s.programs same in
+    let v = c.self.view_is in
+    let hits = c.turn-events.ensures.hits_in a so are in
+    rw (← v, c.from.ensures, c.turn-events.ensures.programs) hits

@@ -19,8 +19,12 @@ use Rattle.flat_machine.proofs.Rounds.{time_fits, one_more_time, time_on, time_e
 use Rattle.flat_machine.proofs.RoundsIn.{first_quiet, time_on_in, time_ends_in, time_fails_in, time_first, time_first_ends, all_comes_in, all_first, runs_fail_in, goes_on_fails}
 use Rattle.flat_machine.proofs.Waiting.{run_keeps_waits, run_waits_where_stuck}
 use Rattle.syscall_layer.proofs.Halted.{none_halted}
-use Rattle.flat_machine.proofs.machine.Machine.run_repeated.Given.{Over}
-use Rattle.flat_machine.proofs.machine.Machine.run_repeated.Goals as goal
+use Rattle.watch_points.specs.Points.{kind_of_point}
+use Rattle.flat_machine.specs.Hits.{hits, hits_in_memory}
+use Rattle.flat_machine.proofs.HitsRounds.{come_none, come_all, no_quanta, hits_time_on, hits_time_ends, hits_time_fails, hits_fail}
+use Rattle.flat_machine.proofs.HitsRoundsIn.{no_quanta_in, hits_time_on_in, hits_time_ends_in, hits_time_fails_in, hits_fail_in}
+use Rattle.flat_machine.proofs.machine.Machine.run_repeated_watched.Given.{Over}
+use Rattle.flat_machine.proofs.machine.Machine.run_repeated_watched.Goals as goal
 
 pub loop-time-init : goal.loop-time-init
 unfolding world_of
@@ -32,6 +36,8 @@ loop-time-init g c = record {
   comes = λ halting. comes_none (world c.args.self.now);
   memory = λ go. comes_in_none (one_memory c.args.self.now);
   first = λ go quiet. first_quiet [] (world c.args.self.now) (world c.args.self.now) (Ok None) quiet (comes_none (world c.args.self.now));
+  hits = λ halting. come_none (hits (kind_of_point c.args.point.now) c.args.spans.now) c.args.hits.now (world c.args.self.now);
+  hits_in = λ go. come_none (hits_in_memory (kind_of_point c.args.point.now) c.args.spans.now) c.args.hits.now (one_memory c.args.self.now);
   events = omega arith;
 }
 
@@ -77,6 +83,8 @@ loop-time-preserved g c =
     let leaves = rw c.in_default-2.is at c.in_ok-end.ensures.leaves in
     let memory = rw c.in_default-2.is at c.in_ok-end.ensures.memory in
     let first = rw c.in_default-2.is at c.in_ok-end.ensures.first in
+    let hits = rw c.in_default-2.is at c.in_ok-end.ensures.hits in
+    let hits_in = rw c.in_default-2.is at c.in_ok-end.ensures.hits_in in
     let sum : ℕ = sum_by (λ (q : Quantum). q.count) c.args.quanta.now in
     let more = one_more_time c.loop-time._time sum in
     let events = c.loop-time.invariant.events in
@@ -89,6 +97,8 @@ loop-time-preserved g c =
       comes = λ halting. time_on c.args.quanta.now c.loop-time._time c.args.count c.loop-time-test.true (world c.args.self.now) (world c.loop-time.self) (world c.round.new.self) (c.loop-time.invariant.comes halting) (leaves (c.loop-time.invariant.halts halting));
       memory = λ go. time_on_in c.args.quanta.now c.loop-time._time c.args.count c.loop-time-test.true (one_memory c.args.self.now) (one_memory c.loop-time.self) (one_memory c.round.new.self) (c.loop-time.invariant.memory go) (memory (c.loop-time.invariant.mode ∙ go));
       first = λ go quiet. time_first c.args.quanta.now c.loop-time._time c.args.count c.loop-time-test.true c.args.self.now c.loop-time.self c.round.new.self (c.loop-time.invariant.first go quiet) (memory (c.loop-time.invariant.mode ∙ go)) (first (c.loop-time.invariant.mode ∙ go));
+      hits = λ halting. hits_time_on (kind_of_point c.args.point.now) c.args.spans.now c.args.quanta.now c.loop-time._time c.args.count c.loop-time-test.true c.args.hits.now c.loop-time.hits c.round.new.hits (world c.args.self.now) (world c.loop-time.self) (world c.round.new.self) (c.loop-time.invariant.hits halting) (hits (c.loop-time.invariant.halts halting));
+      hits_in = λ go. hits_time_on_in (kind_of_point c.args.point.now) c.args.spans.now c.args.quanta.now c.loop-time._time c.args.count c.loop-time-test.true c.args.hits.now c.loop-time.hits c.round.new.hits (one_memory c.args.self.now) (one_memory c.loop-time.self) (one_memory c.round.new.self) (c.loop-time.invariant.hits_in go) (hits_in (c.loop-time.invariant.mode ∙ go));
       events = omega arith;
     }
 
@@ -181,8 +191,45 @@ never g c halting =
 pub returns-in-Some-clause-turns : goal.returns-in-Some-clause-turns
 returns-in-Some-clause-turns g c halting = absurd (never g c halting)
 
+pub returns-in-Some-clause-hits : goal.returns-in-Some-clause-hits
+returns-in-Some-clause-hits g c halting = absurd (never g c halting)
+
 pub returns-in-Some-clause-copies : goal.returns-in-Some-clause-copies
 returns-in-Some-clause-copies g c halting = absurd (never g c halting)
 
 pub returns-in-Some-clause-alone : goal.returns-in-Some-clause-alone
 returns-in-Some-clause-alone g c halting = absurd (never g c halting)
+
+-- ---- hits
+
+pub returns-in_err-end-clause-hits : goal.returns-in_err-end-clause-hits
+returns-in_err-end-clause-hits g c halting =
+    hits_fail (kind_of_point c.args.point.now) c.args.spans.now c.args.hits.now c.round.new.hits (repeated c.args.count c.args.quanta.now) c.args.self.now c.round.new.self c.from_residual.result c.from_residual.ensures.0
+    (hits_time_fails (kind_of_point c.args.point.now) c.args.spans.now c.args.quanta.now c.loop-time._time c.args.count c.loop-time-test.true c.args.hits.now c.loop-time.hits c.round.new.hits (world c.args.self.now) (world c.loop-time.self) (world c.round.new.self) (c.loop-time.invariant.hits halting) (c.loop-time.invariant.comes halting) (c.in_err-end.ensures.hits (c.loop-time.invariant.halts halting)))
+
+pub returns-in_err-end-clause-hits_in : goal.returns-in_err-end-clause-hits_in
+returns-in_err-end-clause-hits_in g c go =
+    hits_fail_in (kind_of_point c.args.point.now) c.args.spans.now c.args.hits.now c.round.new.hits (repeated c.args.count c.args.quanta.now) c.args.self.now c.round.new.self c.from_residual.result c.from_residual.ensures.0
+    (hits_time_fails_in (kind_of_point c.args.point.now) c.args.spans.now c.args.quanta.now c.loop-time._time c.args.count c.loop-time-test.true c.args.hits.now c.loop-time.hits c.round.new.hits (one_memory c.args.self.now) (one_memory c.loop-time.self) (one_memory c.round.new.self) (c.loop-time.invariant.hits_in go) (c.loop-time.invariant.memory go) (c.in_err-end.ensures.hits_in (c.loop-time.invariant.mode ∙ go)))
+
+pub returns-in-Some-2-clause-hits : goal.returns-in-Some-2-clause-hits
+returns-in-Some-2-clause-hits g c halting =
+    let hits = rw c.in-Some-2.is at (c.in_ok-end.ensures.hits (c.loop-time.invariant.halts halting)) in
+    hits_time_ends (kind_of_point c.args.point.now) c.args.spans.now c.args.quanta.now c.loop-time._time c.args.count c.loop-time-test.true c.args.hits.now c.loop-time.hits c.round.new.hits (world c.args.self.now) (world c.loop-time.self) (world c.round.new.self) (c.loop-time.invariant.hits halting) c.in-Some-2.end hits
+
+pub returns-in-Some-2-clause-hits_in : goal.returns-in-Some-2-clause-hits_in
+returns-in-Some-2-clause-hits_in g c go =
+    let hits = rw c.in-Some-2.is at (c.in_ok-end.ensures.hits_in (c.loop-time.invariant.mode ∙ go)) in
+    hits_time_ends_in (kind_of_point c.args.point.now) c.args.spans.now c.args.quanta.now c.loop-time._time c.args.count c.loop-time-test.true c.args.hits.now c.loop-time.hits c.round.new.hits (one_memory c.args.self.now) (one_memory c.loop-time.self) (one_memory c.round.new.self) (c.loop-time.invariant.hits_in go) c.in-Some-2.end hits
+
+pub returns-clause-hits : goal.returns-clause-hits
+returns-clause-hits g c halting =
+    let all : c.loop-time._time ≡ c.args.count = omega (arith, c.loop-time.auto._time-end) in
+    come_all (hits (kind_of_point c.args.point.now) c.args.spans.now) c.args.hits.now c.loop-time.hits (repeated c.args.count c.args.quanta.now) (world c.args.self.now) (world c.loop-time.self) (no_quanta (kind_of_point c.args.point.now) c.args.spans.now (world c.loop-time.self))
+    (rw all at (c.loop-time.invariant.hits halting))
+
+pub returns-clause-hits_in : goal.returns-clause-hits_in
+returns-clause-hits_in g c go =
+    let all : c.loop-time._time ≡ c.args.count = omega (arith, c.loop-time.auto._time-end) in
+    come_all (hits_in_memory (kind_of_point c.args.point.now) c.args.spans.now) c.args.hits.now c.loop-time.hits (repeated c.args.count c.args.quanta.now) (one_memory c.args.self.now) (one_memory c.loop-time.self)
+    (no_quanta_in (kind_of_point c.args.point.now) c.args.spans.now (one_memory c.loop-time.self)) (rw all at (c.loop-time.invariant.hits_in go))

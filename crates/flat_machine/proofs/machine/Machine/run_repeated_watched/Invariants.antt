@@ -10,7 +10,10 @@ use Rattle.flat_machine.specs.Runs.{repeated}
 use Rattle.kept_parts.specs.Copies.{HoldsFiles}
 use Rattle.flat_machine.specs.RunsIn.{IsHalting}
 use Rattle.flat_machine.specs.LeavesIn.{LeavesFirst}
-use Rattle.flat_machine.proofs.machine.Machine.run_repeated.Given as goal
+use Rattle.watch_points.specs.Points.{kind_of_point}
+use Rattle.flat_machine.specs.Hits.{hits, hits_in_memory}
+use Rattle.flat_machine.specs.HitsLeft.{HitsCome}
+use Rattle.flat_machine.proofs.machine.Machine.run_repeated_watched.Given as goal
 
 abbrev pub invariant-loop-time : goal.invariant-loop-time
 invariant-loop-time g l = record {
@@ -21,5 +24,7 @@ invariant-loop-time g l = record {
   comes : IsHalting l.fn.self → Comes (repeated l._time l.quanta) (world l.fn.self) (world l.self);
   memory : l.fn.self.mode ≡ GoOn → ComesIn (repeated l._time l.quanta) (one_memory l.fn.self) (one_memory l.self);
   first : l.fn.self.mode ≡ GoOn → has_stray (world l.fn.self).notes ≡ false → LeavesFirst (repeated l._time l.quanta) (world l.fn.self) (world l.self) (Ok None);
+  hits : IsHalting l.fn.self → HitsCome (hits (kind_of_point l.point) l.spans) l.fn.hits l.hits (repeated l._time l.quanta) (world l.fn.self) (world l.self);
+  hits_in : l.fn.self.mode ≡ GoOn → HitsCome (hits_in_memory (kind_of_point l.point) l.spans) l.fn.hits l.hits (repeated l._time l.quanta) (one_memory l.fn.self) (one_memory l.self);
   events : l.self.events ≤ l.fn.self.events + l._time * sum_by (λ q. q.count) l.quanta;
 }
