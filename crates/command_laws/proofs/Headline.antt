@@ -3,7 +3,7 @@ use Rattle.std.proofs.Common.{◌≡◌, Bool, List, ℕ, Option, Some, sym, ap,
 use Rattle.page_runs.specs.declared.place.Kind.{Kind}
 use Rattle.region_watch.specs.declared.mode.Mode.{Mode}
 use Rattle.file_commands.specs.declared.status.Status.{Status}
-use Rattle.file_commands.specs.declared.status.Status.TheVariants.{Done, Usage, HostRead, Refused, Stray, OutOfQuanta, LogFull, SinkWrite, Memory, HostWrite, Stuck}
+use Rattle.file_commands.specs.declared.status.Status.TheVariants.{Done, Usage, HostRead, Refused, Stray, OutOfQuanta, LogFull, SinkWrite, Memory, HostWrite, Stuck, Refuted}
 use Rattle.file_commands.specs.Arguments.{Invocation}
 use Rattle.file_commands.specs.Delivery.{TookAll}
 use Rattle.file_commands.specs.Outcome.{Outcome}
@@ -31,6 +31,7 @@ stops_answer Refused stop = absurd stop
 stops_answer SinkWrite stop = absurd stop
 stops_answer Memory stop = absurd stop
 stops_answer HostWrite stop = absurd stop
+stops_answer Refuted stop = absurd stop
 
 pub runs_are_runs_alone : RunsAreRunsAlone
 runs_are_runs_alone c manifest log mode kind is stop =

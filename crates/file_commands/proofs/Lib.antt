@@ -2,10 +2,10 @@
 -- Lines, SpelledNumbers, Addresses: the ends and texts of private functions.
 -- Ranges: the numbers of a command that is read.
 -- OneFileSteps: a command that goes on with one file.
--- Conversions, Listed, Unmade, MadeImages: what the commands do behind their load.
+-- Conversions, Listed, Unmade, MadeImages, Replayed: what the commands do behind their load.
 -- SizesLaw: the numbers of an ELF file in the header of its flat file.
 -- LoadedItems: the loads of a manifest's lines.
--- Samples, ListSamples: the definitions on the worked example.
+-- Samples, ListSamples, ReplaySamples: the definitions on worked examples.
 pub mod HostCourses
 pub mod HostSteps
 pub mod OneFileSteps
@@ -18,7 +18,9 @@ pub mod Conversions
 pub mod Listed
 pub mod Unmade
 pub mod MadeImages
+pub mod Replayed
 pub mod SizesLaw
 pub mod LoadedItems
 pub mod Samples
 pub mod ListSamples
+pub mod ReplaySamples

@@ -5,7 +5,8 @@ use Rattle.page_runs.specs.declared.place.Kind.{Kind}
 use Rattle.region_watch.specs.declared.mode.Mode.{Mode}
 use Rattle.region_watch.specs.declared.mode.Mode.TheVariants.{Halt, GoOn}
 use Rattle.std.specs.Option.{option_and_then}
-use Rattle.file_commands.specs.Arguments.{Invocation, convert, list, check, run, trace, unromfs, demo, least_stack, most_stack, least_programs, most_programs, stack_of, programs_of, pid_of, only, romfs_of, convert_of, placement_of, mode_of, run_of, counted_of, process_of, trace_of, demo_of, command_of}
+use Rattle.file_commands.specs.declared.arguments.Format.{Format}
+use Rattle.file_commands.specs.Arguments.{Invocation, convert, list, check, run, trace, unromfs, replay, demo, least_stack, most_stack, least_programs, most_programs, stack_of, programs_of, pid_of, only, romfs_of, convert_of, placement_of, mode_of, run_of, counted_of, process_of, trace_of, format_of_word, replay_of, demo_of, command_of}
 use Rattle.file_commands.proofs.SpelledNumbers.{is_spelled}
 
 -- what the commands ask for of their numbers
@@ -54,6 +55,19 @@ romfs_has [] = tt
 romfs_has (manifest ∷ []) = tt
 romfs_has (manifest ∷ image ∷ []) = tt
 romfs_has (manifest ∷ image ∷ word ∷ words) = tt
+
+-- ---- `replay`
+
+format_has : (file items : List ℕ) (o : Option Format) → HasRanges (option_map (λ kind. replay kind file items) o)
+format_has file items None = tt
+format_has file items (Some kind) = tt
+
+replay_has : (words : List (List ℕ)) → HasRanges (replay_of words)
+replay_has [] = tt
+replay_has (word ∷ []) = tt
+replay_has (word ∷ file ∷ []) = tt
+replay_has (word ∷ file ∷ items ∷ []) = format_has file items (format_of_word word)
+replay_has (word ∷ file ∷ items ∷ more ∷ words) = tt
 
 -- ---- `run` and `trace`
 
@@ -115,13 +129,19 @@ demo_has (number ∷ word ∷ words) = tt
 from_demo : (first : List ℕ) (words : List (List ℕ)) → HasRanges (cond (bytes_eq first (codes "demo")) (demo_of words) None)
 from_demo first words = either (bytes_eq first (codes "demo")) (demo_of words) None (demo_has words) tt
 
+abbrev replay_onward : (first : List ℕ) (words : List (List ℕ)) → Option Invocation
+replay_onward first words = cond (bytes_eq first (codes "replay")) (replay_of words) (cond (bytes_eq first (codes "demo")) (demo_of words) None)
+
+from_replay : (first : List ℕ) (words : List (List ℕ)) → HasRanges (replay_onward first words)
+from_replay first words = either (bytes_eq first (codes "replay")) (replay_of words) _ (replay_has words) (from_demo first words)
+
 abbrev images_of : (first : List ℕ) (words : List (List ℕ)) → Option Invocation
-images_of first words = cond (bytes_eq first (codes "romfs")) (romfs_of words) (cond (bytes_eq first (codes "unromfs")) (option_map unromfs (only words)) (cond (bytes_eq first (codes "demo")) (demo_of words) None))
+images_of first words = cond (bytes_eq first (codes "romfs")) (romfs_of words) (cond (bytes_eq first (codes "unromfs")) (option_map unromfs (only words)) (replay_onward first words))
 
 from_images : (first : List ℕ) (words : List (List ℕ)) → HasRanges (images_of first words)
 from_images first words =
     either (bytes_eq first (codes "romfs")) (romfs_of words) _ (romfs_has words)
-    (either (bytes_eq first (codes "unromfs")) (option_map unromfs (only words)) _ (unromfs_has (only words)) (from_demo first words))
+    (either (bytes_eq first (codes "unromfs")) (option_map unromfs (only words)) _ (unromfs_has (only words)) (from_replay first words))
 
 from_trace : (first : List ℕ) (words : List (List ℕ)) → HasRanges (cond (bytes_eq first (codes "trace")) (trace_of words) (images_of first words))
 from_trace first words = either (bytes_eq first (codes "trace")) (trace_of words) _ (trace_has words) (from_images first words)

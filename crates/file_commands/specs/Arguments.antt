@@ -7,6 +7,8 @@ use Rattle.page_runs.specs.declared.place.Kind.{Kind}
 use Rattle.page_runs.specs.declared.place.Kind.TheVariants.{First, Best, Last}
 use Rattle.region_watch.specs.declared.mode.Mode.{Mode}
 use Rattle.region_watch.specs.declared.mode.Mode.TheVariants.{Halt, GoOn}
+use Rattle.file_commands.specs.declared.arguments.Format.{Format}
+use Rattle.file_commands.specs.declared.arguments.Format.TheVariants as format
 use Rattle.file_commands.specs.declared.arguments.Command.{Command}
 use Rattle.file_commands.specs.declared.arguments.Command.TheVariants as command
 
@@ -19,6 +21,7 @@ pub data Invocation : Type 0 where
   trace : (manifest : List ℕ) (pid : Option ℕ) (counted : Bool) (kind : Kind) → Invocation
   romfs : (manifest image : List ℕ) → Invocation
   unromfs : (image : List ℕ) → Invocation
+  replay : (format : Format) (file items : List ℕ) → Invocation
   demo : (programs : ℕ) → Invocation
 
 -- the bytes of stack that a program gets where no argument says it
@@ -137,13 +140,25 @@ trace_of (manifest ∷ []) = counted_of manifest None []
 trace_of (manifest ∷ option ∷ words) =
     if bytes_eq option (codes "--pid") then process_of manifest words else counted_of manifest None (option ∷ words)
 
+-- the format that a word names
+abbrev pub format_of_word : List ℕ → Option Format
+format_of_word word =
+    if bytes_eq word (codes "elf") then Some format.Elf
+    else if bytes_eq word (codes "flat") then Some format.Flat
+    else None
+
+-- `elf FILE ITEMS` and `flat FILE ITEMS`
+abbrev pub replay_of : List (List ℕ) → Option Invocation
+replay_of (word ∷ file ∷ items ∷ []) = option_map (λ kind. replay kind file items) (format_of_word word)
+replay_of words = None
+
 -- `N`
 abbrev pub demo_of : List (List ℕ) → Option Invocation
 demo_of (number ∷ []) = option_map demo (programs_of number)
 demo_of words = None
 
--- `convert` with its words, `list FLT`, `check ELF`, `run` and `trace` with their words, `romfs MANIFEST IMG`, `unromfs IMG` and `demo N`; any
--- other arguments are no command
+-- `convert` with its words, `list FLT`, `check ELF`, `run` and `trace` with their words, `romfs MANIFEST IMG`, `unromfs IMG`, `replay` with
+-- its words and `demo N`; any other arguments are no command
 abbrev pub command_of : List (List ℕ) → Option Invocation
 command_of [] = None
 command_of (first ∷ words) =
@@ -154,10 +169,11 @@ command_of (first ∷ words) =
     else if bytes_eq first (codes "trace") then trace_of words
     else if bytes_eq first (codes "romfs") then romfs_of words
     else if bytes_eq first (codes "unromfs") then option_map unromfs (only words)
+    else if bytes_eq first (codes "replay") then replay_of words
     else if bytes_eq first (codes "demo") then demo_of words
     else None
 
--- no command, or one that runs no program
+-- no command, or one without a machine
 abbrev pub IsNoRun : Option Invocation → Type 0
 IsNoRun (Some (run manifest log mode kind)) = ⊥
 IsNoRun (Some (trace manifest pid counted kind)) = ⊥
@@ -173,4 +189,5 @@ invocation (command.Run manifest log mode kind) = run manifest.now log mode kind
 invocation (command.Trace manifest pid counted kind) = trace manifest.now pid counted kind
 invocation (command.Romfs manifest image) = romfs manifest.now image.now
 invocation (command.Unromfs image) = unromfs image.now
+invocation (command.Replay kind file items) = replay kind file.now items.now
 invocation (command.Demo programs) = demo programs

@@ -14,6 +14,10 @@ pub record Ending : Type 0 where
 abbrev pub done_ending : List ℕ → Ending
 done_ending text = record { status = status.Done; out = text; report = [] }
 
+-- the items of a replay aren't a run of its program, which goes to `out` too
+abbrev pub refuted_ending : List ℕ → Ending
+refuted_ending text = record { status = status.Refuted; out = text; report = [] }
+
 -- the call ends early: one line goes to `report`, and nothing to `out`
 abbrev pub early_ending : Status → List ℕ → Ending
 early_ending early line = record { status = early; out = []; report = line }

@@ -12,6 +12,7 @@
 -- Items       the loads of the files that a manifest's lines bring in
 -- Manifests   what the commands of a manifest share
 -- Romfs       the command `romfs`
+-- Replay      the command `replay`
 --
 -- Observed    what a host or a sink tells at one moment, and its counts: of faults, and a sink's of shortages of memory
 -- HostCourse  how far a host came with the requests; Performs: what it then tells, and the ending that this gives
@@ -33,6 +34,7 @@ pub mod Unromfs
 pub mod Items
 pub mod Manifests
 pub mod Romfs
+pub mod Replay
 pub mod Observed
 pub mod HostCourse
 pub mod Delivery

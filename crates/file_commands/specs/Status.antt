@@ -1,7 +1,7 @@
 -- The number of each status, which is the exit status of the program.
 use Rattle.std.specs.Prelude.{ℕ}
 use Rattle.file_commands.specs.declared.status.Status.{Status}
-use Rattle.file_commands.specs.declared.status.Status.TheVariants.{Done, Usage, HostRead, Refused, Stray, OutOfQuanta, LogFull, SinkWrite, Memory, HostWrite, Stuck}
+use Rattle.file_commands.specs.declared.status.Status.TheVariants.{Done, Usage, HostRead, Refused, Stray, OutOfQuanta, LogFull, SinkWrite, Memory, HostWrite, Stuck, Refuted}
 
 abbrev pub code_of : Status → ℕ
 code_of Done = 0
@@ -15,3 +15,4 @@ code_of SinkWrite = 7
 code_of Memory = 8
 code_of HostWrite = 9
 code_of Stuck = 10
+code_of Refuted = 11

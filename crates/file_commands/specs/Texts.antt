@@ -2,9 +2,11 @@
 -- Listing: the listing of a flat file, and the faults of one.
 -- Images: the nodes of a romfs image, and the faults of one.
 -- Refusals: the faults of a manifest, and of what its lines bring in.
+-- Replays: the verdict on items, and why there is none.
 pub mod Listing
 pub mod Images
 pub mod Refusals
+pub mod Replays
 use Rattle.std.specs.Prelude.{ℕ, ◌-◌, false, List, [], ◌∷◌, ◌++◌, length, replicate, codes, decimal}
 use Rattle.std.specs.Fmt.{digits}
 use Rattle.elf32_reader.specs.declared.fault.ElfFault.{ElfFault}

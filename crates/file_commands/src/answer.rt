@@ -13,7 +13,7 @@ pub struct Answer {
 }
 
 impl Answer {
-    ghost use Rattle.file_commands.specs.Ending.{done_ending};
+    ghost use Rattle.file_commands.specs.Ending.{done_ending, refuted_ending};
     ghost use Rattle.file_commands.specs.Answer.{ending_in, ending_of, EndsWithLine};
 
     /// The command was carried out, and `out` takes this text.
@@ -22,6 +22,17 @@ impl Answer {
     {
         Answer {
             status: Status::Done,
+            out: text.into_bytes(),
+            report: Vec::new(alloc),
+        }
+    }
+
+    /// The items of a replay aren't a run of its program, and `out` takes this text.
+    pub fn refuted(alloc: Global, text: String) -> Answer
+        ensures { ending_in result ≡ refuted_ending (string_bytes text) }
+    {
+        Answer {
+            status: Status::Refuted,
             out: text.into_bytes(),
             report: Vec::new(alloc),
         }

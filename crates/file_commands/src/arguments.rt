@@ -1,6 +1,6 @@
 //! The table of commands.
 ghost use Rattle.std.specs.Prelude.{◌≡◌, ◌≤◌, ◌↔◌, IsTrue, map, option_map, string_bytes};
-ghost use Rattle.file_commands.specs.Arguments.{is_between, StartsWell, number_of, kind_of_word, only, romfs_of, convert_of, placement_of, mode_of, run_of, counted_of, process_of, trace_of, demo_of, command_of, invocation};
+ghost use Rattle.file_commands.specs.Arguments.{is_between, StartsWell, number_of, kind_of_word, only, romfs_of, convert_of, placement_of, mode_of, run_of, counted_of, process_of, trace_of, format_of_word, replay_of, demo_of, command_of, invocation};
 
 use page_runs::Kind;
 use region_watch::Mode;
@@ -23,6 +23,15 @@ const MOST_PROGRAMS: u32 = 64;
 const LEAST_PID: u32 = 1;
 
 const MOST_PID: u32 = 1_000_000;
+
+/// What a program's file is.
+#[derive(Clone, Copy, PartialEq, Eq)]
+pub enum Format {
+    /// A linked ELF file.
+    Elf,
+    /// A flat file.
+    Flat,
+}
 
 /// A command with its arguments.
 #[derive(Clone, Copy)]
@@ -65,6 +74,12 @@ pub enum Command<'a> {
     /// `unromfs IMG`.
     Unromfs {
         image: &'a str,
+    },
+    /// `replay elf FILE ITEMS` or `replay flat FILE ITEMS`.
+    Replay {
+        format: Format,
+        file: &'a str,
+        items: &'a str,
     },
     /// `demo N`.
     Demo {
@@ -227,6 +242,34 @@ fn read_trace(words: &[String]) -> Option<Command<'_>>
     }
 }
 
+/// The format that a word names, if it names one.
+fn read_format(word: &str) -> Option<Format>
+    ensures { result ≡ format_of_word word.now }
+{
+    match word {
+        "elf" => Some(Format::Elf),
+        "flat" => Some(Format::Flat),
+        _ => None,
+    }
+}
+
+/// The words behind `replay`.
+fn read_replay(words: &[String]) -> Option<Command<'_>>
+    ensures { option_map invocation result ≡ replay_of (map string_bytes words.now) }
+{
+    match words {
+        [word, file, items] => {
+            let format = read_format(word)?;
+            Some(Command::Replay {
+                format,
+                file,
+                items,
+            })
+        }
+        _ => None,
+    }
+}
+
 /// The words behind `demo`.
 fn read_demo(words: &[String]) -> Option<Command<'_>>
     ensures { option_map invocation result ≡ demo_of (map string_bytes words.now) }
@@ -258,6 +301,7 @@ pub fn read_arguments(arguments: &[String]) -> Option<Command<'_>>
             let image = only(words)?;
             Some(Command::Unromfs { image })
         }
+        "replay" => read_replay(words),
         "demo" => read_demo(words),
         _ => None,
     }

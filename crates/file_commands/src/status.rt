@@ -27,6 +27,8 @@ pub enum Status {
     HostWrite,
     /// Processes live, and none may run: all wait or stand still.
     Stuck,
+    /// The items of a replay aren't a run of its program.
+    Refuted,
 }
 
 impl Status {
@@ -46,6 +48,7 @@ impl Status {
             Status::Memory => 8,
             Status::HostWrite => 9,
             Status::Stuck => 10,
+            Status::Refuted => 11,
         }
     }
 }

@@ -1,4 +1,4 @@
-//! The texts that users see; those of a listing stand in `listing`, those of an image in `images`.
+//! The texts that users see; those of a listing stand in `listing`, those of an image in `images`, those of a replay in `replays`.
 ghost use Rattle.std.specs.Prelude.{◌≡◌, IfOk, IsErr, string_bytes};
 ghost use Rattle.file_commands.specs.Texts.{usage_line, cannot_read_line, cannot_write_line, refused_line, elf_fault_words, layout_fault_words, reloc_fault_words, address_words, reloc_tail, refusal_tail, parts_text, convert_line, check_line, demo_line};
 ghost use Rattle.file_commands.specs.Sizes.{sizes_of};
@@ -13,6 +13,7 @@ use std::alloc::{AllocError, Global};
 pub mod images;
 pub mod listing;
 pub mod refusals;
+pub mod replays;
 
 /// The line of a call that is out of memory. It takes no memory itself.
 pub const MEMORY_LINE: &str = "memory\n";

@@ -28,6 +28,9 @@ usage: flatc COMMAND WORDS
   romfs MANIFEST IMG                          make the files and folders of MANIFEST a
                                               romfs image, and store it as IMG
   unromfs IMG                                 write what the romfs image IMG has
+  replay elf|flat FILE ITEMS                  say whether the calls in ITEMS are those of
+                                              a run of FILE, an ELF or a flat file, by
+                                              itself
   demo N                                      run N small programs, 1 to 64, that need no
                                               file
   --help                                      write this page
@@ -46,6 +49,7 @@ exit status:
   8   out of memory
   9   a file can't be written
   10  processes live and none can run on
+  11  the calls of a replay aren't those of its program
 
 Read on in the manual page, flatc(1), and in README.md.
 ";

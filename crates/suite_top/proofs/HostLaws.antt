@@ -7,10 +7,12 @@ use Rattle.std.proofs.lemmas.List.{append-nil}
 use Rattle.host_io.specs.Host.{Files, Told}
 use Rattle.page_runs.specs.declared.place.Kind.{Kind}
 use Rattle.file_commands.specs.Outcome.{Request, load, store, Outcome, Inputs, name_of}
-use Rattle.file_commands.specs.Arguments.{Invocation, convert, list, check, run, trace, romfs, unromfs, demo, command_of}
+use Rattle.file_commands.specs.declared.arguments.Format.{Format}
+use Rattle.file_commands.specs.Arguments.{Invocation, convert, list, check, run, trace, romfs, unromfs, replay, demo, command_of}
 use Rattle.file_commands.specs.OneFile.{with_found}
 use Rattle.file_commands.specs.Convert.{converted_outcome}
 use Rattle.file_commands.specs.Romfs.{romfs_outcome}
+use Rattle.file_commands.specs.Replay.{replay_outcome}
 use Rattle.region_watch.specs.declared.mode.Mode.{Mode}
 use Rattle.region_watch.specs.declared.mode.Mode.TheVariants.{Halt}
 use Rattle.suite_top.specs.declared.telling.Telling.{Telling}
@@ -22,6 +24,7 @@ use Rattle.suite_top.specs.Call.{outcome_of}
 use Rattle.suite_top.specs.HostLaws.{NamesAreAPrefix, NothingIsAsked, stores_of, stored_name, Leaves, OthersChangeNoFile, StoresAreWhole}
 use Rattle.suite_top.proofs.RunOutcomes.{run_by}
 use Rattle.suite_top.proofs.ImageOutcomes.{romfs_by}
+use Rattle.suite_top.proofs.ReplayOutcomes.{replay_by}
 use Rattle.suite_top.proofs.Outcomes.{usage_is_exact, Behind, requests_behind, list_requests, check_requests, unromfs_requests}
 
 -- what a host tells in the end is what its course gives
@@ -92,6 +95,10 @@ romfs_has : (manifest image : List ℕ) (inputs : Inputs) → HasStore (Some ima
 romfs_has manifest image inputs =
     romfs_by (λ (o : Outcome). HasStore (Some image) o.requests) (λ name o has. has) (λ name. tt) (λ tail. tt) image (λ bytes line. (refl, refl)) manifest inputs
 
+replay_has : (kind : Format) (file items : List ℕ) (inputs : Inputs) → HasStore None (replay_outcome kind file items inputs).requests
+replay_has kind file items inputs =
+    replay_by (λ (o : Outcome). HasStore None o.requests) (λ name o has. has) (λ name. tt) (λ tail. tt) (λ text. tt) (λ text. tt) kind file items inputs
+
 behind_has : (flt : List ℕ) (stack : ℕ) (found : Option (List ℕ)) (requests : List Request) → Behind flt stack found requests → HasStore (Some flt) requests
 behind_has flt stack found requests (inl none) = subst (HasStore (Some flt)) (sym none) tt
 behind_has flt stack found requests (inr (e, is, accepted, one)) = subst (HasStore (Some flt)) (sym one) (refl, refl)
@@ -105,6 +112,7 @@ command_has (Some (run manifest log mode kind)) inputs = run_has manifest (Repor
 command_has (Some (trace manifest pid counted kind)) inputs = run_has manifest (Trace pid counted) Halt kind inputs
 command_has (Some (romfs manifest image)) inputs = romfs_has manifest image inputs
 command_has (Some (unromfs image)) inputs = subst (HasStore None) (sym (unromfs_requests image inputs)) tt
+command_has (Some (replay kind file items)) inputs = replay_has kind file items inputs
 command_has (Some (demo programs)) inputs = tt
 
 leaves_same : (stored : Option (List ℕ)) (old new : Files) → new ≡ old → Leaves stored old new

@@ -1,5 +1,5 @@
 -- Usage, SpelledNumbers: arguments that are no command or a demo, and the one that says a stack.
--- LoadOutcomes, RunOutcomes, ImageOutcomes, Outcomes: what an outcome can be.
+-- LoadOutcomes, RunOutcomes, ImageOutcomes, ReplayOutcomes, Outcomes: what an outcome can be.
 -- StatusLaws, HostLaws: the laws over every call.
 -- NoStatus: no status but Memory comes always.
 -- Causes: the counts that rose, by the status of a call.
@@ -12,6 +12,7 @@ pub mod SpelledNumbers
 pub mod LoadOutcomes
 pub mod RunOutcomes
 pub mod ImageOutcomes
+pub mod ReplayOutcomes
 pub mod Outcomes
 pub mod StatusLaws
 pub mod NoStatus

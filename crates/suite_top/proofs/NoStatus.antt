@@ -2,7 +2,7 @@
 use Rattle.std.proofs.Common.{◌≡◌, ◌≢◌, ℕ, List, [], ◌∷◌, ◌++◌, Some, None, refl, sym, ap, subst, ◌∙◌, inl, inr}
 use Rattle.std.specs.Prelude.{codes}
 use Rattle.file_commands.specs.declared.status.Status.{Status}
-use Rattle.file_commands.specs.declared.status.Status.TheVariants.{Done, Usage, HostRead, Refused, Stray, OutOfQuanta, LogFull, SinkWrite, Memory, HostWrite, Stuck}
+use Rattle.file_commands.specs.declared.status.Status.TheVariants.{Done, Usage, HostRead, Refused, Stray, OutOfQuanta, LogFull, SinkWrite, Memory, HostWrite, Stuck, Refuted}
 use Rattle.file_commands.specs.Outcome.{Request, load, store}
 use Rattle.file_commands.specs.Arguments.{list, command_of}
 use Rattle.suite_top.specs.Result.{result_of}
@@ -75,6 +75,7 @@ no_status_is_always Stray other = ([], no_answer Stray tt (λ is. cc))
 no_status_is_always OutOfQuanta other = ([], no_answer OutOfQuanta tt (λ is. cc))
 no_status_is_always LogFull other = ([], no_answer LogFull tt (λ is. cc))
 no_status_is_always Stuck other = ([], no_answer Stuck tt (λ is. cc))
+no_status_is_always Refuted other = ([], no_answer Refuted tt (λ is. cc))
 no_status_is_always HostRead other = ([], no_read)
 no_status_is_always HostWrite other = ([], no_write)
 no_status_is_always SinkWrite other = ([], no_failure)

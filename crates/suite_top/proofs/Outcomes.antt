@@ -7,14 +7,15 @@ use Rattle.bflt_format.specs.Fault.{flat_fault}
 use Rattle.elf2flt_tool.specs.Fault.{fault}
 use Rattle.elf2flt_tool.specs.Converted.{flat}
 use Rattle.file_commands.specs.declared.status.Status.{Status}
-use Rattle.file_commands.specs.declared.status.Status.TheVariants.{Done, Usage, HostRead, Refused, Stray, OutOfQuanta, LogFull, Stuck}
+use Rattle.file_commands.specs.declared.status.Status.TheVariants.{Done, Usage, HostRead, Refused, Stray, OutOfQuanta, LogFull, Stuck, Refuted}
 use Rattle.file_commands.specs.Sizes.{sizes}
 use Rattle.file_commands.specs.Texts.{refusal_tail, convert_line, check_line, too_long_tail}
 use Rattle.file_commands.specs.Texts.Listing.{listing, flat_tail}
 use Rattle.bflt_format.specs.Header.{flat_values}
-use Rattle.file_commands.specs.Ending.{Ending, done_ending, usage_ending, refused_ending}
+use Rattle.file_commands.specs.Ending.{Ending, done_ending, refuted_ending, usage_ending, refused_ending}
 use Rattle.file_commands.specs.Outcome.{Request, load, store, failure_ending, Outcome, Inputs, after}
-use Rattle.file_commands.specs.Arguments.{Invocation, convert, list, check, run, trace, romfs, unromfs, demo, IsNoRun, default_stack, command_of}
+use Rattle.file_commands.specs.declared.arguments.Format.{Format}
+use Rattle.file_commands.specs.Arguments.{Invocation, convert, list, check, run, trace, romfs, unromfs, replay, demo, IsNoRun, default_stack, command_of}
 use Rattle.file_commands.specs.OneFile.{file_limit, with_found, with_file}
 use Rattle.file_commands.specs.Convert.{judged_outcome, converted_outcome}
 use Rattle.file_commands.specs.Check.{verdict, checked_outcome, check_outcome}
@@ -31,16 +32,20 @@ use Rattle.suite_top.specs.declared.telling.Telling.{Telling}
 use Rattle.suite_top.specs.declared.telling.Telling.TheVariants.{Report, Trace}
 use Rattle.suite_top.specs.Telling.{told_ending}
 use Rattle.suite_top.specs.Result.{command_outcome, result_of}
-use Rattle.suite_top.specs.StatusLaws.{IsOneText, TextsAreApart, UsageIsExact}
+use Rattle.suite_top.specs.StatusLaws.{IsOneText, TextsAreApart, RefutedIsOfReplay, UsageIsExact}
 use Rattle.suite_top.proofs.RunOutcomes.{run_by, demo_by, told_status}
 use Rattle.suite_top.proofs.ImageOutcomes.{romfs_by}
+use Rattle.suite_top.proofs.ReplayOutcomes.{replay_by}
 
 -- what holds of a refusal and of `rest` holds of what was found
 pub found_by : (P : Outcome → Type 0) (name : List ℕ) (rest : List ℕ → Outcome) (e : List ℕ) → P (record { requests = []; ending = refused_ending too_long_tail }) → P (rest e) → P (with_found name (Some e) rest)
 found_by P name rest e long fits =
     elim (nat_lt file_limit (length e)) as (λ (b : Bool). P (cond b (record { requests = []; ending = refused_ending too_long_tail }) (rest e))) [ true ↦ long | false ↦ fits ]
 
--- each command ends as one of these
+abbrev pub IsReplay : Invocation → Type 0
+IsReplay k = (kind : Format) × (file : List ℕ) × (items : List ℕ) × (k ≡ replay kind file items)
+
+-- each command ends as one of these, and `replay` alone as the last
 module _ (P : Ending → Type 0) (read : (name : List ℕ) → P (failure_ending (load name))) (refused : (tail : List ℕ) → P (refused_ending tail)) (done : (text : List ℕ) → P (done_ending text)) where
   found_ending : (name : List ℕ) (rest : List ℕ → Outcome) → ((e : List ℕ) → P (rest e).ending) → (found : Option (List ℕ)) → P (with_found name found rest).ending
   found_ending name rest each None = read name
@@ -62,42 +67,45 @@ module _ (P : Ending → Type 0) (read : (name : List ℕ) → P (failure_ending
   unromfs_judged (Ok nodes) = done (image_listing nodes)
   unromfs_judged (Err first) = refused (rom_tail first)
 
-  pub other_than_run : (k : Invocation) (inputs : Inputs) → IsNoRun (Some k) → P (command_outcome (Some k) inputs).ending
-  other_than_run (convert elf flt stack) inputs other = found_ending elf (converted_outcome flt stack) (λ e. convert_judged flt stack e (fault e)) (inputs 0 elf)
-  other_than_run (check elf) inputs other = found_ending elf checked_outcome (λ e. check_judged e (fault e)) (inputs 0 elf)
-  other_than_run (list flt) inputs other = found_ending flt listed_outcome (λ y. list_judged y (flat_fault y)) (inputs 0 flt)
-  other_than_run (unromfs image) inputs other = found_ending image unmade_outcome (λ y. unromfs_judged (rom_read y)) (inputs 0 image)
-  other_than_run (romfs manifest image) inputs other = romfs_by (λ (o : Outcome). P o.ending) (λ name o p. p) read refused image (λ bytes line. done line) manifest inputs
-  other_than_run (run manifest log mode kind) inputs other = absurd other
-  other_than_run (trace manifest pid counted kind) inputs other = absurd other
-  other_than_run (demo programs) inputs other = absurd other
+  pub other_than_run : (k : Invocation) (inputs : Inputs) → IsNoRun (Some k) → (IsReplay k → (text : List ℕ) → P (refuted_ending text)) → P (command_outcome (Some k) inputs).ending
+  other_than_run (convert elf flt stack) inputs other refuted = found_ending elf (converted_outcome flt stack) (λ e. convert_judged flt stack e (fault e)) (inputs 0 elf)
+  other_than_run (check elf) inputs other refuted = found_ending elf checked_outcome (λ e. check_judged e (fault e)) (inputs 0 elf)
+  other_than_run (list flt) inputs other refuted = found_ending flt listed_outcome (λ y. list_judged y (flat_fault y)) (inputs 0 flt)
+  other_than_run (unromfs image) inputs other refuted = found_ending image unmade_outcome (λ y. unromfs_judged (rom_read y)) (inputs 0 image)
+  other_than_run (romfs manifest image) inputs other refuted = romfs_by (λ (o : Outcome). P o.ending) (λ name o p. p) read refused image (λ bytes line. done line) manifest inputs
+  other_than_run (replay kind file items) inputs other refuted =
+      replay_by (λ (o : Outcome). P o.ending) (λ name o p. p) read refused done (refuted (kind, file, items, refl)) kind file items inputs
+  other_than_run (run manifest log mode kind) inputs other refuted = absurd other
+  other_than_run (trace manifest pid counted kind) inputs other refuted = absurd other
+  other_than_run (demo programs) inputs other refuted = absurd other
 
   module _ (told : (telling : Telling) (dumped : List ℕ) (w : World) (end : Option End) → P (told_ending telling dumped w end)) where
-    pub invoked : (k : Invocation) (inputs : Inputs) → P (command_outcome (Some k) inputs).ending
-    invoked (run manifest log mode kind) inputs = run_by (λ (o : Outcome). P o.ending) (λ name o p. p) read refused told manifest (Report log) mode kind inputs
-    invoked (trace manifest pid counted kind) inputs = run_by (λ (o : Outcome). P o.ending) (λ name o p. p) read refused told manifest (Trace pid counted) Halt kind inputs
-    invoked (demo programs) inputs = demo_by (λ (o : Outcome). P o.ending) (λ name o p. p) read refused told programs
-    invoked (convert elf flt stack) inputs = other_than_run (convert elf flt stack) inputs tt
-    invoked (check elf) inputs = other_than_run (check elf) inputs tt
-    invoked (list flt) inputs = other_than_run (list flt) inputs tt
-    invoked (romfs manifest image) inputs = other_than_run (romfs manifest image) inputs tt
-    invoked (unromfs image) inputs = other_than_run (unromfs image) inputs tt
+    pub invoked : (k : Invocation) (inputs : Inputs) → (IsReplay k → (text : List ℕ) → P (refuted_ending text)) → P (command_outcome (Some k) inputs).ending
+    invoked (run manifest log mode kind) inputs refuted = run_by (λ (o : Outcome). P o.ending) (λ name o p. p) read refused told manifest (Report log) mode kind inputs
+    invoked (trace manifest pid counted kind) inputs refuted = run_by (λ (o : Outcome). P o.ending) (λ name o p. p) read refused told manifest (Trace pid counted) Halt kind inputs
+    invoked (demo programs) inputs refuted = demo_by (λ (o : Outcome). P o.ending) (λ name o p. p) read refused told programs
+    invoked (convert elf flt stack) inputs refuted = other_than_run (convert elf flt stack) inputs tt refuted
+    invoked (check elf) inputs refuted = other_than_run (check elf) inputs tt refuted
+    invoked (list flt) inputs refuted = other_than_run (list flt) inputs tt refuted
+    invoked (romfs manifest image) inputs refuted = other_than_run (romfs manifest image) inputs tt refuted
+    invoked (replay kind file items) inputs refuted = other_than_run (replay kind file items) inputs tt refuted
+    invoked (unromfs image) inputs refuted = other_than_run (unromfs image) inputs tt refuted
 
-    pub result_by : P usage_ending → (o : Option Invocation) (inputs : Inputs) → P (command_outcome o inputs).ending
-    result_by usage None inputs = usage
-    result_by usage (Some k) inputs = invoked k inputs
+    pub result_by : P usage_ending → ((text : List ℕ) → P (refuted_ending text)) → (o : Option Invocation) (inputs : Inputs) → P (command_outcome o inputs).ending
+    result_by usage refuted None inputs = usage
+    result_by usage refuted (Some k) inputs = invoked k inputs (λ is. refuted)
 
 -- a status that no outcome has
-pub never : (s : Status) → (HostRead ≡ s → ⊥) → (Refused ≡ s → ⊥) → (Done ≡ s → ⊥) → (Usage ≡ s → ⊥) → (Stray ≡ s → ⊥) → (OutOfQuanta ≡ s → ⊥) → (LogFull ≡ s → ⊥) → (Stuck ≡ s → ⊥)
+pub never : (s : Status) → (HostRead ≡ s → ⊥) → (Refused ≡ s → ⊥) → (Done ≡ s → ⊥) → (Usage ≡ s → ⊥) → (Stray ≡ s → ⊥) → (OutOfQuanta ≡ s → ⊥) → (LogFull ≡ s → ⊥) → (Stuck ≡ s → ⊥) → (Refuted ≡ s → ⊥)
     → (arguments : List (List ℕ)) (inputs : Inputs) → (result_of arguments inputs).ending.status ≡ s → ⊥
-never s read refused done usage stray quanta full still arguments inputs =
+never s read refused done usage stray quanta full still refuted arguments inputs =
     result_by (λ t. t.status ≡ s → ⊥) (λ name. read) (λ tail. refused) (λ text. done)
     (λ telling dumped w end. told_status (λ t. t ≡ s → ⊥) done stray quanta full still telling dumped w end)
-    usage (command_of arguments) inputs
+    usage (λ text. refuted) (command_of arguments) inputs
 
 one_text : (o : Option Invocation) (inputs : Inputs) → IsNoRun o → IsOneText (command_outcome o inputs).ending
 one_text None inputs other = inl refl
-one_text (Some k) inputs other = other_than_run IsOneText (λ name. inl refl) (λ tail. inl refl) (λ text. inr (refl, refl)) k inputs other
+one_text (Some k) inputs other = other_than_run IsOneText (λ name. inl refl) (λ tail. inl refl) (λ text. inr (inl refl, refl)) k inputs other (λ is text. inr (inr refl, refl))
 
 pub texts_are_apart : TextsAreApart
 texts_are_apart arguments inputs = one_text (command_of arguments) inputs
@@ -105,7 +113,24 @@ texts_are_apart arguments inputs = one_text (command_of arguments) inputs
 no_command : (o : Option Invocation) (inputs : Inputs) → (command_outcome o inputs).ending.status ≡ Usage → o ≡ None
 no_command None inputs is = refl
 no_command (Some k) inputs is =
-    absurd (invoked (λ t. t.status ≡ Usage → ⊥) (λ name e. cc) (λ tail e. cc) (λ text e. cc) (λ telling dumped w end. told_status (λ t. t ≡ Usage → ⊥) (λ e. cc) (λ e. cc) (λ e. cc) (λ e. cc) (λ e. cc) telling dumped w end) k inputs is)
+    absurd (invoked (λ t. t.status ≡ Usage → ⊥) (λ name e. cc) (λ tail e. cc) (λ text e. cc) (λ telling dumped w end. told_status (λ t. t ≡ Usage → ⊥) (λ e. cc) (λ e. cc) (λ e. cc) (λ e. cc) (λ e. cc) telling dumped w end) k inputs (λ replays text e. cc) is)
+
+-- Refuted comes of a replay alone
+abbrev OfReplay : Option Invocation → Type 0
+OfReplay o = (kind : Format) × (file : List ℕ) × (items : List ℕ) × (o ≡ Some (replay kind file items))
+
+of_replay : (k : Invocation) → IsReplay k → OfReplay (Some k)
+of_replay k (kind, file, items, is) = (kind, file, items, ap Some is)
+
+refuted_by : (o : Option Invocation) (inputs : Inputs) → (command_outcome o inputs).ending.status ≡ Refuted → OfReplay o
+refuted_by None inputs status = absurd (let h : Usage ≡ Refuted = status in cc)
+refuted_by (Some k) inputs status =
+    invoked (λ t. t.status ≡ Refuted → OfReplay (Some k)) (λ name e. absurd cc) (λ tail e. absurd cc) (λ text e. absurd cc)
+    (λ telling dumped w end. told_status (λ s. s ≡ Refuted → OfReplay (Some k)) (λ e. absurd cc) (λ e. absurd cc) (λ e. absurd cc) (λ e. absurd cc) (λ e. absurd cc) telling dumped w end)
+    k inputs (λ replays text e. of_replay k replays) status
+
+pub refuted_is_of_replay : RefutedIsOfReplay
+refuted_is_of_replay arguments inputs = refuted_by (command_of arguments) inputs
 
 pub usage_is_exact : UsageIsExact
 usage_is_exact arguments inputs = (

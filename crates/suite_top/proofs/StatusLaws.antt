@@ -82,7 +82,7 @@ module _ (c : Call) (ending : Ending) (t : IsTaken c ending) where
 
   write_at : (k : HostCourse) → IsCourseOf (outcome_of c).requests k → c.host_after.told ≡ option_map (told_after (outcome_of c).requests k) c.host.told → FaultsAfter k c.host.faults c.host_after.faults → EndsAfter (outcome_of c).ending k ending → ending.status ≡ HostWrite → (name : List ℕ) × (bytes : List ℕ) × FailsAt c (store name bytes)
   write_at complete is_course told faults_so ends p =
-      absurd (never HostWrite (λ e. cc) (λ e. cc) (λ e. cc) (λ e. cc) (λ e. cc) (λ e. cc) (λ e. cc) (λ e. cc) c.arguments c.inputs (sym (ap (λ (s : Ending). s.status) ends.0) ∙ p))
+      absurd (never HostWrite (λ e. cc) (λ e. cc) (λ e. cc) (λ e. cc) (λ e. cc) (λ e. cc) (λ e. cc) (λ e. cc) (λ e. cc) c.arguments c.inputs (sym (ap (λ (s : Ending). s.status) ends.0) ∙ p))
   write_at (failed done (store name bytes)) is_course told faults_so (inl is) p = (name, bytes, fails_at done (store name bytes) is_course told faults_so is refl)
   write_at (failed done (load name)) is_course told faults_so (inl is) p = absurd (let h : HostRead ≡ HostWrite = sym (ap (λ (s : Ending). s.status) is) ∙ p in cc)
   write_at (failed done last) is_course told faults_so (inr is) p = absurd (let h : Memory ≡ HostWrite = sym (ap (λ (s : Ending). s.status) is) ∙ p in cc)
@@ -93,7 +93,7 @@ module _ (c : Call) (ending : Ending) (t : IsTaken c ending) where
   Kept = (u u_after : Told) → c.host.told ≡ Some u → c.host_after.told ≡ Some u_after → u_after.files ≡ u.files
 
   memory_at : (k : HostCourse) → IsCourseOf (outcome_of c).requests k → c.host_after.told ≡ option_map (told_after (outcome_of c).requests k) c.host.told → EndsAfter (outcome_of c).ending k ending → ending.status ≡ Memory → (ending ≡ memory_ending) × Kept
-  memory_at complete is_course told ends p = absurd (never Memory (λ e. cc) (λ e. cc) (λ e. cc) (λ e. cc) (λ e. cc) (λ e. cc) (λ e. cc) (λ e. cc) c.arguments c.inputs (sym (ap (λ (s : Ending). s.status) ends.0) ∙ p))
+  memory_at complete is_course told ends p = absurd (never Memory (λ e. cc) (λ e. cc) (λ e. cc) (λ e. cc) (λ e. cc) (λ e. cc) (λ e. cc) (λ e. cc) (λ e. cc) c.arguments c.inputs (sym (ap (λ (s : Ending). s.status) ends.0) ∙ p))
   memory_at (failed done last) is_course told (inl is) p = absurd (never_fails last (sym (ap (λ (s : Ending). s.status) is) ∙ p))
   memory_at (failed done last) is_course told (inr is) p =
       (is, λ u u_after old new. ap (λ (v : Told). v.files) (told_is (told_after (outcome_of c).requests (failed done last)) c.host.told c.host_after.told u u_after told old new) ∙ loads_keep done u is_course.2)
@@ -110,7 +110,7 @@ module _ (c : Call) (ending : Ending) (t : IsTaken c ending) where
 
   -- no ending is a sink's fault
   sink_at : (k : HostCourse) → EndsAfter (outcome_of c).ending k ending → ending.status ≡ SinkWrite → ⊥
-  sink_at complete ends p = never SinkWrite (λ e. cc) (λ e. cc) (λ e. cc) (λ e. cc) (λ e. cc) (λ e. cc) (λ e. cc) (λ e. cc) c.arguments c.inputs (sym (ap (λ (s : Ending). s.status) ends.0) ∙ p)
+  sink_at complete ends p = never SinkWrite (λ e. cc) (λ e. cc) (λ e. cc) (λ e. cc) (λ e. cc) (λ e. cc) (λ e. cc) (λ e. cc) (λ e. cc) c.arguments c.inputs (sym (ap (λ (s : Ending). s.status) ends.0) ∙ p)
   sink_at (failed done last) ends p = fails_status (λ s. s ≡ SinkWrite) (λ e. cc) (λ e. cc) (λ e. cc) last ending ends p
   sink_at (out_of_memory done) ends p = let h : Memory ≡ SinkWrite = sym (ap (λ (s : Ending). s.status) ends) ∙ p in cc
 

@@ -2,12 +2,13 @@
 use Rattle.std.specs.Prelude.{ℕ, List, [], Option, Some, None}
 use Rattle.file_commands.specs.Outcome.{Outcome, Inputs}
 use Rattle.file_commands.specs.Ending.{usage_ending}
-use Rattle.file_commands.specs.Arguments.{Invocation, convert, list, check, run, trace, romfs, unromfs, demo, command_of}
+use Rattle.file_commands.specs.Arguments.{Invocation, convert, list, check, run, trace, romfs, unromfs, replay, demo, command_of}
 use Rattle.file_commands.specs.Convert.{convert_outcome}
 use Rattle.file_commands.specs.List.{list_outcome}
 use Rattle.file_commands.specs.Check.{check_outcome}
 use Rattle.file_commands.specs.Romfs.{romfs_outcome}
 use Rattle.file_commands.specs.Unromfs.{unromfs_outcome}
+use Rattle.file_commands.specs.Replay.{replay_outcome}
 use Rattle.region_watch.specs.declared.mode.Mode.TheVariants.{Halt}
 use Rattle.suite_top.specs.declared.telling.Telling.TheVariants.{Report, Trace}
 use Rattle.suite_top.specs.Run.{run_outcome}
@@ -22,6 +23,7 @@ command_outcome (Some (run manifest log mode kind)) inputs = run_outcome manifes
 command_outcome (Some (trace manifest pid counted kind)) inputs = run_outcome manifest (Trace pid counted) Halt kind inputs
 command_outcome (Some (romfs manifest image)) inputs = romfs_outcome manifest image inputs
 command_outcome (Some (unromfs image)) inputs = unromfs_outcome image inputs
+command_outcome (Some (replay kind file items)) inputs = replay_outcome kind file items inputs
 command_outcome (Some (demo programs)) inputs = demo_outcome programs inputs
 
 -- the command of these arguments, where its loads give these files

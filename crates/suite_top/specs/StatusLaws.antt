@@ -3,11 +3,12 @@ use Rattle.std.specs.Prelude.{◌≡◌, ◌≢◌, ◌⊎◌, ◌++◌, ◌↔�
 use Rattle.host_io.specs.Faults.{Rose}
 use Rattle.host_io.specs.Host.{Told}
 use Rattle.file_commands.specs.declared.status.Status.{Status}
-use Rattle.file_commands.specs.declared.status.Status.TheVariants.{Done, Usage, HostRead, Refused, Stray, OutOfQuanta, LogFull, SinkWrite, Memory, HostWrite, Stuck}
+use Rattle.file_commands.specs.declared.status.Status.TheVariants.{Done, Usage, HostRead, Refused, Stray, OutOfQuanta, LogFull, SinkWrite, Memory, HostWrite, Stuck, Refuted}
 use Rattle.file_commands.specs.Texts.{memory_line}
 use Rattle.file_commands.specs.Ending.{Ending, memory_ending}
 use Rattle.file_commands.specs.Outcome.{Request, load, store, failure_ending, Inputs}
-use Rattle.file_commands.specs.Arguments.{IsNoRun, least_stack, most_stack, stack_of, command_of}
+use Rattle.file_commands.specs.declared.arguments.Format.{Format}
+use Rattle.file_commands.specs.Arguments.{replay, IsNoRun, least_stack, most_stack, stack_of, command_of}
 use Rattle.suite_top.specs.Result.{result_of}
 use Rattle.file_commands.specs.HostCourse.{after_failure, after_answers, Performs}
 use Rattle.file_commands.specs.Delivery.{SinkStop, sink_failed, sink_memory, TookAll, CutShort}
@@ -22,6 +23,7 @@ IsAnswer Stray = Unit {0}
 IsAnswer OutOfQuanta = Unit {0}
 IsAnswer LogFull = Unit {0}
 IsAnswer Stuck = Unit {0}
+IsAnswer Refuted = Unit {0}
 IsAnswer HostRead = ⊥
 IsAnswer HostWrite = ⊥
 IsAnswer SinkWrite = ⊥
@@ -108,9 +110,9 @@ pub record CutAtMemory (stop : SinkStop) (c : Call) : Type 0 where
 abbrev pub IsCut : SinkStop → Call → Type 0
 IsCut stop c = CutAtOut stop c ⊎ (CutAtReport stop c ⊎ (CutAtFailure stop c ⊎ CutAtMemory stop c))
 
--- a text stands in one sink alone: with Done in `out`, and else in `report`. Only where programs run both may have one
+-- a text stands in one sink alone: with Done and Refuted in `out`, and else in `report`. Only where a machine runs both may have one
 abbrev pub IsOneText : Ending → Type 0
-IsOneText ending = (ending.out ≡ []) ⊎ ((ending.status ≡ Done) × (ending.report ≡ []))
+IsOneText ending = (ending.out ≡ []) ⊎ (((ending.status ≡ Done) ⊎ (ending.status ≡ Refuted)) × (ending.report ≡ []))
 
 abbrev pub TextsAreApart : Type 0
 TextsAreApart = (arguments : List (List ℕ)) (inputs : Inputs) → IsNoRun (command_of arguments) → IsOneText (result_of arguments inputs).ending
@@ -152,6 +154,11 @@ abbrev pub UsageIsExact : Type 0
 UsageIsExact = (arguments : List (List ℕ)) (inputs : Inputs)
     → ((result_of arguments inputs).ending.status ≡ Usage → command_of arguments ≡ None)
     × (command_of arguments ≡ None → ((result_of arguments inputs).ending.status ≡ Usage) × ((result_of arguments inputs).requests ≡ []))
+
+-- Refuted is the outcome of `replay` alone
+abbrev pub RefutedIsOfReplay : Type 0
+RefutedIsOfReplay = (arguments : List (List ℕ)) (inputs : Inputs) → (result_of arguments inputs).ending.status ≡ Refuted
+    → (kind : Format) × (file : List ℕ) × (items : List ℕ) × (command_of arguments ≡ Some (replay kind file items))
 
 -- the argument of `--stack` says a number exactly where it spells it and it is in the range
 abbrev pub StackIsSpelled : Type 0

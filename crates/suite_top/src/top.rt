@@ -15,7 +15,7 @@ use crate::run::run_file;
 use crate::telling::Telling;
 use file_commands::{
     Answer, Command, Status, check_file, convert_file, deliver, list_file, read_arguments,
-    romfs_file, texts, unromfs_file,
+    replay_file, romfs_file, texts, unromfs_file,
 };
 use host_io::{Host, Sink};
 use page_runs::{Kind, Run};
@@ -87,6 +87,13 @@ where
         }
         Some(Command::Romfs { manifest, image }) => romfs_file(alloc, manifest, image, host),
         Some(Command::Unromfs { image }) => unromfs_file(alloc, image, host),
+        Some(
+            Command::Replay {
+                format,
+                file,
+                items,
+            },
+        ) => replay_file(alloc, format, file, items, host),
         Some(Command::Demo { programs }) => run_demo(alloc, programs, &place.first),
         None => Answer::early(alloc, Status::Usage, texts::usage(alloc)),
     }
