@@ -1,6 +1,7 @@
 -- OneFileLaws, ConvertLaws, CheckLaws, ListLaws, UnromfsLaws: the laws of the commands of one file.
 -- RunLaws: when a run reaches its machine.
 -- RomfsLaws: the laws of `romfs`.
+-- ReplayLaws: the laws of `replay`.
 -- BootedRuns: what is said of a run from its opening world on, by the laws of boots, turns and runs.
 -- Headers, GoOn, GoOnTexts, SamePrograms, BothModes: a run that goes on, beside the same run without it.
 -- Headline: what a call of `run` did. BothRuns: two runs of one manifest. TraceLaws: the laws of `trace`.
@@ -12,6 +13,7 @@ mod ConvertLaws
 mod CheckLaws
 mod ListLaws
 mod UnromfsLaws
+mod ReplayLaws
 mod RunLaws
 mod RomfsLaws
 mod BootedRuns

@@ -9,6 +9,7 @@ use Rattle.file_commands.specs.Texts.{too_long_tail}
 use Rattle.file_commands.specs.Ending.{refused_ending}
 use Rattle.file_commands.specs.Outcome.{load, failure_ending, Outcome, Inputs, after}
 use Rattle.file_commands.specs.Arguments.{Invocation, command_of}
+use Rattle.file_commands.specs.Load.{with_limited}
 use Rattle.file_commands.specs.OneFile.{file_limit, with_found}
 use Rattle.suite_top.specs.Result.{command_outcome}
 use Rattle.file_commands.specs.HostCourse.{after_answers, inputs_in}
@@ -46,16 +47,16 @@ shows c t t_after over x is answer =
 abbrev pub too_long : Outcome
 too_long = record { requests = []; ending = refused_ending too_long_tail }
 
-pub data Found (name : List ℕ) (rest : List ℕ → Outcome) (o : Option (List ℕ)) : Type 0 where
-  missing : with_found name o rest ≡ record { requests = []; ending = failure_ending (load name) } → Found name rest o
-  long : (e : List ℕ) → o ≡ Some e → file_limit < length e → with_found name o rest ≡ too_long → Found name rest o
-  fits : (e : List ℕ) → o ≡ Some e → length e ≤ file_limit → with_found name o rest ≡ rest e → Found name rest o
+pub data Found (limit : ℕ) (name : List ℕ) (rest : List ℕ → Outcome) (o : Option (List ℕ)) : Type 0 where
+  missing : with_limited limit None name o rest ≡ record { requests = []; ending = failure_ending (load name) } → Found limit name rest o
+  long : (e : List ℕ) → o ≡ Some e → limit < length e → with_limited limit None name o rest ≡ too_long → Found limit name rest o
+  fits : (e : List ℕ) → o ≡ Some e → length e ≤ limit → with_limited limit None name o rest ≡ rest e → Found limit name rest o
 
-pub found : (name : List ℕ) (rest : List ℕ → Outcome) (o : Option (List ℕ)) → Found name rest o
-found name rest None = missing refl
-found name rest (Some e) = by_test (nat_lt file_limit (length e)) refl
+pub found : (limit : ℕ) (name : List ℕ) (rest : List ℕ → Outcome) (o : Option (List ℕ)) → Found limit name rest o
+found limit name rest None = missing refl
+found limit name rest (Some e) = by_test (nat_lt limit (length e)) refl
   where
-    by_test : (b : Bool) → nat_lt file_limit (length e) ≡ b → Found name rest (Some e)
+    by_test : (b : Bool) → nat_lt limit (length e) ≡ b → Found limit name rest (Some e)
     by_test true is = long e refl (grind (arith, nat_tests)) (ap (λ (b : Bool). cond b too_long (rest e)) is)
     by_test false is = fits e refl (grind (arith, nat_tests)) (ap (λ (b : Bool). cond b too_long (rest e)) is)
 
@@ -74,7 +75,7 @@ module _ (c : Call) (t t_after : Told) (over : OverFiles c t t_after) (name : Li
         let s = shows_behind (record { requests = []; ending = refused_ending tail }) w answer in
         record { tail = tail; cause = cause; files = ap (λ (u : Told). u.files) s.told; asked = ap (λ (u : Told). u.asked) s.told; out = s.out; report = s.report }
 
-    refused_at : Found name rest (get t.files name) → IsRefused c t t_after name tail_of
+    refused_at : Found file_limit name rest (get t.files name) → IsRefused c t t_after name tail_of
     refused_at (missing w) = absurd (let h : HostRead ≡ Refused = sym (shows_behind _ w answer).status ∙ status in cc)
     refused_at (long e o lt w) = refused_by too_long_tail w (e, o, inl (lt, refl))
     refused_at (fits e o le w) =
@@ -82,14 +83,14 @@ module _ (c : Call) (t t_after : Told) (over : OverFiles c t t_after) (name : Li
         refused_by r.0 (w ∙ r.2) (e, o, inr (le, r.1))
 
     pub is_refused : IsRefused c t t_after name tail_of
-    is_refused = refused_at (found name rest (get t.files name))
+    is_refused = refused_at (found file_limit name rest (get t.files name))
 
   -- Done: there is a file that `rest` takes
   module _ (status : c.status ≡ Done) where
     done : IsAnswer c.status
     done = subst IsAnswer (sym status) tt
 
-    done_at : Found name rest (get t.files name) → (e : List ℕ) × IsFile t name e × ((rest e).ending.status ≡ Done) × Shows c t t_after (after (load name) (rest e))
+    done_at : Found file_limit name rest (get t.files name) → (e : List ℕ) × IsFile t name e × ((rest e).ending.status ≡ Done) × Shows c t t_after (after (load name) (rest e))
     done_at (missing w) = absurd (let h : HostRead ≡ Done = sym (shows_behind _ w done).status ∙ status in cc)
     done_at (long e o lt w) = absurd (let h : Refused ≡ Done = sym (shows_behind _ w done).status ∙ status in cc)
     done_at (fits e o le w) =
@@ -97,7 +98,7 @@ module _ (c : Call) (t t_after : Told) (over : OverFiles c t t_after) (name : Li
         (e, record { found = o; fits = le }, sym s.status ∙ status, s)
 
     pub is_done : (e : List ℕ) × IsFile t name e × ((rest e).ending.status ≡ Done) × Shows c t t_after (after (load name) (rest e))
-    is_done = done_at (found name rest (get t.files name))
+    is_done = done_at (found file_limit name rest (get t.files name))
 
   -- a file that `rest` takes brings Done
   taken : (e : List ℕ) → IsFile t name e → with_found name (get t.files name) rest ≡ rest e

@@ -2,6 +2,7 @@
 --
 -- OneFileLaws   what the laws of commands that load one file speak of
 -- ConvertLaws, CheckLaws, ListLaws, UnromfsLaws   the commands of one file
+-- ReplayLaws    the command `replay`, which loads two
 -- Booted        the machine of a run before the first turn, and what is said of a run from there on
 -- RunLaws       when a run reaches its machine
 -- RomfsLaws     the command `romfs`, which loads as a run does
@@ -14,6 +15,7 @@ pub mod ConvertLaws
 pub mod CheckLaws
 pub mod ListLaws
 pub mod UnromfsLaws
+pub mod ReplayLaws
 pub mod Booted
 pub mod RunLaws
 pub mod RomfsLaws

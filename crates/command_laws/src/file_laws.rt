@@ -4,6 +4,7 @@ ghost use Rattle.command_laws.specs.ConvertLaws.{ConvertChangesOneFile, ConvertI
 ghost use Rattle.command_laws.specs.CheckLaws.{CheckAsksOneLoad, CheckIsDone, CheckIsRefused, CheckCompletes};
 ghost use Rattle.command_laws.specs.RomfsLaws.{RomfsChangesOneFile, RomfsIsDone, RomfsIsRefused, RomfsCompletes};
 ghost use Rattle.command_laws.specs.UnromfsLaws.{UnromfsAsksOneLoad, UnromfsIsDone, UnromfsIsRefused, UnromfsCompletes};
+ghost use Rattle.command_laws.specs.ReplayLaws.{ReplayAsksItsFiles, ReplayIsDone, ReplayIsRefuted, ReplayIsRefused, ReplayCompletes};
 ghost use Rattle.command_laws.specs.ListLaws.{ListAsksOneLoad, ListIsDone, ListIsRefused, ListCompletes};
 
 /// Which file changes, when each answer comes, and whose numbers stand in the line.
@@ -37,6 +38,15 @@ pub fn unromfs_law()
     ensures done { UnromfsIsDone }
     ensures refused { UnromfsIsRefused }
     ensures complete { UnromfsCompletes }
+{}
+
+/// When each answer comes and what it says of the program and the items, and that these two files alone are asked for.
+pub fn replay_law()
+    ensures loads { ReplayAsksItsFiles }
+    ensures done { ReplayIsDone }
+    ensures refuted { ReplayIsRefuted }
+    ensures refused { ReplayIsRefused }
+    ensures complete { ReplayCompletes }
 {}
 
 /// Which file changes, and when each answer comes.
