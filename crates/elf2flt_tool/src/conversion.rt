@@ -55,8 +55,9 @@ fn find_places(alloc: Global, elf: &Elf<'_>, layout: &Layout) -> Result<Placed, 
         (λ refusal. (refusal ≡ Refusal.Memory) ⊎ (relocs_fault elf.now ≡ Some refusal)) }
 {
     let found = find_all(alloc, elf, layout)?;
-    let places = places_of(alloc, &found.cover.words)?;
     let met = lowest_met(&found.cover, &found.words);
+    drop(found.words);
+    let places = places_of(alloc, &found.cover.words)?;
     Ok(Placed { places, met })
 }
 

@@ -19,14 +19,14 @@ places_of-requires c =
     let e = c.args.elf.now in
     let whole = all_found e c.in_ok-found.found c.in_ok-found.ensures.1 in
     let small = size_le e c.requires.no_fault in
-    let len : length c.deref.result.now ≡ (layout e).text + (layout e).data_len = ap length c.deref.ensures.value ∙ whole.cover.words_len in
+    let len : length c.deref-2.result.now ≡ (layout e).text + (layout e).data_len = ap length c.deref-2.ensures.value ∙ whole.cover.words_len in
     omega arith
 
 pub lowest_met-met-requires : goal.lowest_met-met-requires
 lowest_met-met-requires c =
     let e = c.args.elf.now in
     let whole = all_found e c.in_ok-found.found c.in_ok-found.ensures.1 in
-    rw c.deref-2.ensures.value (words-inside e c.in_ok-found.found _ c.requires.no_fault c.in_ok-found.ensures.0 whole whole.cover.still_len)
+    rw c.deref.ensures.value (words-inside e c.in_ok-found.found _ c.requires.no_fault c.in_ok-found.ensures.0 whole whole.cover.still_len)
 
 pub returns : goal.returns
 returns c =
@@ -34,7 +34,7 @@ returns c =
     let whole = all_found e c.in_ok-found.found c.in_ok-found.ensures.1 in
     record {
       relocs = c.in_ok-found.ensures.0;
-      places = counted_records e c.in_ok-found.found _ _ whole c.deref.ensures.value c.in_ok-places.ensures;
-      met = c.lowest_met-met.ensures ∙ ap (λ rs. lowest (map (λ r. r.place) (filter (is_met c.in_ok-found.found.cover) rs))) c.deref-2.ensures.value
+      places = counted_records e c.in_ok-found.found _ _ whole c.deref-2.ensures.value c.in_ok-places.ensures;
+      met = c.lowest_met-met.ensures ∙ ap (λ rs. lowest (map (λ r. r.place) (filter (is_met c.in_ok-found.found.cover) rs))) c.deref.ensures.value
           ∙ overlap-tested e c.in_ok-found.found c.requires.no_fault c.in_ok-found.ensures.0 whole;
     }
