@@ -1,7 +1,7 @@
 //! Little-endian numbers of one, two or four bytes in a slice.
 
 ghost use Rattle.std.specs.Prelude.{◌≡◌, ◌⊎◌, ◌+◌, ◌^◌, ◌<◌, ◌≤◌, IfOk, length, replicate};
-ghost use Rattle.byte_words.specs.ByteMap.{little, little_bytes, overwritten};
+ghost use Rattle.byte_words.specs.ByteMap.{little, little_bytes};
 ghost use Rattle.byte_words.specs.Patches.{laid};
 
 use std::alloc::{AllocError, Global};
@@ -28,36 +28,23 @@ pub fn read(bytes: &[u8], at: usize, len: u32) -> u32
     }
 }
 
-/// Writes the lowest `len` bytes of a number, one by one.
+/// The lowest `len` bytes of a number, over those from a place on. They are side by side, and one store.
 #[inline]
-fn write_each(bytes: &mut Vec<u8>, at: usize, len: u32, value: u32)
-    requires len { (len ≡ 1) ⊎ (len ≡ 2) ⊎ (len ≡ 4) }
-    requires within { at + len ≤ length bytes.old.items }
-    ensures { bytes.new.items ≡ overwritten bytes.old.items at (little_bytes len value) }
-{
-    let [b0, b1, b2, b3] = value.to_le_bytes();
-    if len == 4 {
-        bytes[at + 3] = b3;
-        bytes[at + 2] = b2;
-    }
-    if len != 1 {
-        bytes[at + 1] = b1;
-    }
-    bytes[at] = b0;
-}
-
-/// Writes the lowest `len` bytes of a number.
-#[inline]
-#[tactic(auto, using(byte_words::proofs::ByteArrays::laid_little))]
 pub fn write(bytes: &mut Vec<u8>, at: usize, len: u32, value: u32)
     requires len { (len ≡ 1) ⊎ (len ≡ 2) ⊎ (len ≡ 4) }
     requires within { at + len ≤ length bytes.old.items }
     ensures { bytes.new.items ≡ laid bytes.old.items at (little_bytes len value) }
 {
-    write_each(bytes, at, len, value);
+    let [b0, b1, b2, b3] = value.to_le_bytes();
+    match len {
+        1 => copy_over(bytes, at, &[b0]),
+        2 => copy_over(bytes, at, &[b0, b1]),
+        _ => copy_over(bytes, at, &[b0, b1, b2, b3]),
+    }
 }
 
 /// Copies bytes over those from a place on.
+#[inline]
 pub fn copy_over(bytes: &mut Vec<u8>, at: usize, from: &[u8])
     requires { at + length from.now ≤ length bytes.old.items }
     ensures { bytes.new.items ≡ laid bytes.old.items at from.now }
