@@ -1,5 +1,5 @@
 -- A run with `--go-on` and the same run without it.
-use Rattle.std.proofs.Common.{◌≡◌, ◌≢◌, ℕ, Option, Some, None, ◌⊎◌, inl, inr, refl, ap}
+use Rattle.std.proofs.Common.{◌≡◌, ◌≢◌, ℕ, [], Option, Some, None, ◌⊎◌, inl, inr, refl, ap}
 use Rattle.rv32im_step.specs.declared.access.Access.{Access}
 use Rattle.machine_world.specs.Turns.{End, all_ended, stuck, out_of_quanta, stray_at, log_full, turns}
 use Rattle.physical_turns.specs.Physical.{physical_turns, opening as memory_opening}
@@ -7,7 +7,7 @@ use Rattle.go_on_laws.proofs.NeverStrays.{runs_never_stray}
 use Rattle.region_watch.specs.declared.mode.Mode.TheVariants.{Halt, GoOn}
 use Rattle.file_commands.specs.declared.status.Status.TheVariants.{Stray}
 use Rattle.suite_top.specs.declared.telling.Telling.TheVariants.{Report}
-use Rattle.suite_top.specs.Report.{own_dumps, status_of_end}
+use Rattle.suite_top.specs.Report.{status_of_end}
 use Rattle.file_commands.specs.Outcome.{Request, Outcome, after}
 use Rattle.command_laws.specs.RunLaws.{IsStop}
 use Rattle.command_laws.specs.Beside.{RunsEndEarlyAlike, RunsOnNeverStray}
@@ -21,11 +21,11 @@ alike_after request halts goes (inl stops) = inl stops
 alike_after request halts goes (inr same) = inr (ap (after request) same)
 
 pub runs_end_early_alike : RunsEndEarlyAlike
-runs_end_early_alike name log =
-    both_run (Report log) (Report log) Halt GoOn (λ halts goes. IsStop halts.ending.status ⊎ (goes ≡ halts)) alike_after (λ name. inr refl) (λ tail. inr refl)
-    (λ quanta dumps headers w.
+runs_end_early_alike name log watch =
+    both_run (Report log watch) (Report log watch) Halt GoOn (λ halts goes. IsStop halts.ending.status ⊎ (goes ≡ halts)) alike_after (λ name. inr refl) (λ tail. inr refl)
+    (λ quanta watches dumps headers w.
     let walk = turns quanta w in
-    inl (told_status IsStop tt tt tt tt tt (Report log) (own_dumps walk.world dumps) walk.world walk.end)) name
+    inl (told_status IsStop tt tt tt tt tt (Report log watch) [] walk.world walk.end)) name
 
 -- ---- and the other doesn't end with Stray
 
@@ -38,6 +38,6 @@ no_stray (Some log_full) never = λ h. cc
 no_stray None never = λ h. cc
 
 pub runs_on_never_stray : RunsOnNeverStray
-runs_on_never_stray name log =
-    both_run (Report log) (Report log) Halt GoOn (λ halts goes. goes.ending.status ≢ Stray) (λ request halts goes other. other) (λ name h. cc) (λ tail h. cc)
-    (λ quanta dumps headers w. no_stray (physical_turns quanta (memory_opening headers w)).end (runs_never_stray quanta (memory_opening headers w))) name
+runs_on_never_stray name log watch =
+    both_run (Report log watch) (Report log watch) Halt GoOn (λ halts goes. goes.ending.status ≢ Stray) (λ request halts goes other. other) (λ name h. cc) (λ tail h. cc)
+    (λ quanta watches dumps headers w. no_stray (physical_turns quanta (memory_opening headers w)).end (runs_never_stray quanta (memory_opening headers w))) name

@@ -3,6 +3,7 @@ use Rattle.std.proofs.Common.{ℕ, ◌-◌, Bool, true, false, cond, List, [], �
 use Rattle.page_runs.specs.declared.place.Kind.{Kind}
 use Rattle.quantum_sched.specs.declared.Quantum.{Quantum}
 use Rattle.manifest_text.specs.declared.manifest.Dump.{Dump}
+use Rattle.manifest_text.specs.declared.manifest.WatchLine.{WatchLine}
 use Rattle.manifest_text.specs.Values.{Item, Manifest}
 use Rattle.manifest_text.specs.Manifest.{Fault, manifest_of}
 use Rattle.machine_world.specs.World.{World}
@@ -23,8 +24,8 @@ use Rattle.suite_top.specs.Run.{start_line, opening, boot_fault, mode_ending, bo
 module _ (telling telling_other : Telling) (mode mode_other : Mode) (R : (one other : Outcome) → Type 0) (step : (request : Request) (one other : Outcome) → R one other → R (after request one) (after request other))
     (failed : (name : List ℕ) → R (at_once (failure_ending (load name))) (at_once (failure_ending (load name))))
     (refused : (tail : List ℕ) → R (at_once (refused_ending tail)) (at_once (refused_ending tail)))
-    (tells : (quanta : List Quantum) (dumps : List Dump) (headers : List (List ℕ)) (w : World)
-    → R (at_once (mode_ending telling mode quanta dumps headers w)) (at_once (mode_ending telling_other mode_other quanta dumps headers w))) where
+    (tells : (quanta : List Quantum) (watches : List WatchLine) (dumps : List Dump) (headers : List (List ℕ)) (w : World)
+    → R (at_once (mode_ending telling mode quanta watches dumps headers w)) (at_once (mode_ending telling_other mode_other quanta watches dumps headers w))) where
   -- ---- behind loads
 
   both_limited : (limit : ℕ) (line : Option ℕ) (name : List ℕ) (file : Option (List ℕ)) (one other : List ℕ → Outcome) → ((bytes : List ℕ) → R (one bytes) (other bytes))
@@ -63,7 +64,7 @@ module _ (telling telling_other : Telling) (mode mode_other : Mode) (R : (one ot
   module _ (m : Manifest) where
     both_booted : (headers : List (List ℕ)) (r : Result World BootFault) → R (at_once (booted_ending telling mode m headers r)) (at_once (booted_ending telling_other mode_other m headers r))
     both_booted headers (Err first) = let at = boot_fault first in refused (line_tail at.line at.fault)
-    both_booted headers (Ok w) = tells (repeated m.repeat m.quanta) m.dumps headers w
+    both_booted headers (Ok w) = tells (repeated m.repeat m.quanta) m.watches m.dumps headers w
 
     both_brought : (kind : Kind) (r : Result Brought FaultAt) → R (at_once (brought_ending telling mode kind m r)) (at_once (brought_ending telling_other mode_other kind m r))
     both_brought kind (Err at) = refused (line_tail at.line at.fault)

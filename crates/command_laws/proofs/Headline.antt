@@ -34,12 +34,12 @@ stops_answer HostWrite stop = absurd stop
 stops_answer Refuted stop = absurd stop
 
 pub runs_are_runs_alone : RunsAreRunsAlone
-runs_are_runs_alone c manifest log mode kind is stop =
+runs_are_runs_alone c manifest log mode kind watch is stop =
     let whole = answers_are_whole c is.meets (stops_answer c.status stop) in
-    let same : outcome_of c ≡ run_outcome manifest (Report log) mode kind c.inputs = ap (λ (o : Option Invocation). command_outcome o c.inputs) is.command in
+    let same : outcome_of c ≡ run_outcome manifest (Report log watch) mode kind c.inputs = ap (λ (o : Option Invocation). command_outcome o c.inputs) is.command in
     let stops = subst IsStop (whole.status ∙ ap (λ (x : Outcome). x.ending.status) same) stop in
-    let opens = opens_where_it_stops c.inputs manifest (Report log) mode kind stops in
-    let opened : outcome_of c ≡ opened_outcome (Report log) mode opens = same ∙ runs_where_it_opens c.inputs manifest (Report log) mode kind opens in
+    let opens = opens_where_it_stops c.inputs manifest (Report log watch) mode kind stops in
+    let opened : outcome_of c ≡ opened_outcome (Report log watch) mode opens = same ∙ runs_where_it_opens c.inputs manifest (Report log watch) mode kind opens in
     record {
       opens = opens;
       performed = whole.performed;

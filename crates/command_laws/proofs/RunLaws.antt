@@ -64,7 +64,7 @@ items_there inputs left (item ∷ items) (file ∷ files) rest there =
 
 -- of a run and of a demo
 pub runs_where_booted : (telling : Telling) (mode : Mode) (kind : Kind) (m : Manifest) (files : List (List ℕ)) (b : Booted kind m files)
-    → files_ending telling mode kind m files ≡ mode_ending telling mode (repeated m.repeat m.quanta) m.dumps b.brought.headers b.world
+    → files_ending telling mode kind m files ≡ mode_ending telling mode (repeated m.repeat m.quanta) m.watches m.dumps b.brought.headers b.world
 unfolding files_ending
 runs_where_booted telling mode kind m files b =
     ap (brought_ending telling mode kind m) b.brings ∙ ap (booted_ending telling mode m b.brought.headers) b.boots

@@ -1,11 +1,11 @@
 -- What a call of `trace` does.
-use Rattle.std.proofs.Common.{List, ◌∷◌, inl, inr, refl, ap, arith}
+use Rattle.std.proofs.Common.{List, [], ◌∷◌, inl, inr, refl, ap, arith}
 use Rattle.machine_world.specs.Turns.{turns}
 use Rattle.region_watch.specs.declared.mode.Mode.TheVariants.{Halt}
 use Rattle.file_commands.specs.Arguments.{least_pid, most_pid}
 use Rattle.file_commands.specs.Outcome.{Request, Outcome, after}
 use Rattle.suite_top.specs.declared.telling.Telling.TheVariants.{Report, Trace}
-use Rattle.suite_top.specs.Report.{own_dumps, trace_report}
+use Rattle.suite_top.specs.Report.{trace_report}
 use Rattle.command_laws.specs.RunLaws.{IsStop}
 use Rattle.command_laws.specs.TraceLaws.{PidsAreSpelled, IsAsRun, TracesAreRuns, TracesTellNotes}
 use Rattle.file_commands.proofs.SpelledNumbers.{number_is_spelled}
@@ -16,10 +16,10 @@ use Rattle.command_laws.proofs.RunLaws.{runs_where_it_opens}
 pub pids_are_spelled : PidsAreSpelled
 pids_are_spelled text n = number_is_spelled least_pid most_pid (omega arith) text n
 
-same : (o : Outcome) → IsAsRun o o
+pub same : (o : Outcome) → IsAsRun o o
 same o = record { requests = refl; status = refl; out = refl; early = inr refl }
 
-alike_after : (request : Request) (traced ran : Outcome) → IsAsRun traced ran → IsAsRun (after request traced) (after request ran)
+pub alike_after : (request : Request) (traced ran : Outcome) → IsAsRun traced ran → IsAsRun (after request traced) (after request ran)
 alike_after request traced ran is = record {
   requests = ap (λ (requests : List Request). request ∷ requests) is.requests;
   status = is.status;
@@ -28,11 +28,11 @@ alike_after request traced ran is = record {
 }
 
 pub traces_are_runs : TracesAreRuns
-traces_are_runs manifest pid counted log kind inputs =
-    both_run (Trace pid counted) (Report log) Halt Halt IsAsRun alike_after (λ name. same _) (λ tail. same _)
-    (λ quanta dumps headers w.
+traces_are_runs manifest pid counted log kind watch inputs =
+    both_run (Trace pid counted) (Report log watch) Halt Halt IsAsRun alike_after (λ name. same _) (λ tail. same _)
+    (λ quanta watches dumps headers w.
     let walk = turns quanta w in
-    record { requests = refl; status = refl; out = refl; early = inl (told_status IsStop tt tt tt tt tt (Report log) (own_dumps walk.world dumps) walk.world walk.end) })
+    record { requests = refl; status = refl; out = refl; early = inl (told_status IsStop tt tt tt tt tt (Report log watch) [] walk.world walk.end) })
     manifest kind inputs
 
 pub traces_tell_notes : TracesTellNotes

@@ -1,5 +1,5 @@
 -- A run with `--go-on` beside the same run without it.
-use Rattle.std.specs.Prelude.{◌≡◌, ◌≢◌, ◌⊎◌, ℕ, Bool, List, ◌++◌, Some, None}
+use Rattle.std.specs.Prelude.{◌≡◌, ◌≢◌, ◌⊎◌, ℕ, Bool, List, ◌++◌, Option, Some, None}
 use Rattle.rv32im_step.specs.declared.access.Access.{Access}
 use Rattle.page_runs.specs.declared.place.Kind.{Kind}
 use Rattle.quantum_sched.specs.declared.Quantum.{Quantum}
@@ -12,6 +12,7 @@ use Rattle.physical_turns.specs.Physical.{Physical, Walk as PhysicalWalk, physic
 use Rattle.go_on_laws.specs.Laws.{GoesPast}
 use Rattle.memory_refusals.specs.Regular.{IsRegularIn}
 use Rattle.region_watch.specs.declared.mode.Mode.TheVariants.{Halt, GoOn}
+use Rattle.watch_points.specs.declared.point.PointKind.{PointKind}
 use Rattle.flat_machine.specs.Runs.{repeated}
 use Rattle.flat_machine.specs.OwnBytes.{own_bytes, memory_bytes}
 use Rattle.file_commands.specs.declared.status.Status.TheVariants.{Stray}
@@ -19,7 +20,7 @@ use Rattle.file_commands.specs.Ending.{Ending}
 use Rattle.suite_top.specs.declared.telling.Telling.TheVariants.{Report}
 use Rattle.suite_top.specs.Report.{own_dumps, memory_dumps, notes_text}
 use Rattle.file_commands.specs.Outcome.{Inputs}
-use Rattle.suite_top.specs.Run.{run_outcome}
+use Rattle.suite_top.specs.Run.{world_hits, memory_hits, run_outcome}
 use Rattle.command_laws.specs.Booted.{booted_turns}
 use Rattle.command_laws.specs.RunLaws.{Opens, opened_outcome, IsStop}
 
@@ -61,11 +62,19 @@ MemoryIsRegular = (inputs : Inputs) (name : List ℕ) (kind : Kind) (o : Opens i
 
 -- ---- the status and the texts
 
-abbrev pub halting_ending : {inputs : Inputs} {name : List ℕ} {kind : Kind} → (log : Bool) → Opens inputs name kind → Ending
-halting_ending log o = (opened_outcome (Report log) Halt o).ending
+abbrev pub halting_ending : {inputs : Inputs} {name : List ℕ} {kind : Kind} → (log : Bool) → (watch : Option PointKind) → Opens inputs name kind → Ending
+halting_ending log watch o = (opened_outcome (Report log watch) Halt o).ending
 
-abbrev pub going_on_ending : {inputs : Inputs} {name : List ℕ} {kind : Kind} → (log : Bool) → Opens inputs name kind → Ending
-going_on_ending log o = (opened_outcome (Report log) GoOn o).ending
+abbrev pub going_on_ending : {inputs : Inputs} {name : List ℕ} {kind : Kind} → (log : Bool) → (watch : Option PointKind) → Opens inputs name kind → Ending
+going_on_ending log watch o = (opened_outcome (Report log watch) GoOn o).ending
+
+-- what is told of the hits without it, and with it: nothing, where none are asked for
+abbrev pub halting_hits : {inputs : Inputs} {name : List ℕ} {kind : Kind} → (log : Bool) → (watch : Option PointKind) → Opens inputs name kind → List ℕ
+halting_hits log watch o = world_hits (Report log watch) (repeated o.manifest.repeat o.manifest.quanta) o.manifest.watches o.booted.world
+
+abbrev pub going_on_hits : {inputs : Inputs} {name : List ℕ} {kind : Kind} → (log : Bool) → (watch : Option PointKind) → Opens inputs name kind → List ℕ
+going_on_hits log watch o =
+    memory_hits (Report log watch) (repeated o.manifest.repeat o.manifest.quanta) o.manifest.watches (memory_opening o.booted.brought.headers o.booted.world)
 
 -- a dump of a process that lives, of bytes that lie in memory and aren't all own
 pub record ShowsMore (private : World) (one : Physical) (d : Dump) : Type 0 where
@@ -79,19 +88,19 @@ pub record ShowsMore (private : World) (one : Physical) (d : Dump) : Type 0 wher
 abbrev pub DumpsAlike : World → Physical → Dump → Type 0
 DumpsAlike private one d = (memory_bytes one d.pid d.addr d.len ≡ own_bytes private d.pid d.addr d.len) ⊎ ShowsMore private one d
 
--- two reports have the same notes before their dump lines, and the same line behind them
-pub record ReportsAlike (private : World) (one : Physical) (dumps : List Dump) (without_it with_it : List ℕ) : Type 0 where
+-- two reports have the same notes before their hits and dump lines, and the same line behind them
+pub record ReportsAlike (private : World) (one : Physical) (private_hits one_hits : List ℕ) (dumps : List Dump) (without_it with_it : List ℕ) : Type 0 where
   pub notes : List ℕ
   pub stop : List ℕ
-  pub halts : without_it ≡ notes ++ own_dumps private dumps ++ stop
-  pub goes_on : with_it ≡ notes ++ memory_dumps one dumps ++ stop
+  pub halts : without_it ≡ notes ++ (private_hits ++ own_dumps private dumps) ++ stop
+  pub goes_on : with_it ≡ notes ++ (one_hits ++ memory_dumps one dumps) ++ stop
   pub shown : (d : Dump) → DumpsAlike private one d
 
--- where nothing strays the status and the console are the same, and the reports but for such dumps
-pub record TellsAlike {inputs : Inputs} {name : List ℕ} {kind : Kind} (log : Bool) (o : Opens inputs name kind) : Type 0 where
-  pub status : (going_on_ending log o).status ≡ (halting_ending log o).status
-  pub out : (going_on_ending log o).out ≡ (halting_ending log o).out
-  pub report : ReportsAlike (halting o).world (going_on o).now o.manifest.dumps (halting_ending log o).report (going_on_ending log o).report
+-- where nothing strays the status and the console are the same, and the reports but for hits and such dumps
+pub record TellsAlike {inputs : Inputs} {name : List ℕ} {kind : Kind} (log : Bool) (watch : Option PointKind) (o : Opens inputs name kind) : Type 0 where
+  pub status : (going_on_ending log watch o).status ≡ (halting_ending log watch o).status
+  pub out : (going_on_ending log watch o).out ≡ (halting_ending log watch o).out
+  pub report : ReportsAlike (halting o).world (going_on o).now (halting_hits log watch o) (going_on_hits log watch o) o.manifest.dumps (halting_ending log watch o).report (going_on_ending log watch o).report
 
 -- a text has more behind its start
 abbrev pub Begins : (start text : List ℕ) → Type 0
@@ -99,23 +108,24 @@ Begins start text = (more : List ℕ) × (text ≡ start ++ more)
 
 -- where they end with a stray access, the console goes on behind what it has there, and both reports begin with the notes up to that
 -- access, its own among them
-pub record TellsPast {inputs : Inputs} {name : List ℕ} {kind : Kind} (log : Bool) (o : Opens inputs name kind) : Type 0 where
-  pub out : Begins (halting_ending log o).out (going_on_ending log o).out
-  pub halts : Begins (notes_text log (halting o).world) (halting_ending log o).report
-  pub goes_on : Begins (notes_text log (halting o).world) (going_on_ending log o).report
+pub record TellsPast {inputs : Inputs} {name : List ℕ} {kind : Kind} (log : Bool) (watch : Option PointKind) (o : Opens inputs name kind) : Type 0 where
+  pub out : Begins (halting_ending log watch o).out (going_on_ending log watch o).out
+  pub halts : Begins (notes_text log (halting o).world) (halting_ending log watch o).report
+  pub goes_on : Begins (notes_text log (halting o).world) (going_on_ending log watch o).report
 
-pub record TellsWell {inputs : Inputs} {name : List ℕ} {kind : Kind} (log : Bool) (o : Opens inputs name kind) : Type 0 where
-  pub alike : ((pid : ℕ) (access : Access) → (halting o).end ≢ Some (stray_at pid access)) → TellsAlike log o
-  pub past : (pid : ℕ) (access : Access) → (halting o).end ≡ Some (stray_at pid access) → TellsPast log o
+pub record TellsWell {inputs : Inputs} {name : List ℕ} {kind : Kind} (log : Bool) (watch : Option PointKind) (o : Opens inputs name kind) : Type 0 where
+  pub alike : ((pid : ℕ) (access : Access) → (halting o).end ≢ Some (stray_at pid access)) → TellsAlike log watch o
+  pub past : (pid : ℕ) (access : Access) → (halting o).end ≡ Some (stray_at pid access) → TellsPast log watch o
 
 abbrev pub RunsTellWell : Type 0
-RunsTellWell = (inputs : Inputs) (name : List ℕ) (kind : Kind) (log : Bool) (o : Opens inputs name kind) → TellsWell log o
+RunsTellWell = (inputs : Inputs) (name : List ℕ) (kind : Kind) (log : Bool) (watch : Option PointKind) (o : Opens inputs name kind) → TellsWell log watch o
 
 -- a run that doesn't reach its machine is the same with it and without it
 abbrev pub RunsEndEarlyAlike : Type 0
-RunsEndEarlyAlike = (name : List ℕ) (log : Bool) (kind : Kind) (inputs : Inputs)
-    → IsStop (run_outcome name (Report log) Halt kind inputs).ending.status ⊎ (run_outcome name (Report log) GoOn kind inputs ≡ run_outcome name (Report log) Halt kind inputs)
+RunsEndEarlyAlike = (name : List ℕ) (log : Bool) (watch : Option PointKind) (kind : Kind) (inputs : Inputs)
+    → IsStop (run_outcome name (Report log watch) Halt kind inputs).ending.status
+    ⊎ (run_outcome name (Report log watch) GoOn kind inputs ≡ run_outcome name (Report log watch) Halt kind inputs)
 
 -- and with it no run ends at a stray access
 abbrev pub RunsOnNeverStray : Type 0
-RunsOnNeverStray = (name : List ℕ) (log : Bool) (kind : Kind) (inputs : Inputs) → (run_outcome name (Report log) GoOn kind inputs).ending.status ≢ Stray
+RunsOnNeverStray = (name : List ℕ) (log : Bool) (watch : Option PointKind) (kind : Kind) (inputs : Inputs) → (run_outcome name (Report log watch) GoOn kind inputs).ending.status ≢ Stray

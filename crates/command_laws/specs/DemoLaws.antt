@@ -36,7 +36,7 @@ DemoOpens n = Booted First (demo_manifest n) (each_of demo_file n)
 
 -- the turns from that world give the texts
 abbrev pub DemosRunWhereTheyOpen : Type 0
-DemosRunWhereTheyOpen = (n : ℕ) (o : DemoOpens n) → demo_ending n ≡ walked_ending (Demo n) (demo_manifest n).dumps (booted_turns o)
+DemosRunWhereTheyOpen = (n : ℕ) (o : DemoOpens n) → demo_ending n ≡ walked_ending (Demo n) [] (demo_manifest n).dumps (booted_turns o)
 
 -- in no other case a demo ends with the status of a machine that stopped
 abbrev pub DemosOpenWhereTheyStop : Type 0

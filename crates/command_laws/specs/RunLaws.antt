@@ -49,7 +49,7 @@ pub record Opens (inputs : Inputs) (name : List ℕ) (kind : Kind) : Type 0 wher
 abbrev pub opened_outcome : {inputs : Inputs} {name : List ℕ} {kind : Kind} → Telling → Mode → Opens inputs name kind → Outcome
 opened_outcome {name = name} telling mode o = record {
   requests = load name ∷ map (λ i. load i.name) (filter (λ i. has_file i.kind) o.manifest.items);
-  ending = mode_ending telling mode (repeated o.manifest.repeat o.manifest.quanta) o.manifest.dumps o.booted.brought.headers o.booted.world;
+  ending = mode_ending telling mode (repeated o.manifest.repeat o.manifest.quanta) o.manifest.watches o.manifest.dumps o.booted.brought.headers o.booted.world;
 }
 
 -- the statuses of a machine that stopped

@@ -2,6 +2,7 @@
 use Rattle.std.specs.Prelude.{◌≡◌, ◌↔◌, ◌⊎◌, ℕ, ◌≤◌, Bool, List, ◌++◌, map, reverse, decimal, Option, Some}
 use Rattle.page_runs.specs.declared.place.Kind.{Kind}
 use Rattle.region_watch.specs.declared.mode.Mode.TheVariants.{Halt}
+use Rattle.watch_points.specs.declared.point.PointKind.{PointKind}
 use Rattle.trace_text.specs.Texts.{trace_texts}
 use Rattle.machine_world.specs.World.{program_path}
 use Rattle.file_commands.specs.Outcome.{Outcome, Inputs}
@@ -22,10 +23,10 @@ pub record IsAsRun (traced ran : Outcome) : Type 0 where
   pub out : traced.ending.out ≡ ran.ending.out
   pub early : IsStop ran.ending.status ⊎ (traced ≡ ran)
 
--- whatever is shown
+-- whatever is shown, and whatever the run tells
 abbrev pub TracesAreRuns : Type 0
-TracesAreRuns = (manifest : List ℕ) (pid : Option ℕ) (counted log : Bool) (kind : Kind) (inputs : Inputs)
-    → IsAsRun (command_outcome (Some (trace manifest pid counted kind)) inputs) (command_outcome (Some (run manifest log Halt kind)) inputs)
+TracesAreRuns = (manifest : List ℕ) (pid : Option ℕ) (counted log : Bool) (kind : Kind) (watch : Option PointKind) (inputs : Inputs)
+    → IsAsRun (command_outcome (Some (trace manifest pid counted kind)) inputs) (command_outcome (Some (run manifest log Halt kind watch)) inputs)
 
 -- where the machine is reached, the report has the texts of a trace, of the notes in the world behind the turns, then the dumps and why the
 -- run stopped

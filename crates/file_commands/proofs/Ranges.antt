@@ -2,11 +2,13 @@
 use Rattle.std.proofs.Common.{◌≡◌, ℕ, ◌≤◌, Bool, true, false, cond, List, [], ◌∷◌, Option, Some, None, refl, arith}
 use Rattle.std.specs.Prelude.{codes, bytes_eq, option_map}
 use Rattle.page_runs.specs.declared.place.Kind.{Kind}
+use Rattle.page_runs.specs.declared.place.Kind.TheVariants.{First}
 use Rattle.region_watch.specs.declared.mode.Mode.{Mode}
 use Rattle.region_watch.specs.declared.mode.Mode.TheVariants.{Halt, GoOn}
+use Rattle.watch_points.specs.declared.point.PointKind.{PointKind}
 use Rattle.std.specs.Option.{option_and_then}
 use Rattle.file_commands.specs.declared.arguments.Format.{Format}
-use Rattle.file_commands.specs.Arguments.{Invocation, convert, list, check, run, trace, unromfs, replay, demo, least_stack, most_stack, least_programs, most_programs, stack_of, programs_of, pid_of, only, romfs_of, convert_of, placement_of, mode_of, run_of, counted_of, process_of, trace_of, format_of_word, replay_of, demo_of, command_of}
+use Rattle.file_commands.specs.Arguments.{Invocation, convert, list, check, run, trace, unromfs, replay, demo, least_stack, most_stack, least_programs, most_programs, stack_of, programs_of, pid_of, kind_of_word, only, romfs_of, convert_of, placement_of, watch_of, watched_of, placed_of, mode_of, run_of, counted_of, process_of, trace_of, format_of_word, replay_of, demo_of, command_of}
 use Rattle.file_commands.proofs.SpelledNumbers.{is_spelled}
 
 -- what the commands ask for of their numbers
@@ -71,15 +73,27 @@ replay_has (word ∷ file ∷ items ∷ more ∷ words) = tt
 
 -- ---- `run` and `trace`
 
-placed_has : (manifest : List ℕ) (log : Bool) (mode : Mode) (o : Option Kind) → HasRanges (option_map (run manifest log mode) o)
-placed_has manifest log mode None = tt
-placed_has manifest log mode (Some kind) = tt
+module _ (manifest : List ℕ) (log : Bool) (mode : Mode) where
+  told_has : (kind : Kind) (o : Option (Option PointKind)) → HasRanges (option_map (run manifest log mode kind) o)
+  told_has kind None = tt
+  told_has kind (Some watch) = tt
+
+  kind_has : (words : List (List ℕ)) (o : Option Kind) → HasRanges (option_and_then (λ kind. watched_of manifest log mode kind words) o)
+  kind_has words None = tt
+  kind_has words (Some kind) = told_has kind (watch_of words)
+
+  placed_has : (words : List (List ℕ)) → HasRanges (placed_of manifest log mode words)
+  placed_has [] = tt
+  placed_has (option ∷ []) = tt
+  placed_has (option ∷ word ∷ words) =
+      either (bytes_eq option (codes "--place")) (option_and_then (λ kind. watched_of manifest log mode kind words) (kind_of_word word)) (watched_of manifest log mode First (option ∷ word ∷ words))
+      (kind_has words (kind_of_word word)) (told_has First (watch_of (option ∷ word ∷ words)))
 
 mode_has : (manifest : List ℕ) (log : Bool) (words : List (List ℕ)) → HasRanges (mode_of manifest log words)
 mode_has manifest log [] = tt
 mode_has manifest log (option ∷ words) =
-    either (bytes_eq option (codes "--go-on")) (option_map (run manifest log GoOn) (placement_of words)) (option_map (run manifest log Halt) (placement_of (option ∷ words)))
-    (placed_has manifest log GoOn (placement_of words)) (placed_has manifest log Halt (placement_of (option ∷ words)))
+    either (bytes_eq option (codes "--go-on")) (placed_of manifest log GoOn words) (placed_of manifest log Halt (option ∷ words))
+    (placed_has manifest log GoOn words) (placed_has manifest log Halt (option ∷ words))
 
 run_has : (words : List (List ℕ)) → HasRanges (run_of words)
 run_has [] = tt

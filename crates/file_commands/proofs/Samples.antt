@@ -8,6 +8,7 @@ use Rattle.file_commands.specs.Arguments.{convert, check, run, trace, demo, comm
 use Rattle.elf2flt_tool.specs.declared.refusal.Refusal.TheVariants as refusal
 use Rattle.page_runs.specs.declared.place.Kind.TheVariants.{First, Best, Last}
 use Rattle.region_watch.specs.declared.mode.Mode.TheVariants.{Halt, GoOn}
+use Rattle.watch_points.specs.declared.point.PointKind.TheVariants.{Touch, Within}
 use Rattle.psabi_relocs.specs.declared.fault.RelocFault.TheVariants.{AbsoluteCode}
 use Rattle.byte_words.specs.Numbers.{number_at}
 
@@ -56,25 +57,25 @@ zero_in_front = refl
 check_is_read : command_of (codes "check" ∷ codes "a.elf" ∷ []) ≡ Some (check (codes "a.elf"))
 check_is_read = refl
 
-run_is_read : command_of (codes "run" ∷ codes "a" ∷ []) ≡ Some (run (codes "a") false Halt First)
+run_is_read : command_of (codes "run" ∷ codes "a" ∷ []) ≡ Some (run (codes "a") false Halt First None)
 run_is_read = refl
 
-log_is_read : command_of (codes "run" ∷ codes "a" ∷ codes "--log" ∷ []) ≡ Some (run (codes "a") true Halt First)
+log_is_read : command_of (codes "run" ∷ codes "a" ∷ codes "--log" ∷ []) ≡ Some (run (codes "a") true Halt First None)
 log_is_read = refl
 
-placement_is_read : command_of (codes "run" ∷ codes "a" ∷ codes "--place" ∷ codes "best" ∷ []) ≡ Some (run (codes "a") false Halt Best)
+placement_is_read : command_of (codes "run" ∷ codes "a" ∷ codes "--place" ∷ codes "best" ∷ []) ≡ Some (run (codes "a") false Halt Best None)
 placement_is_read = refl
 
-both_are_read : command_of (codes "run" ∷ codes "a" ∷ codes "--log" ∷ codes "--place" ∷ codes "last" ∷ []) ≡ Some (run (codes "a") true Halt Last)
+both_are_read : command_of (codes "run" ∷ codes "a" ∷ codes "--log" ∷ codes "--place" ∷ codes "last" ∷ []) ≡ Some (run (codes "a") true Halt Last None)
 both_are_read = refl
 
 placement_in_front : command_of (codes "run" ∷ codes "a" ∷ codes "--place" ∷ codes "best" ∷ codes "--log" ∷ []) ≡ None
 placement_in_front = refl
 
-go_on_is_read : command_of (codes "run" ∷ codes "a" ∷ codes "--go-on" ∷ []) ≡ Some (run (codes "a") false GoOn First)
+go_on_is_read : command_of (codes "run" ∷ codes "a" ∷ codes "--go-on" ∷ []) ≡ Some (run (codes "a") false GoOn First None)
 go_on_is_read = refl
 
-all_are_read : command_of (codes "run" ∷ codes "a" ∷ codes "--log" ∷ codes "--go-on" ∷ codes "--place" ∷ codes "last" ∷ []) ≡ Some (run (codes "a") true GoOn Last)
+all_are_read : command_of (codes "run" ∷ codes "a" ∷ codes "--log" ∷ codes "--go-on" ∷ codes "--place" ∷ codes "last" ∷ []) ≡ Some (run (codes "a") true GoOn Last None)
 all_are_read = refl
 
 go_on_in_front : command_of (codes "run" ∷ codes "a" ∷ codes "--go-on" ∷ codes "--log" ∷ []) ≡ None
@@ -82,6 +83,22 @@ go_on_in_front = refl
 
 unknown_placement : command_of (codes "run" ∷ codes "a" ∷ codes "--place" ∷ codes "worst" ∷ []) ≡ None
 unknown_placement = refl
+
+watch_is_read : command_of (codes "run" ∷ codes "a" ∷ codes "--watch" ∷ codes "touch" ∷ []) ≡ Some (run (codes "a") false Halt First (Some Touch))
+watch_is_read = refl
+
+watch_is_the_last :
+    command_of (codes "run" ∷ codes "a" ∷ codes "--log" ∷ codes "--go-on" ∷ codes "--place" ∷ codes "last" ∷ codes "--watch" ∷ codes "within" ∷ [])
+    ≡ Some (run (codes "a") true GoOn Last (Some Within))
+watch_is_the_last = refl
+
+-- another kind, none, one before another option, and two
+no_watch :
+    (command_of (codes "run" ∷ codes "a" ∷ codes "--watch" ∷ codes "both" ∷ []) ∷ command_of (codes "run" ∷ codes "a" ∷ codes "--watch" ∷ [])
+    ∷ command_of (codes "run" ∷ codes "a" ∷ codes "--watch" ∷ codes "touch" ∷ codes "--place" ∷ codes "best" ∷ [])
+    ∷ command_of (codes "run" ∷ codes "a" ∷ codes "--watch" ∷ codes "touch" ∷ codes "--watch" ∷ codes "within" ∷ []) ∷ [])
+    ≡ (None ∷ None ∷ None ∷ None ∷ [])
+no_watch = refl
 
 -- a trace, of all processes or of one
 trace_is_read : command_of (codes "trace" ∷ codes "a" ∷ []) ≡ Some (trace (codes "a") None false First)

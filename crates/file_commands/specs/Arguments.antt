@@ -7,6 +7,8 @@ use Rattle.page_runs.specs.declared.place.Kind.{Kind}
 use Rattle.page_runs.specs.declared.place.Kind.TheVariants.{First, Best, Last}
 use Rattle.region_watch.specs.declared.mode.Mode.{Mode}
 use Rattle.region_watch.specs.declared.mode.Mode.TheVariants.{Halt, GoOn}
+use Rattle.watch_points.specs.declared.point.PointKind.{PointKind}
+use Rattle.watch_points.specs.declared.point.PointKind.TheVariants.{Touch, Within}
 use Rattle.file_commands.specs.declared.arguments.Format.{Format}
 use Rattle.file_commands.specs.declared.arguments.Format.TheVariants as format
 use Rattle.file_commands.specs.declared.arguments.Command.{Command}
@@ -17,7 +19,7 @@ pub data Invocation : Type 0 where
   convert : (elf flt : List ℕ) (stack : ℕ) → Invocation
   list : (flt : List ℕ) → Invocation
   check : (elf : List ℕ) → Invocation
-  run : (manifest : List ℕ) (log : Bool) (mode : Mode) (kind : Kind) → Invocation
+  run : (manifest : List ℕ) (log : Bool) (mode : Mode) (kind : Kind) (watch : Option PointKind) → Invocation
   trace : (manifest : List ℕ) (pid : Option ℕ) (counted : Bool) (kind : Kind) → Invocation
   romfs : (manifest image : List ℕ) → Invocation
   unromfs : (image : List ℕ) → Invocation
@@ -85,6 +87,13 @@ kind_of_word word =
     else if bytes_eq word (codes "last") then Some Last
     else None
 
+-- the kind of hit that a word names
+abbrev pub point_of_word : List ℕ → Option PointKind
+point_of_word word =
+    if bytes_eq word (codes "touch") then Some Touch
+    else if bytes_eq word (codes "within") then Some Within
+    else None
+
 -- the one word, if there is just one
 abbrev pub only : List (List ℕ) → Option (List ℕ)
 only (word ∷ []) = Some word
@@ -107,12 +116,28 @@ placement_of [] = Some First
 placement_of (option ∷ word ∷ []) = if bytes_eq option (codes "--place") then kind_of_word word else None
 placement_of words = None
 
--- `--go-on` or not, and then a placement or not
+-- `--watch touch` or `--watch within`, or nothing where no hits are told
+abbrev pub watch_of : List (List ℕ) → Option (Option PointKind)
+watch_of [] = Some None
+watch_of (option ∷ word ∷ []) = if bytes_eq option (codes "--watch") then option_map Some (point_of_word word) else None
+watch_of words = None
+
+-- the last words of `run`
+abbrev pub watched_of : (manifest : List ℕ) (log : Bool) (mode : Mode) (kind : Kind) → List (List ℕ) → Option Invocation
+watched_of manifest log mode kind words = option_map (run manifest log mode kind) (watch_of words)
+
+-- `--place K` or not, and then `--watch` with its word or not
+abbrev pub placed_of : (manifest : List ℕ) (log : Bool) (mode : Mode) → List (List ℕ) → Option Invocation
+placed_of manifest log mode (option ∷ word ∷ words) =
+    if bytes_eq option (codes "--place") then option_and_then (λ kind. watched_of manifest log mode kind words) (kind_of_word word)
+    else watched_of manifest log mode First (option ∷ word ∷ words)
+placed_of manifest log mode words = watched_of manifest log mode First words
+
+-- `--go-on` or not, and then the words behind it
 abbrev pub mode_of : (manifest : List ℕ) (log : Bool) → List (List ℕ) → Option Invocation
-mode_of manifest log [] = Some (run manifest log Halt First)
+mode_of manifest log [] = placed_of manifest log Halt []
 mode_of manifest log (option ∷ words) =
-    if bytes_eq option (codes "--go-on") then option_map (run manifest log GoOn) (placement_of words)
-    else option_map (run manifest log Halt) (placement_of (option ∷ words))
+    if bytes_eq option (codes "--go-on") then placed_of manifest log GoOn words else placed_of manifest log Halt (option ∷ words)
 
 -- `MANIFEST`, with `--log` behind it or not
 abbrev pub run_of : List (List ℕ) → Option Invocation
@@ -175,7 +200,7 @@ command_of (first ∷ words) =
 
 -- no command, or one without a machine
 abbrev pub IsNoRun : Option Invocation → Type 0
-IsNoRun (Some (run manifest log mode kind)) = ⊥
+IsNoRun (Some (run manifest log mode kind watch)) = ⊥
 IsNoRun (Some (trace manifest pid counted kind)) = ⊥
 IsNoRun (Some (demo programs)) = ⊥
 IsNoRun other = Unit {0}
@@ -185,7 +210,7 @@ abbrev pub invocation : Command → Invocation
 invocation (command.Convert elf flt stack) = convert elf.now flt.now stack
 invocation (command.List flt) = list flt.now
 invocation (command.Check elf) = check elf.now
-invocation (command.Run manifest log mode kind) = run manifest.now log mode kind
+invocation (command.Run manifest log mode kind watch) = run manifest.now log mode kind watch
 invocation (command.Trace manifest pid counted kind) = trace manifest.now pid counted kind
 invocation (command.Romfs manifest image) = romfs manifest.now image.now
 invocation (command.Unromfs image) = unromfs image.now

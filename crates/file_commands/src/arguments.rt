@@ -1,9 +1,10 @@
 //! The table of commands.
 ghost use Rattle.std.specs.Prelude.{◌≡◌, ◌≤◌, ◌↔◌, IsTrue, map, option_map, string_bytes};
-ghost use Rattle.file_commands.specs.Arguments.{is_between, StartsWell, number_of, kind_of_word, only, romfs_of, convert_of, placement_of, mode_of, run_of, counted_of, process_of, trace_of, format_of_word, replay_of, demo_of, command_of, invocation};
+ghost use Rattle.file_commands.specs.Arguments.{is_between, StartsWell, number_of, kind_of_word, point_of_word, only, romfs_of, convert_of, placement_of, watch_of, placed_of, mode_of, run_of, counted_of, process_of, trace_of, format_of_word, replay_of, demo_of, command_of, invocation};
 
 use page_runs::Kind;
 use region_watch::Mode;
+use watch_points::PointKind;
 
 /// The bytes of stack that a program gets where no argument says it.
 pub const DEFAULT_STACK: u32 = 4096;
@@ -51,12 +52,14 @@ pub enum Command<'a> {
         elf: &'a str,
     },
     /// `run MANIFEST`; with `--log` the calls are told too, with `--go-on` the run goes on behind its first
-    /// stray access, and with `--place K` another placement than the first fit.
+    /// stray access, with `--place K` another placement than the first fit, and with `--watch` the accesses
+    /// that hit what the manifest watches.
     Run {
         manifest: &'a str,
         log: bool,
         mode: Mode,
         kind: Kind,
+        watch: Option<PointKind>,
     },
     /// `trace MANIFEST`; with `--pid P` the calls of that process alone are shown, with `--count` the shown
     /// calls are counted too, and with `--place K` another placement than the first fit.
@@ -128,6 +131,17 @@ fn read_kind(word: &str) -> Option<Kind>
     }
 }
 
+/// The kind of hit that a word names, if it names one.
+fn read_point(word: &str) -> Option<PointKind>
+    ensures { result ≡ point_of_word word.now }
+{
+    match word {
+        "touch" => Some(PointKind::Touch),
+        "within" => Some(PointKind::Within),
+        _ => None,
+    }
+}
+
 /// The one word, if there is just one.
 fn only(words: &[String]) -> Option<&str>
     ensures { option_map (λ word. word.now) result ≡ only (map string_bytes words.now) }
@@ -166,7 +180,7 @@ fn read_convert(words: &[String]) -> Option<Command<'_>>
     }
 }
 
-/// The placement that the last words of `run` and `trace` say.
+/// The placement that the last words of `trace` say.
 fn read_placement(words: &[String]) -> Option<Kind>
     ensures { result ≡ placement_of (map string_bytes words.now) }
 {
@@ -177,6 +191,43 @@ fn read_placement(words: &[String]) -> Option<Kind>
     }
 }
 
+/// The last words of `run`: which accesses hit, if hits are told.
+fn read_watch(words: &[String]) -> Option<Option<PointKind>>
+    ensures { result ≡ watch_of (map string_bytes words.now) }
+{
+    match words {
+        [] => Some(None),
+        [option, word] if option.as_str() == "--watch" => {
+            let point = read_point(word)?;
+            Some(Some(point))
+        }
+        _ => None,
+    }
+}
+
+/// The words behind `run MANIFEST`, `--log` and `--go-on`.
+fn read_placed<'a>(
+    manifest: &'a str,
+    log: bool,
+    mode: Mode,
+    words: &[String],
+) -> Option<Command<'a>>
+    ensures { option_map invocation result ≡ placed_of manifest.now log mode (map string_bytes words.now) }
+{
+    let (kind, last) = match words {
+        [option, word, last @ ..] if option.as_str() == "--place" => (read_kind(word)?, last),
+        _ => (Kind::First, words),
+    };
+    let watch = read_watch(last)?;
+    Some(Command::Run {
+        manifest,
+        log,
+        mode,
+        kind,
+        watch,
+    })
+}
+
 /// The words behind `run MANIFEST`, and behind `--log`.
 fn read_mode<'a>(manifest: &'a str, log: bool, words: &[String]) -> Option<Command<'a>>
     ensures { option_map invocation result ≡ mode_of manifest.now log (map string_bytes words.now) }
@@ -185,13 +236,7 @@ fn read_mode<'a>(manifest: &'a str, log: bool, words: &[String]) -> Option<Comma
         [go_on, last @ ..] if go_on.as_str() == "--go-on" => (Mode::GoOn, last),
         _ => (Mode::Halt, words),
     };
-    let kind = read_placement(last)?;
-    Some(Command::Run {
-        manifest,
-        log,
-        mode,
-        kind,
-    })
+    read_placed(manifest, log, mode, last)
 }
 
 /// The words behind `run`.

@@ -12,7 +12,8 @@ use page_runs::{Chooser, Kind, Run, best_fit, first_fit, last_fit};
 use program::{end, read_arguments};
 use std::process;
 use std::process::ExitCode;
-use suite_top::Placements;
+use suite_top::{Placements, Points};
+use watch_points::{PointKind, Span, WatchPoint, touches, within};
 
 fn main(rt: HostRuntime) -> ExitCode {
     let alloc = rt.alloc();
@@ -26,7 +27,25 @@ fn main(rt: HostRuntime) -> ExitCode {
         best: Chooser::new(Kind::Best, |runs: &[Run], need: u32| best_fit(runs, need)),
         last: Chooser::new(Kind::Last, |runs: &[Run], need: u32| last_fit(runs, need)),
     };
-    end(alloc, arguments, &mut host, &mut out, &mut report, &place)
+    let points = Points {
+        touch: WatchPoint::new(
+            PointKind::Touch,
+            |spans: &[Span], addr: u32, len: u32| touches(spans, addr, len),
+        ),
+        within: WatchPoint::new(
+            PointKind::Within,
+            |spans: &[Span], addr: u32, len: u32| within(spans, addr, len),
+        ),
+    };
+    end(
+        alloc,
+        arguments,
+        &mut host,
+        &mut out,
+        &mut report,
+        &place,
+        &points,
+    )
 }
 
 #[cfg(test)]

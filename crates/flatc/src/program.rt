@@ -7,6 +7,7 @@ ghost use Rattle.flatc.specs.Pages.{page_of};
 ghost use Rattle.flatc.specs.Program.{Ends, Exits};
 ghost use Rattle.file_commands.specs.Observed.{observed, observed_sink};
 ghost use Rattle.suite_top.specs.Placements.{ArePlacements};
+ghost use Rattle.suite_top.specs.Points.{ArePoints};
 
 use crate::pages::{HELP, VERSION, page_of};
 use host_io::{Host, Sink};
@@ -15,7 +16,8 @@ use std::alloc::{AllocError, Global};
 use std::process::ExitCode;
 use std::rt::Env;
 use std::{env, io};
-use suite_top::{MEMORY_LINE, Placements, Status, deliver, suite};
+use suite_top::{MEMORY_LINE, Placements, Points, Status, deliver, suite};
+use watch_points::Span;
 
 /// The arguments after the program's name. One that isn't text is an error.
 pub fn read_arguments(rt: &(impl Env + AllocGlobal)) -> io::Result<Vec<String>> {
@@ -31,19 +33,23 @@ fn arguments_after_name(alloc: Global, arguments: env::Args) -> Result<Vec<Strin
 }
 
 /// Writes a page of its own, or carries out the command that the arguments are.
-pub fn run<H: Host, O: Sink, R: Sink, A, B, C>(
+pub fn run<H: Host, O: Sink, R: Sink, A, B, C, P, Q>(
     alloc: Global,
     arguments: &[String],
     host: &mut H,
     out: &mut O,
     report: &mut R,
     place: &Placements<A, B, C>,
+    points: &Points<P, Q>,
 ) -> Status
 where
     A: Fn(&[Run], u32) -> Option<usize>,
     B: Fn(&[Run], u32) -> Option<usize>,
     C: Fn(&[Run], u32) -> Option<usize>,
-    requires { ArePlacements A.pre A.post B.pre B.post C.pre C.post place.now }
+    P: Fn(&[Span], u32, u32) -> bool,
+    Q: Fn(&[Span], u32, u32) -> bool,
+    requires place { ArePlacements A.pre A.post B.pre B.post C.pre C.post place.now }
+    requires points { ArePoints P.pre P.post Q.pre Q.post points.now }
     ensures { Ends (page_of HELP.now VERSION.now) (Some (map string_bytes arguments.now))
         (observed H.told H.faults host.old) (observed H.told H.faults host.new)
         (observed_sink O.told O.faults O.shortages out.old) (observed_sink O.told O.faults O.shortages out.new)
@@ -51,31 +57,35 @@ where
 {
     match page_of(arguments) {
         Some(page) => deliver(alloc, Status::Done, page.as_bytes(), b"", out, report),
-        None => suite(alloc, arguments, host, out, report, place),
+        None => suite(alloc, arguments, host, out, report, place, points),
     }
 }
 
 /// Runs with the arguments that were read. Where one isn't text, the arguments are no command.
-pub fn run_read<H: Host, O: Sink, R: Sink, A, B, C>(
+pub fn run_read<H: Host, O: Sink, R: Sink, A, B, C, P, Q>(
     alloc: Global,
     arguments: io::Result<Vec<String>>,
     host: &mut H,
     out: &mut O,
     report: &mut R,
     place: &Placements<A, B, C>,
+    points: &Points<P, Q>,
 ) -> Status
 where
     A: Fn(&[Run], u32) -> Option<usize>,
     B: Fn(&[Run], u32) -> Option<usize>,
     C: Fn(&[Run], u32) -> Option<usize>,
-    requires { ArePlacements A.pre A.post B.pre B.post C.pre C.post place.now }
+    P: Fn(&[Span], u32, u32) -> bool,
+    Q: Fn(&[Span], u32, u32) -> bool,
+    requires place { ArePlacements A.pre A.post B.pre B.post C.pre C.post place.now }
+    requires points { ArePoints P.pre P.post Q.pre Q.post points.now }
     ensures { Ends (page_of HELP.now VERSION.now) (option_map (λ read. map string_bytes read.items) (result_ok arguments))
         (observed H.told H.faults host.old) (observed H.told H.faults host.new)
         (observed_sink O.told O.faults O.shortages out.old) (observed_sink O.told O.faults O.shortages out.new)
         (observed_sink R.told R.faults R.shortages report.old) (observed_sink R.told R.faults R.shortages report.new) result }
 {
     match arguments {
-        Ok(arguments) => run(alloc, &arguments, host, out, report, place),
+        Ok(arguments) => run(alloc, &arguments, host, out, report, place, points),
         Err(error) if error.kind() == io::ErrorKind::OutOfMemory => {
             deliver(
                 alloc,
@@ -86,29 +96,33 @@ where
                 report,
             )
         }
-        Err(_) => suite(alloc, &[], host, out, report, place),
+        Err(_) => suite(alloc, &[], host, out, report, place, points),
     }
 }
 
 /// The whole program, from the arguments that were read to its exit status.
-pub fn end<H: Host, O: Sink, R: Sink, A, B, C>(
+pub fn end<H: Host, O: Sink, R: Sink, A, B, C, P, Q>(
     alloc: Global,
     arguments: io::Result<Vec<String>>,
     host: &mut H,
     out: &mut O,
     report: &mut R,
     place: &Placements<A, B, C>,
+    points: &Points<P, Q>,
 ) -> ExitCode
 where
     A: Fn(&[Run], u32) -> Option<usize>,
     B: Fn(&[Run], u32) -> Option<usize>,
     C: Fn(&[Run], u32) -> Option<usize>,
-    requires { ArePlacements A.pre A.post B.pre B.post C.pre C.post place.now }
+    P: Fn(&[Span], u32, u32) -> bool,
+    Q: Fn(&[Span], u32, u32) -> bool,
+    requires place { ArePlacements A.pre A.post B.pre B.post C.pre C.post place.now }
+    requires points { ArePoints P.pre P.post Q.pre Q.post points.now }
     ensures { Exits (page_of HELP.now VERSION.now) (option_map (λ read. map string_bytes read.items) (result_ok arguments))
         (observed H.told H.faults host.old) (observed H.told H.faults host.new)
         (observed_sink O.told O.faults O.shortages out.old) (observed_sink O.told O.faults O.shortages out.new)
         (observed_sink R.told R.faults R.shortages report.old) (observed_sink R.told R.faults R.shortages report.new) (exit_status result) }
 {
-    let status = run_read(alloc, arguments, host, out, report, place);
+    let status = run_read(alloc, arguments, host, out, report, place, points);
     ExitCode::from(status.code())
 }

@@ -10,7 +10,8 @@ use host_io::{Host, MemHost, MemSink};
 use page_runs::{Chooser, Kind, Run, best_fit, first_fit, last_fit};
 use std::alloc::{AllocError, Global};
 use std::test::*;
-use suite_top::{Placements, Status, suite};
+use suite_top::{Placements, Points, Status, suite};
+use watch_points::{PointKind, Span, WatchPoint, touches, within};
 
 /// A host with the ELF file `a.elf`, a file without a byte, the manifest `m` and its program.
 fn host_with_files(alloc: Global, manifest: &str) -> Result<MemHost, AllocError> {
@@ -48,5 +49,15 @@ fn call_suite<H: Host>(
         best: Chooser::new(Kind::Best, |runs: &[Run], need: u32| best_fit(runs, need)),
         last: Chooser::new(Kind::Last, |runs: &[Run], need: u32| last_fit(runs, need)),
     };
-    Ok(suite(alloc, &arguments, host, out, report, &place))
+    let points = Points {
+        touch: WatchPoint::new(
+            PointKind::Touch,
+            |spans: &[Span], addr: u32, len: u32| touches(spans, addr, len),
+        ),
+        within: WatchPoint::new(
+            PointKind::Within,
+            |spans: &[Span], addr: u32, len: u32| within(spans, addr, len),
+        ),
+    };
+    Ok(suite(alloc, &arguments, host, out, report, &place, &points))
 }

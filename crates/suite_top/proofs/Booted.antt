@@ -7,6 +7,7 @@ use Rattle.std.proofs.lemmas.List.Sums.{sum_by-cons}
 use Rattle.std.proofs.Math.Nat.{mul-le-mul_left}
 use Rattle.quantum_sched.specs.declared.Quantum.{Quantum}
 use Rattle.manifest_text.specs.declared.manifest.Dump.{Dump}
+use Rattle.manifest_text.specs.declared.manifest.WatchLine.{WatchLine}
 use Rattle.manifest_text.specs.declared.manifest.Start.{Start as StoredStart}
 use Rattle.manifest_text.specs.Values.{Manifest, start_value}
 use Rattle.manifest_text.specs.Laws.{IsShort, Reasonable}
@@ -103,14 +104,14 @@ boots_as rest starts machine telling mode m headers ending are boots ends =
     subst (λ (r : Result World BootFault). OrMemory (booted_ending telling mode m headers r) ending) (sym same) ends
 
 -- the machine's run as the definition has it
-pub ends_as : (machine : State) (telling : Telling) (mode : Mode) (quanta : List Quantum) (dumps : List Dump) (headers : List (List ℕ)) (ending : Ending)
+pub ends_as : (machine : State) (telling : Telling) (mode : Mode) (quanta : List Quantum) (watches : List WatchLine) (dumps : List Dump) (headers : List (List ℕ)) (ending : Ending)
     → machine.mode ≡ mode → one_memory machine ≡ memory_opening headers (world machine)
-    → (machine.mode ≡ Halt → OrMemory (world_ending telling quanta dumps (world machine)) ending)
-    → (machine.mode ≡ GoOn → OrMemory (memory_run_ending telling quanta dumps (one_memory machine)) ending)
-    → OrMemory (mode_ending telling mode quanta dumps headers (world machine)) ending
-ends_as machine telling Halt quanta dumps headers ending is memory halt go_on = halt is
-ends_as machine telling GoOn quanta dumps headers ending is memory halt go_on =
-    subst (λ (p : Physical). OrMemory (memory_run_ending telling quanta dumps p) ending) memory (go_on is)
+    → (machine.mode ≡ Halt → OrMemory (world_ending telling quanta watches dumps (world machine)) ending)
+    → (machine.mode ≡ GoOn → OrMemory (memory_run_ending telling quanta watches dumps (one_memory machine)) ending)
+    → OrMemory (mode_ending telling mode quanta watches dumps headers (world machine)) ending
+ends_as machine telling Halt quanta watches dumps headers ending is memory halt go_on = halt is
+ends_as machine telling GoOn quanta watches dumps headers ending is memory halt go_on =
+    subst (λ (p : Physical). OrMemory (memory_run_ending telling quanta watches dumps p) ending) memory (go_on is)
 
 pub machine_events : (machine : State) → (world machine).events ≡ machine.events
 unfolding world_of

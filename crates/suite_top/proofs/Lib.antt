@@ -4,7 +4,7 @@
 -- NoStatus: no status but Memory comes always.
 -- Causes: the counts that rose, by the status of a call.
 -- Shown: what a machine shows and tells, by what becomes of its run at the first stray access.
--- Reports: the parts of the report of a run.
+-- Reports, Hits: the parts of the report of a run.
 -- Booted, RunEndings: what a boot of the machine gives, and how a run ends.
 -- Demos: the manifest of a demo.
 pub mod Usage
@@ -20,6 +20,7 @@ pub mod HostLaws
 pub mod Causes
 pub mod Shown
 pub mod Reports
+pub mod Hits
 pub mod Booted
 pub mod RunEndings
 pub mod Demos

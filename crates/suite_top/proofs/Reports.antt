@@ -44,14 +44,14 @@ module _ {Y : Type 0} (w : World) (notes : List Stored) (paths : List (Vec ℕ Y
   abbrev programs : List (List ℕ)
   programs = map program_path w.rest.programs
 
-  pub is_report : (log : Bool) (dumped : List ℕ) (end : Option End) → report_of (flat_map (note_text log (paths_of paths)) (map note_value notes)) dumped w end ≡ report_text log dumped w end
+  pub is_report : (log : Bool) (shown : List ℕ) (end : Option End) → report_of (flat_map (note_text log (paths_of paths)) (map note_value notes)) shown w end ≡ report_text log shown w end
   unfolding report_text
-  is_report log dumped end =
-      ap (λ (ps : List (List ℕ)). report_of (flat_map (note_text log ps) (map note_value notes)) dumped w end) named
-      ∙ ap (λ (ns : List Note). report_of (flat_map (note_text log programs) ns) dumped w end) (sym in_order)
+  is_report log shown end =
+      ap (λ (ps : List (List ℕ)). report_of (flat_map (note_text log ps) (map note_value notes)) shown w end) named
+      ∙ ap (λ (ns : List Note). report_of (flat_map (note_text log programs) ns) shown w end) (sym in_order)
 
-  pub is_trace_report : (pid : Option ℕ) (counted : Bool) (dumped : List ℕ) (end : Option End) → report_of (trace_texts pid counted (paths_of paths) (map note_value notes)) dumped w end ≡ trace_report pid counted dumped w end
+  pub is_trace_report : (pid : Option ℕ) (counted : Bool) (shown : List ℕ) (end : Option End) → report_of (trace_texts pid counted (paths_of paths) (map note_value notes)) shown w end ≡ trace_report pid counted shown w end
   unfolding trace_report
-  is_trace_report pid counted dumped end =
-      ap (λ (ps : List (List ℕ)). report_of (trace_texts pid counted ps (map note_value notes)) dumped w end) named
-      ∙ ap (λ (ns : List Note). report_of (trace_texts pid counted programs ns) dumped w end) (sym in_order)
+  is_trace_report pid counted shown end =
+      ap (λ (ps : List (List ℕ)). report_of (trace_texts pid counted ps (map note_value notes)) shown w end) named
+      ∙ ap (λ (ns : List Note). report_of (trace_texts pid counted programs ns) shown w end) (sym in_order)

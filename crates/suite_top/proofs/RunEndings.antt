@@ -5,6 +5,7 @@ use Rattle.host_io.specs.Host.{Told}
 use Rattle.page_runs.specs.declared.place.Kind.{Kind}
 use Rattle.quantum_sched.specs.declared.Quantum.{Quantum}
 use Rattle.manifest_text.specs.declared.manifest.Dump.{Dump}
+use Rattle.manifest_text.specs.declared.manifest.WatchLine.{WatchLine}
 use Rattle.manifest_text.specs.Values.{Manifest}
 use Rattle.manifest_text.specs.Manifest.{Fault}
 use Rattle.machine_world.specs.World.{World}
@@ -28,14 +29,14 @@ use Rattle.file_commands.proofs.HostSteps.{asks_nothing}
 use Rattle.suite_top.proofs.RunOutcomes.{told_status}
 
 -- no end is that of a failed load
-mode_is_told : (telling : Telling) (mode : Mode) (quanta : List Quantum) (dumps : List Dump) (headers : List (List ℕ)) (w : World)
-    → (mode_ending telling mode quanta dumps headers w).status ≢ status.HostRead
-mode_is_told telling Halt quanta dumps headers w = told_status (λ s. s ≢ status.HostRead) (λ h. cc) (λ h. cc) (λ h. cc) (λ h. cc) (λ h. cc) telling _ _ _
-mode_is_told telling GoOn quanta dumps headers w = told_status (λ s. s ≢ status.HostRead) (λ h. cc) (λ h. cc) (λ h. cc) (λ h. cc) (λ h. cc) telling _ _ _
+mode_is_told : (telling : Telling) (mode : Mode) (quanta : List Quantum) (watches : List WatchLine) (dumps : List Dump) (headers : List (List ℕ)) (w : World)
+    → (mode_ending telling mode quanta watches dumps headers w).status ≢ status.HostRead
+mode_is_told telling Halt quanta watches dumps headers w = told_status (λ s. s ≢ status.HostRead) (λ h. cc) (λ h. cc) (λ h. cc) (λ h. cc) (λ h. cc) telling _ _ _
+mode_is_told telling GoOn quanta watches dumps headers w = told_status (λ s. s ≢ status.HostRead) (λ h. cc) (λ h. cc) (λ h. cc) (λ h. cc) (λ h. cc) telling _ _ _
 
 booted_is_told : (telling : Telling) (mode : Mode) (m : Manifest) (headers : List (List ℕ)) (b : Result World BootFault) → (booted_ending telling mode m headers b).status ≢ status.HostRead
 booted_is_told telling mode m headers (Err fault) = λ h. cc
-booted_is_told telling mode m headers (Ok w) = mode_is_told telling mode (repeated m.repeat m.quanta) m.dumps headers w
+booted_is_told telling mode m headers (Ok w) = mode_is_told telling mode (repeated m.repeat m.quanta) m.watches m.dumps headers w
 
 brought_is_told : (telling : Telling) (mode : Mode) (kind : Kind) (m : Manifest) (r : Result Brought FaultAt) → (brought_ending telling mode kind m r).status ≢ status.HostRead
 brought_is_told telling mode kind m (Err at) = λ h. cc

@@ -1,7 +1,8 @@
 -- What the outcome of a run can be: loads, one after the other, and then a refusal or the ending of a machine that stopped.
-use Rattle.std.proofs.Common.{ℕ, List, map, Option, Some, None, Result, Ok, Err}
+use Rattle.std.proofs.Common.{ℕ, List, ◌++◌, map, Option, Some, None, Result, Ok, Err}
 use Rattle.page_runs.specs.declared.place.Kind.{Kind}
 use Rattle.manifest_text.specs.declared.manifest.Dump.{Dump}
+use Rattle.manifest_text.specs.declared.manifest.WatchLine.{WatchLine}
 use Rattle.quantum_sched.specs.declared.Quantum.{Quantum}
 use Rattle.manifest_text.specs.Values.{Manifest}
 use Rattle.manifest_text.specs.Manifest.{Fault, manifest_of}
@@ -29,18 +30,20 @@ use Rattle.suite_top.specs.Demo.{each_of, demo_manifest, demo_ending}
 use Rattle.file_commands.specs.Items.{files_limit}
 use Rattle.file_commands.specs.Manifests.{manifest_limit}
 use Rattle.suite_top.proofs.LoadOutcomes.{load_run, items_run}
-use Rattle.suite_top.specs.Run.{start_line, opening, boot_fault, mode_ending, booted_ending, brought_ending, files_ending, manifest_outcome, run_outcome}
+use Rattle.suite_top.specs.Run.{start_line, opening, boot_fault, world_hits, memory_hits, mode_ending, booted_ending, brought_ending, files_ending, manifest_outcome, run_outcome}
 
 -- what holds of each end, and of a load in front of an outcome of which it holds
-module _ (P : Outcome → Type 0) (step : (name : List ℕ) (o : Outcome) → P o → P (after (load name) o)) (read : (name : List ℕ) → P (at_once (failure_ending (load name)))) (refused : (tail : List ℕ) → P (at_once (refused_ending tail))) (told : (telling : Telling) (dumped : List ℕ) (w : World) (end : Option End) → P (at_once (told_ending telling dumped w end))) where
-  by_mode : (telling : Telling) (mode : Mode) (quanta : List Quantum) (dumps : List Dump) (headers : List (List ℕ)) (w : World) → P (at_once (mode_ending telling mode quanta dumps headers w))
-  by_mode telling Halt quanta dumps headers w = let walk = turns quanta w in told telling (own_dumps walk.world dumps) walk.world walk.end
-  by_mode telling GoOn quanta dumps headers w =
-      let walk = physical_turns quanta (memory_opening headers w) in told telling (memory_dumps walk.now dumps) walk.now.world walk.end
+module _ (P : Outcome → Type 0) (step : (name : List ℕ) (o : Outcome) → P o → P (after (load name) o)) (read : (name : List ℕ) → P (at_once (failure_ending (load name)))) (refused : (tail : List ℕ) → P (at_once (refused_ending tail))) (told : (telling : Telling) (shown : List ℕ) (w : World) (end : Option End) → P (at_once (told_ending telling shown w end))) where
+  by_mode : (telling : Telling) (mode : Mode) (quanta : List Quantum) (watches : List WatchLine) (dumps : List Dump) (headers : List (List ℕ)) (w : World) → P (at_once (mode_ending telling mode quanta watches dumps headers w))
+  by_mode telling Halt quanta watches dumps headers w =
+      let walk = turns quanta w in told telling (world_hits telling quanta watches w ++ own_dumps walk.world dumps) walk.world walk.end
+  by_mode telling GoOn quanta watches dumps headers w =
+      let p = memory_opening headers w in
+      let walk = physical_turns quanta p in told telling (memory_hits telling quanta watches p ++ memory_dumps walk.now dumps) walk.now.world walk.end
 
   booted : (telling : Telling) (mode : Mode) (m : Manifest) (headers : List (List ℕ)) (r : Result World BootFault) → P (at_once (booted_ending telling mode m headers r))
   booted telling mode m headers (Err first) = refused (line_tail (boot_fault first).line (boot_fault first).fault)
-  booted telling mode m headers (Ok w) = by_mode telling mode (repeated m.repeat m.quanta) m.dumps headers w
+  booted telling mode m headers (Ok w) = by_mode telling mode (repeated m.repeat m.quanta) m.watches m.dumps headers w
 
   made : (telling : Telling) (mode : Mode) (kind : Kind) (m : Manifest) (r : Result Brought FaultAt) → P (at_once (brought_ending telling mode kind m r))
   made telling mode kind m (Err at) = refused (line_tail at.line at.fault)
@@ -76,12 +79,12 @@ other_status P done stray quanta full still (Some log_full) = full
 
 -- those of what a run tells
 pub told_status : (P : Status → Type 0) → P Done → P Stray → P OutOfQuanta → P LogFull → P Stuck
-    → (telling : Telling) (dumped : List ℕ) (w : World) (end : Option End) → P (told_ending telling dumped w end).status
-told_status P done stray quanta full still (Report log) dumped w end = other_status P done stray quanta full still end
-told_status P done stray quanta full still (Trace pid counted) dumped w end = other_status P done stray quanta full still end
-told_status P done stray quanta full still (Demo n) dumped w None = quanta
-told_status P done stray quanta full still (Demo n) dumped w (Some all_ended) = done
-told_status P done stray quanta full still (Demo n) dumped w (Some stuck) = still
-told_status P done stray quanta full still (Demo n) dumped w (Some (stray_at pid access)) = stray
-told_status P done stray quanta full still (Demo n) dumped w (Some out_of_quanta) = quanta
-told_status P done stray quanta full still (Demo n) dumped w (Some log_full) = full
+    → (telling : Telling) (shown : List ℕ) (w : World) (end : Option End) → P (told_ending telling shown w end).status
+told_status P done stray quanta full still (Report log watch) shown w end = other_status P done stray quanta full still end
+told_status P done stray quanta full still (Trace pid counted) shown w end = other_status P done stray quanta full still end
+told_status P done stray quanta full still (Demo n) shown w None = quanta
+told_status P done stray quanta full still (Demo n) shown w (Some all_ended) = done
+told_status P done stray quanta full still (Demo n) shown w (Some stuck) = still
+told_status P done stray quanta full still (Demo n) shown w (Some (stray_at pid access)) = stray
+told_status P done stray quanta full still (Demo n) shown w (Some out_of_quanta) = quanta
+told_status P done stray quanta full still (Demo n) shown w (Some log_full) = full

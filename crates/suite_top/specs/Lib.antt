@@ -3,22 +3,27 @@
 --
 -- Report      the report of a run, and the status that it ends with
 -- Telling     what a run of programs tells: a report, a trace, or the line of a demo
+-- Watched     the hits of a run that is watched, as lines of its report
 -- Run         the commands `run` and `trace`
 -- Demo        the command `demo`
 -- Result      result_of: the outcome of each command line
 --
 -- Placements  ArePlacements, which `suite` asks for: a chooser for each placement
+-- Points      ArePoints, which `suite` asks for: a watch point for each kind of hit
 -- Call        MeetsResult, the clause of `suite`: a course of the outcome, and a delivery of its ending
 -- StatusLaws, HostLaws   what holds of every call
 --
--- Refusing    for private functions only: why a machine doesn't start
+-- Refusing, Running    for private functions only: why a machine doesn't start, and what is told behind its run
 pub mod Report
 pub mod Telling
+pub mod Watched
 pub mod Run
 pub mod Demo
 pub mod Result
 pub mod Placements
+pub mod Points
 pub mod Call
 pub mod StatusLaws
 pub mod HostLaws
 pub mod Refusing
+pub mod Running

@@ -70,23 +70,23 @@ stop_word None = codes "quanta"
 abbrev pub stop_line : List ℕ → ℕ → List ℕ
 stop_line word events = joined (codes "stop " ∷ word ∷ codes " events " ∷ decimal events ∷ codes "\n" ∷ [])
 
--- what is told of the notes, the dumps, and why the run stopped
-abbrev pub report_of : (notes dumped : List ℕ) → World → Option End → List ℕ
-report_of notes dumped w end = notes ++ dumped ++ stop_line (stop_word end) w.events
+-- what is told of the notes, what is shown behind them (the hits and the dumps), and why the run stopped
+abbrev pub report_of : (notes shown : List ℕ) → World → Option End → List ℕ
+report_of notes shown w end = notes ++ shown ++ stop_line (stop_word end) w.events
 
 -- the notes, oldest first
 abbrev pub notes_text : Bool → World → List ℕ
 notes_text log w = flat_map (note_text log (map program_path w.rest.programs)) (reverse w.notes)
 
-unfoldable pub report_text : Bool → (dumped : List ℕ) → World → Option End → List ℕ
-report_text log dumped w end = report_of (notes_text log w) dumped w end
+unfoldable pub report_text : Bool → (shown : List ℕ) → World → Option End → List ℕ
+report_text log shown w end = report_of (notes_text log w) shown w end
 
 -- with the notes as a trace
 abbrev pub traced_notes : Option ℕ → (counted : Bool) → World → List ℕ
 traced_notes pid counted w = trace_texts pid counted (map program_path w.rest.programs) (reverse w.notes)
 
-unfoldable pub trace_report : Option ℕ → (counted : Bool) → (dumped : List ℕ) → World → Option End → List ℕ
-trace_report pid counted dumped w end = report_of (traced_notes pid counted w) dumped w end
+unfoldable pub trace_report : Option ℕ → (counted : Bool) → (shown : List ℕ) → World → Option End → List ℕ
+trace_report pid counted shown w end = report_of (traced_notes pid counted w) shown w end
 
 abbrev pub status_of_end : Option End → Status
 status_of_end (Some all_ended) = status.Done
@@ -100,14 +100,14 @@ status_of_end None = status.OutOfQuanta
 abbrev pub IsStopWord : Told → List ℕ → Type 0
 IsStopWord told word = (end : Option End) → Ends end told → word ≡ stop_word end
 
-abbrev pub IsReportOf : (notes : List ℕ) → List Dump → State → Told → List ℕ → Type 0
-IsReportOf notes dumps s told text = (end : Option End) → Ends end told → text ≡ report_of notes (dumps_of s dumps) (world s) end
+abbrev pub IsReportOf : (notes shown : List ℕ) → State → Told → List ℕ → Type 0
+IsReportOf notes shown s told text = (end : Option End) → Ends end told → text ≡ report_of notes shown (world s) end
 
-abbrev pub IsReport : Bool → List Dump → State → Told → List ℕ → Type 0
-IsReport log dumps s told text = (end : Option End) → Ends end told → text ≡ report_text log (dumps_of s dumps) (world s) end
+abbrev pub IsReport : Bool → (shown : List ℕ) → State → Told → List ℕ → Type 0
+IsReport log shown s told text = (end : Option End) → Ends end told → text ≡ report_text log shown (world s) end
 
-abbrev pub IsTraceReport : Option ℕ → (counted : Bool) → List Dump → State → Told → List ℕ → Type 0
-IsTraceReport pid counted dumps s told text = (end : Option End) → Ends end told → text ≡ trace_report pid counted (dumps_of s dumps) (world s) end
+abbrev pub IsTraceReport : Option ℕ → (counted : Bool) → (shown : List ℕ) → State → Told → List ℕ → Type 0
+IsTraceReport pid counted shown s told text = (end : Option End) → Ends end told → text ≡ trace_report pid counted shown (world s) end
 
 abbrev pub IsStatus : Told → Status → Type 0
 IsStatus told s = (end : Option End) → Ends end told → s ≡ status_of_end end

@@ -1,8 +1,9 @@
 -- The commands `run MANIFEST` and `trace MANIFEST`: the programs of a manifest run by turns in one memory.
-use Rattle.std.specs.Prelude.{ℕ, List, [], map, None, Result, Ok, Err}
+use Rattle.std.specs.Prelude.{ℕ, List, [], ◌++◌, map, None, Result, Ok, Err}
 use Rattle.page_runs.specs.declared.place.Kind.{Kind}
 use Rattle.quantum_sched.specs.declared.Quantum.{Quantum}
 use Rattle.manifest_text.specs.declared.manifest.Dump.{Dump}
+use Rattle.manifest_text.specs.declared.manifest.WatchLine.{WatchLine}
 use Rattle.manifest_text.specs.Values.{Start, Manifest}
 use Rattle.manifest_text.specs.Manifest.{Fault, manifest_of}
 use Rattle.machine_world.specs.World.{Rest, World}
@@ -12,6 +13,7 @@ use Rattle.physical_turns.specs.Physical.{Physical, Walk as PhysicalWalk, physic
 use Rattle.region_watch.specs.declared.mode.Mode.{Mode}
 use Rattle.region_watch.specs.declared.mode.Mode.TheVariants.{Halt, GoOn}
 use Rattle.flat_machine.specs.Runs.{repeated}
+use Rattle.flat_machine.specs.Hits.{hits, hits_in_memory}
 use Rattle.fd_tables.specs.Files.{nothing_open}
 use Rattle.run_setup.specs.declared.fault.LineFault.TheVariants as line
 use Rattle.run_setup.specs.Brought.{Brought, FaultAt, nothing_brought, all_brought}
@@ -23,7 +25,8 @@ use Rattle.file_commands.specs.Items.{files_limit, with_items}
 use Rattle.file_commands.specs.Manifests.{manifest_limit, fault_ending}
 use Rattle.suite_top.specs.declared.telling.Telling.{Telling}
 use Rattle.suite_top.specs.Report.{own_dumps, memory_dumps}
-use Rattle.suite_top.specs.Telling.{told_ending}
+use Rattle.suite_top.specs.Telling.{told_ending, watch_of}
+use Rattle.suite_top.specs.Watched.{watched_text}
 
 -- ---- the machine
 
@@ -47,29 +50,37 @@ boot_fault (bad_start number) = record { line = number; fault = line.BadStart }
 boot_fault (args_too_big number) = record { line = number; fault = line.E2big }
 boot_fault (no_run number) = record { line = number; fault = line.NoRun }
 
-abbrev pub walked_ending : Telling → List Dump → Walk → Ending
-walked_ending telling dumps walk = told_ending telling (own_dumps walk.world dumps) walk.world walk.end
+-- what is told of the hits, if they are asked for
+abbrev pub world_hits : Telling → List Quantum → List WatchLine → World → List ℕ
+world_hits telling quanta watches w = watched_text (watch_of telling) watches (λ kind spans. hits kind spans quanta w)
+
+abbrev pub memory_hits : Telling → List Quantum → List WatchLine → Physical → List ℕ
+memory_hits telling quanta watches p = watched_text (watch_of telling) watches (λ kind spans. hits_in_memory kind spans quanta p)
+
+-- behind the notes stands what is told of the hits, and then the dumps
+abbrev pub walked_ending : Telling → (watched : List ℕ) → List Dump → Walk → Ending
+walked_ending telling watched dumps walk = told_ending telling (watched ++ own_dumps walk.world dumps) walk.world walk.end
 
 -- a run from the opening world
-abbrev pub world_ending : Telling → List Quantum → List Dump → World → Ending
-world_ending telling quanta dumps w = walked_ending telling dumps (turns quanta w)
+abbrev pub world_ending : Telling → List Quantum → List WatchLine → List Dump → World → Ending
+world_ending telling quanta watches dumps w = walked_ending telling (world_hits telling quanta watches w) dumps (turns quanta w)
 
 -- and one that goes on behind its first stray access, over the one memory
-abbrev pub walked_on_ending : Telling → List Dump → PhysicalWalk → Ending
-walked_on_ending telling dumps walk = told_ending telling (memory_dumps walk.now dumps) walk.now.world walk.end
+abbrev pub walked_on_ending : Telling → (watched : List ℕ) → List Dump → PhysicalWalk → Ending
+walked_on_ending telling watched dumps walk = told_ending telling (watched ++ memory_dumps walk.now dumps) walk.now.world walk.end
 
-abbrev pub memory_run_ending : Telling → List Quantum → List Dump → Physical → Ending
-memory_run_ending telling quanta dumps p = walked_on_ending telling dumps (physical_turns quanta p)
+abbrev pub memory_run_ending : Telling → List Quantum → List WatchLine → List Dump → Physical → Ending
+memory_run_ending telling quanta watches dumps p = walked_on_ending telling (memory_hits telling quanta watches p) dumps (physical_turns quanta p)
 
-abbrev pub mode_ending : Telling → Mode → List Quantum → List Dump → (headers : List (List ℕ)) → World → Ending
-mode_ending telling Halt quanta dumps headers w = world_ending telling quanta dumps w
-mode_ending telling GoOn quanta dumps headers w = memory_run_ending telling quanta dumps (memory_opening headers w)
+abbrev pub mode_ending : Telling → Mode → List Quantum → List WatchLine → List Dump → (headers : List (List ℕ)) → World → Ending
+mode_ending telling Halt quanta watches dumps headers w = world_ending telling quanta watches dumps w
+mode_ending telling GoOn quanta watches dumps headers w = memory_run_ending telling quanta watches dumps (memory_opening headers w)
 
 -- ---- all in order
 
 abbrev pub booted_ending : Telling → Mode → Manifest → (headers : List (List ℕ)) → Result World BootFault → Ending
 booted_ending telling mode m headers (Err first) = fault_ending (boot_fault first)
-booted_ending telling mode m headers (Ok w) = mode_ending telling mode (repeated m.repeat m.quanta) m.dumps headers w
+booted_ending telling mode m headers (Ok w) = mode_ending telling mode (repeated m.repeat m.quanta) m.watches m.dumps headers w
 
 abbrev pub brought_ending : Telling → Mode → Kind → Manifest → Result Brought FaultAt → Ending
 brought_ending telling mode kind m (Err at) = fault_ending at

@@ -1,18 +1,18 @@
 -- What a run of programs tells: with `run` its report, with `trace` its calls as a trace, and with `demo` a line.
-use Rattle.std.specs.Prelude.{ℕ, Bool, false, List, ◌++◌, reverse, length, sum_by, Option, Some}
+use Rattle.std.specs.Prelude.{ℕ, Bool, false, List, ◌++◌, reverse, length, sum_by, Option, Some, None}
 use Rattle.call_log.specs.declared.how.How.TheVariants as how
 use Rattle.call_log.specs.Notes.{Note, end_note}
-use Rattle.manifest_text.specs.declared.manifest.Dump.{Dump}
 use Rattle.machine_world.specs.World.{World}
 use Rattle.machine_world.specs.Turns.{End, all_ended}
 use Rattle.flat_machine.specs.declared.run.End.{End as Told}
 use Rattle.flat_machine.specs.Runs.{Ends}
+use Rattle.watch_points.specs.declared.point.PointKind.{PointKind}
 use Rattle.suite_top.specs.declared.telling.Telling.{Telling}
 use Rattle.suite_top.specs.declared.telling.Telling.TheVariants as telling
 use Rattle.file_commands.specs.Texts.{demo_line}
 use Rattle.file_commands.specs.Ending.{Ending, done_ending, OrMemory}
 use Rattle.flat_machine.specs.State.{State, world}
-use Rattle.suite_top.specs.Report.{status_of_end, report_text, trace_report, dumps_of}
+use Rattle.suite_top.specs.Report.{status_of_end, report_text, trace_report}
 
 -- the exit code of a process that ends, and 0 of any other note
 abbrev pub exit_code : Note → ℕ
@@ -26,36 +26,42 @@ exit_sum w = sum_by exit_code (reverse w.notes)
 abbrev pub ending_with : (report : List ℕ) → World → Option End → Ending
 ending_with report w end = record { status = status_of_end end; out = w.rest.console; report = report }
 
-abbrev pub reported_ending : (log : Bool) → (dumped : List ℕ) → World → Option End → Ending
-reported_ending log dumped w end = ending_with (report_text log dumped w end) w end
+abbrev pub reported_ending : (log : Bool) → (shown : List ℕ) → World → Option End → Ending
+reported_ending log shown w end = ending_with (report_text log shown w end) w end
 
-abbrev pub traced_ending : Option ℕ → (counted : Bool) → (dumped : List ℕ) → World → Option End → Ending
-traced_ending pid counted dumped w end = ending_with (trace_report pid counted dumped w end) w end
+abbrev pub traced_ending : Option ℕ → (counted : Bool) → (shown : List ℕ) → World → Option End → Ending
+traced_ending pid counted shown w end = ending_with (trace_report pid counted shown w end) w end
 
 -- where all n programs of a demo ended, the console and the line go to `out`, and nothing to `report`
 abbrev pub demo_text : (n : ℕ) → World → List ℕ
 demo_text n w = w.rest.console ++ demo_line n w.events (length w.rest.console) (exit_sum w)
 
 -- and else what the run tells without its calls
-abbrev pub demonstrated_ending : (n : ℕ) → (dumped : List ℕ) → World → Option End → Ending
-demonstrated_ending n dumped w (Some all_ended) = done_ending (demo_text n w)
-demonstrated_ending n dumped w end = reported_ending false dumped w end
+abbrev pub demonstrated_ending : (n : ℕ) → (shown : List ℕ) → World → Option End → Ending
+demonstrated_ending n shown w (Some all_ended) = done_ending (demo_text n w)
+demonstrated_ending n shown w end = reported_ending false shown w end
 
--- in this world, with this text of its dumps and this end
-abbrev pub told_ending : Telling → (dumped : List ℕ) → World → Option End → Ending
-told_ending (telling.Report log) dumped w end = reported_ending log dumped w end
-told_ending (telling.Trace pid counted) dumped w end = traced_ending pid counted dumped w end
-told_ending (telling.Demo programs) dumped w end = demonstrated_ending programs dumped w end
+-- in this world, with this text of its hits and dumps and this end
+abbrev pub told_ending : Telling → (shown : List ℕ) → World → Option End → Ending
+told_ending (telling.Report log watch) shown w end = reported_ending log shown w end
+told_ending (telling.Trace pid counted) shown w end = traced_ending pid counted shown w end
+told_ending (telling.Demo programs) shown w end = demonstrated_ending programs shown w end
+
+-- which hits are told, if they are asked for
+abbrev pub watch_of : Telling → Option PointKind
+watch_of (telling.Report log watch) = watch
+watch_of (telling.Trace pid counted) = None
+watch_of (telling.Demo programs) = None
 
 -- of each end that the code's end says
 abbrev pub EndsWith : (report : List ℕ) → State → Told → Ending → Type 0
 EndsWith report s told ending = (end : Option End) → Ends end told → OrMemory (ending_with report (world s) end) ending
 
-abbrev pub IsReported : (log : Bool) → List Dump → State → Told → Ending → Type 0
-IsReported log dumps s told ending = (end : Option End) → Ends end told → OrMemory (reported_ending log (dumps_of s dumps) (world s) end) ending
+abbrev pub IsReported : (log : Bool) → (shown : List ℕ) → State → Told → Ending → Type 0
+IsReported log shown s told ending = (end : Option End) → Ends end told → OrMemory (reported_ending log shown (world s) end) ending
 
-abbrev pub IsTraced : Option ℕ → (counted : Bool) → List Dump → State → Told → Ending → Type 0
-IsTraced pid counted dumps s told ending = (end : Option End) → Ends end told → OrMemory (traced_ending pid counted (dumps_of s dumps) (world s) end) ending
+abbrev pub IsTraced : Option ℕ → (counted : Bool) → (shown : List ℕ) → State → Told → Ending → Type 0
+IsTraced pid counted shown s told ending = (end : Option End) → Ends end told → OrMemory (traced_ending pid counted shown (world s) end) ending
 
-abbrev pub IsTold : Telling → List Dump → State → Told → Ending → Type 0
-IsTold telling dumps s told ending = (end : Option End) → Ends end told → OrMemory (told_ending telling (dumps_of s dumps) (world s) end) ending
+abbrev pub IsTold : Telling → (shown : List ℕ) → State → Told → Ending → Type 0
+IsTold telling shown s told ending = (end : Option End) → Ends end told → OrMemory (told_ending telling shown (world s) end) ending

@@ -8,8 +8,10 @@ ghost use Rattle.elf_maker.specs.Demo.{demo_file};
 ghost use Rattle.file_commands.specs.Ending.{OrMemory};
 ghost use Rattle.file_commands.specs.Answer.{ending_of};
 ghost use Rattle.file_commands.specs.Arguments.{least_programs, most_programs};
+ghost use Rattle.suite_top.specs.Points.{ArePoints};
 ghost use Rattle.suite_top.specs.Demo.{each_of, demo_path, demo_item, demo_start, demo_quanta, demo_manifest, demo_ending};
 
+use crate::points::Points;
 use crate::run::run_files;
 use crate::telling::Telling;
 use elf_maker::demo;
@@ -19,6 +21,7 @@ use page_runs::{Chooser, Run};
 use quantum_sched::Quantum;
 use region_watch::Mode;
 use std::alloc::{AllocError, Global};
+use watch_points::Span;
 
 /// The pages of memory: two for each of the most programs.
 const PAGES: u32 = 128;
@@ -27,12 +30,18 @@ const PAGES: u32 = 128;
 const REPEAT: u32 = 100_000;
 
 /// Runs programs 1 to `programs` of the demo.
-pub fn run_demo<F: Fn(&[Run], u32) -> Option<usize>>(
+pub fn run_demo<F, P, Q>(
     alloc: Global,
     programs: u32,
     chooser: &Chooser<F>,
+    points: &Points<P, Q>,
 ) -> Result<Answer, AllocError>
+where
+    F: Fn(&[Run], u32) -> Option<usize>,
+    P: Fn(&[Span], u32, u32) -> bool,
+    Q: Fn(&[Span], u32, u32) -> bool,
     requires chooser { IsChooser F.pre F.post chooser.now }
+    requires points { ArePoints P.pre P.post Q.pre Q.post points.now }
     requires first { kind_of chooser.now ≡ Kind.First }
     requires some { least_programs ≤ programs }
     requires few { programs ≤ most_programs }
@@ -47,6 +56,7 @@ pub fn run_demo<F: Fn(&[Run], u32) -> Option<usize>>(
         Telling::Demo { programs },
         Mode::Halt,
         chooser,
+        points,
     )
 }
 

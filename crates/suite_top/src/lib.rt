@@ -4,16 +4,20 @@
 //! here, and nothing is known of the real system.
 #![tactic(auto)]
 
+mod course;
 mod demo_run;
 mod laws;
 mod placements;
+mod points;
 mod report;
 mod run;
 mod telling;
 mod top;
+mod watched;
 
 pub use file_commands::texts::MEMORY_LINE;
 pub use file_commands::{Status, deliver};
 pub use laws::{host_law, status_law};
 pub use placements::Placements;
+pub use points::Points;
 pub use top::suite;

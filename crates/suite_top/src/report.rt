@@ -15,50 +15,49 @@ use manifest_text::Dump;
 use std::alloc::{AllocError, Global};
 use trace_text::trace_texts;
 
-/// The notes of a run with its calls if they are asked for, the dumps, and why it stopped.
+/// The notes of a run with its calls if they are asked for, what is shown behind them, and why it stopped.
 pub fn report(
     alloc: Global,
     machine: &Machine,
     log: bool,
-    dumps: &[Dump],
+    shown: &str,
     end: End,
 ) -> Result<Vec<u8>, AllocError>
-    ensures { IfOk result (λ text. IsReport log dumps.now machine.now end text.items) }
+    ensures { IfOk result (λ text. IsReport log shown.now machine.now end text.items) }
 {
     let notes = notes_text(alloc, log, machine.notes(), machine.paths())?;
-    finished(alloc, notes, machine, dumps, end)
+    finished(alloc, notes, machine, shown, end)
 }
 
 /// The notes of a run with its calls as a trace, with a pid only those of this process, and their counts if they
-/// are asked for; the dumps, and why it stopped.
+/// are asked for; what is shown behind them, and why it stopped.
 pub fn trace_report(
     alloc: Global,
     machine: &Machine,
     pid: Option<u32>,
     counted: bool,
-    dumps: &[Dump],
+    shown: &str,
     end: End,
 ) -> Result<Vec<u8>, AllocError>
-    ensures { IfOk result (λ text. IsTraceReport pid counted dumps.now machine.now end text.items) }
+    ensures { IfOk result (λ text. IsTraceReport pid counted shown.now machine.now end text.items) }
 {
     let notes = trace_texts(alloc, machine.notes(), machine.paths(), pid, counted)?;
-    finished(alloc, notes, machine, dumps, end)
+    finished(alloc, notes, machine, shown, end)
 }
 
-/// What is told of the notes, and behind it the dumps and why the run stopped.
+/// What is told of the notes, and behind it what is shown and why the run stopped.
 fn finished(
     alloc: Global,
     notes: Vec<u8>,
     machine: &Machine,
-    dumps: &[Dump],
+    shown: &str,
     end: End,
 ) -> Result<Vec<u8>, AllocError>
-    ensures { IfOk result (λ text. IsReportOf notes.items dumps.now machine.now end text.items) }
+    ensures { IfOk result (λ text. IsReportOf notes.items shown.now machine.now end text.items) }
 {
-    let dumped = dumps_text(alloc, machine, dumps)?;
     let stopped = stop_line(alloc, stop_word(end), machine.events())?;
     let mut text = notes;
-    text.extend_from_slice(dumped.as_bytes())?;
+    text.extend_from_slice(shown.as_bytes())?;
     text.extend_from_slice(stopped.as_bytes())?;
     Ok(text)
 }
@@ -146,7 +145,8 @@ fn dump_line(alloc: Global, machine: &Machine, dump: Dump) -> Result<String, All
     format!(in alloc; "dump {pid} {address} {len} {bytes}\n")
 }
 
-fn dumps_text(alloc: Global, machine: &Machine, dumps: &[Dump]) -> Result<String, AllocError>
+/// The lines of the dumps.
+pub fn dumps_text(alloc: Global, machine: &Machine, dumps: &[Dump]) -> Result<String, AllocError>
     ensures { IfOk result (λ text. string_bytes text ≡ dumps_of machine.now dumps.now) }
 {
     let mut text = String::new(alloc);

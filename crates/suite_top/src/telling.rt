@@ -4,43 +4,53 @@ ghost use Rattle.call_log.specs.Values.{note_value};
 ghost use Rattle.flat_machine.specs.State.{world};
 ghost use Rattle.file_commands.specs.Ending.{done_ending, OrMemory};
 ghost use Rattle.file_commands.specs.Answer.{ending_of};
-ghost use Rattle.suite_top.specs.Telling.{exit_code, demo_text, EndsWith, IsReported, IsTraced, IsTold};
+ghost use Rattle.suite_top.specs.Telling.{exit_code, demo_text, watch_of, EndsWith, IsReported, IsTraced, IsTold};
 
 use crate::report::{report, status_of, trace_report};
 use call_log::{How, Note};
 use file_commands::{Answer, Status, texts};
 use flat_machine::{End, Machine};
-use manifest_text::Dump;
 use std::alloc::{AllocError, Global};
+use watch_points::PointKind;
 
 /// What a run tells.
 #[derive(Clone, Copy, PartialEq, Eq)]
 pub enum Telling {
-    /// Its report, with the system calls if they are asked for.
-    Report { log: bool },
+    /// Its report, with the system calls if they are asked for, and with the hits of this kind.
+    Report { log: bool, watch: Option<PointKind> },
     /// Its report with the system calls as a trace, of one process or of all, and their counts if they are asked for.
     Trace { pid: Option<u32>, counted: bool },
     /// The line of a demo of so many programs, and no report where all of them ended.
     Demo { programs: u32 },
 }
 
-/// What a machine tells that stopped so.
+/// Which hits are told, if they are asked for.
+pub fn watch_of(telling: Telling) -> Option<PointKind>
+    ensures { result ≡ watch_of telling }
+{
+    match telling {
+        Telling::Report { watch, .. } => watch,
+        Telling::Trace { .. } | Telling::Demo { .. } => None,
+    }
+}
+
+/// What a machine tells that stopped so, with what is shown behind its notes.
 pub fn told(
     alloc: Global,
     machine: &Machine,
     telling: Telling,
-    dumps: &[Dump],
+    shown: &str,
     end: End,
 ) -> Result<Answer, AllocError>
-    ensures { IsTold telling dumps.now machine.now end (ending_of result) }
+    ensures { IsTold telling shown.now machine.now end (ending_of result) }
 {
     match telling {
-        Telling::Report { log } => reported(alloc, machine, log, dumps, end),
-        Telling::Trace { pid, counted } => traced(alloc, machine, pid, counted, dumps, end),
+        Telling::Report { log, .. } => reported(alloc, machine, log, shown, end),
+        Telling::Trace { pid, counted } => traced(alloc, machine, pid, counted, shown, end),
         Telling::Demo { programs } => match end {
             End::AllEnded => demonstrated(alloc, machine, programs),
             End::Stuck | End::Stray(_) | End::OutOfQuanta | End::LogFull => {
-                reported(alloc, machine, false, dumps, end)
+                reported(alloc, machine, false, shown, end)
             }
         },
     }
@@ -51,12 +61,12 @@ fn reported(
     alloc: Global,
     machine: &Machine,
     log: bool,
-    dumps: &[Dump],
+    shown: &str,
     end: End,
 ) -> Result<Answer, AllocError>
-    ensures { IsReported log dumps.now machine.now end (ending_of result) }
+    ensures { IsReported log shown.now machine.now end (ending_of result) }
 {
-    let report = report(alloc, machine, log, dumps, end)?;
+    let report = report(alloc, machine, log, shown, end)?;
     with_console(alloc, machine, report, end)
 }
 
@@ -66,12 +76,12 @@ fn traced(
     machine: &Machine,
     pid: Option<u32>,
     counted: bool,
-    dumps: &[Dump],
+    shown: &str,
     end: End,
 ) -> Result<Answer, AllocError>
-    ensures { IsTraced pid counted dumps.now machine.now end (ending_of result) }
+    ensures { IsTraced pid counted shown.now machine.now end (ending_of result) }
 {
-    let report = trace_report(alloc, machine, pid, counted, dumps, end)?;
+    let report = trace_report(alloc, machine, pid, counted, shown, end)?;
     with_console(alloc, machine, report, end)
 }
 

@@ -2,6 +2,7 @@
 ghost use Rattle.std.specs.Prelude.{◌≡◌, ◌⊎◌, map, string_bytes};
 ghost use Rattle.host_io.specs.Faults.{Rose};
 ghost use Rattle.suite_top.specs.Placements.{ArePlacements};
+ghost use Rattle.suite_top.specs.Points.{ArePoints};
 ghost use Rattle.file_commands.specs.Observed.{observed, observed_sink};
 ghost use Rattle.file_commands.specs.Answer.{ending_of};
 ghost use Rattle.suite_top.specs.Result.{result_of};
@@ -11,6 +12,7 @@ ghost use Rattle.suite_top.specs.Call.{MeetsResult};
 
 use crate::demo_run::run_demo;
 use crate::placements::Placements;
+use crate::points::Points;
 use crate::run::run_file;
 use crate::telling::Telling;
 use file_commands::{
@@ -21,9 +23,10 @@ use host_io::{Host, Sink};
 use page_runs::{Kind, Run};
 use region_watch::Mode;
 use std::alloc::{AllocError, Global};
+use watch_points::Span;
 
 /// Runs a manifest with the chooser of a placement.
-fn run_placed<H: Host, A, B, C>(
+fn run_placed<H: Host, A, B, C, P, Q>(
     alloc: Global,
     manifest: &str,
     telling: Telling,
@@ -31,32 +34,40 @@ fn run_placed<H: Host, A, B, C>(
     kind: Kind,
     host: &mut H,
     place: &Placements<A, B, C>,
+    points: &Points<P, Q>,
 ) -> Result<Answer, AllocError>
 where
     A: Fn(&[Run], u32) -> Option<usize>,
     B: Fn(&[Run], u32) -> Option<usize>,
     C: Fn(&[Run], u32) -> Option<usize>,
-    requires { ArePlacements A.pre A.post B.pre B.post C.pre C.post place.now }
+    P: Fn(&[Span], u32, u32) -> bool,
+    Q: Fn(&[Span], u32, u32) -> bool,
+    requires place { ArePlacements A.pre A.post B.pre B.post C.pre C.post place.now }
+    requires points { ArePoints P.pre P.post Q.pre Q.post points.now }
     ensures { PerformsCommand (observed H.told H.faults host.old) (observed H.told H.faults host.new) (run_outcome manifest.now telling mode kind) (ending_of result) }
 {
     match kind {
-        Kind::First => run_file(alloc, manifest, telling, mode, &place.first, host),
-        Kind::Best => run_file(alloc, manifest, telling, mode, &place.best, host),
-        Kind::Last => run_file(alloc, manifest, telling, mode, &place.last, host),
+        Kind::First => run_file(alloc, manifest, telling, mode, &place.first, points, host),
+        Kind::Best => run_file(alloc, manifest, telling, mode, &place.best, points, host),
+        Kind::Last => run_file(alloc, manifest, telling, mode, &place.last, points, host),
     }
 }
 
-fn answer<H: Host, A, B, C>(
+fn answer<H: Host, A, B, C, P, Q>(
     alloc: Global,
     arguments: &[String],
     host: &mut H,
     place: &Placements<A, B, C>,
+    points: &Points<P, Q>,
 ) -> Result<Answer, AllocError>
 where
     A: Fn(&[Run], u32) -> Option<usize>,
     B: Fn(&[Run], u32) -> Option<usize>,
     C: Fn(&[Run], u32) -> Option<usize>,
-    requires { ArePlacements A.pre A.post B.pre B.post C.pre C.post place.now }
+    P: Fn(&[Span], u32, u32) -> bool,
+    Q: Fn(&[Span], u32, u32) -> bool,
+    requires place { ArePlacements A.pre A.post B.pre B.post C.pre C.post place.now }
+    requires points { ArePoints P.pre P.post Q.pre Q.post points.now }
     ensures { PerformsCommand (observed H.told H.faults host.old) (observed H.told H.faults host.new) (result_of (map string_bytes arguments.now)) (ending_of result) }
 {
     match read_arguments(arguments) {
@@ -69,10 +80,11 @@ where
                 log,
                 mode,
                 kind,
+                watch,
             },
         ) => {
-            let telling = Telling::Report { log };
-            run_placed(alloc, manifest, telling, mode, kind, host, place)
+            let telling = Telling::Report { log, watch };
+            run_placed(alloc, manifest, telling, mode, kind, host, place, points)
         }
         Some(
             Command::Trace {
@@ -83,7 +95,16 @@ where
             },
         ) => {
             let telling = Telling::Trace { pid, counted };
-            run_placed(alloc, manifest, telling, Mode::Halt, kind, host, place)
+            run_placed(
+                alloc,
+                manifest,
+                telling,
+                Mode::Halt,
+                kind,
+                host,
+                place,
+                points,
+            )
         }
         Some(Command::Romfs { manifest, image }) => romfs_file(alloc, manifest, image, host),
         Some(Command::Unromfs { image }) => unromfs_file(alloc, image, host),
@@ -94,26 +115,30 @@ where
                 items,
             },
         ) => replay_file(alloc, format, file, items, host),
-        Some(Command::Demo { programs }) => run_demo(alloc, programs, &place.first),
+        Some(Command::Demo { programs }) => run_demo(alloc, programs, &place.first, points),
         None => Answer::early(alloc, Status::Usage, texts::usage(alloc)),
     }
 }
 
 /// Carries out the command that the arguments are: those after the program's name. All that it
 /// writes to the sinks is known before the first byte of it is written.
-pub fn suite<H: Host, O: Sink, R: Sink, A, B, C>(
+pub fn suite<H: Host, O: Sink, R: Sink, A, B, C, P, Q>(
     alloc: Global,
     arguments: &[String],
     host: &mut H,
     out: &mut O,
     report: &mut R,
     place: &Placements<A, B, C>,
+    points: &Points<P, Q>,
 ) -> Status
 where
     A: Fn(&[Run], u32) -> Option<usize>,
     B: Fn(&[Run], u32) -> Option<usize>,
     C: Fn(&[Run], u32) -> Option<usize>,
-    requires { ArePlacements A.pre A.post B.pre B.post C.pre C.post place.now }
+    P: Fn(&[Span], u32, u32) -> bool,
+    Q: Fn(&[Span], u32, u32) -> bool,
+    requires place { ArePlacements A.pre A.post B.pre B.post C.pre C.post place.now }
+    requires points { ArePoints P.pre P.post Q.pre Q.post points.now }
     ensures all { MeetsResult (map string_bytes arguments.now)
         (observed H.told H.faults host.old) (observed H.told H.faults host.new)
         (observed_sink O.told O.faults O.shortages out.old) (observed_sink O.told O.faults O.shortages out.new)
@@ -122,7 +147,7 @@ where
     ensures host_write { result ≡ Status.HostWrite → Rose (H.faults host.old) (H.faults host.new) }
     ensures sink_write { result ≡ Status.SinkWrite → Rose (O.faults out.old) (O.faults out.new) ⊎ Rose (R.faults report.old) (R.faults report.new) }
 {
-    match answer(alloc, arguments, host, place) {
+    match answer(alloc, arguments, host, place, points) {
         Ok(answer) => deliver(
             alloc,
             answer.status,

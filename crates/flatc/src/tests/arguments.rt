@@ -8,7 +8,8 @@ use std::io;
 use std::process::ExitCode;
 use std::rt::Env;
 use std::test::Fail;
-use suite_top::Placements;
+use suite_top::{Placements, Points};
+use watch_points::{PointKind, Span, WatchPoint, touches, within};
 
 /// A process with these arguments, the first of which is its name.
 #[derive(Drop)]
@@ -80,11 +81,29 @@ fn arguments_that_are_not_read_are_no_command(rt: HostRuntime) -> Result<(), Fai
         best: Chooser::new(Kind::Best, |runs: &[Run], need: u32| best_fit(runs, need)),
         last: Chooser::new(Kind::Last, |runs: &[Run], need: u32| last_fit(runs, need)),
     };
+    let points = Points {
+        touch: WatchPoint::new(
+            PointKind::Touch,
+            |spans: &[Span], addr: u32, len: u32| touches(spans, addr, len),
+        ),
+        within: WatchPoint::new(
+            PointKind::Within,
+            |spans: &[Span], addr: u32, len: u32| within(spans, addr, len),
+        ),
+    };
     for (words, want, line) in rows {
         let mut host = MemHost::new(alloc)?;
         let mut out = MemSink::new(alloc)?;
         let mut report = MemSink::new(alloc)?;
-        let code = end(alloc, words, &mut host, &mut out, &mut report, &place);
+        let code = end(
+            alloc,
+            words,
+            &mut host,
+            &mut out,
+            &mut report,
+            &place,
+            &points,
+        );
         assert_eq!(rt; code == ExitCode::from(want), true, "{want}");
         assert_eq!(rt; out.bytes(), b"".as_slice(), "{want}");
         assert_eq!(rt; report.bytes(), line, "{want}");

@@ -1,5 +1,5 @@
 -- By the law that a run which goes on is that of private spaces up to its first stray access.
-use Rattle.std.proofs.Common.{◌≡◌, ℕ, List, map, refl, sym, ap, ◌∙◌}
+use Rattle.std.proofs.Common.{◌≡◌, ℕ, List, ◌++◌, map, refl, sym, ap, ◌∙◌}
 use Rattle.page_runs.specs.declared.place.Kind.{Kind}
 use Rattle.physical_turns.specs.Physical.{opening as memory_opening}
 use Rattle.physical_turns.proofs.Growth.{runs_leave_programs}
@@ -11,7 +11,7 @@ use Rattle.suite_top.specs.Report.{own_dumps, memory_dumps, status_of_end}
 use Rattle.suite_top.specs.Run.{start_line, opening}
 use Rattle.file_commands.specs.Outcome.{Inputs}
 use Rattle.command_laws.specs.RunLaws.{Opens}
-use Rattle.command_laws.specs.Beside.{halting, going_on}
+use Rattle.command_laws.specs.Beside.{halting, going_on, halting_hits, going_on_hits}
 use Rattle.command_laws.proofs.GoOn.{ends_alike, goes_past, goes_on_well}
 use Rattle.command_laws.proofs.GoOnTexts.{reports_alike, report_begins, begins_later}
 use Rattle.command_laws.proofs.SamePrograms.{programs_stay}
@@ -43,23 +43,23 @@ pub returns-clause-worlds : goal.returns-clause-worlds
 returns-clause-worlds c inputs name kind o = goes_on_well (halting o) (going_on o) (goes_alike o)
 
 pub returns-clause-texts : goal.returns-clause-texts
-returns-clause-texts c inputs name kind log o = record {
+returns-clause-texts c inputs name kind log watch o = record {
   alike = λ never.
       let ends = ends_alike (halting o) (going_on o) (goes_alike o) never in
       record {
         status = ap status_of_end ends.ends;
         out = ap (λ w. w.rest.console) ends.stands.world;
-        report = reports_alike log o.manifest.dumps (halting o) (going_on o) ends;
+        report = reports_alike log (halting_hits log watch o) (going_on_hits log watch o) o.manifest.dumps (halting o) (going_on o) ends;
       };
   past = λ pid access is.
       let past = goes_past (halting o) (going_on o) (goes_alike o) pid access is in
       let added = past.adds in
       record {
         out = added.1;
-        halts = report_begins log (own_dumps (halting o).world o.manifest.dumps) (halting o).world (halting o).end;
+        halts = report_begins log (halting_hits log watch o ++ own_dumps (halting o).world o.manifest.dumps) (halting o).world (halting o).end;
         goes_on =
             begins_later log (halting o).world (going_on o).now.world (same_programs o) added.0.0 added.0.1 _
-            (report_begins log (memory_dumps (going_on o).now o.manifest.dumps) (going_on o).now.world (going_on o).end);
+            (report_begins log (going_on_hits log watch o ++ memory_dumps (going_on o).now o.manifest.dumps) (going_on o).now.world (going_on o).end);
       };
 }
 

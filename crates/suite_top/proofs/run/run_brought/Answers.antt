@@ -31,15 +31,16 @@ run_machine-requires-clause-kind g c =
 pub run_machine-requires-clause-events : goal.run_machine-requires-clause-events
 run_machine-requires-clause-events g c =
     let is = booted _ c.in-Ok.machine c.in-Ok.ensures.world in
-    rw c.deref.ensures.value (events_fit (manifest_value c.args.manifest) c.requires.manifest _ (sym (machine_events c.in-Ok.machine) ∙ no_event_yet _ _ _ is))
+    events_fit (manifest_value c.args.manifest) c.requires.manifest _ (sym (machine_events c.in-Ok.machine) ∙ no_event_yet _ _ _ is)
+
+pub run_machine-requires-clause-watches : goal.run_machine-requires-clause-watches
+run_machine-requires-clause-watches g c = c.requires.manifest.each_watch
 
 pub returns-in-Ok : goal.returns-in-Ok
 returns-in-Ok g c =
-    let halt = rw (c.deref.ensures.value, c.deref-in-Ok.ensures.value) at c.run_machine.ensures.halt in
-    let go_on = rw (c.deref.ensures.value, c.deref-in-Ok.ensures.value) at c.run_machine.ensures.go_on in
     let m = manifest_value c.args.manifest in
     let headers = (brought_value c.args.files).headers in
-    let ends = ends_as c.in-Ok.machine c.args.telling c.args.mode (repeated m.repeat m.quanta) m.dumps headers (ending_of c.run_machine.result) c.in-Ok.ensures.mode c.in-Ok.ensures.memory halt go_on in
+    let ends = ends_as c.in-Ok.machine c.args.telling c.args.mode (repeated m.repeat m.quanta) m.watches m.dumps headers (ending_of c.run_machine.result) c.in-Ok.ensures.mode c.in-Ok.ensures.memory c.run_machine.ensures.halt c.run_machine.ensures.go_on in
     boots_as (opening (kind_of c.args.chooser.now) m (brought_value c.args.files)) c.args.manifest.starts.items _ c.args.telling c.args.mode m headers _ refl c.in-Ok.ensures.world ends
 
 pub returns : goal.returns
