@@ -4,9 +4,9 @@
 -- ReplayLaws: the laws of `replay`.
 -- BootedRuns: what is said of a run from its opening world on, by the laws of boots, turns and runs.
 -- Headers, GoOn, GoOnTexts, SamePrograms, BothModes: a run that goes on, beside the same run without it.
--- Headline: what a call of `run` did. BothRuns: two runs of one manifest. TraceLaws: the laws of `trace`.
+-- Headline: what a call of `run` did. BothRuns: two runs of one manifest. TraceLaws, WatchLaws: the laws of `trace` and of `--watch`.
 -- DemoFaults, DemoLaws: the programs of a demo, and the laws of the command.
--- DemoSamples, RunSamples: the definitions on two programs of a demo, and on small manifests.
+-- DemoSamples, RunSamples, HitSamples: the definitions on two programs of a demo, on small manifests, and on a load and a store that are watched.
 -- BootedSamples, WaitingSamples: what is said of a run from its opening world on, computed on one whose program exits and on one whose program waits.
 mod OneFileLaws
 mod ConvertLaws
@@ -25,9 +25,11 @@ mod Headline
 mod BothRuns
 mod BothModes
 mod TraceLaws
+mod WatchLaws
 mod DemoFaults
 mod DemoLaws
 mod DemoSamples
 mod RunSamples
+mod HitSamples
 mod BootedSamples
 mod WaitingSamples

@@ -9,6 +9,7 @@
 -- Beside        a run with `--go-on` beside the same run without it
 -- Headline      what a call of `run` that reached its machine did
 -- TraceLaws     the command `trace`, beside the run of its manifest
+-- WatchLaws     a run with `--watch` beside the same run without it
 -- DemoLaws      the command `demo`, and that its programs have no fault
 pub mod OneFileLaws
 pub mod ConvertLaws
@@ -22,4 +23,5 @@ pub mod RomfsLaws
 pub mod Beside
 pub mod Headline
 pub mod TraceLaws
+pub mod WatchLaws
 pub mod DemoLaws

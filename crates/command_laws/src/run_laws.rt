@@ -2,6 +2,7 @@
 ghost use Rattle.command_laws.specs.Beside.{MemoryIsInOrder, MemoryIsRegular, RunsEndEarlyAlike, RunsGoOnWell, RunsOnNeverStray, RunsTellWell};
 ghost use Rattle.command_laws.specs.Headline.{RunsAreRunsAlone};
 ghost use Rattle.command_laws.specs.RunLaws.{RunsWhereItOpens, OpensWhereItStops, RunsStopOrEndEarly, RunsAreAsAlone, EndsAreAsAlone, RunsWaitWell, WorldsAreInOrder, WorldsAreRegular};
+ghost use Rattle.command_laws.specs.WatchLaws.{WatchesAreRuns, WatchesTellHits};
 ghost use Rattle.originals.specs.Originals.{OriginalsAreSame};
 
 /// The headline, of each call of `run`, over any host, sinks, manifest, placement and quanta: where it ends with one of the statuses of a
@@ -61,4 +62,11 @@ pub fn go_on_law()
     ensures texts { RunsTellWell }
     ensures early { RunsEndEarlyAlike }
     ensures never { RunsOnNeverStray }
+{}
+
+/// With `--watch` a run asks for the same files as without it, and ends with the same status and console; one that doesn't reach its machine
+/// is the same as a whole. Where it does, the report has just the lines of its hits more, behind the notes.
+pub fn watch_law()
+    ensures run { WatchesAreRuns }
+    ensures report { WatchesTellHits }
 {}
