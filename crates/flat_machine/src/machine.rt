@@ -3,15 +3,19 @@
 ghost use Rattle.std.specs.Prelude.{◌≡◌, false, length, map, reverse};
 ghost use Rattle.call_log.specs.Values.{note_value};
 ghost use Rattle.call_log.specs.Programs.{paths_of};
+ghost use Rattle.nommu_regions.specs.Regions.{free_of};
 ghost use Rattle.machine_world.specs.World.{program_path};
+ghost use Rattle.machine_world.specs.Free.{free};
 ghost use Rattle.machine_world.specs.Programs.{AreLoaded};
 ghost use Rattle.physical_turns.specs.Physical.{has_stray};
 ghost use Rattle.waits_laws.specs.Laws.{IsOrdered};
 ghost use Rattle.kept_parts.specs.Copies.{KnowsFiles};
+ghost use Rattle.kept_parts.specs.Regular.{Regular};
 ghost use Rattle.flat_machine.specs.State.{world};
 
 use crate::turn::tell_copies;
 use call_log::Note;
+use kept_parts::{KeptParts, free_runs_law};
 use page_runs::Kind;
 use std::marker::Model;
 use syscall_layer::Parts;
@@ -39,7 +43,25 @@ impl Model for Machine {
     ghost invariant = { Holds };
 }
 
+/// The parts are in order, whatever was noted. Nothing is done.
+fn tell_order(parts: &KeptParts)
+    ensures { Regular parts.now }
+{
+    // Whatever is read opens the parts, whose invariant says so.
+    let _live = parts.procs.live();
+}
+
 impl Machine {
+    /// What holds of every machine, whatever was noted: regions are disjoint and their uses exactly those of the live mappings, writable
+    /// bytes stand in regions of one use, one process runs in a space, and the free runs are those of the world. Nothing is done.
+    pub fn order(&self)
+        ensures regular { Regular self.now.kept }
+        ensures free { (free_of self.now.kept.regions).runs ≡ free (world self.now) }
+    {
+        free_runs_law();
+        tell_order(&self.parts.kept);
+    }
+
     /// How free runs are chosen. Of every machine it is so that its world is in order up to the first stray access, and that the files
     /// of its live copies are known.
     #[tactic(auto, unfolding(kept_parts::specs::Stands::world_of))]
