@@ -47,6 +47,3 @@ fn main(rt: HostRuntime) -> ExitCode {
         &points,
     )
 }
-
-#[cfg(test)]
-mod tests;

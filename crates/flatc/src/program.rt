@@ -1,10 +1,9 @@
 //! The program over any host and any sinks.
-ghost use Rattle.std.specs.Prelude.{◌≡◌, map, drop, option_map, Some, IfOk, string_bytes};
+ghost use Rattle.std.specs.Prelude.{◌≡◌, map, drop, IfOk, string_bytes};
 ghost use Rattle.std.specs.Process.{exit_status};
-ghost use Rattle.std.specs.Result.{result_ok};
 ghost use Rattle.std.specs.Vec.Iter.{into_iter_items};
 ghost use Rattle.flatc.specs.Pages.{page_of};
-ghost use Rattle.flatc.specs.Program.{Ends, Exits};
+ghost use Rattle.flatc.specs.Program.{EndsBy, Ends, Exits};
 ghost use Rattle.file_commands.specs.Observed.{observed, observed_sink};
 ghost use Rattle.suite_top.specs.Placements.{ArePlacements};
 ghost use Rattle.suite_top.specs.Points.{ArePoints};
@@ -19,10 +18,29 @@ use std::{env, io};
 use suite_top::{MEMORY_LINE, Placements, Points, Status, deliver, suite};
 use watch_points::Span;
 
-/// The arguments after the program's name. One that isn't text is an error.
-pub fn read_arguments(rt: &(impl Env + AllocGlobal)) -> io::Result<Vec<String>> {
-    let arguments = arguments_after_name(rt.alloc(), env::args(rt)?)?;
-    Ok(arguments)
+/// The arguments after the program's name, as they were read.
+#[derive(Drop)]
+pub enum Arguments {
+    Words(Vec<String>),
+    /// One of them isn't text.
+    NotText,
+    /// There was no memory for them.
+    OutOfMemory,
+}
+
+/// The arguments of a process.
+pub fn read_arguments(rt: &(impl Env + AllocGlobal)) -> Arguments {
+    match words_of(rt) {
+        Ok(words) => Arguments::Words(words),
+        Err(error) if error.kind() == io::ErrorKind::OutOfMemory => Arguments::OutOfMemory,
+        Err(_) => Arguments::NotText,
+    }
+}
+
+/// Those after the program's name.
+fn words_of(rt: &(impl Env + AllocGlobal)) -> io::Result<Vec<String>> {
+    let words = arguments_after_name(rt.alloc(), env::args(rt)?)?;
+    Ok(words)
 }
 
 /// All arguments but the first, which is the program's name.
@@ -50,7 +68,7 @@ where
     Q: Fn(&[Span], u32, u32) -> bool,
     requires place { ArePlacements A.pre A.post B.pre B.post C.pre C.post place.now }
     requires points { ArePoints P.pre P.post Q.pre Q.post points.now }
-    ensures { Ends (page_of HELP.now VERSION.now) (Some (map string_bytes arguments.now))
+    ensures { EndsBy (page_of HELP.now VERSION.now (map string_bytes arguments.now)) (map string_bytes arguments.now)
         (observed H.told H.faults host.old) (observed H.told H.faults host.new)
         (observed_sink O.told O.faults O.shortages out.old) (observed_sink O.told O.faults O.shortages out.new)
         (observed_sink R.told R.faults R.shortages report.old) (observed_sink R.told R.faults R.shortages report.new) result }
@@ -61,10 +79,10 @@ where
     }
 }
 
-/// Runs with the arguments that were read. Where one isn't text, the arguments are no command.
+/// Runs with the arguments that were read.
 pub fn run_read<H: Host, O: Sink, R: Sink, A, B, C, P, Q>(
     alloc: Global,
-    arguments: io::Result<Vec<String>>,
+    arguments: Arguments,
     host: &mut H,
     out: &mut O,
     report: &mut R,
@@ -79,14 +97,15 @@ where
     Q: Fn(&[Span], u32, u32) -> bool,
     requires place { ArePlacements A.pre A.post B.pre B.post C.pre C.post place.now }
     requires points { ArePoints P.pre P.post Q.pre Q.post points.now }
-    ensures { Ends (page_of HELP.now VERSION.now) (option_map (λ read. map string_bytes read.items) (result_ok arguments))
+    ensures { Ends (page_of HELP.now VERSION.now) arguments
         (observed H.told H.faults host.old) (observed H.told H.faults host.new)
         (observed_sink O.told O.faults O.shortages out.old) (observed_sink O.told O.faults O.shortages out.new)
         (observed_sink R.told R.faults R.shortages report.old) (observed_sink R.told R.faults R.shortages report.new) result }
 {
     match arguments {
-        Ok(arguments) => run(alloc, &arguments, host, out, report, place, points),
-        Err(error) if error.kind() == io::ErrorKind::OutOfMemory => {
+        Arguments::Words(words) => run(alloc, &words, host, out, report, place, points),
+        Arguments::NotText => suite(alloc, &[], host, out, report, place, points),
+        Arguments::OutOfMemory => {
             deliver(
                 alloc,
                 Status::Memory,
@@ -96,14 +115,13 @@ where
                 report,
             )
         }
-        Err(_) => suite(alloc, &[], host, out, report, place, points),
     }
 }
 
 /// The whole program, from the arguments that were read to its exit status.
 pub fn end<H: Host, O: Sink, R: Sink, A, B, C, P, Q>(
     alloc: Global,
-    arguments: io::Result<Vec<String>>,
+    arguments: Arguments,
     host: &mut H,
     out: &mut O,
     report: &mut R,
@@ -118,7 +136,7 @@ where
     Q: Fn(&[Span], u32, u32) -> bool,
     requires place { ArePlacements A.pre A.post B.pre B.post C.pre C.post place.now }
     requires points { ArePoints P.pre P.post Q.pre Q.post points.now }
-    ensures { Exits (page_of HELP.now VERSION.now) (option_map (λ read. map string_bytes read.items) (result_ok arguments))
+    ensures { Exits (page_of HELP.now VERSION.now) arguments
         (observed H.told H.faults host.old) (observed H.told H.faults host.new)
         (observed_sink O.told O.faults O.shortages out.old) (observed_sink O.told O.faults O.shortages out.new)
         (observed_sink R.told R.faults R.shortages report.old) (observed_sink R.told R.faults R.shortages report.new) (exit_status result) }
