@@ -43,17 +43,17 @@ module _ (w : World) (p : Physical) (stands : Stands w p) (d : Dump) where
 
 -- ---- reports
 
-module _ (log : Bool) (private_hits one_hits : List ℕ) (dumps : List Dump) (private : Walk) (one : PhysicalWalk) where
+module _ (log : Bool) (hits : List ℕ) (dumps : List Dump) (private : Walk) (one : PhysicalWalk) where
   pub reports_alike : EndsAlike private.world one private.end
-      → ReportsAlike private.world one.now private_hits one_hits dumps (report_text log (private_hits ++ own_dumps private.world dumps) private.world private.end) (report_text log (one_hits ++ memory_dumps one.now dumps) one.now.world one.end)
+      → ReportsAlike private.world one.now hits dumps (report_text log (hits ++ own_dumps private.world dumps) private.world private.end) (report_text log (hits ++ memory_dumps one.now dumps) one.now.world one.end)
   unfolding report_text
   reports_alike ends = record {
     notes = notes_text log private.world;
     stop = stop_line (stop_word private.end) private.world.events;
     halts = refl;
     goes_on =
-        ap (λ (w : World). notes_text log w ++ (one_hits ++ memory_dumps one.now dumps) ++ stop_line (stop_word one.end) w.events) ends.stands.world
-        ∙ ap (λ (e : Option End). notes_text log private.world ++ (one_hits ++ memory_dumps one.now dumps) ++ stop_line (stop_word e) private.world.events) ends.ends;
+        ap (λ (w : World). notes_text log w ++ (hits ++ memory_dumps one.now dumps) ++ stop_line (stop_word one.end) w.events) ends.stands.world
+        ∙ ap (λ (e : Option End). notes_text log private.world ++ (hits ++ memory_dumps one.now dumps) ++ stop_line (stop_word e) private.world.events) ends.ends;
     shown = dumps_alike private.world one.now ends.stands;
   }
 

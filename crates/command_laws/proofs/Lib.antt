@@ -3,7 +3,7 @@
 -- RomfsLaws: the laws of `romfs`.
 -- ReplayLaws: the laws of `replay`.
 -- BootedRuns: what is said of a run from its opening world on, by the laws of boots, turns and runs.
--- Headers, GoOn, GoOnTexts, SamePrograms, BothModes: a run that goes on, beside the same run without it.
+-- Headers, GoOn, GoOnTexts, HitsAlike, SamePrograms, BothModes: a run that goes on, beside the same run without it.
 -- Headline: what a call of `run` did. BothRuns: two runs of one manifest. TraceLaws, WatchLaws: the laws of `trace` and of `--watch`.
 -- DemoFaults, DemoLaws: the programs of a demo, and the laws of the command.
 -- DemoSamples, RunSamples, HitSamples: the definitions on two programs of a demo, on small manifests, and on a load and a store that are watched.
@@ -20,6 +20,7 @@ mod BootedRuns
 mod Headers
 mod GoOn
 mod GoOnTexts
+mod HitsAlike
 mod SamePrograms
 mod Headline
 mod BothRuns

@@ -88,19 +88,19 @@ pub record ShowsMore (private : World) (one : Physical) (d : Dump) : Type 0 wher
 abbrev pub DumpsAlike : World → Physical → Dump → Type 0
 DumpsAlike private one d = (memory_bytes one d.pid d.addr d.len ≡ own_bytes private d.pid d.addr d.len) ⊎ ShowsMore private one d
 
--- two reports have the same notes before their hits and dump lines, and the same line behind them
-pub record ReportsAlike (private : World) (one : Physical) (private_hits one_hits : List ℕ) (dumps : List Dump) (without_it with_it : List ℕ) : Type 0 where
+-- two reports have the same notes, what is told of the hits, and the last line, and before that their dump lines
+pub record ReportsAlike (private : World) (one : Physical) (hits : List ℕ) (dumps : List Dump) (without_it with_it : List ℕ) : Type 0 where
   pub notes : List ℕ
   pub stop : List ℕ
-  pub halts : without_it ≡ notes ++ (private_hits ++ own_dumps private dumps) ++ stop
-  pub goes_on : with_it ≡ notes ++ (one_hits ++ memory_dumps one dumps) ++ stop
+  pub halts : without_it ≡ notes ++ (hits ++ own_dumps private dumps) ++ stop
+  pub goes_on : with_it ≡ notes ++ (hits ++ memory_dumps one dumps) ++ stop
   pub shown : (d : Dump) → DumpsAlike private one d
 
--- where nothing strays the status and the console are the same, and the reports but for hits and such dumps
+-- where nothing strays the status and the console are the same, and the reports, with their hits, but for such dumps
 pub record TellsAlike {inputs : Inputs} {name : List ℕ} {kind : Kind} (log : Bool) (watch : Option PointKind) (o : Opens inputs name kind) : Type 0 where
   pub status : (going_on_ending log watch o).status ≡ (halting_ending log watch o).status
   pub out : (going_on_ending log watch o).out ≡ (halting_ending log watch o).out
-  pub report : ReportsAlike (halting o).world (going_on o).now (halting_hits log watch o) (going_on_hits log watch o) o.manifest.dumps (halting_ending log watch o).report (going_on_ending log watch o).report
+  pub report : ReportsAlike (halting o).world (going_on o).now (halting_hits log watch o) o.manifest.dumps (halting_ending log watch o).report (going_on_ending log watch o).report
 
 -- a text has more behind its start
 abbrev pub Begins : (start text : List ℕ) → Type 0

@@ -7,6 +7,7 @@
 -- RunLaws       when a run reaches its machine
 -- RomfsLaws     the command `romfs`, which loads as a run does
 -- Beside        a run with `--go-on` beside the same run without it
+-- HitsAlike     that both tell the same hits
 -- Headline      what a call of `run` that reached its machine did
 -- TraceLaws     the command `trace`, beside the run of its manifest
 -- WatchLaws     a run with `--watch` beside the same run without it
@@ -21,6 +22,7 @@ pub mod Booted
 pub mod RunLaws
 pub mod RomfsLaws
 pub mod Beside
+pub mod HitsAlike
 pub mod Headline
 pub mod TraceLaws
 pub mod WatchLaws

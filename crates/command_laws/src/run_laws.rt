@@ -1,6 +1,7 @@
 //! Laws over every run. No code runs.
 ghost use Rattle.command_laws.specs.Beside.{MemoryIsInOrder, MemoryIsRegular, RunsEndEarlyAlike, RunsGoOnWell, RunsOnNeverStray, RunsTellWell};
 ghost use Rattle.command_laws.specs.Headline.{RunsAreRunsAlone};
+ghost use Rattle.command_laws.specs.HitsAlike.{HitsAlike};
 ghost use Rattle.command_laws.specs.RunLaws.{RunsWhereItOpens, OpensWhereItStops, RunsStopOrEndEarly, RunsAreAsAlone, EndsAreAsAlone, RunsWaitWell, WorldsAreInOrder, WorldsAreRegular};
 ghost use Rattle.command_laws.specs.WatchLaws.{WatchesAreRuns, WatchesTellHits};
 ghost use Rattle.originals.specs.Originals.{OriginalsAreSame};
@@ -56,12 +57,13 @@ pub fn regular_worlds_law()
 /// With `--go-on` a run whose private spaces reach no stray access ends with the same status and texts, but for dump lines of a process
 /// that lives, whose bytes lie in memory and aren't all own; and one whose spaces reach one first tells what they noted, with the stray
 /// access, and what they wrote. A run that doesn't reach its machine is the same with it, and none ends
-/// with the status Stray.
+/// with the status Stray. From any sound world, where no access strays, a run hits the same with it as without it, whatever is watched.
 pub fn go_on_law()
     ensures worlds { RunsGoOnWell }
     ensures texts { RunsTellWell }
     ensures early { RunsEndEarlyAlike }
     ensures never { RunsOnNeverStray }
+    ensures hits { HitsAlike }
 {}
 
 /// With `--watch` a run asks for the same files as without it, and ends with the same status and console; one that doesn't reach its machine

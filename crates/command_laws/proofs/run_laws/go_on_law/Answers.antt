@@ -1,19 +1,27 @@
 -- By the law that a run which goes on is that of private spaces up to its first stray access.
-use Rattle.std.proofs.Common.{◌≡◌, ℕ, List, ◌++◌, map, refl, sym, ap, ◌∙◌}
+use Rattle.std.proofs.Common.{◌≡◌, ◌≢◌, ℕ, Bool, false, List, ◌++◌, map, Option, Some, None, refl, sym, ap, subst, ◌∙◌}
 use Rattle.page_runs.specs.declared.place.Kind.{Kind}
-use Rattle.physical_turns.specs.Physical.{opening as memory_opening}
+use Rattle.rv32im_step.specs.declared.access.Access.{Access}
+use Rattle.machine_world.specs.Turns.{stray_at}
+use Rattle.physical_turns.specs.Physical.{Physical, has_stray, opening as memory_opening}
 use Rattle.physical_turns.proofs.Growth.{runs_leave_programs}
+use Rattle.go_on_laws.specs.Alike.{Stands}
 use Rattle.go_on_laws.specs.Laws.{GoesAlike}
 use Rattle.go_on_laws.proofs.Boots.{boots_go_on, boots_note_no_stray}
 use Rattle.go_on_laws.proofs.Walks.{runs_go_on}
+use Rattle.watch_points.specs.declared.hits.Hit.{Hit}
+use Rattle.watch_points.specs.declared.point.PointKind.{PointKind}
+use Rattle.watch_points.specs.Points.{most_hits, none_found, with_hits}
 use Rattle.flat_machine.specs.Runs.{repeated}
-use Rattle.suite_top.specs.Report.{own_dumps, memory_dumps, status_of_end}
+use Rattle.suite_top.specs.Report.{own_dumps, memory_dumps, report_text, status_of_end}
 use Rattle.suite_top.specs.Run.{start_line, opening}
+use Rattle.suite_top.specs.Watched.{span_of, found_text}
 use Rattle.file_commands.specs.Outcome.{Inputs}
 use Rattle.command_laws.specs.RunLaws.{Opens}
-use Rattle.command_laws.specs.Beside.{halting, going_on, halting_hits, going_on_hits}
+use Rattle.command_laws.specs.Beside.{halting, going_on, halting_ending, halting_hits, going_on_hits, ReportsAlike}
 use Rattle.command_laws.proofs.GoOn.{ends_alike, goes_past, goes_on_well}
 use Rattle.command_laws.proofs.GoOnTexts.{reports_alike, report_begins, begins_later}
+use Rattle.command_laws.proofs.HitsAlike.{hits_alike}
 use Rattle.command_laws.proofs.SamePrograms.{programs_stay}
 use Rattle.command_laws.proofs.BothModes.{runs_end_early_alike, runs_on_never_stray}
 use Rattle.command_laws.proofs.Headers.{headers_short}
@@ -22,15 +30,27 @@ use Rattle.command_laws.proofs.RunLaws.{reasonable}
 use Rattle.command_laws.proofs.run_laws.go_on_law.Goals as goal
 
 module _ {inputs : Inputs} {name : List ℕ} {kind : Kind} (o : Opens inputs name kind) where
-  goes_alike : GoesAlike (halting o).world (going_on o) (halting o).end
-  goes_alike =
+  abbrev one : Physical
+  one = memory_opening o.booted.brought.headers o.booted.world
+
+  stands : Stands o.booted.world one
+  stands =
       let is = reasonable o in
       let b = o.booted in
-      let rest = opening kind o.manifest b.brought in
-      let starts = map start_line o.manifest.starts in
-      let short = headers_short o.manifest.items o.files b.brought b.brings in
-      let stands = boots_go_on rest starts b.world b.brought.headers (can_boot is b) (few_starts is b) short b.boots in
-      runs_go_on (repeated o.manifest.repeat o.manifest.quanta) b.world (memory_opening b.brought.headers b.world) (sound is b) stands (boots_note_no_stray rest starts b.world b.boots)
+      boots_go_on (opening kind o.manifest b.brought) (map start_line o.manifest.starts) b.world b.brought.headers (can_boot is b) (few_starts is b)
+      (headers_short o.manifest.items o.files b.brought b.brings) b.boots
+
+  unstrayed : has_stray o.booted.world.notes ≡ false
+  unstrayed = boots_note_no_stray (opening kind o.manifest o.booted.brought) (map start_line o.manifest.starts) o.booted.world o.booted.boots
+
+  goes_alike : GoesAlike (halting o).world (going_on o) (halting o).end
+  goes_alike = runs_go_on (repeated o.manifest.repeat o.manifest.quanta) o.booted.world one (sound (reasonable o) o.booted) stands unstrayed
+
+  same_hits : (log : Bool) (watch : Option PointKind) → ((pid : ℕ) (access : Access) → (halting o).end ≢ Some (stray_at pid access)) → halting_hits log watch o ≡ going_on_hits log watch o
+  same_hits log None never = refl
+  same_hits log (Some point) never =
+      ap (λ (hits : List Hit). found_text (with_hits (none_found most_hits) hits))
+      (hits_alike point (map span_of o.manifest.watches) (repeated o.manifest.repeat o.manifest.quanta) o.booted.world one (sound (reasonable o) o.booted) stands unstrayed never)
 
   same_programs : (going_on o).now.world.rest.programs ≡ (halting o).world.rest.programs
   unfolding memory_opening
@@ -49,7 +69,11 @@ returns-clause-texts c inputs name kind log watch o = record {
       record {
         status = ap status_of_end ends.ends;
         out = ap (λ w. w.rest.console) ends.stands.world;
-        report = reports_alike log (halting_hits log watch o) (going_on_hits log watch o) o.manifest.dumps (halting o) (going_on o) ends;
+        report =
+            subst
+            (λ (hits : List ℕ). ReportsAlike (halting o).world (going_on o).now (halting_hits log watch o) o.manifest.dumps (halting_ending log watch o).report
+            (report_text log (hits ++ memory_dumps (going_on o).now o.manifest.dumps) (going_on o).now.world (going_on o).end))
+            (same_hits o log watch never) (reports_alike log (halting_hits log watch o) o.manifest.dumps (halting o) (going_on o) ends);
       };
   past = λ pid access is.
       let past = goes_past (halting o) (going_on o) (goes_alike o) pid access is in
@@ -68,3 +92,6 @@ returns-clause-early c = runs_end_early_alike
 
 pub returns-clause-never : goal.returns-clause-never
 returns-clause-never c = runs_on_never_stray
+
+pub returns-clause-hits : goal.returns-clause-hits
+returns-clause-hits c = hits_alike
