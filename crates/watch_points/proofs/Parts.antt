@@ -284,7 +284,7 @@ pub reached_end : (n : ℕ) (mode : Mode) (table : List PageOwner) (regs after :
 reached_end n mode table regs after mem now first last near kind spans pid found kept done all r =
     subst (λ k. Reached n mode table regs mem first near kind spans pid found k Next after now last kept) all r
 
--- what `run_probed` promises of it
+-- what `run_watched` promises of it
 pub record Told (n : ℕ) (mode : Mode) (table : List PageOwner) (regs : Regs) (mem : List ℕ) (first : Option Access) (kind : PointKind) (spans : List Span) (pid : ℕ) (found : Found)
     (done : ℕ) (stop : Stop) (after : Regs) (now : List ℕ) (last : Option Access) (kept : Found) : Type 0 where
   pub leaves : ran after (passed_bytes mode table now) done stop ≡ instructions n (passes mode table true) regs (passed_bytes mode table mem)

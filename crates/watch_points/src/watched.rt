@@ -15,7 +15,7 @@ use crate::near::Near;
 use crate::point::WatchPoint;
 use crate::probed::Probed;
 use crate::span::Span;
-use region_watch::{Progress, Watch, run_steps};
+use region_watch::{Progress, Watch};
 use rv32im_step::{Access, Regs, Stop, step};
 
 /// How far a program came, and the access behind which it left the loop.
@@ -99,8 +99,8 @@ fn tell<F: Fn(&[Span], u32, u32) -> bool>(
     }
 }
 
-/// `run_watched` where something is watched.
-fn run_probed<F: Fn(&[Span], u32, u32) -> bool>(
+/// As `run_steps` of region_watch, and adds each load and store that was carried out and hits, in their order.
+pub fn run_watched<F: Fn(&[Span], u32, u32) -> bool>(
     regs: &mut Regs,
     watch: &mut Watch<'_>,
     count: u32,
@@ -141,36 +141,4 @@ fn run_probed<F: Fn(&[Span], u32, u32) -> bool>(
         done: count,
         stop: Stop::Next,
     }
-}
-
-/// As `run_steps`, and adds each load and store that was carried out and hits, in their order. Where nothing
-/// is watched it is `run_steps`.
-pub fn run_watched<F: Fn(&[Span], u32, u32) -> bool>(
-    regs: &mut Regs,
-    watch: &mut Watch<'_>,
-    count: u32,
-    pid: u32,
-    point: &WatchPoint<F>,
-    spans: &[Span],
-    hits: &mut Hits,
-) -> Progress
-    requires point { IsPoint F.pre F.post point.now }
-    requires spans { AreSpans spans.now }
-    ensures leaves { ran regs.new (passed_bytes watch.old.mode watch.old.owners.now watch.new.mem.now) result.done result.stop
-        ≡ instructions count (passes watch.old.mode watch.old.owners.now true) regs.old (passed_bytes watch.old.mode watch.old.owners.now watch.old.mem.now) }
-    ensures frozen { kept_bytes watch.old.mode watch.old.owners.now watch.new.mem.now ≡ kept_bytes watch.old.mode watch.old.owners.now watch.old.mem.now }
-    ensures length { length watch.new.mem.now ≡ length watch.old.mem.now }
-    ensures owners { watch.new.owners.now ≡ watch.old.owners.now }
-    ensures mode { watch.new.mode ≡ watch.old.mode }
-    ensures first { first_stray watch.new ≡ noted_all watch.old.owners.now (first_stray watch.old)
-        (all_asked count (passes watch.old.mode watch.old.owners.now true) regs.old (passed_bytes watch.old.mode watch.old.owners.now watch.old.mem.now)) }
-    ensures halts { watch.old.mode ≡ Halt → first_stray watch.new ≡ noted_stop (first_stray watch.old) result.stop }
-    ensures same_reference { watch.new.mem.ghost_name ≡ watch.old.mem.ghost_name }
-    ensures hits { hits.new ≡ with_hits hits.old (hits_in (kind_of_point point.now) spans.now pid
-        (all_asked count (passes watch.old.mode watch.old.owners.now true) regs.old (passed_bytes watch.old.mode watch.old.owners.now watch.old.mem.now))) }
-{
-    if spans.is_empty() {
-        return run_steps(regs, watch, count);
-    }
-    run_probed(regs, watch, count, pid, point, spans, hits)
 }
