@@ -10,7 +10,7 @@ use Rattle.mmap_rules.specs.Space.{Space, writable_in}
 use Rattle.call_log.specs.declared.how.How.TheVariants.{Exit, Signal}
 use Rattle.call_log.specs.declared.errno.Errno.{Errno}
 use Rattle.call_log.specs.Errno.{refusal}
-use Rattle.call_log.specs.Notes.{Written, call_note, stray_note, weight_of, has_room}
+use Rattle.call_log.specs.Notes.{Written, call_note, stray_note, weight_of}
 use Rattle.call_log.specs.Strings.{ProgramStrings, program_strings}
 use Rattle.call_log.specs.Sent.{Span, has_zero, sent}
 use Rattle.flat_loader.specs.Original.{block_pages}
@@ -34,7 +34,8 @@ use Rattle.machine_world.specs.Asks.{Ask, Reply, Row, replies, waits, arg, gives
 use Rattle.machine_world.specs.PathCalls.{path_of}
 use Rattle.machine_world.specs.FamilyCalls.{who_of, waitid_fault, child_info, no_info, info_at, vfork_flags, runs}
 use Rattle.machine_world.specs.Rows.{row}
-use Rattle.machine_world.specs.Event.{Trace, Outcome, went, strays, full, idle, with_space, with_state, counted, noted, ended, stepped, trapped, number_of, args_of, replied, put_got, ask_of, entry_of, item_of, plain_item, served, put, waited, answered, exit_code, exited, is_exit, reaped, told_in, waitid_behind, waitid, with_child, forked, cloned, with_exec, load_of, executed, exec_at, exec_program, exec_strings, exec, classed, asked, answer, awake, settled, effect, in_space, by_process, at_process, event}
+use Rattle.machine_world.specs.Recordings.{room_in}
+use Rattle.machine_world.specs.Event.{Trace, Outcome, went, strays, full, idle, with_space, with_state, counted, counted_in, noted, ended, stepped, trapped, number_of, args_of, replied, put_got, ask_of, entry_of, item_of, plain_item, replied_world, room_for, served, put, waited, answered, exit_code, exited, is_exit, reaped, told_in, waitid_behind, waitid, with_child, forked, cloned, with_exec, load_of, executed, exec_at, exec_program, exec_strings, exec, classed, asked, answer, awake, settled, effect, in_space, by_process, at_process, event}
 use Rattle.machine_world.specs.Turns.{Walk, End, seen_of, stays_at, traced, turned, turn, going_on, quantum_turn, turns}
 use Rattle.machine_world.proofs.Kept.{Answers}
 
@@ -65,23 +66,23 @@ loading_of f s page = record { original = f.original; block = address_of page; a
 -- P holds behind each change that a call makes, where Q holds of what its row leaves outside of the space
 pub record Answered (P : World → Trace → Type 0) (Q : Rest → Type 0) (w : World) (a : Ask) : Type 0 where
   -- a reply; waitid may have told of a child that ended
-  pub reply : (ended : List Ended) (r : Reply) (m : Bytes) → Q r.rest → has_room w.notes (weight_of a.sent r.got) ≡ true
-      → P (noted (call_note (entry_of a r.value r.got)) (counted (with_space (record w { ended = ended; rest = r.rest }) a.process (replied a.process.regs r.value) (record r.space { bytes = m }))))
+  pub reply : (ended : List Ended) (r : Reply) (m : Bytes) → Q r.rest → room_for w a r ≡ true
+      → P (replied_world (record w { ended = ended; rest = r.rest }) a r m)
       (record { space = a.process.space; events = 1; items = item_of (entry_of a r.value r.got) m ∷ []; begins = None; over = r.over })
   pub wait : (state : State) → P (counted (with_state w a.process.pid state)) (record { space = a.process.space; events = 0; items = []; begins = None; over = true })
-  pub exit : has_room w.notes (weight_of a.sent []) ≡ true
-      → P (ended (noted (call_note (entry_of a 0 [])) (counted w)) a.process (Exit (exit_code a))) (call_trace a 0 true)
-  pub fork : is_full w ≡ false → has_room w.notes (weight_of a.sent []) ≡ true
-      → P (noted (call_note (entry_of a w.next_pid [])) (counted (with_child w a))) (call_trace a w.next_pid true)
+  pub exit : room_in w (weight_of a.sent []) ≡ true
+      → P (ended (noted (call_note (entry_of a 0 [])) (counted_in a.process.space w)) a.process (Exit (exit_code a))) (call_trace a 0 true)
+  pub fork : is_full w ≡ false → room_in w (weight_of a.sent []) ≡ true
+      → P (noted (call_note (entry_of a w.next_pid [])) (counted_in a.process.space (with_child w a))) (call_trace a w.next_pid true)
   pub load : (f : Found) (s : ProgramStrings) (page : ℕ) → runs w.rest (path_of a) ≡ Ok f → frame_fits f.original s.args s.env ≡ true
-      → has_room w.notes (weight_of a.sent []) ≡ true
-      → P (noted (load_of a.process f.index (loading_of f s page)) (noted (call_note (entry_of a 0 [])) (counted (with_exec w a.process (loading_of f s page)))))
+      → room_in w (weight_of a.sent []) ≡ true
+      → P (noted (load_of a.process f.index (loading_of f s page)) (noted (call_note (entry_of a 0 [])) (counted_in a.process.space (with_exec w a.process (loading_of f s page)))))
       (record (call_trace a 0 false) { begins = Some (record { loading = loading_of f s page; pid = a.process.pid }) })
 
 module _ (P : World → Trace → Type 0) (Q : Rest → Type 0) (w : World) (a : Ask) (each : Answered P Q w a) (same : Q a.rest) where
   by_served : (ended : List Ended) (r : Reply) (m : Bytes) → Q r.rest → Went P (served (record w { ended = ended }) a r m)
   unfolding served
-  by_served ended r m holds = went_test P (has_room w.notes (weight_of a.sent r.got)) (went _ _) full (λ room. each.reply ended r m holds room) (λ no. tt)
+  by_served ended r m holds = went_test P (room_for w a r) (went _ _) full (λ room. each.reply ended r m holds room) (λ no. tt)
 
   by_put : (ended : List Ended) (r : Reply) (o : Result Bytes Span) → Q r.rest → Went P (put (record w { ended = ended }) a r o)
   by_put ended r (Ok m) holds = by_served ended r m holds
@@ -104,7 +105,7 @@ module _ (P : World → Trace → Type 0) (Q : Rest → Type 0) (w : World) (a :
 
   by_exited : Went P (exited w a)
   unfolding exited
-  by_exited = went_test P (has_room w.notes (weight_of a.sent [])) (went _ _) full each.exit (λ no. tt)
+  by_exited = went_test P (room_in w (weight_of a.sent [])) (went _ _) full each.exit (λ no. tt)
 
   by_reaped : (who : Who) (o : Result Waited Errno) → Went P (reaped w a who o)
   by_reaped who (Ok (Child pid how)) = by_gives (without_first a.process.pid who w.ended) 0 (info_at (arg a 2) (child_info pid how))
@@ -122,7 +123,7 @@ module _ (P : World → Trace → Type 0) (Q : Rest → Type 0) (w : World) (a :
 
   by_forked : is_full w ≡ false → Went P (forked w a)
   unfolding forked
-  by_forked few = went_test P (has_room w.notes (weight_of a.sent [])) (went _ _) full (each.fork few) (λ no. tt)
+  by_forked few = went_test P (room_in w (weight_of a.sent [])) (went _ _) full (each.fork few) (λ no. tt)
 
   by_cloned : Went P (cloned w a)
   unfolding cloned
@@ -134,7 +135,7 @@ module _ (P : World → Trace → Type 0) (Q : Rest → Type 0) (w : World) (a :
     by_page : (f : Found) → runs w.rest (path_of a) ≡ Ok f → frame_fits f.original s.args s.env ≡ true → (o : Option ℕ) → Went P (exec_at w a f s o)
     unfolding executed
     by_page f is fits None = by_refuses _
-    by_page f is fits (Some page) = went_test P (has_room w.notes (weight_of a.sent [])) (went _ _) full (λ room. each.load f s page is fits room) (λ no. tt)
+    by_page f is fits (Some page) = went_test P (room_in w (weight_of a.sent [])) (went _ _) full (λ room. each.load f s page is fits room) (λ no. tt)
 
     by_program : (o : Result Found Errno) → runs w.rest (path_of a) ≡ o → Went P (exec_program w a s o)
     by_program (Ok f) is =
@@ -162,8 +163,8 @@ module _ (P : World → Trace → Type 0) (Q : Rest → Type 0) (w : World) (a :
 
 -- and behind an instruction, and the end by a signal
 pub record Happened (P : World → Trace → Type 0) (Q : Rest → Type 0) (w : World) (p : Process) (s : Space) : Type 0 where
-  pub step : (regs : Regs) (bytes : Bytes) → P (counted (with_space w p regs (record s { bytes = bytes }))) (own_trace p)
-  pub trap : (signal : ℕ) → P (counted (ended w p (Signal signal))) (record (own_trace p) { over = true })
+  pub step : (regs : Regs) (bytes : Bytes) → P (counted_in p.space (with_space w p regs (record s { bytes = bytes }))) (own_trace p)
+  pub trap : (signal : ℕ) → P (counted_in p.space (ended w p (Signal signal))) (record (own_trace p) { over = true })
   pub calls : (bytes : List ℕ) → Answered P Q w (ask_of w p s bytes)
 
 pub by_settled : (P : World → Trace → Type 0) → ((now : World) (t : Trace) → P now t → P (awake now) t) → (o : Outcome) → Went P o → Went P (settled o)

@@ -32,6 +32,7 @@ use Rattle.machine_world.specs.FamilyCalls.{waitid_fault, child_info}
 use Rattle.machine_world.specs.Free.{free_runs_in}
 use Rattle.machine_world.specs.Asks.{Ask, refuses}
 use Rattle.machine_world.specs.PathCalls.{path_of}
+use Rattle.machine_world.specs.Recordings.{nothing_recorded}
 use Rattle.machine_world.specs.Event.{Outcome, went, strays, full, idle, departed, told_in, answered, forked, cloned, executed, exec}
 
 -- ---- a small world
@@ -74,6 +75,7 @@ rest = record {
   tree = tree;
   files = nothing_open [];
   console = [];
+  keep = 0;
 }
 
 abbrev world : List Process → List Ended → World
@@ -86,6 +88,7 @@ world procs ended = record {
   rest = rest;
   notes = [];
   events = 0;
+  recording = nothing_recorded 0;
 }
 
 abbrev parent : Process

@@ -30,7 +30,7 @@ tree =
     ∷ []
 
 abbrev pub rest : Rest
-rest = record { pages = 4; kind = First; programs = []; tree = tree; files = with_table (nothing_open []); console = [] }
+rest = record { pages = 4; kind = First; programs = []; tree = tree; files = with_table (nothing_open []); console = []; keep = 0 }
 
 -- a call of the process with table 0, with what it read
 abbrev pub ask : Rest → ℕ → List ℕ → List ℕ → Ask

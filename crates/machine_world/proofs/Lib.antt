@@ -3,6 +3,7 @@
 -- MapSamples   and those that map and unmap pages
 -- PipeSamples  a run that ends on a pipe, and reads and writes of pipes that are full, empty or closed
 -- States    a world in which one process has other registers and other bytes
+-- Raised    counts that rise up to the most
 -- Awake     who goes on behind a call or a trap, and what that leaves
 -- TurnLaws  turns, event by event
 -- RunLaws   runs, quantum by quantum
@@ -36,6 +37,7 @@ mod FileSamples
 mod MapSamples
 mod PipeSamples
 pub mod States
+mod Raised
 pub mod Awake
 pub mod TurnLaws
 pub mod RunLaws

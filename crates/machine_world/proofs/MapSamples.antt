@@ -39,7 +39,7 @@ open_file change =
 
 abbrev rest : (pages : ℕ) → Kind → (change : ℕ) → Rest
 rest pages kind change =
-    record { pages = pages; kind = kind; programs = []; tree = (open_file change).nodes; files = (open_file change).files; console = [] }
+    record { pages = pages; kind = kind; programs = []; tree = (open_file change).nodes; files = (open_file change).files; console = []; keep = 0 }
 
 abbrev space : List Mapping → Space
 space maps = record { maps = maps; brk = 0; brk_low = 0; brk_high = 0; bytes = λ a. None }

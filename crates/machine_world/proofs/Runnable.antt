@@ -21,7 +21,7 @@ use Rattle.rv32im_step.specs.declared.regs.Regs.{Regs}
 use Rattle.rv32im_step.specs.Meaning.{Meaning, next, call, trap, refused, meaning}
 use Rattle.call_log.specs.declared.errno.Errno.{Errno}
 use Rattle.call_log.specs.declared.errno.Errno.TheVariants.{E2big, Eagain, Enomem, Einval, Enametoolong}
-use Rattle.call_log.specs.Notes.{has_room, weight_of}
+use Rattle.call_log.specs.Notes.{weight_of}
 use Rattle.call_log.specs.Sent.{Span, has_zero, sent}
 use Rattle.call_log.specs.Strings.{ProgramStrings, program_strings}
 use Rattle.mmap_rules.specs.Space.{Space, writable_in}
@@ -35,7 +35,8 @@ use Rattle.machine_world.specs.Rows.{row}
 use Rattle.machine_world.specs.FamilyCalls.{who_of, waitid_fault, child_info, no_info, info_at, vfork_flags, runs}
 use Rattle.machine_world.specs.Families.{MayRun, ready_pids, is_full}
 use Rattle.machine_world.specs.Asks.{Ask, Reply, Row, replies, waits, arg, gives, refuses}
-use Rattle.machine_world.specs.Event.{Trace, Outcome, went, strays, full, idle, number_of, args_of, replied, put_got, ask_of, stepped, trapped, served, put, waited, answered, is_exit, exited, forked, cloned, executed, exec_at, exec_program, exec_strings, exec, reaped, told_in, waitid_behind, waitid, classed, asked, answer, settled, effect, in_space, by_process, at_process, event}
+use Rattle.machine_world.specs.Recordings.{room_in}
+use Rattle.machine_world.specs.Event.{Trace, Outcome, went, strays, full, idle, number_of, args_of, replied, put_got, ask_of, stepped, trapped, room_for, served, put, waited, answered, is_exit, exited, forked, cloned, executed, exec_at, exec_program, exec_strings, exec, reaped, told_in, waitid_behind, waitid, classed, asked, answer, settled, effect, in_space, by_process, at_process, event}
 use Rattle.machine_world.proofs.States.{find_has}
 use Rattle.machine_world.proofs.Awake.{may_run_awake}
 use Rattle.machine_world.proofs.Chains.{find_exec_own}
@@ -115,7 +116,7 @@ module _ (w : World) (a : Ask) (lives : find pid_of a.process.pid w.procs ≡ So
   unfolding served
   still_put r (Err span) = tt
   still_put r (Ok m) =
-      still_if a.process.pid (has_room w.notes (weight_of a.sent r.got)) (went _ _) full
+      still_if a.process.pid (room_for w a r) (went _ _) full
       (λ more. still_moved w.procs a.process (replied a.process.regs r.value) lives ready) tt
 
   still_waited : (state : State) → Still a.process.pid (waited w a.process state)
@@ -128,11 +129,11 @@ module _ (w : World) (a : Ask) (lives : find pid_of a.process.pid w.procs ≡ So
 
   still_exited : Still a.process.pid (exited w a)
   unfolding exited
-  still_exited = still_if a.process.pid (has_room w.notes (weight_of a.sent [])) (went _ _) full (λ over. absurd cc) tt
+  still_exited = still_if a.process.pid (room_in w (weight_of a.sent [])) (went _ _) full (λ over. absurd cc) tt
 
   still_forked : Still a.process.pid (forked w a)
   unfolding forked
-  still_forked = still_if a.process.pid (has_room w.notes (weight_of a.sent [])) (went _ _) full (λ over. absurd cc) tt
+  still_forked = still_if a.process.pid (room_in w (weight_of a.sent [])) (went _ _) full (λ over. absurd cc) tt
 
   still_cloned : Still a.process.pid (cloned w a)
   unfolding cloned
@@ -144,7 +145,7 @@ module _ (w : World) (a : Ask) (lives : find pid_of a.process.pid w.procs ≡ So
   still_executed : (index : ℕ) (l : Loading) → Still a.process.pid (executed w a index l)
   unfolding executed resumed
   still_executed index l =
-      still_if a.process.pid (has_room w.notes (weight_of a.sent [])) (went _ _) full
+      still_if a.process.pid (room_in w (weight_of a.sent [])) (went _ _) full
       (λ more. ap (option_map (λ q. q.state)) (find_exec_own w a.process l lives) ∙ ap (λ s. Some (resumed a.process.pid s)) ready) tt
 
   still_strings : (s : Option ProgramStrings) → Still a.process.pid (exec_strings w a s)

@@ -70,7 +70,7 @@ abbrev tree_of : List Program → Inodes
 tree_of programs = None ∷ Some (new_inode (folder 1 (entries_from 2 programs)) None) ∷ files_from 0 programs
 
 abbrev pub rest_of : ℕ → List Program → Rest
-rest_of pages programs = record { pages = pages; kind = First; programs = programs; tree = tree_of programs; files = nothing_open []; console = [] }
+rest_of pages programs = record { pages = pages; kind = First; programs = programs; tree = tree_of programs; files = nothing_open []; console = []; keep = 0 }
 
 abbrev pub start : ℕ → List ℕ → StartLine
 start line path = record { line = line; args = path ∷ [] }

@@ -11,6 +11,8 @@ use Rattle.vfork_exec.proofs.Keyed.{find_head, find_changed}
 use Rattle.machine_world.specs.World.{World, Process, LiveSpace, pid_of, id_of}
 use Rattle.machine_world.specs.Event.{Outcome, strays, effect, at_process, event, called, died, answer, trapped, settled}
 use Rattle.machine_world.specs.Courses.{moved}
+use Rattle.machine_world.specs.Recordings.{is_recorded, raised_in}
+use Rattle.machine_world.proofs.Raised.{raised_none, raised_twice}
 
 decide : (b : Bool) → (b ≡ true) ⊎ (b ≡ false)
 decide true = inl refl
@@ -103,7 +105,8 @@ module _ (w : World) (pid : ℕ) (p : Process) (s : LiveSpace) (lives : find pid
       let spaces : change id_of p.space (λ l. with_own l s.space) w.spaces ≡ w.spaces =
       change_same id_of p.space (λ l. with_own l s.space) w.spaces s has refl in
       let events : w.events + 0 ≡ w.events = omega arith in
-      rw (procs, spaces, events) refl
+      let passed : raised_in w.recording p.space 0 ≡ w.recording.events = raised_none (is_recorded w.recording p.space) w.recording.events in
+      rw (procs, spaces, events, passed) refl
 
   -- what comes of an act, and of the next event
   pub acts : (act : Process → Space → Outcome) → at_process w pid act ≡ act p s.space
@@ -134,4 +137,5 @@ moved_twice w p regs after space now i j =
     let spaces : change id_of p.space (λ l. with_own l now) (change id_of p.space (λ l. with_own l space) w.spaces) ≡ change id_of p.space (λ l. with_own l now) w.spaces =
     change_twice id_of p.space (λ l. with_own l space) (λ l. with_own l now) (λ l. with_own l now) (λ l. refl) (λ l. refl) w.spaces in
     let events : w.events + i + j ≡ w.events + (i + j) = omega arith in
-    rw (procs, spaces, events) refl
+    let passed = raised_twice (is_recorded w.recording p.space) i j w.recording.events in
+    rw (procs, spaces, events, passed) refl

@@ -13,6 +13,7 @@ use Rattle.machine_world.specs.World.{Rest, World}
 use Rattle.machine_world.specs.Free.{free}
 use Rattle.machine_world.specs.Asks.{with_files}
 use Rattle.machine_world.specs.Event.{noted}
+use Rattle.machine_world.specs.Recordings.{nothing_recorded, launched}
 
 -- a start line: its number, and the arguments, of which the first is the program's path
 pub record StartLine : Type 0 where
@@ -36,6 +37,7 @@ begun w index l = noted (load_note (record { pid = w.next_pid; program = index; 
   loads = w.loads + 1;
   next_pid = w.next_pid + 1;
   rest = with_files w.rest (with_table w.rest.files);
+  recording = launched w.loads w.next_pid l w.recording;
 })
 
 abbrev pub placed : World → StartLine → Found → Option ℕ → Result World BootFault
@@ -63,7 +65,17 @@ all_started w [] = Ok w
 all_started w (s ∷ ss) = then_started (started w s) (λ now. all_started now ss)
 
 abbrev pub empty_world : Rest → World
-empty_world rest = record { procs = []; ended = []; spaces = []; loads = 0; next_pid = 1; rest = rest; notes = []; events = 0 }
+empty_world rest = record {
+  procs = [];
+  ended = [];
+  spaces = [];
+  loads = 0;
+  next_pid = 1;
+  rest = rest;
+  notes = [];
+  events = 0;
+  recording = nothing_recorded rest.keep;
+}
 
 unfoldable pub boot : Rest → List StartLine → Result World BootFault
 boot rest starts = all_started (empty_world rest) starts

@@ -10,6 +10,7 @@ use Rattle.vfork_exec.specs.Keyed.{find}
 use Rattle.machine_world.specs.World.{World, Process, LiveSpace, pid_of, id_of}
 use Rattle.machine_world.specs.Event.{Trace, with_space}
 use Rattle.machine_world.specs.Turns.{turn, turns, walked}
+use Rattle.machine_world.specs.Recordings.{passed}
 
 -- behind so many events of a process a turn of it goes on in the new world
 pub record Leads (pid : ℕ) (old : World) (done : ℕ) (new : World) : Type 0 where
@@ -23,7 +24,7 @@ pub record Comes (front : List Quantum) (old new : World) : Type 0 where
 
 -- one process in its space, so many events later
 abbrev pub moved : World → Process → Regs → Space → ℕ → World
-moved w p regs space done = record (with_space w p regs space) { events = w.events + done }
+moved w p regs space done = passed p.space done (record (with_space w p regs space) { events = w.events + done })
 
 -- an instruction that isn't carried out, and how a step ends at it
 abbrev pub EndsAs : Meaning → Stop → Type 0

@@ -1,7 +1,7 @@
 -- One event: one instruction or one system call of one process. An event changes the world and leaves a trace, or the
 -- process's next access strays, or the log has no room, or there is no such process.
 pub use Rattle.flat_loader.specs.Alone.{number_of, args_of, replied, put_got}
-use Rattle.std.specs.Prelude.{ℕ, ◌+◌, ◌*◌, ◌%◌, ◌==◌, Bool, true, false, not, ◌&&◌, ◌||◌, if◌then◌else◌, List, [], ◌∷◌, map, slice_index, unwrap_or, Option, Some, None, Result, Ok, Err}
+use Rattle.std.specs.Prelude.{ℕ, ◌+◌, ◌++◌, length, ◌*◌, ◌%◌, ◌==◌, Bool, true, false, not, ◌&&◌, ◌||◌, if◌then◌else◌, List, [], ◌∷◌, map, slice_index, unwrap_or, Option, Some, None, Result, Ok, Err}
 use Rattle.byte_words.specs.ByteMap.{Bytes}
 use Rattle.rv32im_step.specs.declared.regs.Regs.{Regs}
 use Rattle.rv32im_step.specs.declared.access.Access.{Access}
@@ -12,7 +12,7 @@ use Rattle.call_log.specs.declared.how.How.{How}
 use Rattle.call_log.specs.declared.how.How.TheVariants.{Exit, Signal}
 use Rattle.call_log.specs.declared.errno.Errno.{Errno}
 use Rattle.call_log.specs.declared.errno.Errno.TheVariants.{E2big, Eagain, Enomem, Einval, Enametoolong}
-use Rattle.call_log.specs.Notes.{Written, CallEntry, Note, call_note, load_note, end_note, weight_of, has_room}
+use Rattle.call_log.specs.Notes.{Written, CallEntry, Note, call_note, load_note, end_note, weight_of}
 use Rattle.call_log.specs.Strings.{ProgramStrings, program_strings}
 use Rattle.call_log.specs.Flags.{has_flag}
 use Rattle.call_log.specs.Sent.{Span, bytes_from, has_zero, sent}
@@ -40,6 +40,7 @@ use Rattle.machine_world.specs.Asks.{Ask, Reply, Row, replies, waits, arg, gives
 use Rattle.machine_world.specs.PathCalls.{path_of}
 use Rattle.machine_world.specs.FamilyCalls.{who_of, may_wait, waitid_fault, child_info, no_info, info_at, vfork_flags, runs}
 use Rattle.machine_world.specs.Rows.{row}
+use Rattle.machine_world.specs.Recordings.{is_recorded, launched, passed, room_in}
 
 -- a program that begins in a new space, and the pid of its process
 pub record Begins : Type 0 where
@@ -77,6 +78,10 @@ with_state w pid state = record w { procs = change pid_of pid (λ q. record q { 
 abbrev pub counted : World → World
 counted w = record w { events = w.events + 1 }
 
+-- and no wait, in the space of this number
+abbrev pub counted_in : ℕ → World → World
+counted_in space w = passed space 1 (counted w)
+
 abbrev pub noted : Note → World → World
 noted note w = record w { notes = note ∷ w.notes }
 
@@ -97,11 +102,11 @@ ended w p how = noted (end_note p.pid how) (departed w p how)
 
 unfoldable pub stepped : World → Process → Space → Regs → Bytes → Outcome
 stepped w p s regs bytes =
-    went (counted (with_space w p regs (record s { bytes = bytes }))) (record { space = p.space; events = 1; items = []; begins = None; over = false })
+    went (counted_in p.space (with_space w p regs (record s { bytes = bytes }))) (record { space = p.space; events = 1; items = []; begins = None; over = false })
 
 unfoldable pub trapped : World → Process → ℕ → Outcome
 trapped w p signal =
-    went (counted (ended w p (Signal signal))) (record { space = p.space; events = 1; items = []; begins = None; over = true })
+    went (counted_in p.space (ended w p (Signal signal))) (record { space = p.space; events = 1; items = []; begins = None; over = true })
 
 -- ---- a system call
 
@@ -137,6 +142,10 @@ maps_file e = e.call == 222 && not (is_errno e.reply) && not (has_flag (slice_in
 abbrev pub brought : CallEntry → Bytes → List ℕ
 brought e m = if maps_file e then unwrap_or (bytes_from m e.reply (page_size * pages_for (slice_index e.args 1))) [] else []
 
+-- by mappings of files, one by one
+abbrev pub lists_brought : CallEntry → Bytes → List (List ℕ)
+lists_brought e m = if maps_file e then brought e m ∷ [] else []
+
 -- a call for those who follow its space, over the bytes that it leaves
 abbrev pub item_of : CallEntry → Bytes → Item
 item_of e m = record { entry = e; brought = brought e m }
@@ -145,12 +154,32 @@ item_of e m = record { entry = e; brought = brought e m }
 abbrev pub plain_item : CallEntry → Item
 plain_item e = record { entry = e; brought = [] }
 
+-- so many bytes, and those that it brings into the space that is recorded
+abbrev pub with_bytes_of : World → ℕ → CallEntry → Bytes → ℕ → ℕ
+with_bytes_of w space e m weight = if is_recorded w.recording space then length (brought e m) + weight else weight
+
+-- there is room for a call with this reply; a mapping has its bytes before any output is written
+abbrev pub room_for : World → Ask → Reply → Bool
+room_for w a r = room_in w (with_bytes_of w a.process.space (entry_of a r.value r.got) r.space.bytes (weight_of a.sent r.got))
+
+-- and what it brings is recorded
+abbrev pub brought_to : ℕ → CallEntry → Bytes → World → World
+brought_to space e m w = record w {
+  recording = record w.recording { brought = w.recording.brought ++ (if is_recorded w.recording space then lists_brought e m else []) };
+}
+
+-- a call has its reply, over the bytes that it leaves
+abbrev pub replied_world : World → Ask → Reply → Bytes → World
+replied_world w a r m =
+    let e : CallEntry = entry_of a r.value r.got in
+    noted (call_note e) (brought_to a.process.space e r.space.bytes (counted_in a.process.space (with_space w a.process (replied a.process.regs r.value) (record r.space { bytes = m }))))
+
 -- the effect of a call whose output can be written
 unfoldable pub served : World → Ask → Reply → Bytes → Outcome
 served w a r bytes =
-    if has_room w.notes (weight_of a.sent r.got) then
+    if room_for w a r then
     went
-    (noted (call_note (entry_of a r.value r.got)) (counted (with_space (record w { rest = r.rest }) a.process (replied a.process.regs r.value) (record r.space { bytes = bytes }))))
+    (replied_world (record w { rest = r.rest }) a r bytes)
     (record { space = a.process.space; events = 1; items = item_of (entry_of a r.value r.got) bytes ∷ []; begins = None; over = r.over })
     else full
 
@@ -172,9 +201,9 @@ exit_code a = register a.process.regs.x 10 % 256
 
 unfoldable pub exited : World → Ask → Outcome
 exited w a =
-    if has_room w.notes (weight_of a.sent []) then
+    if room_in w (weight_of a.sent []) then
     went
-    (ended (noted (call_note (entry_of a 0 [])) (counted w)) a.process (Exit (exit_code a)))
+    (ended (noted (call_note (entry_of a 0 [])) (counted_in a.process.space w)) a.process (Exit (exit_code a)))
     (record { space = a.process.space; events = 1; items = plain_item (entry_of a 0 []) ∷ []; begins = None; over = true })
     else full
 
@@ -223,9 +252,9 @@ with_child w a = record w {
 
 unfoldable pub forked : World → Ask → Outcome
 forked w a =
-    if has_room w.notes (weight_of a.sent []) then
+    if room_in w (weight_of a.sent []) then
     went
-    (noted (call_note (entry_of a w.next_pid [])) (counted (with_child w a)))
+    (noted (call_note (entry_of a w.next_pid [])) (counted_in a.process.space (with_child w a)))
     (record { space = a.process.space; events = 1; items = plain_item (entry_of a w.next_pid []) ∷ []; begins = None; over = true })
     else full
 
@@ -245,6 +274,7 @@ with_exec w p l = record w {
   spaces = record { id = w.loads; space = begin_space l } ∷ spaces_left p w.procs w.spaces;
   loads = w.loads + 1;
   rest = with_storage w.rest (exec_closed (storage_of w.rest) p.table);
+  recording = launched w.loads p.pid l w.recording;
 }
 
 abbrev pub load_of : Process → ℕ → Loading → Note
@@ -252,9 +282,9 @@ load_of p index l = load_note (record { pid = p.pid; program = index; base = l.b
 
 unfoldable pub executed : World → Ask → ℕ → Loading → Outcome
 executed w a index l =
-    if has_room w.notes (weight_of a.sent []) then
+    if room_in w (weight_of a.sent []) then
     went
-    (noted (load_of a.process index l) (noted (call_note (entry_of a 0 [])) (counted (with_exec w a.process l))))
+    (noted (load_of a.process index l) (noted (call_note (entry_of a 0 [])) (counted_in a.process.space (with_exec w a.process l))))
     (record {
       space = a.process.space;
       events = 1;

@@ -5,11 +5,12 @@ use Rattle.region_watch.specs.Instructions.{Ran, instructions}
 use Rattle.vfork_exec.specs.Keyed.{find, change}
 use Rattle.call_log.specs.declared.errno.Errno.{Errno}
 use Rattle.call_log.specs.Errno.{refusal}
-use Rattle.call_log.specs.Notes.{call_note, weight_of, has_room}
+use Rattle.call_log.specs.Notes.{call_note, weight_of}
 use Rattle.machine_world.specs.World.{Rest, World, Process, LiveSpace, pid_of, id_of}
 use Rattle.machine_world.specs.Asks.{Ask, refuses}
-use Rattle.machine_world.specs.Event.{Trace, Outcome, went, full, counted, noted, ask_of, entry_of, plain_item, replied, answered, classed, settled, event}
+use Rattle.machine_world.specs.Event.{Trace, Outcome, went, full, counted_in, noted, ask_of, entry_of, plain_item, replied, answered, classed, settled, event}
 use Rattle.machine_world.specs.Turns.{turn, turns}
+use Rattle.machine_world.specs.Recordings.{room_in}
 use Rattle.machine_world.specs.Boot.{StartLine, boot}
 use Rattle.quantum_sched.specs.declared.Quantum.{Quantum}
 use Rattle.machine_world.specs.Courses.{Leads, Halts, moved}
@@ -23,12 +24,12 @@ InstructionsAreEvents =
     let now : World = moved w p r.regs (record s.space { bytes = r.bytes }) r.done in
     Leads pid w r.done now × Halts now pid n r.done r.stop
 
--- a refused call changes its caller's a0 and pc, the notes and the count of events, and nothing else
+-- a refused call changes its caller's a0 and pc, the notes and the counts of events, and nothing else
 abbrev pub refused_outcome : World → Process → Ask → Errno → Outcome
 refused_outcome w p a e =
-    if has_room w.notes (weight_of a.sent []) then
+    if room_in w (weight_of a.sent []) then
     went
-    (noted (call_note (entry_of a (refusal e) [])) (counted (record w { procs = change pid_of p.pid (λ q. record q { regs = replied p.regs (refusal e) }) w.procs })))
+    (noted (call_note (entry_of a (refusal e) [])) (counted_in p.space (record w { procs = change pid_of p.pid (λ q. record q { regs = replied p.regs (refusal e) }) w.procs })))
     (record { space = p.space; events = 1; items = plain_item (entry_of a (refusal e) []) ∷ []; begins = None; over = false })
     else full
 

@@ -9,6 +9,7 @@
 -- MapCalls     the calls that map and unmap pages
 -- FamilyCalls  what waitid, clone and execve are asked
 -- Rows     the answer to each system call
+-- Recordings  what a run records of one space, and the room in the log
 -- Event    one instruction or one system call of one process
 -- Turns    a list of quanta
 -- Boot     the opening world
@@ -30,6 +31,7 @@ pub mod PathCalls
 pub mod MapCalls
 pub mod FamilyCalls
 pub mod Rows
+pub mod Recordings
 pub mod Event
 pub mod Turns
 pub mod Boot
