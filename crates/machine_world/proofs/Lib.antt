@@ -37,7 +37,7 @@ mod FileSamples
 mod MapSamples
 mod PipeSamples
 pub mod States
-mod Raised
+pub mod Raised
 pub mod Awake
 pub mod TurnLaws
 pub mod RunLaws

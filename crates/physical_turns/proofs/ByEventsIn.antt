@@ -7,7 +7,7 @@ use Rattle.rv32im_step.specs.Meaning.{Meaning, next, call, trap, refused}
 use Rattle.call_log.specs.declared.errno.Errno.{Errno}
 use Rattle.call_log.specs.declared.how.Seen.{Seen}
 use Rattle.call_log.specs.Errno.{refusal}
-use Rattle.call_log.specs.Notes.{Written, stray_note, weight_of, has_room}
+use Rattle.call_log.specs.Notes.{Written, stray_note}
 use Rattle.call_log.specs.Sent.{Span, sent}
 use Rattle.mmap_rules.specs.Space.{Space}
 use Rattle.vfork_exec.specs.declared.family.Who.{Who}
@@ -23,7 +23,7 @@ use Rattle.machine_world.specs.World.{Process, LiveSpace, Rest, World, pid_of, i
 use Rattle.machine_world.specs.Asks.{Ask, Reply, Row, replies, waits, arg, gives, refuses}
 use Rattle.machine_world.specs.FamilyCalls.{who_of, waitid_fault, child_info, no_info, info_at}
 use Rattle.machine_world.specs.Rows.{row}
-use Rattle.machine_world.specs.Event.{Outcome, went, strays, full, idle, noted, trapped, served, waited, told_in, ask_of, classed, awake}
+use Rattle.machine_world.specs.Event.{Outcome, went, strays, full, idle, noted, trapped, room_for, served, waited, told_in, ask_of, classed, awake}
 use Rattle.machine_world.specs.Turns.{seen_of}
 use Rattle.machine_world.proofs.Kept.{Answers}
 use Rattle.machine_world.proofs.ByEvents.{Keeps, Answered, Happened, by_classed}
@@ -83,7 +83,7 @@ module _ (P : World → Type 0) (Q : World → Rest → Type 0) (steady : Steady
 
     by_served : (ended : List Ended) (r : Reply) (m : Bytes) → Q w r.rest → Keeps P (served (record w { ended = ended }) the_ask r m)
     unfolding served
-    by_served ended r m holds = keeps_test P (has_room w.notes (weight_of bytes r.got)) (went _ _) (λ room. each.reply ended r m holds room)
+    by_served ended r m holds = keeps_test P (room_for w the_ask r) (went _ _) (λ room. each.reply ended r m holds room)
 
     by_waited : (ended : List Ended) (state : State) → Keeps P (waited w q state)
     unfolding waited

@@ -5,7 +5,7 @@ use Rattle.byte_words.specs.ByteMap.{Bytes}
 use Rattle.mmap_rules.specs.Space.{own_in, writable_in}
 use Rattle.region_watch.specs.Private.{only}
 use Rattle.call_log.specs.declared.errno.Errno.{Errno}
-use Rattle.call_log.specs.Notes.{weight_of, has_room}
+use Rattle.call_log.specs.Notes.{weight_of}
 use Rattle.call_log.specs.Sent.{Span}
 use Rattle.vfork_exec.specs.declared.family.Who.{Who}
 use Rattle.vfork_exec.specs.declared.family.State.{State}
@@ -19,7 +19,8 @@ use Rattle.machine_world.specs.Families.{is_full}
 use Rattle.machine_world.specs.Asks.{Ask, Reply, Row, replies, waits, arg, gives, refuses}
 use Rattle.machine_world.specs.FamilyCalls.{who_of, waitid_fault, child_info, no_info, info_at, vfork_flags}
 use Rattle.machine_world.specs.Rows.{row}
-use Rattle.machine_world.specs.Event.{Trace, Outcome, went, strays, full, idle, trapped, served, put, waited, answered, exited, is_exit, reaped, told_in, waitid_behind, waitid, forked, cloned, exec, classed}
+use Rattle.machine_world.specs.Recordings.{room_in}
+use Rattle.machine_world.specs.Event.{Trace, Outcome, went, strays, full, idle, trapped, room_for, served, put, waited, answered, exited, is_exit, reaped, told_in, waitid_behind, waitid, forked, cloned, exec, classed}
 use Rattle.physical_turns.specs.Physical.{Physical, or_below, over, shown_space, showing, bytes_in, is_free_at, laid_behind, behind}
 
 -- ---- an event by which no program begins
@@ -36,7 +37,7 @@ nothing_if false x y first second = second
 
 pub served_begins : (w : World) (a : Ask) (r : Reply) (bytes : Bytes) → BeginsNothing (served w a r bytes)
 unfolding served
-served_begins w a r bytes = nothing_if (has_room w.notes (weight_of a.sent r.got)) (went _ _) full refl tt
+served_begins w a r bytes = nothing_if (room_for w a r) (went _ _) full refl tt
 
 put_begins : (w : World) (a : Ask) (r : Reply) (o : Result Bytes Span) → BeginsNothing (put w a r o)
 put_begins w a r (Ok bytes) = served_begins w a r bytes
@@ -52,7 +53,7 @@ answered_begins w a (waits state) = waited_begins w a.process state
 
 pub exited_begins : (w : World) (a : Ask) → BeginsNothing (exited w a)
 unfolding exited
-exited_begins w a = nothing_if (has_room w.notes (weight_of a.sent [])) (went _ _) full refl tt
+exited_begins w a = nothing_if (room_in w (weight_of a.sent [])) (went _ _) full refl tt
 
 pub trapped_begins : (w : World) (p : Process) (signal : ℕ) → BeginsNothing (trapped w p signal)
 unfolding trapped
@@ -60,7 +61,7 @@ trapped_begins w p signal = refl
 
 forked_begins : (w : World) (a : Ask) → BeginsNothing (forked w a)
 unfolding forked
-forked_begins w a = nothing_if (has_room w.notes (weight_of a.sent [])) (went _ _) full refl tt
+forked_begins w a = nothing_if (room_in w (weight_of a.sent [])) (went _ _) full refl tt
 
 pub cloned_begins : (w : World) (a : Ask) → BeginsNothing (cloned w a)
 unfolding cloned

@@ -14,6 +14,8 @@ use Rattle.machine_world.specs.World.{Process, LiveSpace, World, pid_of, id_of}
 use Rattle.machine_world.specs.Event.{noted, effect, stepped, stray_in, stray}
 use Rattle.machine_world.specs.Turns.{seen_of}
 use Rattle.machine_world.specs.Courses.{moved}
+use Rattle.machine_world.specs.Recordings.{is_recorded}
+use Rattle.machine_world.proofs.Raised.{raised_twice}
 use Rattle.machine_world.proofs.States.{with_regs, with_own, change_twice, lives_moved, has_moved, not_moved, event_is}
 use Rattle.physical_turns.specs.Physical.{Physical, After, in_memory, shown_space, showing, settled_in, outside, killed, answer_in, moved_in, effect_in, at_process, next_meaning, carried_out, called_in, died_in, has_stray, first_stray, with_stray, physical_event}
 use Rattle.physical_turns.specs.Wider.{IsWithin, Widens}
@@ -52,7 +54,8 @@ moved_in_twice p q after regs space first all i j =
     let procs : change pid_of q.pid (λ o. with_regs o regs) (change pid_of q.pid (λ o. with_regs o after) p.world.procs) ≡ change pid_of q.pid (λ o. with_regs o regs) p.world.procs =
     change_twice pid_of q.pid (λ o. with_regs o after) (λ o. with_regs o regs) (λ o. with_regs o regs) (λ o. refl) (λ o. refl) p.world.procs in
     let events : p.world.events + i + j ≡ p.world.events + (i + j) = omega arith in
-    rw (procs, change_shown_twice q.space space first all p.world.spaces, events) refl
+    let passed = raised_twice (is_recorded p.world.recording q.space) i j p.world.recording.events in
+    rw (procs, change_shown_twice q.space space first all p.world.spaces, events, passed) refl
 
 -- memory is shown
 pub moved_shown : (p : Physical) (q : Process) (space : Space) (regs : Regs) (memory : Bytes) (done : ℕ) → IsShown (moved_in p q space regs memory done)

@@ -101,6 +101,7 @@ rest_of pages programs = record {
   tree = None ∷ Some (new_inode (folder 1 (entries_from 2 programs)) None) ∷ files_from 0 programs;
   files = nothing_open [];
   console = [];
+  keep = 0;
 }
 
 abbrev pub start : ℕ → List ℕ → StartLine

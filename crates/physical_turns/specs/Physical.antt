@@ -26,6 +26,7 @@ use Rattle.machine_world.specs.Asks.{Ask, Reply, Row, replies, waits, arg, gives
 use Rattle.machine_world.specs.FamilyCalls.{who_of, waitid_fault, child_info, no_info, info_at}
 use Rattle.machine_world.specs.Rows.{row}
 use Rattle.machine_world.specs.Event.{Begins, Trace, Outcome, went, strays, full, idle, with_space, noted, trapped, ask_of, served, waited, told_in, is_exit, classed, awake, stray}
+use Rattle.machine_world.specs.Recordings.{passed}
 use Rattle.machine_world.specs.Turns.{End, log_full, seen_of, none_runs, last_end}
 
 -- a world whose spaces have, as bytes of their own, what the one memory has in their own ranges; that memory; and the first 64 bytes of
@@ -165,7 +166,7 @@ answer_in p q s = asked_in p q s (sent (number_of q.regs) (args_of q.regs) p.mem
 -- an instruction that is carried out
 abbrev pub moved_in : Physical → Process → Space → Regs → Bytes → ℕ → Physical
 moved_in p q s regs memory done = record p {
-  world = showing memory (record (with_space p.world q regs s) { events = p.world.events + done });
+  world = showing memory (passed q.space done (record (with_space p.world q regs s) { events = p.world.events + done }));
   memory = memory;
 }
 
