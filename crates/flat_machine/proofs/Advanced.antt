@@ -19,6 +19,7 @@ use Rattle.vfork_exec.specs.Procs.{pid_of as entry_pid}
 use Rattle.vfork_exec.proofs.Keyed.{find_changed}
 use Rattle.machine_world.specs.World.{World, pid_of, id_of}
 use Rattle.machine_world.specs.Courses.{Leads, Halts, moved}
+use Rattle.machine_world.specs.Recordings.{raised_in}
 use Rattle.machine_world.proofs.States.{find_has, change_alike, with_regs, with_own}
 use Rattle.machine_world.proofs.Steps.{RanOn, run_on}
 use Rattle.kept_parts.specs.declared.task.Task.{Task}
@@ -56,18 +57,22 @@ pub record Ranged (k : Kept) (pid count : ℕ) (e : Entry Task) (h : Held) (tabl
   pub frozen : frozen table now ≡ frozen table k.mem
   pub length : length now ≡ length k.mem
 
-abbrev pub after : Kept → ℕ → Task → Regs → List ℕ → Kept
-after k pid t regs now = record k { mem = now; procs = with_value_at k.procs pid (record t { regs = regs }) }
+abbrev pub after : Kept → ℕ → Task → Regs → List ℕ → ℕ → Kept
+after k pid t regs now done = record k {
+  mem = now;
+  procs = with_value_at k.procs pid (record t { regs = regs });
+  recording = record k.recording { events = raised_in k.recording t.space done };
+}
 
 module _ (k : Kept) (pid count : ℕ) (e : Entry Task) (h : Held) (table : List PageOwner) (now : List ℕ) (regs : Regs) (done : ℕ) (stop : Stop)
     (r : Ranged k pid count e h table now regs done stop) where
-  pub after_regular : Regular (after k pid e.value regs now)
+  pub after_regular : Regular (after k pid e.value regs now done)
   after_regular =
-      let P : List (Option Held) → Type 0 = λ spaces. Regular (record (after k pid e.value regs now) { spaces = spaces }) in
+      let P : List (Option Held) → Type 0 = λ spaces. Regular (record (after k pid e.value regs now done) { spaces = spaces }) in
       subst P (set_kept k.spaces e.value.space (Some h) r.home) (regular_stays k pid e h r.regular r.lives r.home regs h.brk now r.length k.notes (omega arith) k.tree k.files k.console)
 
   -- it has the state that it had
-  pub after_ready : CanRun k.procs pid → CanRun (after k pid e.value regs now).procs pid
+  pub after_ready : CanRun k.procs pid → CanRun (after k pid e.value regs now done).procs pid
   after_ready ready =
       let value : Task = record e.value { regs = regs } in
       let is = find_changed entry_pid pid (λ (x : Entry Task). with_value x value) (λ x. refl) k.procs.entries ∙ ap (option_map (λ (x : Entry Task). with_value x value)) r.lives in
@@ -114,7 +119,7 @@ module _ (k : Kept) (pid count : ℕ) (e : Entry Task) (h : Held) (table : List 
           (others_keep k r.regular e.value.space h r.home now frozen_in)
           ∙ ap (live_spaces now) (set_kept k.spaces e.value.space (Some h) r.home))
 
-      after_moved : world_of (later done a) (after k pid e.value regs now) ≡ moved (world_of a k) (process_of e) regs (private_of now h) done
+      after_moved : world_of (later done a) (after k pid e.value regs now done) ≡ moved (world_of a k) (process_of e) regs (private_of now h) done
       unfolding world_of
       after_moved = rw (procs_in a, spaces_in) refl
 
@@ -123,10 +128,10 @@ module _ (k : Kept) (pid count : ℕ) (e : Entry Task) (h : Held) (table : List 
           let P : Ran → Type 0 = λ x. RanOn pid (world_of a k) (process_of e) (record { id = e.value.space; space = private_of k.mem h }) count x in
           subst P (sym left) (run_on pid count (world_of a k) (process_of e) (record { id = e.value.space; space = private_of k.mem h }) (lives_in a) (has_in a))
 
-      pub after_leads : Leads pid (world_of a k) done (world_of (later done a) (after k pid e.value regs now))
+      pub after_leads : Leads pid (world_of a k) done (world_of (later done a) (after k pid e.value regs now done))
       after_leads = subst (λ (w : World). Leads pid (world_of a k) done w) (sym after_moved) on.0
 
-      pub after_halts : Halts (world_of (later done a) (after k pid e.value regs now)) pid count done stop
+      pub after_halts : Halts (world_of (later done a) (after k pid e.value regs now done)) pid count done stop
       after_halts = subst (λ (w : World). Halts w pid count done stop) (sym after_moved) on.1
 
 pub halts_within : (w : World) (pid count done : ℕ) (stop : Stop) → Halts w pid count done stop → done ≤ count

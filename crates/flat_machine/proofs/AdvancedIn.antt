@@ -67,7 +67,7 @@ module _ (headers : List (List ℕ)) (a : About) (k : Kept) (pid count : ℕ) (e
   old = physical_of headers a k
 
   abbrev new : Physical
-  new = physical_of headers (later done a) (after k pid e.value regs now)
+  new = physical_of headers (later done a) (after k pid e.value regs now done)
 
   pub lives_old : find pid_of pid old.world.procs ≡ Some (process_of e)
   unfolding physical_of
@@ -152,7 +152,7 @@ module _ (headers : List (List ℕ)) (a : About) (k : Kept) (pid count : ℕ) (e
 module _ (k : Kept) (pid count : ℕ) (e : Entry Task) (h : Held) (table : List PageOwner) (now : List ℕ) (regs : Regs) (done : ℕ) (stop : Stop)
     (r : Ranged k pid count e h table now regs done stop) (reaches : Reaches Own (length k.regions) h table) (headers : List (List ℕ)) (a : About) where
   abbrev left_kept : Kept
-  left_kept = after k pid e.value regs now
+  left_kept = after k pid e.value regs now done
 
   abbrev left_world : World
   left_world = world_of (later done a) left_kept
@@ -247,11 +247,11 @@ whole_copies k now copies strayed = record {
 
 advances_in : (reach : Reach) (k : Kept) (pid count : ℕ) (e : Entry Task) (h : Held) (table : List PageOwner) (now : List ℕ) (regs : Regs) (done : ℕ) (stop : Stop)
     → Ranged k pid count e h table now regs done stop → Reaches reach (length k.regions) h table → has_stray k.notes ≡ is_whole reach → CanRun k.procs pid
-    → Advances reach k (after k pid e.value regs now) pid count done stop
+    → Advances reach k (after k pid e.value regs now done) pid count done stop
 advances_in Own k pid count e h table now regs done stop r reaches strayed ready = record {
   regular = (after_regular k pid count e h table now regs done stop r, after_copies k pid count e h table now regs done stop r (length k.regions) reaches);
   ready = after_ready k pid count e h table now regs done stop r ready;
-  within = halts_within (world_of (later done some_about) (after k pid e.value regs now)) pid count done stop
+  within = halts_within (world_of (later done some_about) (after k pid e.value regs now done)) pid count done stop
       (after_halts k pid count e h table now regs done stop r (length k.regions) reaches some_about);
   leads = λ own. after_leads k pid count e h table now regs done stop r (length k.regions) reaches;
   halts = λ own. after_halts k pid count e h table now regs done stop r (length k.regions) reaches;
@@ -261,12 +261,12 @@ advances_in Own k pid count e h table now regs done stop r reaches strayed ready
 advances_in Whole k pid count e h table now regs done stop r reaches strayed ready = record {
   regular = (after_regular k pid count e h table now regs done stop r, whole_copies k now r.copies strayed);
   ready = after_ready k pid count e h table now regs done stop r ready;
-  within = halts_in_within (physical_of [] (later done some_about) (after k pid e.value regs now)) pid count done stop
+  within = halts_in_within (physical_of [] (later done some_about) (after k pid e.value regs now done)) pid count done stop
       (whole_halts_in [] some_about k pid count e h table now regs done stop r reaches strayed);
   leads = λ own. absurd cc;
   halts = λ own. absurd cc;
   leads_in = λ headers a. whole_leads_in headers a k pid count e h table now regs done stop r reaches strayed;
-  halts_in = λ headers a. whole_halts (physical_of headers (later done a) (after k pid e.value regs now)) pid count done stop
+  halts_in = λ headers a. whole_halts (physical_of headers (later done a) (after k pid e.value regs now done)) pid count done stop
       (whole_halts_in headers a k pid count e h table now regs done stop r reaches strayed);
 }
 
@@ -327,8 +327,8 @@ pub advances : (reach : Reach) (k : Kept) (pid count : ℕ) (task : Task) (x : O
     → IsRegular k → CanRun k.procs pid → has_stray k.notes ≡ is_whole reach → value_at k.procs pid ≡ Some task → x ≡ get_or k.spaces task.space x → x ≡ Some h
     → owns table false ≡ own_in h.maps → owns table true ≡ writable_in h.maps → length table ≡ h.pages → mode ≡ mode_within reach → seen ≡ table → was ≡ k.mem
     → ran regs (passed_bytes mode seen now) done stop ≡ instructions count (passes mode seen true) task.regs (passed_bytes mode seen was)
-    → kept_bytes mode seen now ≡ kept_bytes mode seen was → length now ≡ length was → Advances reach k (after k pid task regs now) pid count done stop
+    → kept_bytes mode seen now ≡ kept_bytes mode seen was → length now ≡ length was → Advances reach k (after k pid task regs now done) pid count done stop
 advances reach k pid count task x h mode table seen was now regs done stop regular ready strayed is at space own writes long within sees before leaves same stays =
     let t = by_table reach k pid count task x h mode table seen was now regs done stop regular is at space own writes long within sees before leaves same stays in
-    subst (λ (v : Task). Advances reach k (after k pid v regs now) pid count done stop) t.value
+    subst (λ (v : Task). Advances reach k (after k pid v regs now done) pid count done stop) t.value
     (advances_in reach k pid count t.entry h t.passed.table now regs done stop t.ranged t.passed.reaches strayed ready)

@@ -124,11 +124,11 @@ lines_fail a old new s more all e x left =
 -- ---- none and all
 
 -- before the first
-first_world : (a : About) (pages : ℕ) (tree : Inodes) (files : OpenFiles) → a.events ≡ 0
-    → world_of a (nothing_yet pages tree files) ≡ empty_world (record { pages = pages; kind = a.kind; programs = a.programs; tree = tree; files = files; console = []; keep = 0 })
+first_world : (a : About) (pages : ℕ) (tree : Inodes) (files : OpenFiles) (keep : ℕ) → a.events ≡ 0
+    → world_of a (nothing_yet pages tree files keep) ≡ empty_world (record { pages = pages; kind = a.kind; programs = a.programs; tree = tree; files = files; console = []; keep = keep })
 unfolding world_of live_spaces
-first_world a pages tree files none =
-    let pages_are : length (nothing_yet pages tree files).regions ≡ pages = length-replicate pages _ in
+first_world a pages tree files keep none =
+    let pages_are : length (nothing_yet pages tree files keep).regions ≡ pages = length-replicate pages _ in
     rw (pages_are, none) refl
 
 -- behind the last
@@ -170,10 +170,10 @@ unfolding boot
 boot_is rest starts = refl
 
 -- from the parts before the first program
-pub boots_from : (a : About) (pages : ℕ) (tree : Inodes) (files : OpenFiles) (rest : Rest) (k : Kept) (starts : List StartLine) → k ≡ nothing_yet pages tree files
-    → record { pages = pages; kind = a.kind; programs = a.programs; tree = tree; files = files; console = []; keep = 0 } ≡ rest → a.events ≡ 0 → all_started (world_of a k) starts ≡ boot rest starts
-boots_from a pages tree files rest k starts is same none =
-    ap (λ (x : Kept). all_started (world_of a x) starts) is ∙ ap (λ (w : World). all_started w starts) (first_world a pages tree files none)
+pub boots_from : (a : About) (pages : ℕ) (tree : Inodes) (files : OpenFiles) (keep : ℕ) (rest : Rest) (k : Kept) (starts : List StartLine) → k ≡ nothing_yet pages tree files keep
+    → record { pages = pages; kind = a.kind; programs = a.programs; tree = tree; files = files; console = []; keep = keep } ≡ rest → a.events ≡ 0 → all_started (world_of a k) starts ≡ boot rest starts
+boots_from a pages tree files keep rest k starts is same none =
+    ap (λ (x : Kept). all_started (world_of a x) starts) is ∙ ap (λ (w : World). all_started w starts) (first_world a pages tree files keep none)
     ∙ ap (λ (r : Rest). all_started (empty_world r) starts) same ∙ boot_is rest starts
 
 -- ---- as the code has them

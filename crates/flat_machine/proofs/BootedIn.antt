@@ -48,11 +48,11 @@ zeros_at pages a = elim (cases_lt a (2 ^ 31)) [
   ]
 ]
 
-pub lays_none : (headers : List (List ℕ)) (a : About) (pages : ℕ) (tree : Inodes) (files : OpenFiles)
-    → physical (nothing_yet pages tree files).mem ≡ first_memory headers (world_of a (nothing_yet pages tree files))
+pub lays_none : (headers : List (List ℕ)) (a : About) (pages : ℕ) (tree : Inodes) (files : OpenFiles) (keep : ℕ)
+    → physical (nothing_yet pages tree files keep).mem ≡ first_memory headers (world_of a (nothing_yet pages tree files keep))
 unfolding first_memory world_of live_spaces
-lays_none headers a pages tree files =
-    let long : length (nothing_yet pages tree files).regions ≡ pages = length-replicate pages _ in
+lays_none headers a pages tree files keep =
+    let long : length (nothing_yet pages tree files keep).regions ≡ pages = length-replicate pages _ in
     λ i at. (zeros_at pages at ∙ ap (λ (n : ℕ). if in_pages n at then Some 0 else None) (sym long)) i
 
 -- ---- behind the last

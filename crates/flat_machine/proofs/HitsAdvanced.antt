@@ -77,7 +77,7 @@ module _ (kind : PointKind) (spans : List Span) where
     asks = all_asked count (owns table true) e.value.regs (own_bytes table k.mem)
 
     abbrev new : Kept
-    new = after k pid e.value regs now
+    new = after k pid e.value regs now done
 
     -- ---- in the world
 
@@ -140,28 +140,28 @@ pub record HitsAdvance (kind : PointKind) (spans : List Span) (before found : Fo
 
 hits_within : (kind : PointKind) (spans : List Span) (before : Found) (reach : Reach) (k : Kept) (pid count : ℕ) (e : Entry Task) (h : Held) (table : List PageOwner) (now : List ℕ) (regs : Regs) (done : ℕ) (stop : Stop)
     → Ranged k pid count e h table now regs done stop → Reaches reach (length k.regions) h table → has_stray k.notes ≡ is_whole reach
-    → Advances reach k (after k pid e.value regs now) pid count done stop
-    → HitsAdvance kind spans before (with_hits before (hits_in kind spans pid (all_asked count (owns table true) e.value.regs (own_bytes table k.mem)))) reach k (after k pid e.value regs now) pid done
+    → Advances reach k (after k pid e.value regs now done) pid count done stop
+    → HitsAdvance kind spans before (with_hits before (hits_in kind spans pid (all_asked count (owns table true) e.value.regs (own_bytes table k.mem)))) reach k (after k pid e.value regs now done) pid done
 hits_within kind spans before Own k pid count e h table now regs done stop r reaches strayed x = record {
-  own = λ own a. lead_by (turn_hits kind spans pid) before _ (world_of a k) (world_of (later done a) (after k pid e.value regs now)) done
+  own = λ own a. lead_by (turn_hits kind spans pid) before _ (world_of a k) (world_of (later done a) (after k pid e.value regs now done)) done
       (own_hits kind spans k pid count e h table now regs done stop r reaches a (x.leads own a));
-  memory = λ headers a. lead_by (turn_hits_in kind spans pid) before _ (physical_of headers a k) (physical_of headers (later done a) (after k pid e.value regs now)) done
+  memory = λ headers a. lead_by (turn_hits_in kind spans pid) before _ (physical_of headers a k) (physical_of headers (later done a) (after k pid e.value regs now done)) done
       (in_hits kind spans k pid count e h table now regs done stop r headers a (own_done kind spans k pid count e h table now regs done stop r headers a reaches) (x.leads_in headers a));
 }
 hits_within kind spans before Whole k pid count e h table now regs done stop r reaches strayed x = record {
   own = λ own. absurd cc;
-  memory = λ headers a. lead_by (turn_hits_in kind spans pid) before _ (physical_of headers a k) (physical_of headers (later done a) (after k pid e.value regs now)) done
+  memory = λ headers a. lead_by (turn_hits_in kind spans pid) before _ (physical_of headers a k) (physical_of headers (later done a) (after k pid e.value regs now done)) done
       (in_hits kind spans k pid count e h table now regs done stop r headers a (whole_done kind spans k pid count e h table now regs done stop r headers a reaches strayed) (x.leads_in headers a));
 }
 
 pub advance_hits : (kind : PointKind) (spans : List Span) (before found : Found) (reach : Reach) (k : Kept) (pid count : ℕ) (task : Task) (x : Option Held) (h : Held) (mode : Mode) (table seen : List PageOwner)
     (was now : List ℕ) (regs : Regs) (done : ℕ) (stop : Stop)
     → found ≡ with_hits before (hits_in kind spans pid (all_asked count (passes mode seen true) task.regs (passed_bytes mode seen was)))
-    → Advances reach k (after k pid task regs now) pid count done stop
+    → Advances reach k (after k pid task regs now done) pid count done stop
     → IsRegular k → has_stray k.notes ≡ is_whole reach → value_at k.procs pid ≡ Some task → x ≡ get_or k.spaces task.space x → x ≡ Some h
     → owns table false ≡ own_in h.maps → owns table true ≡ writable_in h.maps → length table ≡ h.pages → mode ≡ mode_within reach → seen ≡ table → was ≡ k.mem
     → ran regs (passed_bytes mode seen now) done stop ≡ instructions count (passes mode seen true) task.regs (passed_bytes mode seen was)
-    → kept_bytes mode seen now ≡ kept_bytes mode seen was → length now ≡ length was → HitsAdvance kind spans before found reach k (after k pid task regs now) pid done
+    → kept_bytes mode seen now ≡ kept_bytes mode seen was → length now ≡ length was → HitsAdvance kind spans before found reach k (after k pid task regs now done) pid done
 advance_hits kind spans before found reach k pid count task x h mode table seen was now regs done stop follow advanced regular strayed is at space own writes long within sees old leaves same stays =
     let t = by_table reach k pid count task x h mode table seen was now regs done stop regular is at space own writes long within sees old leaves same stays in
     let asks : all_asked count (passes mode seen true) task.regs (passed_bytes mode seen was) ≡ all_asked count (owns t.passed.table true) t.entry.value.regs (own_bytes t.passed.table k.mem) =
@@ -169,8 +169,8 @@ advance_hits kind spans before found reach k pid count task x h mode table seen 
     ∙ ap (λ (m : List ℕ). all_asked count (passes mode table true) task.regs (passed_bytes mode table m)) old
     ∙ ap (λ (v : Task). all_asked count (passes mode table true) v.regs (passed_bytes mode table k.mem)) (sym t.value)
     ∙ owned_asked reach (length k.regions) h mode table t.passed k.mem now count t.entry.value.regs in
-    let P : Task → Type 0 = λ v. Advances reach k (after k pid v regs now) pid count done stop in
+    let P : Task → Type 0 = λ v. Advances reach k (after k pid v regs now done) pid count done stop in
     let here = hits_within kind spans before reach k pid count t.entry h t.passed.table now regs done stop t.ranged t.passed.reaches strayed (subst P (sym t.value) advanced) in
-    let Q : Task → Found → Type 0 = λ v f. HitsAdvance kind spans before f reach k (after k pid v regs now) pid done in
+    let Q : Task → Found → Type 0 = λ v f. HitsAdvance kind spans before f reach k (after k pid v regs now done) pid done in
     subst (λ (f : Found). Q task f) (sym (follow ∙ ap (λ (xs : List Asked). with_hits before (hits_in kind spans pid xs)) asks))
     (subst (λ (v : Task). Q v (with_hits before (hits_in kind spans pid (all_asked count (owns t.passed.table true) t.entry.value.regs (own_bytes t.passed.table k.mem))))) t.value here)

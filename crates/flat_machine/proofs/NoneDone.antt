@@ -19,6 +19,8 @@ use Rattle.region_watch.proofs.Accesses.{own_writable}
 use Rattle.vfork_exec.specs.declared.entry.Entry.{Entry}
 use Rattle.vfork_exec.specs.Procs.{Listed, value_at, with_value, with_value_at}
 use Rattle.vfork_exec.specs.Procs.{pid_of as entry_pid}
+use Rattle.machine_world.specs.Recordings.{is_recorded, raised_in}
+use Rattle.machine_world.proofs.Raised.{raised_none}
 use Rattle.machine_world.proofs.States.{change_same}
 use Rattle.kept_parts.specs.declared.task.Task.{Task}
 use Rattle.kept_parts.specs.declared.reach.Reach.{Reach}
@@ -86,19 +88,21 @@ value_kept s pid task is =
 
 none_done_owned : (k : Kept) (pid count : ℕ) (task : Task) (table : List PageOwner) (was now : List ℕ) (regs : Regs) (done : ℕ) (stop : Stop) → value_at k.procs pid ≡ Some task → was ≡ k.mem
     → ran regs (own_bytes table now) done stop ≡ instructions count (owns table true) task.regs (own_bytes table was) → frozen table now ≡ frozen table was → done ≡ 0
-    → after k pid task regs now ≡ k
+    → after k pid task regs now done ≡ k
 none_done_owned k pid count task table was now regs done stop is before leaves rest none =
     let same = none_ran count (owns table true) task.regs regs (own_bytes table was) (own_bytes table now) stop
     (subst (λ (n : ℕ). ran regs (own_bytes table now) n stop ≡ instructions count (owns table true) task.regs (own_bytes table was)) none leaves) in
     let mem : now ≡ k.mem = same_memory table now was same.1 rest ∙ before in
     let procs : with_value_at k.procs pid (record task { regs = regs }) ≡ k.procs =
     ap (λ (r : Regs). with_value_at k.procs pid (record task { regs = r })) same.0 ∙ value_kept k.procs pid task is in
-    λ i. record k { mem = mem i; procs = procs i }
+    let events : raised_in k.recording task.space done ≡ k.recording.events =
+    ap (raised_in k.recording task.space) none ∙ raised_none (is_recorded k.recording task.space) k.recording.events in
+    λ i. record k { mem = mem i; procs = procs i; recording = record k.recording { events = events i } }
 
 pub none_done : (reach : Reach) (k : Kept) (pid count : ℕ) (task : Task) (h : Held) (mode : Mode) (table seen : List PageOwner) (was now : List ℕ) (regs : Regs) (done : ℕ) (stop : Stop)
     → value_at k.procs pid ≡ Some task → owns table false ≡ own_in h.maps → owns table true ≡ writable_in h.maps → mode ≡ mode_within reach → seen ≡ table → was ≡ k.mem
     → ran regs (passed_bytes mode seen now) done stop ≡ instructions count (passes mode seen true) task.regs (passed_bytes mode seen was)
-    → kept_bytes mode seen now ≡ kept_bytes mode seen was → done ≡ 0 → after k pid task regs now ≡ k
+    → kept_bytes mode seen now ≡ kept_bytes mode seen was → done ≡ 0 → after k pid task regs now done ≡ k
 none_done reach k pid count task h mode table seen was now regs done stop is own writes within sees before leaves rest none =
     let passed = as_table reach (length table) h mode table within (record { reads = own; writes = writes; long = refl }) in
     none_done_owned k pid count task passed.table was now regs done stop is before

@@ -41,16 +41,16 @@ world s = world_of (about_of s) s.kept
 abbrev pub one_memory : State → Physical
 one_memory s = physical_of (headers_of s.programs) (about_of s) s.kept
 
--- before the first program, with what no space holds: these files, and this input of the console
-abbrev pub rest_of : {Y : Type 0} → ℕ → Kind → List (Vec ℕ Y) → List Values → Inodes → List ℕ → Rest
-rest_of pages kind paths programs tree stdin = record {
+-- before the first program, with what no space holds: these files, this input of the console, and the load note whose space is recorded
+abbrev pub rest_of : {Y : Type 0} → ℕ → Kind → List (Vec ℕ Y) → List Values → Inodes → List ℕ → ℕ → Rest
+rest_of pages kind paths programs tree stdin keep = record {
   pages = pages;
   kind = kind;
   programs = programs_of (paths_of paths) programs;
   tree = tree;
   files = nothing_open stdin;
   console = [];
-  keep = 0;
+  keep = keep;
 }
 
 abbrev pub line_of : StartItem → StartLine

@@ -85,7 +85,7 @@ pub(crate) fn advance<G: Fn(&[Span], u32, u32) -> bool>(
                 mode_within(reach),
                 window(space),
             );
-            run_watched(
+            let progress = run_watched(
                 &mut task.regs,
                 &mut watch,
                 count,
@@ -93,7 +93,9 @@ pub(crate) fn advance<G: Fn(&[Span], u32, u32) -> bool>(
                 watcher.point,
                 watcher.spans,
                 hits,
-            )
+            );
+            parts.recording.pass(task.space, progress.done);
+            progress
         }
         None => Progress {
             done: 0,

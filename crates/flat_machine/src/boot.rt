@@ -41,6 +41,8 @@ pub struct Setup {
     pub stdin: Vec<u8>,
     /// What becomes of the run at its first stray access.
     pub mode: Mode,
+    /// The number of the load note, from 1, whose space is recorded; 0 for none.
+    pub keep: u32,
 }
 
 /// Why a machine doesn't start: the number of the start line that failed.
@@ -124,12 +126,12 @@ impl Machine {
         requires paths { length setup.paths.items ≡ length setup.programs.items }
         requires starts { length setup.starts.items ≤ 64 }
         requires args { (i : ℕ) → (s : StartItem) → slice_get setup.starts.items i ≡ Some s → 0 < length s.args.items }
-        ensures world { Boots (boot (rest_of setup.pages (kind_of chooser.now) setup.paths.items setup.programs.items setup.tree setup.stdin.items) (lines_of setup.starts.items)) result }
+        ensures world { Boots (boot (rest_of setup.pages (kind_of chooser.now) setup.paths.items setup.programs.items setup.tree setup.stdin.items setup.keep) (lines_of setup.starts.items)) result }
         ensures memory { IfOk result (λ machine. one_memory machine ≡ opening (headers_of setup.programs.items) (world machine)) }
         ensures mode { IfOk result (λ machine. machine.mode ≡ setup.mode) }
         ensures quiet { IfOk result (λ machine. has_stray (world machine).notes ≡ false) }
         ensures waits { BeginsWaits result }
-        ensures alone { BeginsStays (rest_of setup.pages (kind_of chooser.now) setup.paths.items setup.programs.items setup.tree setup.stdin.items) (lines_of setup.starts.items) result }
+        ensures alone { BeginsStays (rest_of setup.pages (kind_of chooser.now) setup.paths.items setup.programs.items setup.tree setup.stdin.items setup.keep) (lines_of setup.starts.items) result }
     {
         let Setup {
             pages,
@@ -139,9 +141,10 @@ impl Machine {
             starts,
             stdin,
             mode,
+            keep,
         } = setup;
         let files = Files::new(alloc, stdin)?;
-        let mut parts = KeptParts::new(alloc, pages, tree, files)?;
+        let mut parts = KeptParts::new(alloc, pages, tree, files, keep)?;
         for start in &starts {
             begin(&mut parts, &paths, &programs, start, chooser)?;
         }

@@ -33,14 +33,14 @@ loop-start-init g c =
       processes = ap (λ (k : Kept). count k.procs) is;
       regions = ap (λ (k : Kept). length k.regions) is ∙ length-replicate c.args.setup.pages _;
       quiet = ap (λ (k : Kept). has_stray k.notes) is;
-      laid = rw is (lays_none headers a c.args.setup.pages c.args.setup.tree c.in_ok-files.files.open_files);
+      laid = rw is (lays_none headers a c.args.setup.pages c.args.setup.tree c.in_ok-files.files.open_files c.args.setup.keep);
     }
 
 pub loop-start-preserved : goal.loop-start-preserved
 loop-start-preserved g c =
     let a = about_boot (kind_of c.args.chooser.now) c.args.setup.paths.items c.args.setup.programs.items in
-    let rest = rest_of c.args.setup.pages (kind_of c.args.chooser.now) c.args.setup.paths.items c.args.setup.programs.items c.args.setup.tree c.args.setup.stdin.items in
-    let first_is = boots_from a c.args.setup.pages c.args.setup.tree c.in_ok-files.files.open_files rest c.in_ok-parts.parts (lines_of c.deref-start-items.result.now) c.in_ok-parts.ensures (ap (λ (files : OpenFiles). record rest { files = files }) c.in_ok-files.ensures) refl in
+    let rest = rest_of c.args.setup.pages (kind_of c.args.chooser.now) c.args.setup.paths.items c.args.setup.programs.items c.args.setup.tree c.args.setup.stdin.items c.args.setup.keep in
+    let first_is = boots_from a c.args.setup.pages c.args.setup.tree c.in_ok-files.files.open_files c.args.setup.keep rest c.in_ok-parts.parts (lines_of c.deref-start-items.result.now) c.in_ok-parts.ensures (ap (λ (files : OpenFiles). record rest { files = files }) c.in_ok-files.ensures) refl in
     let begins = rw (c.deref.ensures.value, c.deref-in-loop-start.ensures.value) at c.in_ok-begin.ensures.begins in
     let s = line_of c.start-item.result in
     let lays = rw c.deref-in-loop-start.ensures.value at c.in_ok-begin.ensures.memory in
@@ -57,8 +57,8 @@ loop-start-preserved g c =
 pub returns-in_err-begin-clause-world : goal.returns-in_err-begin-clause-world
 returns-in_err-begin-clause-world g c =
     let a = about_boot (kind_of c.args.chooser.now) c.args.setup.paths.items c.args.setup.programs.items in
-    let rest = rest_of c.args.setup.pages (kind_of c.args.chooser.now) c.args.setup.paths.items c.args.setup.programs.items c.args.setup.tree c.args.setup.stdin.items in
-    let first_is = boots_from a c.args.setup.pages c.args.setup.tree c.in_ok-files.files.open_files rest c.in_ok-parts.parts (lines_of c.deref-start-items.result.now) c.in_ok-parts.ensures (ap (λ (files : OpenFiles). record rest { files = files }) c.in_ok-files.ensures) refl in
+    let rest = rest_of c.args.setup.pages (kind_of c.args.chooser.now) c.args.setup.paths.items c.args.setup.programs.items c.args.setup.tree c.args.setup.stdin.items c.args.setup.keep in
+    let first_is = boots_from a c.args.setup.pages c.args.setup.tree c.in_ok-files.files.open_files c.args.setup.keep rest c.in_ok-parts.parts (lines_of c.deref-start-items.result.now) c.in_ok-parts.ensures (ap (λ (files : OpenFiles). record rest { files = files }) c.in_ok-files.ensures) refl in
     let begins = rw (c.deref.ensures.value, c.deref-in-loop-start.ensures.value) at c.in_err-begin.ensures.begins in
     let fails = left_fails c.deref-start-items.result.now c.loop-start.start-index c.start-item.result c.loop-start-test.true c.start-item.is a c.loop-start.parts c.begin.new.parts (all_started (world_of a c.in_ok-parts.parts) (lines_of c.deref-start-items.result.now)) c.loop-start.invariant.left c.in_err-begin.field-0.0 begins in
     let told = fails_as (all_started (world_of a c.in_ok-parts.parts) (lines_of c.deref-start-items.result.now)) c.from_residual-in_err-begin.result c.in_err-begin.field-0.0
@@ -68,8 +68,8 @@ returns-in_err-begin-clause-world g c =
 pub invariant_of-result : goal.invariant_of-result
 invariant_of-result g c =
     let a = about_boot (kind_of c.args.chooser.now) c.args.setup.paths.items c.args.setup.programs.items in
-    let rest = rest_of c.args.setup.pages (kind_of c.args.chooser.now) c.args.setup.paths.items c.args.setup.programs.items c.args.setup.tree c.args.setup.stdin.items in
-    let first_is = boots_from a c.args.setup.pages c.args.setup.tree c.in_ok-files.files.open_files rest c.in_ok-parts.parts (lines_of c.deref-start-items.result.now) c.in_ok-parts.ensures (ap (λ (files : OpenFiles). record rest { files = files }) c.in_ok-files.ensures) refl in
+    let rest = rest_of c.args.setup.pages (kind_of c.args.chooser.now) c.args.setup.paths.items c.args.setup.programs.items c.args.setup.tree c.args.setup.stdin.items c.args.setup.keep in
+    let first_is = boots_from a c.args.setup.pages c.args.setup.tree c.in_ok-files.files.open_files c.args.setup.keep rest c.in_ok-parts.parts (lines_of c.deref-start-items.result.now) c.in_ok-parts.ensures (ap (λ (files : OpenFiles). record rest { files = files }) c.in_ok-files.ensures) refl in
     let all = left_none c.deref-start-items.result.now c.loop-start.start-index (world_of a c.loop-start.parts) (all_started (world_of a c.in_ok-parts.parts) (lines_of c.deref-start-items.result.now))
     c.loop-start-test.false c.loop-start.invariant.left in
     let parts_is = parts_boot rest (lines_of c.deref-start-items.result.now) a c.loop-start.parts refl (sym (all ∙ first_is)) _ c.args.setup.programs.items c.args.setup.mode c.in_ok-new.ensures in
@@ -86,8 +86,8 @@ invariant_of-result g c =
 pub returns-clause-world : goal.returns-clause-world
 returns-clause-world g c =
     let a = about_boot (kind_of c.args.chooser.now) c.args.setup.paths.items c.args.setup.programs.items in
-    let rest = rest_of c.args.setup.pages (kind_of c.args.chooser.now) c.args.setup.paths.items c.args.setup.programs.items c.args.setup.tree c.args.setup.stdin.items in
-    let first_is = boots_from a c.args.setup.pages c.args.setup.tree c.in_ok-files.files.open_files rest c.in_ok-parts.parts (lines_of c.deref-start-items.result.now) c.in_ok-parts.ensures (ap (λ (files : OpenFiles). record rest { files = files }) c.in_ok-files.ensures) refl in
+    let rest = rest_of c.args.setup.pages (kind_of c.args.chooser.now) c.args.setup.paths.items c.args.setup.programs.items c.args.setup.tree c.args.setup.stdin.items c.args.setup.keep in
+    let first_is = boots_from a c.args.setup.pages c.args.setup.tree c.in_ok-files.files.open_files c.args.setup.keep rest c.in_ok-parts.parts (lines_of c.deref-start-items.result.now) c.in_ok-parts.ensures (ap (λ (files : OpenFiles). record rest { files = files }) c.in_ok-files.ensures) refl in
     let all = left_none c.deref-start-items.result.now c.loop-start.start-index (world_of a c.loop-start.parts) (all_started (world_of a c.in_ok-parts.parts) (lines_of c.deref-start-items.result.now))
     c.loop-start-test.false c.loop-start.invariant.left in
     let parts_is = parts_boot rest (lines_of c.deref-start-items.result.now) a c.loop-start.parts refl (sym (all ∙ first_is)) _ c.args.setup.programs.items c.args.setup.mode c.in_ok-new.ensures in
@@ -100,8 +100,8 @@ returns-clause-world g c =
 pub returns-clause-alone : goal.returns-clause-alone
 returns-clause-alone g c =
     let a = about_boot (kind_of c.args.chooser.now) c.args.setup.paths.items c.args.setup.programs.items in
-    let rest = rest_of c.args.setup.pages (kind_of c.args.chooser.now) c.args.setup.paths.items c.args.setup.programs.items c.args.setup.tree c.args.setup.stdin.items in
-    let first_is = boots_from a c.args.setup.pages c.args.setup.tree c.in_ok-files.files.open_files rest c.in_ok-parts.parts (lines_of c.deref-start-items.result.now) c.in_ok-parts.ensures (ap (λ (files : OpenFiles). record rest { files = files }) c.in_ok-files.ensures) refl in
+    let rest = rest_of c.args.setup.pages (kind_of c.args.chooser.now) c.args.setup.paths.items c.args.setup.programs.items c.args.setup.tree c.args.setup.stdin.items c.args.setup.keep in
+    let first_is = boots_from a c.args.setup.pages c.args.setup.tree c.in_ok-files.files.open_files c.args.setup.keep rest c.in_ok-parts.parts (lines_of c.deref-start-items.result.now) c.in_ok-parts.ensures (ap (λ (files : OpenFiles). record rest { files = files }) c.in_ok-files.ensures) refl in
     let all = left_none c.deref-start-items.result.now c.loop-start.start-index (world_of a c.loop-start.parts) (all_started (world_of a c.in_ok-parts.parts) (lines_of c.deref-start-items.result.now))
     c.loop-start-test.false c.loop-start.invariant.left in
     let parts_is = parts_boot rest (lines_of c.deref-start-items.result.now) a c.loop-start.parts refl (sym (all ∙ first_is)) _ c.args.setup.programs.items c.args.setup.mode c.in_ok-new.ensures in
@@ -112,8 +112,8 @@ returns-clause-alone g c =
 pub returns-clause-waits : goal.returns-clause-waits
 returns-clause-waits g c =
     let a = about_boot (kind_of c.args.chooser.now) c.args.setup.paths.items c.args.setup.programs.items in
-    let rest = rest_of c.args.setup.pages (kind_of c.args.chooser.now) c.args.setup.paths.items c.args.setup.programs.items c.args.setup.tree c.args.setup.stdin.items in
-    let first_is = boots_from a c.args.setup.pages c.args.setup.tree c.in_ok-files.files.open_files rest c.in_ok-parts.parts (lines_of c.deref-start-items.result.now) c.in_ok-parts.ensures (ap (λ (files : OpenFiles). record rest { files = files }) c.in_ok-files.ensures) refl in
+    let rest = rest_of c.args.setup.pages (kind_of c.args.chooser.now) c.args.setup.paths.items c.args.setup.programs.items c.args.setup.tree c.args.setup.stdin.items c.args.setup.keep in
+    let first_is = boots_from a c.args.setup.pages c.args.setup.tree c.in_ok-files.files.open_files c.args.setup.keep rest c.in_ok-parts.parts (lines_of c.deref-start-items.result.now) c.in_ok-parts.ensures (ap (λ (files : OpenFiles). record rest { files = files }) c.in_ok-files.ensures) refl in
     let all = left_none c.deref-start-items.result.now c.loop-start.start-index (world_of a c.loop-start.parts) (all_started (world_of a c.in_ok-parts.parts) (lines_of c.deref-start-items.result.now))
     c.loop-start-test.false c.loop-start.invariant.left in
     let parts_is = parts_boot rest (lines_of c.deref-start-items.result.now) a c.loop-start.parts refl (sym (all ∙ first_is)) _ c.args.setup.programs.items c.args.setup.mode c.in_ok-new.ensures in
@@ -129,8 +129,8 @@ returns-clause-quiet g c = rw c.in_ok-new.ensures c.loop-start.invariant.quiet
 pub returns-clause-memory : goal.returns-clause-memory
 returns-clause-memory g c =
     let a = about_boot (kind_of c.args.chooser.now) c.args.setup.paths.items c.args.setup.programs.items in
-    let rest = rest_of c.args.setup.pages (kind_of c.args.chooser.now) c.args.setup.paths.items c.args.setup.programs.items c.args.setup.tree c.args.setup.stdin.items in
-    let first_is = boots_from a c.args.setup.pages c.args.setup.tree c.in_ok-files.files.open_files rest c.in_ok-parts.parts (lines_of c.deref-start-items.result.now) c.in_ok-parts.ensures (ap (λ (files : OpenFiles). record rest { files = files }) c.in_ok-files.ensures) refl in
+    let rest = rest_of c.args.setup.pages (kind_of c.args.chooser.now) c.args.setup.paths.items c.args.setup.programs.items c.args.setup.tree c.args.setup.stdin.items c.args.setup.keep in
+    let first_is = boots_from a c.args.setup.pages c.args.setup.tree c.in_ok-files.files.open_files c.args.setup.keep rest c.in_ok-parts.parts (lines_of c.deref-start-items.result.now) c.in_ok-parts.ensures (ap (λ (files : OpenFiles). record rest { files = files }) c.in_ok-files.ensures) refl in
     let all = left_none c.deref-start-items.result.now c.loop-start.start-index (world_of a c.loop-start.parts) (all_started (world_of a c.in_ok-parts.parts) (lines_of c.deref-start-items.result.now))
     c.loop-start-test.false c.loop-start.invariant.left in
     let parts_is = parts_boot rest (lines_of c.deref-start-items.result.now) a c.loop-start.parts refl (sym (all ∙ first_is)) _ c.args.setup.programs.items c.args.setup.mode c.in_ok-new.ensures in
