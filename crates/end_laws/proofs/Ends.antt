@@ -7,7 +7,7 @@ use Rattle.rv32im_step.specs.declared.regs.Regs.{Regs}
 use Rattle.rv32im_step.specs.Meaning.{Meaning, next, call, trap, refused, meaning}
 use Rattle.call_log.specs.declared.how.How.{How}
 use Rattle.call_log.specs.declared.how.How.TheVariants.{Exit, Signal}
-use Rattle.call_log.specs.Notes.{call_note, end_note, weight_of, has_room}
+use Rattle.call_log.specs.Notes.{call_note, end_note, weight_of}
 use Rattle.call_log.specs.Sent.{Span, sent}
 use Rattle.mmap_rules.specs.Space.{writable_in}
 use Rattle.vfork_exec.specs.declared.family.State.TheVariants.{Ready}
@@ -17,6 +17,7 @@ use Rattle.machine_world.specs.World.{Process, LiveSpace, World, pid_of, id_of}
 use Rattle.machine_world.specs.Families.{MayRun}
 use Rattle.machine_world.specs.Asks.{Ask}
 use Rattle.machine_world.specs.Rows.{row}
+use Rattle.machine_world.specs.Recordings.{room_in}
 use Rattle.machine_world.specs.Event.{Trace, Outcome, went, full, ended, stepped, trapped, ask_of, entry_of, answered, exit_code, exited, is_exit, waitid, cloned, exec, classed, asked, answer, settled, effect, in_space, by_process, at_process, event}
 use Rattle.machine_world.proofs.States.{find_has}
 use Rattle.machine_world.proofs.ByEvents.{by_settled}
@@ -90,7 +91,7 @@ module _ (ys : List Stay) (w : World) (sound : IsSound w) (right : AreRight ys w
       ends_exited : is_exit (number_of p.regs) ≡ true → Ends (exited w ask)
       unfolding exited ended
       ends_exited exits =
-          adds_if (Told ys p.pid) w.notes (has_room w.notes (weight_of bytes [])) (went _ _) full
+          adds_if (Told ys p.pid) w.notes (room_in w (weight_of bytes [])) (went _ _) full
           (record {
             notes = end_note p.pid (Exit (exit_code ask)) ∷ call_note (entry_of ask 0 []) ∷ [];
             is = refl;

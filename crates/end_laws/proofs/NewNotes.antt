@@ -8,7 +8,7 @@ use Rattle.call_log.specs.declared.how.How.{How}
 use Rattle.call_log.specs.declared.errno.Errno.{Errno}
 use Rattle.call_log.specs.declared.errno.Errno.TheVariants.{Einval, Eagain, Enomem, E2big, Enametoolong}
 use Rattle.call_log.specs.Errno.{refusal}
-use Rattle.call_log.specs.Notes.{Written, Note, call_note, load_note, end_note, stray_note, weight_of, has_room}
+use Rattle.call_log.specs.Notes.{Written, Note, call_note, load_note, end_note, stray_note, weight_of}
 use Rattle.call_log.specs.Strings.{ProgramStrings, program_strings}
 use Rattle.call_log.specs.Sent.{Span, has_zero}
 use Rattle.flat_loader.specs.Original.{block_pages}
@@ -27,7 +27,8 @@ use Rattle.machine_world.specs.Free.{free}
 use Rattle.machine_world.specs.Asks.{Ask, Reply, Row, replies, waits, arg, gives, refuses}
 use Rattle.machine_world.specs.PathCalls.{path_of}
 use Rattle.machine_world.specs.FamilyCalls.{who_of, waitid_fault, child_info, no_info, info_at, vfork_flags, runs}
-use Rattle.machine_world.specs.Event.{Trace, Outcome, went, full, put_got, entry_of, served, put, waited, answered, reaped, told_in, waitid_behind, waitid, forked, cloned, load_of, executed, exec_at, exec_program, exec_strings, exec}
+use Rattle.machine_world.specs.Recordings.{room_in}
+use Rattle.machine_world.specs.Event.{Trace, Outcome, went, full, put_got, entry_of, room_for, served, put, waited, answered, reaped, told_in, waitid_behind, waitid, forked, cloned, load_of, executed, exec_at, exec_program, exec_strings, exec}
 use Rattle.machine_world.proofs.ByEvents.{Went, loading_of}
 
 -- ---- notes
@@ -85,7 +86,7 @@ module _ (E : Trace → ℕ → How → Type 0) where
     adds_served : (ended : List Ended) (r : Reply) (m : Bytes) → Adds w.notes (served (record w { ended = ended }) a r m)
     unfolding served
     adds_served ended r m =
-        adds_if w.notes (has_room w.notes (weight_of a.sent r.got)) (went _ _) full
+        adds_if w.notes (room_for w a r) (went _ _) full
         (record { notes = call_note (entry_of a r.value r.got) ∷ []; is = refl; ends = (tt, tt) }) tt
 
     adds_put : (ended : List Ended) (r : Reply) (o : Result Bytes Span) → Adds w.notes (put (record w { ended = ended }) a r o)
@@ -125,7 +126,7 @@ module _ (E : Trace → ℕ → How → Type 0) where
     adds_forked : Adds w.notes (forked w a)
     unfolding forked
     adds_forked =
-        adds_if w.notes (has_room w.notes (weight_of a.sent [])) (went _ _) full
+        adds_if w.notes (room_in w (weight_of a.sent [])) (went _ _) full
         (record { notes = call_note (entry_of a w.next_pid []) ∷ []; is = refl; ends = (tt, tt) }) tt
 
     pub adds_cloned : Adds w.notes (cloned w a)
@@ -140,7 +141,7 @@ module _ (E : Trace → ℕ → How → Type 0) where
       unfolding executed
       adds_page f None = adds_refuses Enomem
       adds_page f (Some page) =
-          adds_if w.notes (has_room w.notes (weight_of a.sent [])) (went _ _) full
+          adds_if w.notes (room_in w (weight_of a.sent [])) (went _ _) full
           (record { notes = load_of a.process f.index (loading_of f s page) ∷ call_note (entry_of a 0 []) ∷ []; is = refl; ends = (tt, (tt, tt)) }) tt
 
       adds_program : (o : Result Found Errno) → Adds w.notes (exec_program w a s o)

@@ -6,7 +6,7 @@ use Rattle.byte_words.specs.ByteMap.{Bytes}
 use Rattle.rv32im_step.specs.Meaning.{Meaning, next, call, trap, refused}
 use Rattle.call_log.specs.declared.errno.Errno.{Errno}
 use Rattle.call_log.specs.declared.errno.Errno.TheVariants.{E2big, Eagain, Enomem, Einval, Enametoolong}
-use Rattle.call_log.specs.Notes.{weight_of, has_room}
+use Rattle.call_log.specs.Notes.{weight_of}
 use Rattle.call_log.specs.Strings.{ProgramStrings, program_strings}
 use Rattle.call_log.specs.Sent.{Span, has_zero, sent}
 use Rattle.mmap_rules.specs.Space.{Space}
@@ -28,7 +28,8 @@ use Rattle.machine_world.specs.Found.{Found, taken}
 use Rattle.machine_world.specs.Asks.{Ask, Reply, Row, replies, waits, arg, gives, refuses}
 use Rattle.machine_world.specs.PathCalls.{path_of}
 use Rattle.machine_world.specs.Rows.{row}
-use Rattle.machine_world.specs.Event.{Outcome, went, strays, full, idle, number_of, args_of, ask_of, trapped, served, waited, answered, exited, is_exit, waitid, told_in, forked, cloned, executed, exec_at, exec_program, exec_strings, exec, classed}
+use Rattle.machine_world.specs.Recordings.{room_in}
+use Rattle.machine_world.specs.Event.{Outcome, went, strays, full, idle, number_of, args_of, ask_of, trapped, room_for, served, waited, answered, exited, is_exit, waitid, told_in, forked, cloned, executed, exec_at, exec_program, exec_strings, exec, classed}
 use Rattle.physical_turns.specs.Physical.{Physical, in_memory, After, after, no_room, nobody, carried, settled_in, killed, put_in, answered_in, full_at, reaped_in, waitid_behind_in, waitid_in, writes_nothing, classed_in, asked_in, answer_in, effect_in, next_meaning, carried_out}
 use Rattle.physical_turns.proofs.Moves.{carried_is}
 
@@ -73,18 +74,18 @@ done_at p nobody h = h
 module _ (w : World) (a : Ask) where
   served_happens : (r : Reply) (bytes : Bytes) → Happens (served w a r bytes)
   unfolding served
-  served_happens r bytes = happens_if (has_room w.notes (weight_of a.sent r.got)) (went _ _) full tt tt
+  served_happens r bytes = happens_if (room_for w a r) (went _ _) full tt tt
 
   refused_happens : (errno : Errno) → Happens (answered w a (refuses a errno))
   refused_happens errno = served_happens _ a.space.bytes
 
   exited_happens : Happens (exited w a)
   unfolding exited
-  exited_happens = happens_if (has_room w.notes (weight_of a.sent [])) (went _ _) full tt tt
+  exited_happens = happens_if (room_in w (weight_of a.sent [])) (went _ _) full tt tt
 
   forked_happens : Happens (forked w a)
   unfolding forked
-  forked_happens = happens_if (has_room w.notes (weight_of a.sent [])) (went _ _) full tt tt
+  forked_happens = happens_if (room_in w (weight_of a.sent [])) (went _ _) full tt tt
 
   cloned_happens : Happens (cloned w a)
   unfolding cloned
@@ -95,7 +96,7 @@ module _ (w : World) (a : Ask) where
   at_happens : (f : Found) (s : ProgramStrings) (page : Option ℕ) → Happens (exec_at w a f s page)
   unfolding executed
   at_happens f s None = refused_happens Enomem
-  at_happens f s (Some page) = happens_if (has_room w.notes (weight_of a.sent [])) (went _ _) full tt tt
+  at_happens f s (Some page) = happens_if (room_in w (weight_of a.sent [])) (went _ _) full tt tt
 
   program_happens : (s : ProgramStrings) (o : Result Found Errno) → Happens (exec_program w a s o)
   program_happens s (Ok f) =

@@ -1,9 +1,10 @@
 -- Ends, children and waits, and calls that leave the world to a reply alone.
-use Rattle.std.proofs.Common.{◌≡◌, ℕ, List, [], Option, Some, None, Result, Ok, Err, refl, ap}
+use Rattle.std.proofs.Common.{◌≡◌, ℕ, false, List, [], Option, Some, None, Result, Ok, Err, refl, ap}
 use Rattle.std.specs.Prelude.{◌==◌, not}
 use Rattle.call_log.specs.declared.errno.Errno.{Errno}
 use Rattle.call_log.specs.declared.errno.Errno.TheVariants.{Eagain, Einval}
-use Rattle.call_log.specs.Notes.{weight_of, has_room}
+use Rattle.call_log.specs.Errno.{refusal}
+use Rattle.call_log.specs.Notes.{weight_of}
 use Rattle.vfork_exec.specs.declared.family.Who.{Who}
 use Rattle.vfork_exec.specs.declared.family.State.{State}
 use Rattle.vfork_exec.specs.declared.family.State.TheVariants.{Waiting}
@@ -14,9 +15,10 @@ use Rattle.vfork_exec.specs.Keyed.{find}
 use Rattle.vfork_exec.specs.Families.{without_first}
 use Rattle.machine_world.specs.World.{Process, LiveSpace, id_of}
 use Rattle.machine_world.specs.Families.{spaces_left, is_full}
-use Rattle.machine_world.specs.Asks.{Ask, arg, refuses}
+use Rattle.machine_world.specs.Asks.{Ask, Reply, arg, refuses}
 use Rattle.machine_world.specs.FamilyCalls.{who_of, waitid_fault, child_info, no_info, info_at, vfork_flags}
-use Rattle.machine_world.specs.Event.{Outcome, went, strays, full, idle, trapped, ended, ask_of, served, waited, answered, exited, reaped, told_in, waitid_behind, waitid, forked, cloned}
+use Rattle.machine_world.specs.Recordings.{room_in}
+use Rattle.machine_world.specs.Event.{Outcome, went, strays, full, idle, trapped, ended, ask_of, room_for, served, waited, answered, exited, reaped, told_in, waitid_behind, waitid, forked, cloned}
 use Rattle.stays_laws.specs.Sound.{IsSound}
 use Rattle.stays_laws.proofs.Moved.{ended_sound}
 use Rattle.stays_laws.proofs.SpacesLeft.{falls_spaces, space_was}
@@ -46,18 +48,19 @@ module _ (p : Physical) (sound : IsSound p.world) (stands : Stands p.world p) (q
 
     pub goes_exited : Goes p (exited p.world the_ask) (carried p p.memory (exited p.world the_ask))
     unfolding exited ended
-    goes_exited = goes_room p p.memory (has_room p.world.notes (weight_of bytes [])) _ _ _ _ (came_plain p _ _ refl behind_left)
+    goes_exited = goes_room p p.memory (room_in p.world (weight_of bytes [])) _ _ _ _ (came_plain p _ _ refl behind_left)
 
     -- a refusal of a call that writes nothing
     pub goes_refused : (errno : Errno) → Goes p (answered p.world the_ask (refuses the_ask errno)) (carried p p.memory (answered p.world the_ask (refuses the_ask errno)))
     unfolding served
     goes_refused errno =
-        goes_room p p.memory (has_room p.world.notes (weight_of bytes [])) _ _ _ _
+        let r : Reply = record { value = refusal errno; got = []; rest = p.world.rest; space = s.space; over = false } in
+        goes_room p p.memory (room_for p.world the_ask r) _ _ _ _
         (came_plain p _ _ refl (behind_put p sound stands q.space s has s.space (is_in p sound stands q.space s has)))
 
     goes_forked : Goes p (forked p.world the_ask) (carried p p.memory (forked p.world the_ask))
     unfolding forked
-    goes_forked = goes_room p p.memory (has_room p.world.notes (weight_of bytes [])) _ _ _ _ (came_plain p _ _ refl (behind_same p sound stands))
+    goes_forked = goes_room p p.memory (room_in p.world (weight_of bytes [])) _ _ _ _ (came_plain p _ _ refl (behind_same p sound stands))
 
     pub goes_cloned : Goes p (cloned p.world the_ask) (carried p p.memory (cloned p.world the_ask))
     unfolding cloned

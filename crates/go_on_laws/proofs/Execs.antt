@@ -7,7 +7,7 @@ use Rattle.std.proofs.lemmas.Option.{same_Some}
 use Rattle.byte_words.specs.ByteMap.{Bytes}
 use Rattle.call_log.specs.declared.errno.Errno.{Errno}
 use Rattle.call_log.specs.declared.errno.Errno.TheVariants.{E2big, Enomem, Enametoolong}
-use Rattle.call_log.specs.Notes.{LoadEntry, Note, call_note, load_note, weight_of, has_room}
+use Rattle.call_log.specs.Notes.{LoadEntry, Note, call_note, load_note, weight_of}
 use Rattle.call_log.specs.Sent.{has_zero}
 use Rattle.call_log.specs.Strings.{ProgramStrings, program_strings}
 use Rattle.mmap_rules.specs.declared.mapping.Mapping.{Mapping}
@@ -27,7 +27,8 @@ use Rattle.machine_world.specs.Free.{is_held, free}
 use Rattle.machine_world.specs.Found.{Found, address_of, taken}
 use Rattle.machine_world.specs.Asks.{Ask, arg, refuses}
 use Rattle.machine_world.specs.PathCalls.{path_of}
-use Rattle.machine_world.specs.Event.{Trace, counted, noted, ask_of, entry_of, plain_item, answered, with_exec, load_of, executed, exec_at, exec_program, exec_strings, exec}
+use Rattle.machine_world.specs.Recordings.{room_in}
+use Rattle.machine_world.specs.Event.{Trace, counted_in, noted, ask_of, entry_of, plain_item, answered, with_exec, load_of, executed, exec_at, exec_program, exec_strings, exec}
 use Rattle.stays_laws.specs.Sound.{IsSound}
 use Rattle.stays_laws.proofs.SharedPages.{IsFree}
 use Rattle.stays_laws.proofs.SoundBegins.{some_pages, pages_free}
@@ -144,7 +145,7 @@ module _ (p : Physical) (sound : IsSound p.world) (stands : Stands p.world p) (q
     spaces = its ∷ others
 
     abbrev now : World
-    now = noted (load_of q index l) (noted (call_note (entry_of the_ask 0 [])) (counted (with_exec p.world q l)))
+    now = noted (load_of q index l) (noted (call_note (entry_of the_ask 0 [])) (counted_in q.space (with_exec p.world q l)))
 
     abbrev trace : Trace
     trace = record {
@@ -223,7 +224,7 @@ module _ (p : Physical) (sound : IsSound p.world) (stands : Stands p.world p) (q
     goes_executed : Goes p (executed p.world the_ask index l) (carried p p.memory (executed p.world the_ask index l))
     unfolding executed
     goes_executed =
-        goes_room p p.memory (has_room p.world.notes (weight_of bytes [])) now now trace trace
+        goes_room p p.memory (room_in p.world (weight_of bytes [])) now now trace trace
         (record { behind = record p { world = now; memory = memory }; is = ap (λ z. after z false) behind_is; world = refl; headers = refl; left = left_laid })
 
   goes_at : (f : Found) (strings : ProgramStrings) (page : Option ℕ) → taken p.world (block_pages f.original) (free p.world) ≡ page

@@ -4,15 +4,16 @@ use Rattle.std.specs.Prelude.{if◌then◌else◌}
 use Rattle.rv32im_step.specs.declared.access.Access.{Access}
 use Rattle.call_log.specs.declared.errno.Errno.{Errno}
 use Rattle.call_log.specs.Errno.{refusal}
+use Rattle.call_log.specs.Notes.{weight_of}
 use Rattle.call_log.specs.Sent.{Span}
 use Rattle.vfork_exec.specs.Keyed.{find, change}
 use Rattle.machine_world.specs.World.{Process, LiveSpace, World, id_of}
 use Rattle.machine_world.specs.Asks.{Ask, refuses}
-use Rattle.machine_world.specs.Event.{Trace, went, full, ask_of, entry_of, brought, served, answered}
+use Rattle.machine_world.specs.Event.{Trace, went, full, ask_of, entry_of, maps_file, brought, served, answered}
 use Rattle.machine_world.specs.Laws.{refused_outcome}
 use Rattle.machine_world.proofs.States.{change_same}
 use Rattle.machine_world.proofs.Awake.{not_awake}
-use Rattle.machine_world.proofs.Refused.{is_refused, brings_nothing}
+use Rattle.machine_world.proofs.Refused.{is_refused, maps_nothing, brings_none, brought_none, brings_nothing}
 use Rattle.physical_turns.specs.Physical.{Physical, after, shown_space, carried, settled_in, asked_in, answer_in, effect_in, carried_out, first_stray, with_stray}
 use Rattle.physical_turns.specs.Courses.{IsShown}
 use Rattle.physical_turns.proofs.InMemory.{plain_behind}
@@ -28,7 +29,10 @@ refused_answer w q s bytes e has =
     let spaces : change id_of q.space (λ l. record l { space = s.space }) w.spaces ≡ w.spaces =
     change_same id_of q.space (λ l. record l { space = s.space }) w.spaces s has refl in
     let none : brought (entry_of a (refusal e) []) s.space.bytes ≡ [] = brings_nothing (entry_of a (refusal e) []) s.space.bytes (is_refused e) in
-    rw (spaces, none) refl
+    let maps : maps_file (entry_of a (refusal e) []) ≡ false = maps_nothing (entry_of a (refusal e) []) (is_refused e) in
+    let weight = brings_none w q.space (entry_of a (refusal e) []) s.space.bytes (weight_of bytes []) maps in
+    let lists = brought_none w q.space (entry_of a (refusal e) []) s.space.bytes maps in
+    rw (spaces, weight, lists, none) refl
 
 -- where spaces show memory nothing is laid, and where no pipe is marked nobody goes on
 settles : (p : Physical) (room : Bool) (now : World) (t : Trace) → t.begins ≡ None → map (shown_space p.memory) now.spaces ≡ now.spaces → now.rest.files.changed ≡ []

@@ -5,7 +5,6 @@ use Rattle.std.proofs.lemmas.Bool.Decides.{nat_tests}
 use Rattle.std.proofs.lemmas.Option.{none-some}
 use Rattle.nommu_regions.specs.declared.region.Source.TheVariants.{Own}
 use Rattle.call_log.specs.declared.errno.Errno.TheVariants.{Einval}
-use Rattle.call_log.specs.Notes.{call_note, weight_of, has_room}
 use Rattle.mmap_rules.specs.declared.mapping.Mapping.{Mapping}
 use Rattle.mmap_rules.specs.Space.{Space, in_range, own_in}
 use Rattle.mmap_rules.specs.Want.{pages_for}
@@ -15,9 +14,9 @@ use Rattle.mmap_rules.proofs.Parts.{Cuts, both, each_left}
 use Rattle.region_watch.specs.Private.{only}
 use Rattle.vfork_exec.specs.Keyed.{find}
 use Rattle.machine_world.specs.World.{Process, LiveSpace, World, id_of}
-use Rattle.machine_world.specs.Asks.{Ask, arg, leaves}
+use Rattle.machine_world.specs.Asks.{Ask, Reply, arg, leaves}
 use Rattle.machine_world.specs.MapCalls.{over_maps, unmaps, munmap_row}
-use Rattle.machine_world.specs.Event.{Trace, went, with_space, counted, noted, ask_of, entry_of, item_of, replied, served, answered}
+use Rattle.machine_world.specs.Event.{Trace, went, ask_of, entry_of, item_of, replied_world, room_for, served, answered}
 use Rattle.stays_laws.specs.Sound.{IsSound}
 use Rattle.stays_laws.proofs.Unmaps.{HitAt, is_hit}
 use Rattle.physical_turns.specs.Physical.{Physical, carried, answered_in}
@@ -30,9 +29,12 @@ module _ (p : Physical) (sound : IsSound p.world) (stands : Stands p.world p) (q
   abbrev pub the_ask : Ask
   the_ask = ask_of p.world q s.space bytes
 
+  abbrev left_reply : ℕ → Space → Reply
+  left_reply value space = record { value = value; got = []; rest = p.world.rest; space = space; over = false }
+
   -- a reply that leaves this space
   abbrev pub left_with : ℕ → Space → World
-  left_with value space = noted (call_note (entry_of the_ask value [])) (counted (with_space p.world q (replied q.regs value) space))
+  left_with value space = replied_world p.world the_ask (left_reply value space) space.bytes
 
   abbrev pub left_trace : ℕ → Space → Trace
   left_trace value space = record { space = q.space; events = 1; items = item_of (entry_of the_ask value []) space.bytes ∷ []; begins = None; over = false }
@@ -41,7 +43,7 @@ module _ (p : Physical) (sound : IsSound p.world) (stands : Stands p.world p) (q
       → Goes p (answered p.world the_ask (leaves the_ask value space)) (answered_in p the_ask (leaves the_ask value space))
   unfolding served
   goes_leaves value space came =
-      goes_room p p.memory (has_room p.world.notes (weight_of bytes [])) (left_with value space) (left_with value space) (left_trace value space) (left_trace value space) came
+      goes_room p p.memory (room_for p.world the_ask (left_reply value space)) (left_with value space) (left_with value space) (left_trace value space) (left_trace value space) came
 
   -- and memory
   pub goes_put : (value : ℕ) (space : Space) → IsIn p.memory p.world.rest.tree space

@@ -6,7 +6,7 @@ use Rattle.byte_words.specs.ByteMap.{Bytes, with_byte, with_bytes}
 use Rattle.rv32im_step.specs.declared.regs.Regs.{Regs}
 use Rattle.call_log.specs.declared.errno.Errno.{Errno}
 use Rattle.call_log.specs.Errno.{refusal}
-use Rattle.call_log.specs.Notes.{Written, call_note, weight_of, has_room}
+use Rattle.call_log.specs.Notes.{Written}
 use Rattle.call_log.specs.Sent.{Span}
 use Rattle.mmap_rules.specs.declared.mapping.Mapping.{Mapping}
 use Rattle.mmap_rules.specs.Space.{Space, own_in, writable_in, may_use}
@@ -14,7 +14,7 @@ use Rattle.region_watch.specs.Private.{only}
 use Rattle.vfork_exec.specs.Keyed.{find, change}
 use Rattle.machine_world.specs.World.{Process, LiveSpace, World, id_of}
 use Rattle.machine_world.specs.Asks.{Ask, Reply, replies, gives, refuses}
-use Rattle.machine_world.specs.Event.{Trace, with_space, counted, noted, stepped, ask_of, entry_of, item_of, replied, put_got, served, put, answered}
+use Rattle.machine_world.specs.Event.{Trace, with_space, counted_in, stepped, ask_of, entry_of, item_of, put_got, replied_world, room_for, served, put, answered}
 use Rattle.machine_world.proofs.States.{with_own}
 use Rattle.stays_laws.specs.Sound.{IsSound}
 use Rattle.stays_laws.proofs.RowSpaces.{SameSpace}
@@ -131,7 +131,7 @@ module _ (p : Physical) (sound : IsSound p.world) (stands : Stands p.world p) (q
   unfolding stepped
   goes_stepped regs part all grows there =
       let space : Space = record s.space { bytes = part } in
-      let now : World = counted (with_space p.world q regs space) in
+      let now : World = counted_in q.space (with_space p.world q regs space) in
       let left : Behind p.world p.world.loads now.spaces all = wrote p sound stands q.space s has space refl part all grows refl there in
       record {
         behind = moved_in p q s.space regs all 1;
@@ -151,7 +151,7 @@ module _ (p : Physical) (sound : IsSound p.world) (stands : Stands p.world p) (q
     module _ (r : Reply) (same : SameSpace s.space r.space) (part all : Bytes) (grows : Grows (own_in s.space.maps) (writable_in s.space.maps) p.memory part all)
         (there : (a : ℕ) → is_some (only (own_in s.space.maps) p.memory a) ≡ true → is_some (part a) ≡ true) where
       abbrev served_with : Bytes → World
-      served_with m = noted (call_note (entry_of the_ask r.value r.got)) (counted (with_space (record p.world { rest = r.rest }) q (replied q.regs r.value) (record r.space { bytes = m })))
+      served_with m = replied_world (record p.world { rest = r.rest }) the_ask r m
 
       abbrev trace_with : Bytes → Trace
       trace_with m = record { space = q.space; events = 1; items = item_of (entry_of the_ask r.value r.got) m ∷ []; begins = None; over = r.over }
@@ -175,7 +175,7 @@ module _ (p : Physical) (sound : IsSound p.world) (stands : Stands p.world p) (q
       goes_served : Goes p (served p.world the_ask r part) (carried p all (served p.world the_ask r r.space.bytes))
       unfolding served
       goes_served =
-          goes_room p all (has_room p.world.notes (weight_of bytes r.got)) (served_with part) (served_with r.space.bytes) (trace_with part) (trace_with r.space.bytes)
+          goes_room p all (room_for p.world the_ask r) (served_with part) (served_with r.space.bytes) (trace_with part) (trace_with r.space.bytes)
           (record { behind = record p { world = served_with part; memory = all }; is = ap (λ z. after z r.over) behind_served; world = refl; headers = refl; left = left_served })
 
     -- that leaves the mappings and the bytes as they were, but for those that it writes

@@ -5,7 +5,7 @@ use Rattle.rv32im_step.specs.declared.access.Access.{Access}
 use Rattle.call_log.specs.declared.errno.Errno.{Errno}
 use Rattle.call_log.specs.declared.errno.Errno.TheVariants.{Enomem, Enametoolong}
 use Rattle.call_log.specs.Errno.{refusal}
-use Rattle.call_log.specs.Notes.{CallEntry, Note, call_note, stray_note, weight_of, has_room}
+use Rattle.call_log.specs.Notes.{CallEntry, Note, call_note, stray_note, weight_of}
 use Rattle.call_log.specs.Strings.{program_strings}
 use Rattle.mmap_rules.specs.declared.want.Want.{Want}
 use Rattle.flat_loader.specs.Alone.{is_errno}
@@ -13,6 +13,7 @@ use Rattle.machine_world.specs.World.{World}
 use Rattle.machine_world.specs.Asks.{Ask, arg, refuses, with_ok}
 use Rattle.machine_world.specs.Rows.{row}
 use Rattle.machine_world.specs.MapCalls.{own_run, maps as maps_to, or_own, mapped, mmap2_row}
+use Rattle.machine_world.specs.Recordings.{room_in}
 use Rattle.machine_world.specs.Event.{Trace, went, full, entry_of, answered, exec_at, exec_fitting, exec_program, exec_strings, exec}
 use Rattle.machine_world.specs.Turns.{seen_of}
 use Rattle.machine_world.proofs.Refused.{is_refused}
@@ -92,14 +93,14 @@ module _ (p : Physical) (pid : ℕ) where
         let its : IsItsCall p pid h.entry = its_call p pid h.entry r h.noted (ap is_errno h.reply ∙ is_refused Enomem) in
         record {
           call = its.refuses.call;
-          room = room_if n (has_room n.world.notes (weight_of its.refuses.call.bytes [])) _ _ h.noted.now h.noted.over (sym its.outcome ∙ h.noted.goes);
+          room = room_if n (room_in n.world (weight_of its.refuses.call.bytes [])) _ _ h.noted.now h.noted.over (sym its.outcome ∙ h.noted.goes);
           lacks = its.refuses.lacks (same_number its.refuses.errno (ap (λ (e : CallEntry). e.reply) (sym its.note) ∙ h.reply));
         }
 
     each_want : IsWithoutRunIn p pid → RepliesIn p pid (refusal Enomem)
     each_want h =
         let a : Ask = ask_in n pid h.call in
-        replies_if (refusal Enomem) (entry_of a (refusal Enomem) []) (has_room n.world.notes (weight_of h.call.bytes [])) _ _
+        replies_if (refusal Enomem) (entry_of a (refusal Enomem) []) (room_in n.world (weight_of h.call.bytes [])) _ _
         (refused_events_leave_memory p pid r.shown r.unmarked h.call Enomem (refused_in n a h.lacks)) h.room refl refl
 
 pub enomem_is_exact_in : EnomemIsExactIn

@@ -7,7 +7,7 @@ use Rattle.rv32im_step.specs.Meaning.{Meaning, next, call, trap, refused}
 use Rattle.call_log.specs.declared.errno.Errno.{Errno}
 use Rattle.call_log.specs.declared.errno.Errno.TheVariants.{Enomem}
 use Rattle.call_log.specs.Errno.{refusal}
-use Rattle.call_log.specs.Notes.{CallEntry, weight_of, has_room}
+use Rattle.call_log.specs.Notes.{CallEntry, weight_of}
 use Rattle.call_log.specs.Sent.{Span, sent}
 use Rattle.mmap_rules.specs.Space.{writable_in}
 use Rattle.vfork_exec.specs.declared.family.State.{State}
@@ -16,7 +16,8 @@ use Rattle.flat_loader.specs.Alone.{number_of, args_of, put_got, is_errno}
 use Rattle.machine_world.specs.World.{Process, LiveSpace, World, pid_of, id_of}
 use Rattle.machine_world.specs.Asks.{Ask, Reply, Row, replies, waits, gives, refuses}
 use Rattle.machine_world.specs.Rows.{row}
-use Rattle.machine_world.specs.Event.{Trace, Outcome, went, strays, full, idle, ended, trapped, ask_of, entry_of, served, put, waited, answered, exited, forked, executed}
+use Rattle.machine_world.specs.Recordings.{room_in}
+use Rattle.machine_world.specs.Event.{Trace, Outcome, went, strays, full, idle, ended, trapped, ask_of, entry_of, room_for, served, put, waited, answered, exited, forked, executed}
 use Rattle.machine_world.specs.Laws.{refused_outcome}
 use Rattle.machine_world.proofs.ByEvents.{Went}
 use Rattle.refusal_laws.specs.Bounded.{IsBounded}
@@ -57,11 +58,11 @@ unfolding waited
 plain_waited w q state = adds_none IsPlain w.notes
 
 module _ (w : World) (a : Ask) where
-  plain_served : (r : Reply) (m : Bytes) → (has_room w.notes (weight_of a.sent r.got) ≡ true → is_errno r.value ≡ false) → PlainOf w (served w a r m)
+  plain_served : (r : Reply) (m : Bytes) → (room_for w a r ≡ true → is_errno r.value ≡ false) → PlainOf w (served w a r m)
   unfolding served
-  plain_served r m low = plain_if w (has_room w.notes (weight_of a.sent r.got)) _ _ (λ room. record { more = _ ∷ []; is = refl; each = (low room, tt) })
+  plain_served r m low = plain_if w (room_for w a r) _ _ (λ room. record { more = _ ∷ []; is = refl; each = (low room, tt) })
 
-  plain_put : (r : Reply) → (has_room w.notes (weight_of a.sent r.got) ≡ true → is_errno r.value ≡ false) → (o : Result Bytes Span) → PlainOf w (put w a r o)
+  plain_put : (r : Reply) → (room_for w a r ≡ true → is_errno r.value ≡ false) → (o : Result Bytes Span) → PlainOf w (put w a r o)
   plain_put r low (Ok m) = plain_served r m low
   plain_put r low (Err span) = tt
 
@@ -89,7 +90,7 @@ plain_settled p (no_room now) plain = plain
 plain_settled p nobody plain = plain
 
 module _ (p : Physical) (a : Ask) where
-  plain_put_in : (r : Reply) → (has_room p.world.notes (weight_of a.sent r.got) ≡ true → is_errno r.value ≡ false) → (o : Result Bytes Span) → PlainIn p (put_in p a r o)
+  plain_put_in : (r : Reply) → (room_for p.world a r ≡ true → is_errno r.value ≡ false) → (o : Result Bytes Span) → PlainIn p (put_in p a r o)
   plain_put_in r low (Ok memory) = plain_carried p memory (served p.world a r r.space.bytes) (plain_served p.world a r r.space.bytes low)
   plain_put_in r low (Err span) = plain_killed p a.process outside
 
@@ -130,17 +131,17 @@ module _ (p : Physical) (h : IsBounded p.world) (pid : ℕ) (q : Process) (lives
     row = by_quiet (low_or_refuses p.world h pid q lives s has bytes);
     refused = λ e other. inl (record { errno = e; is = refl; lacks = no_enomem e other });
     exit = inr (plain_carried p p.memory (exited p.world a)
-        (plain_if p.world (has_room p.world.notes (weight_of bytes [])) _ _ (λ room. record { more = _ ∷ _ ∷ []; is = refl; each = (tt, (no_errno 0 (omega arith), tt)) })));
+        (plain_if p.world (room_in p.world (weight_of bytes [])) _ _ (λ room. record { more = _ ∷ _ ∷ []; is = refl; each = (tt, (no_errno 0 (omega arith), tt)) })));
     told = λ ended got. inr (plain_carried p p.memory _ (plain_answered (record p.world { ended = ended }) a (gives a 0 got p.world.rest) (λ room. no_errno 0 (omega arith))));
     waiting = λ state. inr (plain_carried p p.memory (waited p.world q state) (plain_waited p.world q state));
     fork = inr (plain_carried p p.memory (forked p.world a)
-        (plain_if p.world (has_room p.world.notes (weight_of bytes [])) _ _ (λ room. record {
+        (plain_if p.world (room_in p.world (weight_of bytes [])) _ _ (λ room. record {
           more = _ ∷ [];
           is = refl;
           each = (no_errno p.world.next_pid (let given = h.given in let calls = h.counted.calls in omega (arith, given, calls)), tt);
         })));
     load = λ index page l is chosen. inr (plain_carried p p.memory (executed p.world a index l)
-        (plain_if p.world (has_room p.world.notes (weight_of bytes [])) _ _ (λ room. record { more = _ ∷ _ ∷ []; is = refl; each = (tt, (no_errno 0 (omega arith), tt)) })));
+        (plain_if p.world (room_in p.world (weight_of bytes [])) _ _ (λ room. record { more = _ ∷ _ ∷ []; is = refl; each = (tt, (no_errno 0 (omega arith), tt)) })));
     no_run = λ number lacks. inl (record { errno = Enomem; is = refl; lacks = λ yes. inr (number, lacks) });
   }
 
@@ -216,7 +217,7 @@ notes_if p entry true now t its = its
 notes_if p entry false now t its = adds_none (λ e. e ≡ entry) p.world.notes
 
 refusal_notes : (p : Physical) (q : Process) (a : Ask) (e : Errno) → AfterHas (Notes p (entry_of a (refusal e) [])) (over_memory p (refused_outcome p.world q a e))
-refusal_notes p q a e = notes_if p (entry_of a (refusal e) []) (has_room p.world.notes (weight_of a.sent [])) _ _ (record { more = _ ∷ []; is = refl; each = (refl, tt) })
+refusal_notes p q a e = notes_if p (entry_of a (refusal e) []) (room_in p.world (weight_of a.sent [])) _ _ (record { more = _ ∷ []; is = refl; each = (refl, tt) })
 
 module _ (p : Physical) (pid : ℕ) (e : CallEntry) (h : NotesCall p pid e) where
   abbrev n : Physical

@@ -5,7 +5,7 @@ use Rattle.byte_words.specs.ByteMap.{Bytes}
 use Rattle.rv32im_step.specs.declared.access.Access.{Access}
 use Rattle.rv32im_step.specs.Meaning.{Meaning, next, call, trap, refused}
 use Rattle.call_log.specs.Errno.{refusal}
-use Rattle.call_log.specs.Notes.{Written, weight_of, has_room}
+use Rattle.call_log.specs.Notes.{Written}
 use Rattle.call_log.specs.Sent.{Span, sent}
 use Rattle.vfork_exec.specs.declared.family.State.{State}
 use Rattle.vfork_exec.specs.declared.family.Ended.{Ended}
@@ -14,7 +14,7 @@ use Rattle.flat_loader.specs.Alone.{number_of, args_of, put_got}
 use Rattle.machine_world.specs.World.{Process, LiveSpace, World, pid_of, id_of}
 use Rattle.machine_world.specs.Asks.{Ask, Reply, Row, replies, waits, gives}
 use Rattle.machine_world.specs.Rows.{row}
-use Rattle.machine_world.specs.Event.{Trace, Outcome, went, strays, full, idle, stepped, trapped, served, waited, ask_of, classed, awake}
+use Rattle.machine_world.specs.Event.{Trace, Outcome, went, strays, full, idle, stepped, trapped, room_for, served, waited, ask_of, classed, awake}
 use Rattle.machine_world.proofs.Kept.{Answers}
 use Rattle.machine_world.proofs.ByEvents.{Went, by_classed}
 use Rattle.refusal_laws.specs.Bounded.{IsWithin, IsBounded}
@@ -119,7 +119,7 @@ module _ (p : Physical) (h : IsBounded p.world) (pid : ℕ) (q : Process) (lives
     tidy_served : (r : Reply) (m : Bytes) → Outside p.world (tidy p.world h) r.rest → Went (λ now t. IsTidy now) (served p.world a r m)
     unfolding served
     tidy_served r m left =
-        tidy_if (has_room p.world.notes (weight_of bytes r.got)) _ _ (λ room. (call_tidy p.world (tidy p.world h) a).reply p.world.ended r m left room)
+        tidy_if (room_for p.world a r) _ _ (λ room. (call_tidy p.world (tidy p.world h) a).reply p.world.ended r m left room)
 
     tidy_waited : (state : State) → Went (λ now t. IsTidy now) (waited p.world q state)
     unfolding waited

@@ -2,7 +2,8 @@
 use Rattle.std.specs.Prelude.{◌≡◌, ◌↔◌, ℕ, true, []}
 use Rattle.call_log.specs.declared.errno.Errno.TheVariants.{Enomem}
 use Rattle.call_log.specs.Errno.{refusal}
-use Rattle.call_log.specs.Notes.{CallEntry, weight_of, has_room}
+use Rattle.call_log.specs.Notes.{CallEntry, weight_of}
+use Rattle.machine_world.specs.Recordings.{room_in}
 use Rattle.refusal_laws.specs.NoRun.{LacksRun}
 use Rattle.physical_turns.specs.Physical.{Physical}
 use Rattle.go_on_laws.specs.Refusals.{CallIn, ask_in}
@@ -19,7 +20,7 @@ pub record RepliesIn (p : Physical) (pid value : ℕ) : Type 0 where
 -- event has it
 pub record IsWithoutRunIn (p : Physical) (pid : ℕ) : Type 0 where
   pub call : CallIn (noted_in p pid) pid
-  pub room : has_room (noted_in p pid).world.notes (weight_of call.bytes []) ≡ true
+  pub room : room_in (noted_in p pid).world (weight_of call.bytes []) ≡ true
   pub lacks : LacksRun (noted_in p pid).world (ask_in (noted_in p pid) pid call)
 
 -- a call is answered so exactly for want of a run, before the run's first stray access and behind it

@@ -6,7 +6,7 @@ use Rattle.std.proofs.lemmas.Bool.{and_parts, false≢true}
 use Rattle.byte_words.specs.ByteMap.{Bytes}
 use Rattle.rv32im_step.specs.declared.regs.Regs.{Regs}
 use Rattle.rv32im_step.specs.Meaning.{Meaning, next, call, trap, refused, meaning}
-use Rattle.call_log.specs.Notes.{weight_of, has_room}
+use Rattle.call_log.specs.Notes.{weight_of}
 use Rattle.call_log.specs.Sent.{Span, sent}
 use Rattle.mmap_rules.specs.Space.{Space, writable_in}
 use Rattle.nommu_regions.specs.declared.region.Source.{Source}
@@ -27,7 +27,8 @@ use Rattle.machine_world.specs.Free.{free}
 use Rattle.machine_world.specs.Found.{address_of, taken}
 use Rattle.machine_world.specs.Asks.{Ask, arg, Reply, Row, replies, waits, gives, refuses}
 use Rattle.machine_world.specs.Rows.{row, yield_row, brk_row}
-use Rattle.machine_world.specs.Event.{Trace, Outcome, went, strays, full, idle, number_of, args_of, put_got, ask_of, ended, stepped, trapped, served, put, waited, answered, exited, forked, executed, classed, asked, answer, settled, effect, in_space, by_process, at_process, event}
+use Rattle.machine_world.specs.Recordings.{room_in}
+use Rattle.machine_world.specs.Event.{Trace, Outcome, went, strays, full, idle, number_of, args_of, put_got, ask_of, ended, room_for, stepped, trapped, served, put, waited, answered, exited, forked, executed, classed, asked, answer, settled, effect, in_space, by_process, at_process, event}
 use Rattle.machine_world.proofs.ByEvents.{Went}
 use Rattle.stays_laws.proofs.SoundBegins.{pages_free}
 use Rattle.stays_laws.proofs.Unmaps.{IsHit, is_hit}
@@ -171,7 +172,7 @@ module _ (w : World) (h : AreBounded w) (a : Ask) where
   pub keeps_served : (r : Reply) (m : Bytes) → InMemory r.space → Keeps (served w a r m)
   unfolding served
   keeps_served r m is =
-      keeps_if (has_room w.notes (weight_of a.sent r.got)) _ _
+      keeps_if (room_for w a r) _ _
       (record { parents = same_parents w h a.process _; spaces = new_space w h a.process (record r.space { bytes = m }) (record { brk = is.brk; high = is.high; copies = is.copies }) })
 
   keeps_put : (r : Reply) → InMemory r.space → (o : Result Bytes Span) → Keeps (put w a r o)
@@ -226,14 +227,14 @@ module _ (w : World) (r : IsBounded w) (pid : ℕ) (p : Process) (lives : find p
     calls = record {
       row = keeps_row w its a (row a) row_in_memory;
       refused = λ e other. keeps_row w its a (refuses a e) own;
-      exit = keeps_if (has_room w.notes (weight_of bytes [])) _ _ (record { parents = parents_left p w.procs r.parents; spaces = within_left p w.procs w.spaces r.spaces });
+      exit = keeps_if (room_in w (weight_of bytes [])) _ _ (record { parents = parents_left p w.procs r.parents; spaces = within_left p w.procs w.spaces r.spaces });
       told = λ ended got. keeps_row (record w { ended = ended }) (record { parents = r.parents; spaces = r.spaces }) a (gives a 0 got w.rest) own;
       waiting = λ state. keeps_waited w its p state;
-      fork = keeps_if (has_room w.notes (weight_of bytes [])) _ _ (record {
+      fork = keeps_if (room_in w (weight_of bytes [])) _ _ (record {
         parents = (child_younger, each_change IsYounger pid_of p.pid _ (λ q younger. younger) w.procs r.parents);
         spaces = r.spaces;
       });
-      load = λ index page l is chosen. keeps_if (has_room w.notes (weight_of bytes [])) _ _ (record {
+      load = λ index page l is chosen. keeps_if (room_in w (weight_of bytes [])) _ _ (record {
         parents = each_change IsYounger pid_of p.pid _ (λ q younger. younger) (map (let_go p.pid) w.procs) (each_map IsYounger (let_go p.pid) (λ q younger. younger) w.procs r.parents);
         spaces = (within (record { id = w.loads; space = begin_space l }) (break_begins w r.most page l is chosen), within_left p w.procs w.spaces r.spaces);
       });

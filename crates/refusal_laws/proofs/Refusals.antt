@@ -6,7 +6,7 @@ use Rattle.rv32im_step.specs.Meaning.{Meaning, next, call, trap, refused, meanin
 use Rattle.call_log.specs.declared.errno.Errno.{Errno}
 use Rattle.call_log.specs.declared.errno.Errno.TheVariants.{Enomem, Enametoolong}
 use Rattle.call_log.specs.Errno.{refusal}
-use Rattle.call_log.specs.Notes.{weight_of, has_room}
+use Rattle.call_log.specs.Notes.{weight_of}
 use Rattle.call_log.specs.Sent.{Span, sent}
 use Rattle.call_log.specs.Strings.{program_strings}
 use Rattle.mmap_rules.specs.Space.{writable_in}
@@ -17,7 +17,8 @@ use Rattle.machine_world.specs.Asks.{Ask, arg, Reply, Row, replies, waits, gives
 use Rattle.machine_world.specs.Rows.{row, yield_row, next_brk, brk_row}
 use Rattle.machine_world.specs.MapCalls.{own_run, maps as maps_to, or_own, mapped, mmap2_row}
 use Rattle.mmap_rules.specs.declared.want.Want.{Want}
-use Rattle.machine_world.specs.Event.{Trace, Outcome, went, strays, full, idle, number_of, args_of, put_got, ask_of, entry_of, plain_item, stepped, trapped, served, put, waited, answered, exited, forked, executed, exec_at, exec_fitting, exec_program, exec_strings, exec, classed, asked, answer, settled, effect, in_space, by_process, at_process, event}
+use Rattle.machine_world.specs.Recordings.{room_in}
+use Rattle.machine_world.specs.Event.{Trace, Outcome, went, strays, full, idle, number_of, args_of, put_got, ask_of, entry_of, plain_item, room_for, stepped, trapped, served, put, waited, answered, exited, forked, executed, exec_at, exec_fitting, exec_program, exec_strings, exec, classed, asked, answer, settled, effect, in_space, by_process, at_process, event}
 use Rattle.machine_world.specs.Laws.{refused_outcome}
 use Rattle.machine_world.proofs.ByEvents.{Went}
 use Rattle.machine_world.proofs.Refused.{is_refused, refusals_change_nothing_else}
@@ -59,13 +60,13 @@ plain_if true now t plain = plain refl
 plain_if false now t plain = tt
 
 module _ (w : World) (a : Ask) where
-  plain_served : (r : Reply) (m : Bytes) → (has_room w.notes (weight_of a.sent r.got) ≡ true → is_errno r.value ≡ false) → IsPlain (served w a r m)
+  plain_served : (r : Reply) (m : Bytes) → (room_for w a r ≡ true → is_errno r.value ≡ false) → IsPlain (served w a r m)
   unfolding served
-  plain_served r m low = plain_if (has_room w.notes (weight_of a.sent r.got)) _ _ low
+  plain_served r m low = plain_if (room_for w a r) _ _ low
 
   -- a reply that is no errno where it is noted
   abbrev pub IsLow : Row → Type 0
-  IsLow (replies r) = has_room w.notes (weight_of a.sent r.got) ≡ true → is_errno r.value ≡ false
+  IsLow (replies r) = room_for w a r ≡ true → is_errno r.value ≡ false
   IsLow (waits state) = Unit {0}
 
   plain_put : (r : Reply) → IsLow (replies r) → (o : Result Bytes Span) → IsPlain (put w a r o)
@@ -101,7 +102,7 @@ module _ (w : World) (r : IsBounded w) (pid : ℕ) (p : Process) (lives : find p
   rows = record {
     refused = λ e other. inl (no_other w a e other);
     waiting = λ state. inr tt;
-    small = λ value got rest low. inr (λ room. no_errno value (let less = weight_fits w.notes (weight_of bytes got) room in omega (arith, low, less)));
+    small = λ value got rest low. inr (λ room. no_errno value (let less = weight_fits w a (record { value = value; got = got; rest = rest; space = s.space; over = false }) room in omega (arith, low, less)));
     pid = inr (λ room. no_errno p.pid (pid_fits w r pid p lives));
     parent = inr (λ room. no_errno p.parent (parent_fits w r pid p lives));
     yielded = inr (λ room. no_errno 0 (omega arith));
@@ -125,11 +126,11 @@ module _ (w : World) (r : IsBounded w) (pid : ℕ) (p : Process) (lives : find p
   calls = record {
     row = by_row low_or_refuses;
     refused = λ e other. so_answered w a (refuses a e) (no_other w a e other);
-    exit = inr (plain_if (has_room w.notes (weight_of bytes [])) _ _ (λ room. no_errno 0 (omega arith)));
+    exit = inr (plain_if (room_in w (weight_of bytes [])) _ _ (λ room. no_errno 0 (omega arith)));
     told = λ ended got. inr (plain_row (record w { ended = ended }) a (gives a 0 got w.rest) (λ room. no_errno 0 (omega arith)));
     waiting = λ state. inr tt;
-    fork = inr (plain_if (has_room w.notes (weight_of bytes [])) _ _ (λ room. no_errno w.next_pid (let given = r.given in let calls = r.counted.calls in omega (arith, given, calls))));
-    load = λ index page l is chosen. inr (plain_if (has_room w.notes (weight_of bytes [])) _ _ (λ room. no_errno 0 (omega arith)));
+    fork = inr (plain_if (room_in w (weight_of bytes [])) _ _ (λ room. no_errno w.next_pid (let given = r.given in let calls = r.counted.calls in omega (arith, given, calls))));
+    load = λ index page l is chosen. inr (plain_if (room_in w (weight_of bytes [])) _ _ (λ room. no_errno 0 (omega arith)));
     no_run = λ number lacks. so_answered w a (refuses a Enomem) (no_run w a (inr (number, lacks)));
   }
 
@@ -219,7 +220,7 @@ reply_if true now t value is = is
 reply_if false now t value is = absurd cc
 
 refused_reply : (w : World) (p : Process) (a : Ask) (e : Errno) (value : ℕ) → reply_of (refused_outcome w p a e) ≡ Some value → value ≡ refusal e
-refused_reply w p a e value is = let same : Some (refusal e) ≡ Some value = reply_if (has_room w.notes (weight_of a.sent [])) _ _ value is in cc
+refused_reply w p a e value is = let same : Some (refusal e) ≡ Some value = reply_if (room_in w (weight_of a.sent [])) _ _ value is in cc
 
 plain_reply_of : (o : Outcome) (value : ℕ) → IsPlain o → reply_of o ≡ Some value → is_errno value ≡ false
 plain_reply_of (went now t) value plain is = by t.items plain is
@@ -287,14 +288,14 @@ module _ (w : World) (pid : ℕ) (r : IsRegular w) where
       let c : RefusesCall w pid = is_refusal w pid (refusal Enomem) h (is_refused Enomem) (or_plain w r pid) in
       record {
         call = c.call;
-        room = room_if (has_room w.notes (weight_of c.call.bytes [])) _ _ (refusal Enomem) (ap reply_of (sym c.is) ∙ replied w pid (refusal Enomem) h);
+        room = room_if (room_in w (weight_of c.call.bytes [])) _ _ (refusal Enomem) (ap reply_of (sym c.is) ∙ replied w pid (refusal Enomem) h);
         lacks = c.lacks (same_number c.errno (sym (its_reply w pid (refusal Enomem) h (is_refused Enomem) c)));
       }
 
   each_want : IsWithoutRun w pid → Replies w pid (refusal Enomem)
   each_want h =
       let a : Ask = ask w pid h.call in
-      replies_if w pid (refusal Enomem) (has_room w.notes (weight_of h.call.bytes [])) _ _ (plain_item (entry_of a (refusal Enomem) []))
+      replies_if w pid (refusal Enomem) (room_in w (weight_of h.call.bytes [])) _ _ (plain_item (entry_of a (refusal Enomem) []))
       (refused_so w pid h.call Enomem r.unmarked (lacks w a h.lacks)) h.room refl refl
 
 pub enomem_is_exact : EnomemIsExact

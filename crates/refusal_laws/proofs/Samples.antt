@@ -20,6 +20,7 @@ use Rattle.vfork_exec.specs.Keyed.{find, change}
 use Rattle.machine_world.specs.Families.{all_roused}
 use Rattle.machine_world.specs.Free.{free_runs_in}
 use Rattle.machine_world.specs.Rows.{row}
+use Rattle.machine_world.specs.Recordings.{nothing_recorded}
 use Rattle.machine_world.specs.MapCalls.{mmap2_row}
 use Rattle.page_runs.specs.declared.place.Kind.TheVariants.{First}
 use Rattle.call_log.specs.declared.errno.Errno.TheVariants.{Enomem}
@@ -35,7 +36,7 @@ use Rattle.refusal_laws.specs.Calls.{Call, ask}
 use Rattle.refusal_laws.specs.NoRun.{LacksRun}
 
 abbrev rest : (pages : ℕ) → Rest
-rest pages = record { pages = pages; kind = First; programs = []; tree = []; files = with_table (nothing_open []); console = [] }
+rest pages = record { pages = pages; kind = First; programs = []; tree = []; files = with_table (nothing_open []); console = []; keep = 0 }
 
 -- ecall stands behind the header
 abbrev pub byte_at : ℕ → Option ℕ
@@ -53,7 +54,7 @@ process number args = record { pid = 1; parent = 0; regs = record { pc = 2 ^ 31 
 
 abbrev pub world : (pages : ℕ) → ℕ → List ℕ → World
 world pages number args =
-    record { procs = process number args ∷ []; ended = []; spaces = space ∷ []; loads = 1; next_pid = 2; rest = rest pages; notes = []; events = 0 }
+    record { procs = process number args ∷ []; ended = []; spaces = space ∷ []; loads = 1; next_pid = 2; rest = rest pages; notes = []; events = 0; recording = nothing_recorded 0 }
 
 -- mmap2 of a page, private and anonymous
 abbrev pub asks_page : List ℕ

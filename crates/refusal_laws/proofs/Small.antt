@@ -5,7 +5,7 @@ use Rattle.std.specs.List.{AllByRecursion}
 use Rattle.std.proofs.lemmas.Bool.{and_parts, leb-true, false≢true}
 use Rattle.std.proofs.lemmas.Bool.Decides.{nat_tests}
 use Rattle.std.proofs.lemmas.Option.{none-some, same_Some}
-use Rattle.call_log.specs.Notes.{Note, calls_in, bytes_in, most_calls, most_bytes, has_room}
+use Rattle.call_log.specs.Notes.{CallEntry, Note, calls_in, bytes_in, most_calls, most_bytes, weight_of, has_room}
 use Rattle.nommu_regions.specs.declared.region.Source.{Source}
 use Rattle.nommu_regions.specs.declared.region.Source.TheVariants.{Own, Copy}
 use Rattle.nommu_regions.specs.Regions.{copy_covers}
@@ -20,11 +20,12 @@ use Rattle.flat_loader.specs.Alone.{is_errno, most_pages}
 use Rattle.vfork_exec.specs.Keyed.{find}
 use Rattle.vfork_exec.proofs.Keyed.{find_key, find_below}
 use Rattle.machine_world.specs.World.{Process, LiveSpace, World, pid_of}
-use Rattle.machine_world.specs.Asks.{Ask, arg, view_of, free_of}
+use Rattle.machine_world.specs.Asks.{Ask, Reply, arg, view_of, free_of}
 use Rattle.machine_world.specs.MapCalls.{all_maps, lowest, has_pages, shared, own_run, pages_of, or_own}
 use Rattle.machine_world.specs.Placements.{placed_page}
 use Rattle.machine_world.specs.Rows.{next_brk}
-use Rattle.machine_world.specs.Event.{ask_of}
+use Rattle.machine_world.specs.Recordings.{is_recorded, with_brought}
+use Rattle.machine_world.specs.Event.{ask_of, entry_of, brought, with_bytes_of, room_for}
 use Rattle.stays_laws.proofs.SharedPages.{Passes, lowest_passes, fresh_run}
 use Rattle.stays_laws.proofs.Wanted.{IsWanted, is_wanted}
 use Rattle.refusal_laws.specs.Regular.{memory_end, IsYounger}
@@ -37,11 +38,30 @@ unfolding is_errno
 no_errno value less = grind (arith, nat_tests)
 
 -- the room of the log
-pub weight_fits : (notes : List Note) (weight : ℕ) → has_room notes weight ≡ true → weight ≤ most_bytes
+noted_fits : (notes : List Note) (weight : ℕ) → has_room notes weight ≡ true → weight ≤ most_bytes
 unfolding has_room
-weight_fits notes weight room =
+noted_fits notes weight room =
     let fits = leb-true (sum (map bytes_in notes) + weight) most_bytes (and_parts (nat_le (sum (map calls_in notes) + 1) most_calls) (nat_le (sum (map bytes_in notes) + weight) most_bytes) room).1 in
     omega (arith, fits)
+
+more_brought : (lists : List (List ℕ)) (weight : ℕ) → weight ≤ with_brought lists weight
+more_brought [] weight = omega arith
+more_brought (bytes ∷ lists) weight = let more = more_brought lists weight in omega (arith, more)
+
+more_if : (b : Bool) (n weight : ℕ) → weight ≤ (if b then n + weight else weight)
+more_if true n weight = omega arith
+more_if false n weight = omega arith
+
+-- and so do the bytes of a call's note, beside what its mapping brings
+pub weight_fits : (w : World) (a : Ask) (r : Reply) → room_for w a r ≡ true → weight_of a.sent r.got ≤ most_bytes
+weight_fits w a r room =
+    let e : CallEntry = entry_of a r.value r.got in
+    let weight : ℕ = weight_of a.sent r.got in
+    let recorded : Bool = is_recorded w.recording a.process.space in
+    let fits = noted_fits w.notes (with_brought w.recording.brought (with_bytes_of w a.process.space e r.space.bytes weight)) room in
+    let beside = more_brought w.recording.brought (with_bytes_of w a.process.space e r.space.bytes weight) in
+    let brings = more_if recorded (length (brought e r.space.bytes)) weight in
+    omega (arith, fits, beside, brings)
 
 pub brk_fits : (s : Space) (to : ℕ) → s.brk ≤ memory_end → s.brk_high ≤ memory_end → next_brk s to ≤ memory_end
 brk_fits s to low high = by (nat_le s.brk_low to) (nat_le to s.brk_high) refl

@@ -4,13 +4,14 @@ use Rattle.quantum_sched.specs.declared.Quantum.{Quantum}
 use Rattle.call_log.specs.declared.errno.Errno.{Errno}
 use Rattle.call_log.specs.declared.errno.Errno.TheVariants.{Enomem}
 use Rattle.call_log.specs.Errno.{refusal}
-use Rattle.call_log.specs.Notes.{weight_of, has_room}
+use Rattle.call_log.specs.Notes.{weight_of}
 use Rattle.fd_tables.specs.Files.{nothing_open}
 use Rattle.vfork_exec.specs.Procs.{most_entries}
 use Rattle.flat_loader.specs.Alone.{Item, is_errno}
 use Rattle.machine_world.specs.World.{Rest, World}
 use Rattle.machine_world.specs.Families.{MayRun}
 use Rattle.machine_world.specs.Event.{Trace, went, event}
+use Rattle.machine_world.specs.Recordings.{room_in}
 use Rattle.machine_world.specs.Turns.{turn, turns}
 use Rattle.machine_world.specs.Boot.{StartLine, no_run, started, boot}
 use Rattle.machine_world.specs.Laws.{refused_outcome}
@@ -62,7 +63,7 @@ ErrnosAreRefusals = (w : World) (pid value : ℕ) → IsRegular w → Replies w 
 -- a call that lacks a run, where the log has room for its note
 pub record IsWithoutRun (w : World) (pid : ℕ) : Type 0 where
   pub call : Call w pid
-  pub room : has_room w.notes (weight_of call.bytes []) ≡ true
+  pub room : room_in w (weight_of call.bytes []) ≡ true
   pub lacks : LacksRun w (ask w pid call)
 
 -- a call is answered so exactly for want of a run

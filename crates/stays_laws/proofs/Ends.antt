@@ -4,7 +4,7 @@ use Rattle.std.specs.Prelude.{◌==◌, ◌||◌, ◌&&◌, if◌then◌else◌}
 use Rattle.std.proofs.lemmas.Bool.{cases_Bool}
 use Rattle.std.proofs.lemmas.List.{append-nil}
 use Rattle.rv32im_step.specs.Meaning.{call, trap}
-use Rattle.call_log.specs.Notes.{has_room, weight_of}
+use Rattle.call_log.specs.Notes.{weight_of}
 use Rattle.call_log.specs.Sent.{sent}
 use Rattle.vfork_exec.specs.declared.family.State.TheVariants.{Ready}
 use Rattle.vfork_exec.specs.Keyed.{find}
@@ -12,6 +12,7 @@ use Rattle.vfork_exec.proofs.Keyed.{find_gone}
 use Rattle.flat_loader.specs.Alone.{Runner, Solo, Item, memory_of, number_of, args_of, replied, is_errno, leaves_space, with_items, solo_effect, solo_step, none_left}
 use Rattle.machine_world.specs.World.{Process, LiveSpace, World, pid_of, id_of}
 use Rattle.machine_world.specs.Families.{borrows, spaces_left, all_left_by}
+use Rattle.machine_world.specs.Recordings.{room_in}
 use Rattle.machine_world.specs.Event.{went, full, ended, trapped, ask_of, entry_of, plain_item, exited, is_exit}
 use Rattle.machine_world.proofs.States.{with_regs}
 use Rattle.stays_laws.specs.Stays.{Stay, collect, runner_of, runners, alone_end, Agrees, kept_calls_of, loads_of, AreRight}
@@ -75,7 +76,7 @@ module _ (ys : List Stay) (w : World) (sound : IsSound w) (right : AreRight ys w
       let i : Item = plain_item (entry_of (ask_of w p s.space bytes) 0 []) in
       let now : Solo = solo_of (with_regs p (replied p.regs 0)) those s.space in
       let leaves : leaves_space i.entry ≡ true = ap (λ (b : Bool). b || (number_of p.regs == 221 && true)) exits in
-      keeps_if ys (has_room w.notes (weight_of bytes [])) (went _ (record { space = p.space; events = 1; items = i ∷ []; begins = None; over = true })) full
+      keeps_if ys (room_in w (weight_of bytes [])) (went _ (record { space = p.space; events = 1; items = i ∷ []; begins = None; over = true })) full
       (keeps_departed _ (i ∷ []) refl refl refl refl refl refl
       (takes ys w sound right p s lives ready has is bytes reads i (tells p s.space w bytes 0 [])
       ∙ ap (with_items []) (if_yes (leaves_space i.entry) (Some (record { stack = those; memory = memory_of s.space })) (if is_errno 0 then Some now else solo_effect now p.regs i) leaves)))

@@ -6,7 +6,7 @@ use Rattle.std.proofs.lemmas.List.{append-nil}
 use Rattle.byte_words.specs.ByteMap.{Bytes}
 use Rattle.rv32im_step.specs.declared.regs.Regs.{Regs}
 use Rattle.rv32im_step.specs.Meaning.{Meaning, next, call, meaning}
-use Rattle.call_log.specs.Notes.{Written, has_room, weight_of}
+use Rattle.call_log.specs.Notes.{Written}
 use Rattle.call_log.specs.Sent.{Span, sent}
 use Rattle.mmap_rules.specs.Space.{Space, writable_in}
 use Rattle.vfork_exec.specs.declared.family.State.{State}
@@ -16,7 +16,7 @@ use Rattle.vfork_exec.proofs.Keyed.{find_changed, find_beside_change}
 use Rattle.flat_loader.specs.Alone.{Runner, Solo, Item, memory_of, writable_of, number_of, args_of, replied, put_got, is_same, is_call, with_items, solo_put, solo_called, solo_moved, solo_step, none_left}
 use Rattle.machine_world.specs.World.{Process, LiveSpace, World, pid_of, id_of}
 use Rattle.machine_world.specs.Asks.{Ask, Reply, Row, replies, waits}
-use Rattle.machine_world.specs.Event.{Trace, Outcome, went, strays, full, idle, counted, stepped, ask_of, entry_of, item_of, served, put, waited, with_state, answered, awake, settled}
+use Rattle.machine_world.specs.Event.{Trace, Outcome, went, strays, full, idle, counted, stepped, ask_of, entry_of, item_of, room_for, served, put, waited, with_state, answered, awake, settled}
 use Rattle.machine_world.proofs.States.{with_regs, with_own}
 use Rattle.machine_world.proofs.Awake.{woke, all_roused_is}
 use Rattle.machine_world.proofs.Kept.{Answers}
@@ -187,7 +187,7 @@ module _ (ys : List Stay) (w : World) (sound : IsSound w) (right : AreRight ys w
     keeps_put r follows programs (Err span) wrote = tt
     keeps_put r follows programs (Ok m) wrote =
         let i : Item = item_of (entry_of the_ask r.value r.got) m in
-        keeps_if ys (has_room w.notes (weight_of bytes r.got)) (went _ (record { space = p.space; events = 1; items = i ∷ []; begins = None; over = r.over })) full
+        keeps_if ys (room_for w the_ask r) (went _ (record { space = p.space; events = 1; items = i ∷ []; begins = None; over = r.over })) full
         (keeps_state _ (i ∷ []) r.over refl programs refl refl (replied p.regs r.value) (record r.space { bytes = m }) refl refl
         (takes i (tells p s.space w bytes r.value r.got) ∙ ap (with_items []) (follows m wrote)))
         tt

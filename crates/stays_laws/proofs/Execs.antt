@@ -5,7 +5,7 @@ use Rattle.std.proofs.lemmas.List.{map-append}
 use Rattle.rv32im_step.specs.Meaning.{call}
 use Rattle.call_log.specs.declared.errno.Errno.{Errno}
 use Rattle.call_log.specs.declared.errno.Errno.TheVariants.{E2big, Enomem, Enametoolong}
-use Rattle.call_log.specs.Notes.{call_note, has_room, weight_of}
+use Rattle.call_log.specs.Notes.{call_note, weight_of}
 use Rattle.call_log.specs.Strings.{ProgramStrings, program_strings}
 use Rattle.call_log.specs.Sent.{has_zero, sent}
 use Rattle.vfork_exec.specs.declared.family.State.TheVariants.{Ready}
@@ -22,7 +22,8 @@ use Rattle.machine_world.specs.Free.{free}
 use Rattle.machine_world.specs.Found.{Found, address_of, taken}
 use Rattle.machine_world.specs.Asks.{Ask, arg, refuses}
 use Rattle.machine_world.specs.PathCalls.{path_of}
-use Rattle.machine_world.specs.Event.{Trace, went, full, counted, noted, ask_of, entry_of, plain_item, with_exec, load_of, answered, executed, exec_at, exec_program, exec_strings, exec, is_exit}
+use Rattle.machine_world.specs.Recordings.{room_in}
+use Rattle.machine_world.specs.Event.{Trace, went, full, counted_in, noted, ask_of, entry_of, plain_item, with_exec, load_of, answered, executed, exec_at, exec_program, exec_strings, exec, is_exit}
 use Rattle.machine_world.proofs.States.{with_regs}
 use Rattle.machine_world.proofs.Chains.{begun}
 use Rattle.stays_laws.specs.Stays.{Stay, change_at, longer, collect, runner_of, runners, Agrees, kept_calls_of, loads_of, original_at, head_of, loaded_head, AreRight}
@@ -74,7 +75,7 @@ module _ (ys : List Stay) (w : World) (sound : IsSound w) (right : AreRight ys w
     item = plain_item (entry_of a 0 [])
 
     abbrev behind : World
-    behind = noted (load_of p index l) (noted (call_note (entry_of a 0 [])) (counted (with_exec w p l)))
+    behind = noted (load_of p index l) (noted (call_note (entry_of a 0 [])) (counted_in p.space (with_exec w p l)))
 
     abbrev trace : Trace
     trace = record { space = p.space; events = 1; items = item ∷ []; begins = Some (record { loading = l; pid = p.pid }); over = false }
@@ -167,7 +168,7 @@ module _ (ys : List Stay) (w : World) (sound : IsSound w) (right : AreRight ys w
 
     keeps_executed : Keeps ys (executed w a index l)
     unfolding executed
-    keeps_executed = keeps_if ys (has_room w.notes (weight_of bytes [])) (went behind trace) full right_executed tt
+    keeps_executed = keeps_if ys (room_in w (weight_of bytes [])) (went behind trace) full right_executed tt
 
   refused_here : (e : Errno) → Keeps ys (answered w a (refuses a e))
   refused_here e = keeps_answered ys w sound right p s lives ready has is bytes reads (refuses a e) (follows_refused w p those s.space bytes stays e) refl

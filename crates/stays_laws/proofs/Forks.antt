@@ -3,7 +3,7 @@ use Rattle.std.proofs.Common.{◌≡◌, ◌≢◌, ℕ, true, false, not, List,
 use Rattle.std.specs.Prelude.{◌==◌, ◌||◌, ◌&&◌}
 use Rattle.rv32im_step.specs.Meaning.{call}
 use Rattle.call_log.specs.declared.errno.Errno.TheVariants.{Eagain, Einval}
-use Rattle.call_log.specs.Notes.{has_room, weight_of}
+use Rattle.call_log.specs.Notes.{weight_of}
 use Rattle.call_log.specs.Sent.{sent}
 use Rattle.vfork_exec.specs.declared.family.State.TheVariants.{Ready}
 use Rattle.vfork_exec.specs.Keyed.{find}
@@ -12,6 +12,7 @@ use Rattle.machine_world.specs.World.{Process, LiveSpace, World, pid_of, id_of}
 use Rattle.machine_world.specs.Families.{is_full}
 use Rattle.machine_world.specs.FamilyCalls.{vfork_flags}
 use Rattle.machine_world.specs.Asks.{Ask, arg, refuses}
+use Rattle.machine_world.specs.Recordings.{room_in}
 use Rattle.machine_world.specs.Event.{went, full, ask_of, entry_of, plain_item, child_of, with_child, answered, forked, cloned, is_exit}
 use Rattle.machine_world.proofs.Chains.{parent_now}
 use Rattle.stays_laws.specs.Stays.{Stay, longer, runner_of, runners, Agrees, kept_calls_of, loads_of, AreRight}
@@ -77,7 +78,7 @@ module _ (ys : List Stay) (w : World) (sound : IsSound w) (right : AreRight ys w
   unfolding forked kept_calls_of loads_of
   keeps_forked =
       let i : Item = plain_item (entry_of a w.next_pid []) in
-      keeps_if ys (has_room w.notes (weight_of bytes [])) (went _ (record { space = p.space; events = 1; items = i ∷ []; begins = None; over = true })) full
+      keeps_if ys (room_in w (weight_of bytes [])) (went _ (record { space = p.space; events = 1; items = i ∷ []; begins = None; over = true })) full
       (right_after ys w sound right p s lives ready has _ (i ∷ []) true refl refl refl refl
       (record { procs = λ j other old. runs_beside j other; spaces = λ j other old. refl })
       (λ y there.

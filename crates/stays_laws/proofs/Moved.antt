@@ -11,7 +11,7 @@ use Rattle.vfork_exec.specs.declared.family.State.TheVariants.{Ready}
 use Rattle.vfork_exec.specs.declared.family.Ended.{Ended}
 use Rattle.vfork_exec.specs.Keyed.{find, change}
 use Rattle.vfork_exec.proofs.Keyed.{falls_change, find_changed, find_beside_change}
-use Rattle.machine_world.specs.World.{Process, LiveSpace, Rest, World, pid_of, id_of}
+use Rattle.machine_world.specs.World.{Process, LiveSpace, Recording, Rest, World, pid_of, id_of}
 use Rattle.machine_world.specs.Families.{is_lent, sharing}
 use Rattle.machine_world.specs.Event.{counted, with_state, awake}
 use Rattle.machine_world.specs.Ages.{Follows, AreChanged, kept_calls, most_at_boot}
@@ -47,8 +47,8 @@ by_changed key f same x xs lives P k y found here away = elim (cases_eq k (key x
   | inr other ↦ away other (sym (find_beside_change key (key x) k other f same xs) ∙ found)
 ]
 
-abbrev pub moved_to : World → Process → Regs → Space → Rest → List Note → ℕ → World
-moved_to w p regs space rest notes events = record {
+abbrev pub moved_to : World → Process → Regs → Space → Rest → List Note → ℕ → Recording → World
+moved_to w p regs space rest notes events recording = record {
   procs = change pid_of p.pid (λ q. with_regs q regs) w.procs;
   ended = w.ended;
   spaces = change id_of p.space (λ s. with_own s space) w.spaces;
@@ -57,6 +57,7 @@ moved_to w p regs space rest notes events = record {
   rest = rest;
   notes = notes;
   events = events;
+  recording = recording;
 }
 
 -- what is outside of the spaces follows what it was, under these notes
@@ -138,7 +139,7 @@ module _ (w : World) (h : IsSound w) (pid : ℕ) (p : Process) (s : LiveSpace) (
   pub runs_first : runners p.space w.procs ≡ runner_of p ∷ map runner_of lenders
   runs_first = runners_sharing p.space w.procs ∙ ap (map runner_of) first
 
-  module _ (rest : Rest) (notes : List Note) (events : ℕ) (goes : Goes w rest notes) (regs : Regs) (space : Space) (is_space : IsSpace w.rest.pages space.maps)
+  module _ (rest : Rest) (notes : List Note) (events : ℕ) (recording : Recording) (goes : Goes w rest notes) (regs : Regs) (space : Space) (is_space : IsSpace w.rest.pages space.maps)
       (apart : AreApart (own_around.front ++ (space.maps ++ own_around.back))) (holds : HoldCopies rest.tree space) where
     by_pid : (P : Process → Type 0) (k : ℕ) (q : Process) → find pid_of k (change pid_of p.pid (λ x. with_regs x regs) w.procs) ≡ Some q
         → P (with_regs p regs) → (k ≢ p.pid → find pid_of k w.procs ≡ Some q → P q) → P q
@@ -153,7 +154,7 @@ module _ (w : World) (h : IsSound w) (pid : ℕ) (p : Process) (s : LiveSpace) (
         by_changed id_of (λ x. with_own x space) (λ x. refl) s w.spaces (ap (λ (n : ℕ). find id_of n w.spaces) number ∙ has) P i l
         (ap (λ (n : ℕ). find id_of i (change id_of n (λ x. with_own x space) w.spaces)) number ∙ found) here (λ other was. away was)
 
-    pub moved_sound : IsSound (moved_to w p regs space rest notes events)
+    pub moved_sound : IsSound (moved_to w p regs space rest notes events recording)
     moved_sound = record {
       some = subst (λ (n : ℕ). 1 ≤ n) (sym goes.pages) h.some;
       most = subst (λ (n : ℕ). n ≤ 16384) (sym goes.pages) h.most;

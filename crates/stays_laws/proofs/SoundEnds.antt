@@ -6,7 +6,7 @@ use Rattle.call_log.specs.Notes.{Note}
 use Rattle.vfork_exec.specs.declared.family.State.TheVariants.{Ready}
 use Rattle.vfork_exec.specs.declared.family.Ended.{Ended}
 use Rattle.vfork_exec.specs.Keyed.{find}
-use Rattle.machine_world.specs.World.{Process, LiveSpace, Rest, World, pid_of, id_of}
+use Rattle.machine_world.specs.World.{Process, LiveSpace, Recording, Rest, World, pid_of, id_of}
 use Rattle.machine_world.specs.Families.{borrows, spaces_left, all_left_by}
 use Rattle.machine_world.proofs.States.{find_has}
 use Rattle.machine_world.proofs.Chains.{owner_alone, chains_left, falls_left}
@@ -16,8 +16,8 @@ use Rattle.stays_laws.proofs.Moved.{Goes, copies_stay, given_still, own_pid, own
 use Rattle.stays_laws.proofs.Runners.{runners_sharing, in_runners}
 use Rattle.stays_laws.proofs.SpacesLeft.{space_lent, falls_spaces, space_was, space_beside, apart_left, found_left}
 
-abbrev pub left_to : World → Process → List Ended → Rest → List Note → ℕ → World
-left_to w p ended rest notes events = record {
+abbrev pub left_to : World → Process → List Ended → Rest → List Note → ℕ → Recording → World
+left_to w p ended rest notes events recording = record {
   procs = all_left_by p w.procs;
   ended = ended;
   spaces = spaces_left p w.procs w.spaces;
@@ -26,6 +26,7 @@ left_to w p ended rest notes events = record {
   rest = rest;
   notes = notes;
   events = events;
+  recording = recording;
 }
 
 module _ (w : World) (h : IsSound w) (pid : ℕ) (p : Process) (s : LiveSpace) (lives : find pid_of pid w.procs ≡ Some p) (ready : p.state ≡ Ready) (has : find id_of p.space w.spaces ≡ Some s) where
@@ -45,8 +46,8 @@ module _ (w : World) (h : IsSound w) (pid : ℕ) (p : Process) (s : LiveSpace) (
     | inr owns ↦ subst IsSome (sym (space_beside p w.procs w.spaces q.space (other_space owns k q found other))) (h.homes k q found)
   ]
 
-  pub left_sound : (ended : List Ended) (rest : Rest) (notes : List Note) (events : ℕ) → Goes w rest notes → IsSound (left_to w p ended rest notes events)
-  left_sound ended rest notes events goes = record {
+  pub left_sound : (ended : List Ended) (rest : Rest) (notes : List Note) (events : ℕ) (recording : Recording) → Goes w rest notes → IsSound (left_to w p ended rest notes events recording)
+  left_sound ended rest notes events recording goes = record {
     some = subst (λ (n : ℕ). 1 ≤ n) (sym goes.pages) h.some;
     most = subst (λ (n : ℕ). n ≤ 16384) (sym goes.pages) h.most;
     pids = falls_left w.procs p w.next_pid h.pids;

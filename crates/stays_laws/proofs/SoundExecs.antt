@@ -9,7 +9,7 @@ use Rattle.vfork_exec.specs.Keyed.{find}
 use Rattle.vfork_exec.proofs.Keyed.{find_head}
 use Rattle.flat_loader.specs.Original.{block_pages}
 use Rattle.flat_loader.specs.Begin.{Loading, begin_space}
-use Rattle.machine_world.specs.World.{Process, LiveSpace, Rest, World, pid_of, id_of}
+use Rattle.machine_world.specs.World.{Process, LiveSpace, Recording, Rest, World, pid_of, id_of}
 use Rattle.machine_world.specs.Families.{let_go, spaces_left}
 use Rattle.machine_world.specs.Free.{free}
 use Rattle.machine_world.specs.Found.{address_of, taken}
@@ -23,8 +23,8 @@ use Rattle.stays_laws.proofs.SpacesLeft.{falls_spaces, space_was, apart_left, fo
 use Rattle.stays_laws.proofs.SoundEnds.{home_left}
 use Rattle.stays_laws.proofs.SoundBegins.{block_space, block_holds, block_apart, some_pages, old_space, none_new, pages_free}
 
-abbrev pub exec_to : World → Process → Loading → Rest → List Note → ℕ → World
-exec_to w p l rest notes events = record (with_exec w p l) { rest = rest; notes = notes; events = events }
+abbrev pub exec_to : World → Process → Loading → Rest → List Note → ℕ → Recording → World
+exec_to w p l rest notes events recording = record (with_exec w p l) { rest = rest; notes = notes; events = events; recording = recording }
 
 module _ (w : World) (h : IsSound w) (pid : ℕ) (p : Process) (s : LiveSpace) (lives : find pid_of pid w.procs ≡ Some p) (ready : p.state ≡ Ready) (has : find id_of p.space w.spaces ≡ Some s)
     (page : ℕ) (l : Loading) (is : l.block ≡ address_of page) (chosen : taken w (block_pages l.original) (free w) ≡ Some page) where
@@ -62,8 +62,8 @@ module _ (w : World) (h : IsSound w) (pid : ℕ) (p : Process) (s : LiveSpace) (
         (subst IsSome (sym (find_head id_of r.0.space its others false (ne_eqb w.loads r.0.space (λ e. old_space w h k r.0 r.1 (sym e))))) old))
   ]
 
-  pub exec_sound : (rest : Rest) (notes : List Note) (events : ℕ) → Goes w rest notes → IsSound (exec_to w p l rest notes events)
-  exec_sound rest notes events goes = record {
+  pub exec_sound : (rest : Rest) (notes : List Note) (events : ℕ) (recording : Recording) → Goes w rest notes → IsSound (exec_to w p l rest notes events recording)
+  exec_sound rest notes events recording goes = record {
     some = subst (λ (n : ℕ). 1 ≤ n) (sym goes.pages) h.some;
     most = subst (λ (n : ℕ). n ≤ 16384) (sym goes.pages) h.most;
     pids = falls_exec w p l w.next_pid h.pids;

@@ -8,7 +8,7 @@ use Rattle.vfork_exec.specs.declared.family.State.TheVariants.{Ready}
 use Rattle.vfork_exec.specs.Keyed.{find}
 use Rattle.vfork_exec.proofs.Keyed.{find_head}
 use Rattle.fd_tables.specs.Changes.{with_copy}
-use Rattle.machine_world.specs.World.{Process, LiveSpace, World, pid_of, id_of}
+use Rattle.machine_world.specs.World.{Process, LiveSpace, Recording, World, pid_of, id_of}
 use Rattle.machine_world.specs.Asks.{Ask, with_files}
 use Rattle.machine_world.specs.Ages.{kept_calls}
 use Rattle.machine_world.specs.Event.{ask_of, child_of, with_child}
@@ -21,8 +21,8 @@ module _ (w : World) (h : IsSound w) (pid : ℕ) (p : Process) (s : LiveSpace) (
   abbrev a : Ask
   a = ask_of w p s.space bytes
 
-  abbrev pub forked_to : List Note → ℕ → World
-  forked_to notes events = record (with_child w a) { notes = notes; events = events }
+  abbrev pub forked_to : List Note → ℕ → Recording → World
+  forked_to notes events recording = record (with_child w a) { notes = notes; events = events; recording = recording }
 
   -- a process of the world after that
   by_pid : (P : Process → Type 0) (k : ℕ) (q : Process) → find pid_of k (with_child w a).procs ≡ Some q → P (child_of w a) → P (parent_now w a p)
@@ -34,9 +34,9 @@ module _ (w : World) (h : IsSound w) (pid : ℕ) (p : Process) (s : LiveSpace) (
         (sym (find_head pid_of k (child_of w a) _ false other) ∙ found) parent (λ ne was. away q was)
   ]
 
-  pub forked_sound : (notes : List Note) (events : ℕ) → Goes w (with_files w.rest (with_copy w.rest.files p.table)) notes → kept_calls w.notes + 1 ≤ kept_calls notes
-      → IsSound (forked_to notes events)
-  forked_sound notes events goes more = record {
+  pub forked_sound : (notes : List Note) (events : ℕ) (recording : Recording) → Goes w (with_files w.rest (with_copy w.rest.files p.table)) notes → kept_calls w.notes + 1 ≤ kept_calls notes
+      → IsSound (forked_to notes events recording)
+  forked_sound notes events recording goes more = record {
     some = h.some;
     most = h.most;
     pids = falls_forked w a h.pids;

@@ -41,7 +41,8 @@ use Rattle.machine_world.specs.Asks.{Ask, arg, Reply, Row, replies, waits, gives
 use Rattle.machine_world.specs.PathCalls.{path_of}
 use Rattle.machine_world.specs.MapCalls.{all_maps, unmaps, munmap_row}
 use Rattle.machine_world.specs.Rows.{row}
-use Rattle.machine_world.specs.Event.{Outcome, went, strays, full, idle, number_of, args_of, replied, entry_of, exit_code, noted, put_got, stepped, trapped, ended, served, put, waited, answered, exited, is_exit, reaped, told_in, waitid_behind, waitid, forked, cloned, load_of, executed, exec_at, exec_program, exec_strings, exec, classed, asked, ask_of, answer, settled, effect, in_space, by_process, at_process, event}
+use Rattle.machine_world.specs.Recordings.{room_in}
+use Rattle.machine_world.specs.Event.{Outcome, went, strays, full, idle, number_of, args_of, replied, entry_of, exit_code, noted, put_got, room_for, stepped, trapped, ended, served, put, waited, answered, exited, is_exit, reaped, told_in, waitid_behind, waitid, forked, cloned, load_of, executed, exec_at, exec_program, exec_strings, exec, classed, asked, ask_of, answer, settled, effect, in_space, by_process, at_process, event}
 use Rattle.machine_world.specs.Turns.{Walk, End, traced, stays_at, turned, turn, seen_of, going_on, quantum_turn, turns}
 use Rattle.machine_world.specs.Ages.{AreChanged, Follows, most_changes, kept_calls, most_at_boot}
 use Rattle.machine_world.proofs.Kept.{Answers, kept_outside}
@@ -177,17 +178,17 @@ module _ (w : World) (h : IsSound w) (pid : ℕ) (p : Process) (s : LiveSpace) (
     leaves_served : (r : Reply) (m : Bytes) → Fits r → put_got r.space.bytes (writable_in r.space.maps) r.got ≡ Ok m → Leaves (served w the_ask r m)
     unfolding served
     leaves_served r m fits wrote =
-        leaves_if (has_room w.notes (weight_of bytes r.got)) (went _ _) full
-        (λ room. moved_sound w h pid p s lives ready has r.rest (call_note (entry_of the_ask r.value r.got) ∷ w.notes) (w.events + 1) (goes room) (replied p.regs r.value) (record r.space { bytes = m })
+        leaves_if (room_for w the_ask r) (went _ _) full
+        (λ room. moved_sound w h pid p s lives ready has r.rest (call_note (entry_of the_ask r.value r.got) ∷ w.notes) (w.events + 1) _ (goes room) (replied p.regs r.value) (record r.space { bytes = m })
         now.is_space now.apart now.holds) tt
       where
         counted_more : kept_calls (call_note (entry_of the_ask r.value r.got) ∷ w.notes) ≡ 1 + kept_calls w.notes
         counted_more = noted_more (call_note (entry_of the_ask r.value r.got)) w.notes
 
-        goes : has_room w.notes (weight_of bytes r.got) ≡ true → Goes w r.rest (call_note (entry_of the_ask r.value r.got) ∷ w.notes)
+        goes : room_for w the_ask r ≡ true → Goes w r.rest (call_note (entry_of the_ask r.value r.got) ∷ w.notes)
         goes room =
             goes_on r.rest (call_note (entry_of the_ask r.value r.got) ∷ w.notes) (most_at_boot + kept_calls w.notes + 1) fits.0 fits.1 (omega (arith, counted_more)) (omega (arith, counted_more))
-            (let left = room_left w.notes (weight_of bytes r.got) room in omega (arith, left, counted_more))
+            (let left = room_left w.notes _ room in omega (arith, left, counted_more))
 
         now : IsFit w.rest.pages front back r.rest.tree (record r.space { bytes = m })
         now =
@@ -234,13 +235,13 @@ module _ (w : World) (h : IsSound w) (pid : ℕ) (p : Process) (s : LiveSpace) (
     leaves_exited : Leaves (exited w the_ask)
     unfolding exited ended
     leaves_exited =
-        leaves_if (has_room w.notes (weight_of bytes [])) (went _ _) full
+        leaves_if (room_in w (weight_of bytes [])) (went _ _) full
         (λ room. (
-        let left = room_left w.notes (weight_of bytes []) room in
+        let left = room_left w.notes _ room in
         let one = noted_more (call_note (entry_of the_ask 0 [])) w.notes in
         let both = noted_more (end_note p.pid (Exit (exit_code the_ask))) (call_note (entry_of the_ask 0 []) ∷ w.notes) in
         left_sound w h pid p s lives ready has _ (with_storage w.rest (without_table (storage_of w.rest) p.table))
-        (end_note p.pid (Exit (exit_code the_ask)) ∷ call_note (entry_of the_ask 0 []) ∷ w.notes) (w.events + 1)
+        (end_note p.pid (Exit (exit_code the_ask)) ∷ call_note (entry_of the_ask 0 []) ∷ w.notes) (w.events + 1) _
         (table_gone (end_note p.pid (Exit (exit_code the_ask)) ∷ call_note (entry_of the_ask 0 []) ∷ w.notes) (omega (arith, one, both)) (omega (arith, left, one, both))))) tt
 
     -- ---- a child
@@ -248,11 +249,11 @@ module _ (w : World) (h : IsSound w) (pid : ℕ) (p : Process) (s : LiveSpace) (
     leaves_forked : Leaves (forked w the_ask)
     unfolding forked
     leaves_forked =
-        leaves_if (has_room w.notes (weight_of bytes [])) (went _ _) full
+        leaves_if (room_in w (weight_of bytes [])) (went _ _) full
         (λ room. (
-        let left = room_left w.notes (weight_of bytes []) room in
+        let left = room_left w.notes _ room in
         let one = noted_more (call_note (entry_of the_ask w.next_pid [])) w.notes in
-        forked_sound w h pid p s lives ready has bytes (call_note (entry_of the_ask w.next_pid []) ∷ w.notes) (w.events + 1)
+        forked_sound w h pid p s lives ready has bytes (call_note (entry_of the_ask w.next_pid []) ∷ w.notes) (w.events + 1) _
         (goes_on (with_files w.rest (with_copy w.rest.files p.table)) (call_note (entry_of the_ask w.next_pid []) ∷ w.notes) (most_at_boot + kept_calls w.notes) refl
         (follows_itself w.rest.tree, h.changes) (omega (arith, one)) (omega (arith, one)) (omega (arith, left, one)))
         (omega (arith, one)))) tt
@@ -268,13 +269,13 @@ module _ (w : World) (h : IsSound w) (pid : ℕ) (p : Process) (s : LiveSpace) (
     leaves_executed : (index page : ℕ) (l : Loading) → l.block ≡ address_of page → taken w (block_pages l.original) (free w) ≡ Some page → Leaves (executed w the_ask index l)
     unfolding executed
     leaves_executed index page l is chosen =
-        leaves_if (has_room w.notes (weight_of bytes [])) (went _ _) full
+        leaves_if (room_in w (weight_of bytes [])) (went _ _) full
         (λ room. (
-        let left = room_left w.notes (weight_of bytes []) room in
+        let left = room_left w.notes _ room in
         let one = noted_more (call_note (entry_of the_ask 0 [])) w.notes in
         let both = noted_more (load_of p index l) (call_note (entry_of the_ask 0 []) ∷ w.notes) in
         exec_sound w h pid p s lives ready has page l is chosen (with_storage w.rest (exec_closed (storage_of w.rest) p.table))
-        (load_of p index l ∷ call_note (entry_of the_ask 0 []) ∷ w.notes) (w.events + 1)
+        (load_of p index l ∷ call_note (entry_of the_ask 0 []) ∷ w.notes) (w.events + 1) _
         (goes_on (with_storage w.rest (exec_closed (storage_of w.rest) p.table)) (load_of p index l ∷ call_note (entry_of the_ask 0 []) ∷ w.notes) (most_at_boot + kept_calls w.notes) refl
         (exec_ages (storage_of w.rest) p.table (most_at_boot + kept_calls w.notes) h.changes) (omega (arith, one, both)) (omega (arith, one, both)) (omega (arith, left, one, both))))) tt
 
@@ -336,11 +337,11 @@ module _ (w : World) (h : IsSound w) (pid : ℕ) (p : Process) (s : LiveSpace) (
       let now =
       fit_later w.rest.pages (front w h pid p s lives ready has) (back w h pid p s lives ready has) s.space (record s.space { bytes = bytes }) w.rest.tree w.rest.tree refl (follows_itself w.rest.tree)
       (λ addr locked. (keeps p.regs regs s.space.bytes bytes (writable_in s.space.maps) is).unwritable addr locked) (fit w h pid p s lives ready has) in
-      moved_sound w h pid p s lives ready has w.rest w.notes (w.events + 1)
+      moved_sound w h pid p s lives ready has w.rest w.notes (w.events + 1) _
       (record { pages = refl; follows = follows_itself w.rest.tree; changes = h.changes; more = omega arith; calls = h.calls }) regs (record s.space { bytes = bytes }) now.is_space now.apart now.holds
   leaves_effect (trap signal) is =
       leaves_settled (trapped w p signal)
-      (left_sound w h pid p s lives ready has _ (with_storage w.rest (without_table (storage_of w.rest) p.table)) (end_note p.pid (Signal signal) ∷ w.notes) (w.events + 1)
+      (left_sound w h pid p s lives ready has _ (with_storage w.rest (without_table (storage_of w.rest) p.table)) (end_note p.pid (Signal signal) ∷ w.notes) (w.events + 1) _
       (table_gone w h pid p s lives ready has (end_note p.pid (Signal signal) ∷ w.notes) (omega (arith, noted_more (end_note p.pid (Signal signal)) w.notes))
       (let few = h.calls in omega (arith, few, noted_more (end_note p.pid (Signal signal)) w.notes))))
   leaves_effect (refused access) is = tt

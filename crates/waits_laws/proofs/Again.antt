@@ -5,7 +5,7 @@ use Rattle.byte_words.specs.ByteMap.{Bytes}
 use Rattle.call_log.specs.declared.errno.Errno.{Errno}
 use Rattle.call_log.specs.declared.errno.Errno.TheVariants.{Echild, Einval, Eagain, Enomem, E2big, Enametoolong}
 use Rattle.call_log.specs.Errno.{refusal}
-use Rattle.call_log.specs.Notes.{Written, weight_of, has_room}
+use Rattle.call_log.specs.Notes.{Written, weight_of}
 use Rattle.call_log.specs.Strings.{ProgramStrings, program_strings}
 use Rattle.call_log.specs.Sent.{Span, has_zero, sent}
 use Rattle.mmap_rules.specs.Space.{Space, writable_in}
@@ -30,7 +30,8 @@ use Rattle.machine_world.specs.Asks.{Ask, Reply, Row, replies, waits, arg, gives
 use Rattle.machine_world.specs.PathCalls.{path_of}
 use Rattle.machine_world.specs.FamilyCalls.{who_of, may_wait, waitid_fault, child_info, no_info, info_at, vfork_flags, runs}
 use Rattle.machine_world.specs.Rows.{row}
-use Rattle.machine_world.specs.Event.{Outcome, went, strays, full, idle, number_of, args_of, put_got, ask_of, served, put, waited, answered, exited, is_exit, reaped, told_in, waitid_behind, waitid, forked, cloned, executed, exec_at, exec_program, exec_strings, exec, classed, asked, answer}
+use Rattle.machine_world.specs.Recordings.{room_in}
+use Rattle.machine_world.specs.Event.{Outcome, went, strays, full, idle, number_of, args_of, put_got, ask_of, room_for, served, put, waited, answered, exited, is_exit, reaped, told_in, waitid_behind, waitid, forked, cloned, executed, exec_at, exec_program, exec_strings, exec, classed, asked, answer}
 use Rattle.waits_laws.proofs.RowAgain.{row_again}
 
 -- ---- how many events an outcome is in its space
@@ -48,7 +49,7 @@ one_if false x y hx hy = hy
 module _ (w : World) (a : Ask) where
   one_served : (r : Reply) (m : Bytes) → events_of (served w a r m) ≡ 1
   unfolding served
-  one_served r m = one_if (has_room w.notes (weight_of a.sent r.got)) (went _ _) full refl refl
+  one_served r m = one_if (room_for w a r) (went _ _) full refl refl
 
   one_put : (r : Reply) (o : Result Bytes Span) → events_of (put w a r o) ≡ 1
   one_put r (Ok m) = one_served r m
@@ -65,11 +66,11 @@ module _ (w : World) (a : Ask) where
 
   one_exited : events_of (exited w a) ≡ 1
   unfolding exited
-  one_exited = one_if (has_room w.notes (weight_of a.sent [])) (went _ _) full refl refl
+  one_exited = one_if (room_in w (weight_of a.sent [])) (went _ _) full refl refl
 
   one_forked : events_of (forked w a) ≡ 1
   unfolding forked
-  one_forked = one_if (has_room w.notes (weight_of a.sent [])) (went _ _) full refl refl
+  one_forked = one_if (room_in w (weight_of a.sent [])) (went _ _) full refl refl
 
   one_cloned : events_of (cloned w a) ≡ 1
   unfolding cloned
@@ -81,7 +82,7 @@ module _ (w : World) (a : Ask) where
     one_page : (f : Found) (o : Option ℕ) → events_of (exec_at w a f s o) ≡ 1
     unfolding executed
     one_page f None = one_refuses Enomem
-    one_page f (Some page) = one_if (has_room w.notes (weight_of a.sent [])) (went _ _) full refl refl
+    one_page f (Some page) = one_if (room_in w (weight_of a.sent [])) (went _ _) full refl refl
 
     one_program : (o : Result Found Errno) → events_of (exec_program w a s o) ≡ 1
     one_program (Ok f) =

@@ -7,7 +7,7 @@ use Rattle.call_log.specs.declared.how.How.TheVariants.{Exit}
 use Rattle.call_log.specs.declared.errno.Errno.{Errno}
 use Rattle.call_log.specs.declared.errno.Errno.TheVariants.{Einval, Eagain, Enomem, E2big, Enametoolong}
 use Rattle.call_log.specs.Errno.{refusal}
-use Rattle.call_log.specs.Notes.{Written, call_note, weight_of, has_room}
+use Rattle.call_log.specs.Notes.{Written, call_note, weight_of}
 use Rattle.call_log.specs.Strings.{ProgramStrings, program_strings}
 use Rattle.call_log.specs.Sent.{Span, has_zero}
 use Rattle.flat_loader.specs.Original.{block_pages}
@@ -27,7 +27,8 @@ use Rattle.machine_world.specs.Asks.{Ask, Reply, Row, replies, waits, arg, gives
 use Rattle.machine_world.specs.PathCalls.{path_of}
 use Rattle.machine_world.specs.FamilyCalls.{who_of, waitid_fault, child_info, no_info, info_at, vfork_flags, runs}
 use Rattle.machine_world.specs.Rows.{row}
-use Rattle.machine_world.specs.Event.{Outcome, went, full, with_space, counted, noted, ended, replied, put_got, entry_of, served, put, waited, answered, exit_code, exited, is_exit, reaped, told_in, waitid_behind, waitid, with_child, forked, cloned, with_exec, load_of, executed, exec_at, exec_program, exec_strings, exec, classed}
+use Rattle.machine_world.specs.Recordings.{room_in}
+use Rattle.machine_world.specs.Event.{Outcome, went, full, counted_in, noted, ended, put_got, entry_of, replied_world, room_for, served, put, waited, answered, exit_code, exited, is_exit, reaped, told_in, waitid_behind, waitid, with_child, forked, cloned, with_exec, load_of, executed, exec_at, exec_program, exec_strings, exec, classed}
 use Rattle.machine_world.proofs.Kept.{Answers}
 use Rattle.machine_world.proofs.ByEvents.{Went, loading_of}
 
@@ -36,15 +37,15 @@ abbrev pub Told : World → Ask → List Ended → Type 0
 Told w a ended = (ended ≡ w.ended) ⊎ ((who : Who) × (ended ≡ without_first a.process.pid who w.ended))
 
 abbrev pub replied_in : World → Ask → List Ended → Reply → Bytes → World
-replied_in w a ended r m = noted (call_note (entry_of a r.value r.got)) (counted (with_space (record w { ended = ended; rest = r.rest }) a.process (replied a.process.regs r.value) (record r.space { bytes = m })))
+replied_in w a ended r m = replied_world (record w { ended = ended; rest = r.rest }) a r m
 
 -- P holds behind each change, where Q holds of what the row leaves outside of the space
 pub record Behind (P : World → Type 0) (Q : Rest → Type 0) (w : World) (a : Ask) : Type 0 where
   pub reply : (ended : List Ended) (r : Reply) (m : Bytes) → Told w a ended → Q r.rest → P (replied_in w a ended r m)
-  pub exit : P (ended (noted (call_note (entry_of a 0 [])) (counted w)) a.process (Exit (exit_code a)))
-  pub fork : P (noted (call_note (entry_of a w.next_pid [])) (counted (with_child w a)))
+  pub exit : P (ended (noted (call_note (entry_of a 0 [])) (counted_in a.process.space w)) a.process (Exit (exit_code a)))
+  pub fork : P (noted (call_note (entry_of a w.next_pid [])) (counted_in a.process.space (with_child w a)))
   pub load : (f : Found) (s : ProgramStrings) (page : ℕ)
-      → P (noted (load_of a.process f.index (loading_of f s page)) (noted (call_note (entry_of a 0 [])) (counted (with_exec w a.process (loading_of f s page)))))
+      → P (noted (load_of a.process f.index (loading_of f s page)) (noted (call_note (entry_of a 0 [])) (counted_in a.process.space (with_exec w a.process (loading_of f s page)))))
 
 -- an event in its space, and so no wait
 abbrev pub Happens : (World → Type 0) → Outcome → Type 0
@@ -57,7 +58,7 @@ happens_if P false x y hx hy = hy
 module _ (P : World → Type 0) (Q : Rest → Type 0) (w : World) (a : Ask) (each : Behind P Q w a) (same : Q a.rest) where
   by_served : (ended : List Ended) (r : Reply) (m : Bytes) → Told w a ended → Q r.rest → Happens P (served (record w { ended = ended }) a r m)
   unfolding served
-  by_served ended r m told holds = happens_if P (has_room w.notes (weight_of a.sent r.got)) (went _ _) full (λ one. each.reply ended r m told holds) tt
+  by_served ended r m told holds = happens_if P (room_for w a r) (went _ _) full (λ one. each.reply ended r m told holds) tt
 
   by_put : (ended : List Ended) (r : Reply) (o : Result Bytes Span) → Told w a ended → Q r.rest → Happens P (put (record w { ended = ended }) a r o)
   by_put ended r (Ok m) told holds = by_served ended r m told holds
@@ -80,7 +81,7 @@ module _ (P : World → Type 0) (Q : Rest → Type 0) (w : World) (a : Ask) (eac
 
   by_exited : Happens P (exited w a)
   unfolding exited
-  by_exited = happens_if P (has_room w.notes (weight_of a.sent [])) (went _ _) full (λ one. each.exit) tt
+  by_exited = happens_if P (room_in w (weight_of a.sent [])) (went _ _) full (λ one. each.exit) tt
 
   by_reaped : (who : Who) (o : Result Waited Errno) → Happens P (reaped w a who o)
   by_reaped who (Ok (Child pid how)) = by_gives (without_first a.process.pid who w.ended) 0 (info_at (arg a 2) (child_info pid how)) (inr (who, refl))
@@ -98,7 +99,7 @@ module _ (P : World → Type 0) (Q : Rest → Type 0) (w : World) (a : Ask) (eac
 
   by_forked : Happens P (forked w a)
   unfolding forked
-  by_forked = happens_if P (has_room w.notes (weight_of a.sent [])) (went _ _) full (λ one. each.fork) tt
+  by_forked = happens_if P (room_in w (weight_of a.sent [])) (went _ _) full (λ one. each.fork) tt
 
   by_cloned : Happens P (cloned w a)
   unfolding cloned
@@ -110,7 +111,7 @@ module _ (P : World → Type 0) (Q : Rest → Type 0) (w : World) (a : Ask) (eac
     by_page : (f : Found) (o : Option ℕ) → Happens P (exec_at w a f s o)
     unfolding executed
     by_page f None = by_refuses Enomem
-    by_page f (Some page) = happens_if P (has_room w.notes (weight_of a.sent [])) (went _ _) full (λ one. each.load f s page) tt
+    by_page f (Some page) = happens_if P (room_in w (weight_of a.sent [])) (went _ _) full (λ one. each.load f s page) tt
 
     by_program : (o : Result Found Errno) → Happens P (exec_program w a s o)
     by_program (Ok f) =

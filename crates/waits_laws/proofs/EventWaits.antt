@@ -24,7 +24,7 @@ use Rattle.machine_world.specs.World.{Process, LiveSpace, World, pid_of, id_of}
 use Rattle.machine_world.specs.Families.{MayRun, has_child, AreChains}
 use Rattle.machine_world.specs.Asks.{Ask, Row, replies, waits}
 use Rattle.machine_world.specs.Rows.{row}
-use Rattle.machine_world.specs.Event.{Trace, went, with_state, with_space, counted, number_of, args_of, replied, ask_of, stepped, trapped, ended, waited, classed, asked, answer, awake, effect, event}
+use Rattle.machine_world.specs.Event.{Trace, went, with_state, with_space, counted, counted_in, number_of, args_of, replied, ask_of, stepped, trapped, ended, waited, classed, asked, answer, awake, effect, event}
 use Rattle.machine_world.specs.Others.{LeavesOthers}
 use Rattle.machine_world.proofs.Awake.{roused_all, woke, all_ready, all_waiting, all_lent, all_roused_is, find_roused, not_awake, settled_of}
 use Rattle.machine_world.proofs.Kept.{Answers}
@@ -277,13 +277,13 @@ module _ (w : World) (order : IsOrdered w) (well : WaitsWell w) (p : Process) (s
     unfolding trapped ended
     settled_trap signal v u goes is =
         let moves = moves_left w p falls lives ready has counts (Signal signal) in
-        let same : counted (ended w p (Signal signal)) ≡ v = cc in
-        subst (Settled w p) (sym (is ∙ ap awake (sym same))) (settled_awake w p (counted (ended w p (Signal signal))) moves)
+        let same : counted_in p.space (ended w p (Signal signal)) ≡ v = cc in
+        subst (Settled w p) (sym (is ∙ ap awake (sym same))) (settled_awake w p (counted_in p.space (ended w p (Signal signal))) moves)
 
     settled_step : (regs : Regs) (bytes : Bytes) → stepped w p s.space regs bytes ≡ went now t → Settled w p now
     unfolding stepped
     settled_step regs bytes is =
-        let then : World = counted (with_space w p regs (record s.space { bytes = bytes })) in
+        let then : World = counted_in p.space (with_space w p regs (record s.space { bytes = bytes })) in
         let moves = moves_regs w p falls lives ready has counts regs w.ended w.rest.files (λ own who none. none) (shows_itself p.table w.rest.files) has in
         let same : then ≡ now = cc in
         subst (Settled w p) same (settled_plain then order.unmarked moves)

@@ -1,0 +1,1 @@
+use Rattle.recordings.proofs.recording.Recording.bring.Goals as goal

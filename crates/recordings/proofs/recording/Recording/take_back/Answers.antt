@@ -1,0 +1,1 @@
+use Rattle.recordings.proofs.recording.Recording.take_back.Goals as goal

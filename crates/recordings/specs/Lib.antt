@@ -1,0 +1,2 @@
+-- Inside  the fields of a recording as its value
+pub mod Inside
