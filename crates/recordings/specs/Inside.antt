@@ -1,5 +1,5 @@
 -- The fields of a recording as its value.
-use Rattle.std.specs.Prelude.{◌≡◌, ℕ, option_map, map}
+use Rattle.std.specs.Prelude.{◌≡◌, option_map}
 use Rattle.flat_loader.specs.Frame.{texts}
 use Rattle.machine_world.specs.World.{Launch, Recording}
 use Rattle.machine_world.specs.Recordings.{with_brought}
