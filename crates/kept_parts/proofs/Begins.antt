@@ -42,9 +42,10 @@ unfolding sharing
 no_chain i = tt
 
 -- whatever stands in the log and on the console
-begins_with : (pages : ℕ) (tree : Inodes) (files : OpenFiles) (notes : List Note) (console : List ℕ) → 1 ≤ pages → pages ≤ 16384 → Regular (record (nothing_yet pages tree files) { notes = notes; console = console })
+begins_with : (pages : ℕ) (tree : Inodes) (files : OpenFiles) (keep : ℕ) (notes : List Note) (console : List ℕ) → 1 ≤ pages → pages ≤ 16384 →
+    Regular (record (nothing_yet pages tree files keep) { notes = notes; console = console })
 unfolding find
-begins_with pages tree files notes console some most =
+begins_with pages tree files keep notes console some most =
     let v : Region = record { first = 0; pages = 0; source = Own; uses = 0 } in
     let len : length (replicate pages v) ≡ pages = length-replicate pages v in
     let bytes = length-replicate {A = ℕ} (4096 * pages) 0 in
@@ -65,6 +66,6 @@ begins_with pages tree files notes console some most =
       loads = omega arith;
     }
 
-pub sound_begins : (k : Kept) (pages : ℕ) (tree : Inodes) (files : OpenFiles) → 1 ≤ pages → pages ≤ 16384 → AreChanged most_at_boot tree → k ≡ nothing_yet pages tree files → IsRegular k
-sound_begins k pages tree files some most changed is =
-    rw is (begins_with pages tree files [] [] some most, copies_begin pages (replicate (4096 * pages) 0) tree changed)
+pub sound_begins : (k : Kept) (pages : ℕ) (tree : Inodes) (files : OpenFiles) (keep : ℕ) → 1 ≤ pages → pages ≤ 16384 → AreChanged most_at_boot tree → k ≡ nothing_yet pages tree files keep → IsRegular k
+sound_begins k pages tree files keep some most changed is =
+    rw is (begins_with pages tree files keep [] [] some most, copies_begin pages (replicate (4096 * pages) 0) tree changed)

@@ -19,7 +19,7 @@ use Rattle.flat_loader.specs.declared.loading.Loaded.{Loaded}
 use Rattle.flat_loader.specs.declared.loading.LoadRefusal.{LoadRefusal}
 use Rattle.flat_loader.specs.declared.loading.LoadRefusal.TheVariants.{E2big, NoRun, Memory}
 use Rattle.machine_world.specs.World.{World}
-use Rattle.machine_world.specs.Recordings.{nothing_recorded}
+use Rattle.machine_world.specs.Recordings.{launched}
 use Rattle.machine_world.specs.Boot.{StartLine, BootFault, args_too_big, begun, Found, placed, fitting}
 use Rattle.kept_parts.specs.declared.start.StartRefusal.{StartRefusal}
 use Rattle.kept_parts.specs.declared.start.StartRefusal.TheVariants as refusal
@@ -31,15 +31,19 @@ use Rattle.kept_parts.specs.Regular.{Regular, most_first}
 use Rattle.kept_parts.specs.Copies.{CopiesHold}
 use Rattle.kept_parts.specs.Stands.{About, process_of, world_of}
 use Rattle.kept_parts.specs.Starts.{Started, Starts}
+use Rattle.kept_parts.specs.Recorded.{program_recorded}
+use Rattle.kept_parts.proofs.Recorded.{regular_recorded}
 use Rattle.kept_parts.proofs.CopiesStay.{copies_loaded, copies_noted, load_counts}
 use Rattle.kept_parts.proofs.Started.{with_one, regular_with}
 use Rattle.kept_parts.proofs.Loaded.{taken_is, Placed, placed_by, fits, spaces_begin}
 
 -- program number `index` in the block at a page of memory
 abbrev pub with_program : Kept → ℕ → Values → List (List ℕ) → ℕ → List ℕ → Kept
-with_program k index f args page mem = with_one k (block_region page (block_pages (flat_original f))) (held_begin (length k.regions) (page_loading f page args []))
+with_program k index f args page mem = record (with_one k (block_region page (block_pages (flat_original f))) (held_begin (length k.regions) (page_loading f page args []))
     (begin_regs (page_loading f page args [])) (free_number k.files.tables) mem (with_table k.files)
-    (load_note (record { pid = k.procs.next_pid; program = index; base = page_address page; pages = block_pages (flat_original f) }) ∷ k.notes)
+    (load_note (record { pid = k.procs.next_pid; program = index; base = page_address page; pages = block_pages (flat_original f) }) ∷ k.notes)) {
+      recording = launched (length k.spaces) k.procs.next_pid (page_loading f page args []) k.recording;
+    }
 
 module _ (k : Kept) (regular : Regular k) (f : Values) (args : List (List ℕ)) (page : ℕ) where
   abbrev loading : Loading
@@ -50,9 +54,9 @@ module _ (k : Kept) (regular : Regular k) (f : Values) (args : List (List ℕ)) 
 
   pub regular_program : (index : ℕ) (mem : List ℕ) → Placed k regular f args [] page mem → count k.procs < most_entries → k.procs.next_pid < most_first → length k.spaces < most_first → Regular (with_program k index f args page mem)
   regular_program index mem loaded few pids spaces =
-      regular_with k (block_region page (block_pages (flat_original f))) held (begin_regs loading) (free_number k.files.tables) mem (with_table k.files)
+      regular_recorded _ (regular_with k (block_region page (block_pages (flat_original f))) held (begin_regs loading) (free_number k.files.tables) mem (with_table k.files)
       (load_note (record { pid = k.procs.next_pid; program = index; base = page_address page; pages = block_pages (flat_original f) }) ∷ k.notes)
-      regular (fits k regular f args [] page loaded.free) loaded.len few pids spaces
+      regular (fits k regular f args [] page loaded.free) loaded.len few pids spaces) (launched (length k.spaces) k.procs.next_pid loading k.recording)
 
   world_begins : (a : About) (index : ℕ) (mem : List ℕ) → Placed k regular f args [] page mem → begun (world_of a k) index loading ≡ world_of a (with_program k index f args page mem)
   unfolding world_of
@@ -69,11 +73,11 @@ module _ (k : Kept) (regular : Regular k) (f : Values) (args : List (List ℕ)) 
       tree = k.tree;
       files = with_table k.files;
       console = k.console;
-      keep = 0;
+      keep = k.recording.keep;
     };
     notes = load_note (record { pid = k.procs.next_pid; program = index; base = page_address page; pages = block_pages (flat_original f) }) ∷ k.notes;
     events = a.events;
-    recording = nothing_recorded 0;
+    recording = launched (length k.spaces) k.procs.next_pid loading k.recording;
   }
 
 -- ---- which run is taken
@@ -89,8 +93,8 @@ module _ (a : About) (k : Kept) (regular : Regular k) (kind : Kind) (s : StartLi
 
 -- ---- what the start leaves
 
-pub same_parts : (k n : Kept) → n.mem ≡ k.mem → n.regions ≡ k.regions → n.starts ≡ k.starts → n.spaces ≡ k.spaces → n.tree ≡ k.tree → n.files ≡ k.files → n.procs ≡ k.procs → n.notes ≡ k.notes → n.console ≡ k.console → n ≡ k
-same_parts k n mem regions starts spaces tree files procs notes console = λ i. record {
+pub same_parts : (k n : Kept) → n.mem ≡ k.mem → n.regions ≡ k.regions → n.starts ≡ k.starts → n.spaces ≡ k.spaces → n.tree ≡ k.tree → n.files ≡ k.files → n.procs ≡ k.procs → n.notes ≡ k.notes → n.console ≡ k.console → n.recording ≡ k.recording → n ≡ k
+same_parts k n mem regions starts spaces tree files procs notes console recorded = λ i. record {
   tree = tree i;
   files = files i;
   mem = mem i;
@@ -100,6 +104,7 @@ same_parts k n mem regions starts spaces tree files procs notes console = λ i. 
   procs = procs i;
   notes = notes i;
   console = console i;
+  recording = recorded i;
 }
 
 starts : (k n : Kept) (regular : Regular k) (kind : Kind) (index : ℕ) (f : Values) (args : List (List ℕ)) (page : ℕ) (mem : List ℕ)
@@ -145,9 +150,9 @@ refuses k n regular kind index f args Memory why all = record {
 -- the same by what is known of a call
 pub refuses_by : (old k n : Kept) (r : Result ⊤ StartRefusal) → k ≡ old → Regular k → (kind : Kind) (index : ℕ) (f : Values) (args : List (List ℕ)) (e : LoadRefusal)
     → Loads kind f args [] k.regions k.mem n.regions n.mem (Err e) → n.starts ≡ k.starts → n.spaces ≡ k.spaces → n.tree ≡ k.tree → n.files ≡ k.files → n.procs ≡ k.procs → n.notes ≡ k.notes → n.console ≡ k.console
-    → r ≡ Err (refusal_of e) → Starts kind index (flat_original f) args old n r
-refuses_by old k n r view regular kind index f args e why starts spaces tree files procs notes console is =
-    rw (is, ← view) (refuses k n regular kind index f args e why (λ regions mem. same_parts k n mem regions starts spaces tree files procs notes console))
+    → n.recording ≡ k.recording → r ≡ Err (refusal_of e) → Starts kind index (flat_original f) args old n r
+refuses_by old k n r view regular kind index f args e why starts spaces tree files procs notes console recorded is =
+    rw (is, ← view) (refuses k n regular kind index f args e why (λ regions mem. same_parts k n mem regions starts spaces tree files procs notes console recorded))
 
 -- ---- what the calls left
 
@@ -173,8 +178,10 @@ pub begun_by : (k n : Kept) (kind : Kind) (index : ℕ) (f : Values) (args : Lis
     → (pid ≡ k.procs.next_pid) × (n.procs ≡ with_start k.procs (record { regs = loaded.regs; space = number; table = table }))
     → table ≡ free_number k.files.tables → n.tree ≡ k.tree → n.files ≡ with_table k.files
     → n.notes ≡ load_note (record { pid = pid; program = index; base = loaded.base; pages = loaded.pages }) ∷ k.notes
-    → n.console ≡ k.console → Begun k n kind index f args
-begun_by k n kind index f args loaded pid number table is starts spaces number_is procs table_is tree files notes console = record {
+    → n.console ≡ k.console
+    → n.recording ≡ program_recorded k.recording (length k.spaces) (record { stack = f.stack; base = loaded.base; pid = pid; args = args; env = [] })
+    → Begun k n kind index f args
+begun_by k n kind index f args loaded pid number table is starts spaces number_is procs table_is tree files notes console recorded = record {
   loaded = loaded;
   is = is;
   new = same_parts (with_program k index f args is.page n.mem) n refl is.regions starts
@@ -182,7 +189,8 @@ begun_by k n kind index f args loaded pid number table is starts spaces number_i
       tree files
       (procs.1 ∙ (λ i. with_start k.procs (record { regs = is.regs i; space = number_is i; table = table_is i })))
       (notes ∙ (λ i. load_note (record { pid = procs.0 i; program = index; base = is.base i; pages = is.pages i }) ∷ k.notes))
-      console;
+      console
+      (recorded ∙ (λ i. program_recorded k.recording (length k.spaces) (record { stack = f.stack; base = is.base i; pid = procs.0 i; args = args; env = [] })));
 }
 
 pub regular_by : (old k n : Kept) → k ≡ old → count old.procs < most_entries → old.procs.next_pid < most_first → length old.spaces < most_first → Regular k → (kind : Kind) (index : ℕ) (f : Values) (args : List (List ℕ))

@@ -6,7 +6,7 @@ use Rattle.bflt_format.specs.Values.{Values}
 use Rattle.call_log.specs.declared.errno.Errno.{Errno}
 use Rattle.call_log.specs.declared.errno.Errno.TheVariants.{Enoent, Eacces, E2big, Enomem, Enametoolong}
 use Rattle.call_log.specs.Errno.{refusal}
-use Rattle.call_log.specs.Notes.{weight_of, has_room}
+use Rattle.call_log.specs.Notes.{weight_of}
 use Rattle.call_log.specs.Sent.{has_zero}
 use Rattle.call_log.specs.Strings.{ProgramStrings, before_zero, program_strings}
 use Rattle.mem_files.specs.Inodes.{program_of}
@@ -30,6 +30,7 @@ use Rattle.kept_parts.specs.declared.effect.Effect.TheVariants.{Answer}
 use Rattle.kept_parts.specs.declared.served.Served.{Served}
 use Rattle.kept_parts.specs.declared.served.Served.TheVariants.{LogFull}
 use Rattle.kept_parts.specs.Kept.{Kept}
+use Rattle.kept_parts.specs.Recorded.{room_beside}
 use Rattle.kept_parts.specs.Flats.{original_of, AreFlats}
 use Rattle.kept_parts.specs.Families.{or_eacces, mark_at}
 use Rattle.kept_parts.specs.Stands.{About, world_of}
@@ -157,7 +158,7 @@ module _ (a : About) (k : Kept) (e : Entry Task) (h : Held) (call : Call) (is : 
 
   -- ---- a log without room, whichever way it goes
 
-  module _ (runs : RunsIn k call.pid e h) (room : has_room k.notes (length call.sent.items) ≡ false) where
+  module _ (runs : RunsIn k call.pid e h) (room : room_beside k (length call.sent.items) ≡ false) where
     abbrev Full : Outcome → Type 0
     Full o = Answered a o k k call.pid LogFull
 
@@ -167,7 +168,7 @@ module _ (a : About) (k : Kept) (e : Entry Task) (h : Held) (call : Call) (is : 
     executed_full : (index : ℕ) (l : Loading) → Full (executed (world_of a k) ask index l)
     unfolding executed world_of
     executed_full index l =
-        let none : has_room k.notes (weight_of call.sent.items []) ≡ false = ap (has_room k.notes) (add-zero (length call.sent.items)) ∙ room in
+        let none : room_beside k (weight_of call.sent.items []) ≡ false = ap (room_beside k) (add-zero (length call.sent.items)) ∙ room in
         rw none refl
 
     at_full : (f : Found) (s : ProgramStrings) (page : Option ℕ) → Full (exec_at (world_of a k) ask f s page)

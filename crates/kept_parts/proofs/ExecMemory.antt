@@ -8,7 +8,7 @@ use Rattle.page_runs.specs.declared.place.Kind.{Kind}
 use Rattle.call_log.specs.declared.errno.Errno.{Errno}
 use Rattle.call_log.specs.declared.errno.Errno.TheVariants.{E2big, Enomem}
 use Rattle.call_log.specs.Errno.{refusal}
-use Rattle.call_log.specs.Notes.{call_note, has_room}
+use Rattle.call_log.specs.Notes.{call_note}
 use Rattle.mmap_rules.specs.Held.{Held, page_address}
 use Rattle.region_watch.specs.Private.{only, physical}
 use Rattle.bflt_format.specs.Values.{Values}
@@ -37,6 +37,7 @@ use Rattle.kept_parts.specs.Stands.{About, later, process_of, world_of}
 use Rattle.kept_parts.specs.Serves.{Answered, Serves}
 use Rattle.kept_parts.specs.InMemory.{header_of, headers_of, physical_of, GoesIn, ServesIn}
 use Rattle.kept_parts.specs.Gone.{without_space, space_left}
+use Rattle.kept_parts.specs.Recorded.{room_beside}
 use Rattle.kept_parts.specs.Calls.{RunsIn, IsCall, ask_in}
 use Rattle.kept_parts.proofs.Shows.{showing_of}
 use Rattle.kept_parts.proofs.PlainMemory.{answered_never, plain_in}
@@ -105,7 +106,7 @@ module _ (headers : List (List ℕ)) (a : About) (k : Kept) (regular : Regular k
   mem_left false = refl
 
   pub exec_carried : (kind : Kind) → a.kind ≡ kind → (fits lent : Bool) → fits ≡ true → block_page kind k.regions (block_pages (flat_original f)) ≡ Some page →
-      has_room k.notes (length call.sent.items) ≡ true → entry_borrows k.procs e.pid ≡ lent →
+      room_beside k (length call.sent.items) ≡ true → entry_borrows k.procs e.pid ≡ lent →
       carried (physical_of headers a k) (physical k.mem) (exec_fitting (world_of a k) (ask_in a k e h call) (record { index = index; original = flat_original f }) (record { args = args; env = env }) fits)
       ≡ after (physical_of headers (later 1 a) (space_left (running k call e.value f args env page index mem) lent e.value.space h)) false
   exec_carried kind same fits lent fit placed room lends =
@@ -127,7 +128,7 @@ ExecServesIn kind index f args env call old new result =
     old new call.pid result
 
 module _ (k n : Kept) (regular : Regular k) (call : Call) (task : Task) (kind : Kind) (index : ℕ) (f : Values) (args env : List (List ℕ)) (b : Begun k n call task kind index f args env)
-    (room : has_room k.notes (length call.sent.items) ≡ true) where
+    (room : room_beside k (length call.sent.items) ≡ true) where
   module _ (headers : List (List ℕ)) (a : About) (same : a.kind ≡ kind) (listed : slice_get headers index ≡ Some (header_of f)) (e : Entry Task) (h : Held) (runs : RunsIn k call.pid e h) (is : IsCall e call) where
     abbrev comes : After
     comes = carried (physical_of headers a k) (physical k.mem)

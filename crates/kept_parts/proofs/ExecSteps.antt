@@ -8,7 +8,7 @@ use Rattle.mmap_rules.specs.Copies.{AllHold}
 use Rattle.bflt_format.specs.Values.{Values}
 use Rattle.call_log.specs.declared.errno.Errno.{Errno}
 use Rattle.call_log.specs.declared.errno.Errno.TheVariants.{E2big, Enomem}
-use Rattle.call_log.specs.Notes.{Note, load_note, has_room}
+use Rattle.call_log.specs.Notes.{Note, load_note}
 use Rattle.fd_tables.specs.Changes.{Storage, storage, exec_closed}
 use Rattle.nommu_regions.specs.declared.region.Region.{Region}
 use Rattle.flat_loader.specs.Original.{flat_original, block_pages}
@@ -34,16 +34,18 @@ use Rattle.kept_parts.specs.Copies.{CopiesHold, HoldsFiles}
 use Rattle.kept_parts.specs.Stands.{About, world_of}
 use Rattle.kept_parts.specs.Serves.{Answered, Serves}
 use Rattle.kept_parts.specs.Gone.{without_space, space_left}
+use Rattle.kept_parts.specs.Recorded.{event_recorded, program_recorded, room_beside}
 use Rattle.kept_parts.specs.Calls.{RunsIn, IsCall, ask_in, noted_call}
 use Rattle.call_bytes.proofs.Places.{get_before}
 use Rattle.kept_parts.proofs.Runs.{runs_in, value_found, has_space}
 use Rattle.kept_parts.proofs.Families.{can_run_lives, own_pid, state_ready}
+use Rattle.kept_parts.proofs.Recorded.{room_alone, regular_recorded}
 use Rattle.kept_parts.proofs.CopiesStay.{call_counts, load_counts, room_counts}
 use Rattle.kept_parts.proofs.Boots.{same_parts}
 use Rattle.kept_parts.proofs.Holding.{none_clean, cleaned, regular_clean, copies_clean}
 use Rattle.kept_parts.proofs.Loaded.{fits, placed_by}
 use Rattle.kept_parts.proofs.ExecRegular.{regular_switched, copies_switched, nobody_stays}
-use Rattle.kept_parts.proofs.Execs.{too_big, no_run, notes_behind, running, old_home, exec_serves}
+use Rattle.kept_parts.proofs.Execs.{too_big, no_run, notes_behind, recorded_behind, running, old_home, exec_serves}
 
 -- the parts in which a program stands in the place of the one that made the call
 pub record Begun (k n : Kept) (call : Call) (task : Task) (kind : Kind) (index : ℕ) (f : Values) (args env : List (List ℕ)) : Type 0 where
@@ -59,8 +61,10 @@ pub begun_by : (k n : Kept) (call : Call) (kind : Kind) (index : ℕ) (f : Value
     → ((t : Task) → value_at k.procs call.pid ≡ Some t → n.procs ≡ with_value_at (with_exec k.procs call.pid) call.pid (record t { regs = loaded.regs; space = number }))
     → storage n.tree n.files ≡ exec_closed (storage k.tree k.files) task.table
     → n.notes ≡ load_note (record { pid = call.pid; program = index; base = loaded.base; pages = loaded.pages }) ∷ noted_call call 0 [] ∷ k.notes
-    → n.console ≡ k.console → Begun k n call task kind index f args env
-begun_by k n call kind index f args env loaded task number is starts kept spaces number_is procs closed notes console = record {
+    → n.console ≡ k.console
+    → n.recording ≡ program_recorded (event_recorded k.recording task.space) number (record { stack = f.stack; base = loaded.base; pid = call.pid; args = args; env = env })
+    → Begun k n call task kind index f args env
+begun_by k n call kind index f args env loaded task number is starts kept spaces number_is procs closed notes console recorded = record {
   loaded = loaded;
   is = is;
   kept = kept;
@@ -69,12 +73,13 @@ begun_by k n call kind index f args env loaded task number is starts kept spaces
       (ap (λ (s : Storage). s.nodes) closed) (ap (λ (s : Storage). s.files) closed)
       (procs task kept ∙ (λ i. with_value_at (with_exec k.procs call.pid) call.pid (record task { regs = is.regs i; space = number_is i })))
       (notes ∙ (λ i. load_note (record { pid = call.pid; program = index; base = is.base i; pages = is.pages i }) ∷ noted_call call 0 [] ∷ k.notes))
-      console;
+      console
+      (recorded ∙ (λ i. program_recorded (event_recorded k.recording task.space) (number_is i) (record { stack = f.stack; base = is.base i; pid = call.pid; args = args; env = env })));
 }
 
 -- the numbers of spaces fit: each but the first has its kept call
-pub number_fits : (k : Kept) (bytes : ℕ) → Regular k → has_room k.notes bytes ≡ true → length k.spaces < 2 ^ 32
-number_fits k bytes regular room = omega (arith, regular.loads, room_counts k.notes bytes room)
+pub number_fits : (k : Kept) (bytes : ℕ) → Regular k → room_beside k bytes ≡ true → length k.spaces < 2 ^ 32
+number_fits k bytes regular room = omega (arith, regular.loads, room_counts k.notes bytes (room_alone k bytes room))
 
 counts_behind : (k : Kept) (call : Call) (f : Values) (page index : ℕ) → kept_calls (notes_behind k call f page index) ≡ kept_calls k.notes + 1
 counts_behind k call f page index =
@@ -100,8 +105,9 @@ module _ (k n : Kept) (regular : Regular k) (call : Call) (task : Task) (kind : 
       let end : block_end (page_loading f page args env) ≡ page_address (page + pages) = omega arith in
       let counted = counts_behind k call f page index in
       subst IsRegular (sym (running_is e lives)) (
-        regular_switched k regular call.pid e lives (state_ready k.procs call.pid e lives ready) (block_region page pages) (held_begin (length k.regions) (page_loading f page args env))
-            (page_loading f page args env) n.mem (notes_behind k call f page index) (fits k regular f args env page b.is.free) b.is.len counted,
+        regular_recorded _ (regular_switched k regular call.pid e lives (state_ready k.procs call.pid e lives ready) (block_region page pages) (held_begin (length k.regions) (page_loading f page args env))
+            (page_loading f page args env) n.mem (notes_behind k call f page index) (fits k regular f args env page b.is.free) b.is.len counted)
+            (recorded_behind k call e.value.space (page_loading f page args env)),
         copies_switched k regular copies e.value page pages b.is.free (page_loading f page args env) refl end n.mem b.is.len b.is.others (notes_behind k call f page index) counted (λ unstrayed. unstrayed),
       )
 
@@ -122,7 +128,7 @@ module _ (k n : Kept) (regular : Regular k) (call : Call) (task : Task) (kind : 
 
   -- ---- the world
 
-  module _ (a : About) (same : a.kind ≡ kind) (e : Entry Task) (h : Held) (runs : RunsIn k call.pid e h) (is : IsCall e call) (room : has_room k.notes (length call.sent.items) ≡ true) where
+  module _ (a : About) (same : a.kind ≡ kind) (e : Entry Task) (h : Held) (runs : RunsIn k call.pid e h) (is : IsCall e call) (room : room_beside k (length call.sent.items) ≡ true) where
     serves_by : (lent : Bool) → entry_borrows k.procs call.pid ≡ lent →
         Answered a (exec_fitting (world_of a k) (ask_in a k e h call) (record { index = index; original = flat_original f }) (record { args = args; env = env }) (frame_fits (flat_original f) args env))
         k (space_left (running k call e.value f args env b.is.page index n.mem) lent e.value.space h) call.pid Replied

@@ -6,7 +6,7 @@ use Rattle.page_runs.specs.declared.place.Kind.{Kind}
 use Rattle.mmap_rules.specs.Held.{Held, page_address}
 use Rattle.bflt_format.specs.Values.{Values}
 use Rattle.call_log.specs.declared.errno.Errno.TheVariants.{E2big, Enomem}
-use Rattle.call_log.specs.Notes.{Note, load_note, call_note, weight_of, has_room}
+use Rattle.call_log.specs.Notes.{Note, load_note, call_note, weight_of}
 use Rattle.call_log.specs.Strings.{ProgramStrings}
 use Rattle.flat_loader.specs.Original.{flat_original, block_pages}
 use Rattle.flat_loader.specs.Begin.{Loading, begin_space, begin_regs}
@@ -17,11 +17,11 @@ use Rattle.vfork_exec.specs.Procs.{Lives}
 use Rattle.vfork_exec.specs.Procs.{borrows as entry_borrows}
 use Rattle.vfork_exec.proofs.Keyed.{eqb_other, without_head}
 use Rattle.file_calls.specs.declared.call.Call.{Call}
-use Rattle.machine_world.specs.World.{LiveSpace, World, id_of}
+use Rattle.machine_world.specs.World.{LiveSpace, Recording, World, id_of}
 use Rattle.machine_world.specs.Families.{borrows, spaces_left}
 use Rattle.machine_world.specs.Found.{Found}
 use Rattle.machine_world.specs.Asks.{Ask, refuses}
-use Rattle.machine_world.specs.Recordings.{room_in}
+use Rattle.machine_world.specs.Recordings.{launch_of, launched, room_in}
 use Rattle.machine_world.specs.Event.{Outcome, went, counted_in, noted, number_of, args_of, entry_of, plain_item, answered, with_exec, load_of, executed, exec_at, exec_fitting}
 use Rattle.kept_parts.specs.declared.task.Task.{Task}
 use Rattle.kept_parts.specs.declared.served.Served.TheVariants.{Replied}
@@ -30,6 +30,7 @@ use Rattle.kept_parts.specs.Regular.{Regular}
 use Rattle.kept_parts.specs.Stands.{About, later, live_spaces, process_of, world_of}
 use Rattle.kept_parts.specs.Serves.{Answered}
 use Rattle.kept_parts.specs.Gone.{space_left}
+use Rattle.kept_parts.specs.Recorded.{event_recorded, program_recorded, room_beside}
 use Rattle.kept_parts.specs.Calls.{RunsIn, IsCall, ask_in, noted_call}
 use Rattle.call_bytes.proofs.Places.{get_before}
 use Rattle.kept_parts.proofs.Worlds
@@ -80,11 +81,16 @@ abbrev pub notes_behind : Kept → Call → Values → (page index : ℕ) → Li
 notes_behind k call f page index =
     load_note (record { pid = call.pid; program = index; base = page_address page; pages = block_pages (flat_original f) }) ∷ noted_call call 0 [] ∷ k.notes
 
+-- and records: an event in the old space, and the program in the new one
+abbrev pub recorded_behind : Kept → Call → ℕ → Loading → Recording
+recorded_behind k call space l = program_recorded (event_recorded k.recording space) (length k.spaces) (launch_of call.pid l)
+
 -- the parts before the old space goes
 abbrev pub running : Kept → Call → Task → Values → (args env : List (List ℕ)) → (page index : ℕ) → List ℕ → Kept
-running k call t f args env page index mem =
-    switched k call.pid t (block_region page (block_pages (flat_original f))) (held_begin (length k.regions) (page_loading f page args env))
-    (begin_regs (page_loading f page args env)) mem (notes_behind k call f page index)
+running k call t f args env page index mem = record (switched k call.pid t (block_region page (block_pages (flat_original f))) (held_begin (length k.regions) (page_loading f page args env))
+    (begin_regs (page_loading f page args env)) mem (notes_behind k call f page index)) {
+      recording = recorded_behind k call t.space (page_loading f page args env);
+    }
 
 module _ (k : Kept) (regular : Regular k) (e : Entry Task) (h : Held) (call : Call) (runs : RunsIn k call.pid e h) (f : Values) (args env : List (List ℕ)) (page index : ℕ) (mem : List ℕ) where
   abbrev now : Kept
@@ -116,6 +122,9 @@ module _ (k : Kept) (regular : Regular k) (e : Entry Task) (h : Held) (call : Ca
         same_notes call.pid e.pid call.number (number_of e.value.regs) index (page_address page) (block_pages (flat_original f)) call.args (args_of e.value.regs) call.sent.items k.notes
         is.pid is.number is.args
 
+    recorded_is : recorded_behind k call e.value.space loading ≡ event_recorded (launched (length k.spaces) e.pid loading k.recording) e.value.space
+    recorded_is = ap (λ (pid : ℕ). program_recorded (event_recorded k.recording e.value.space) (length k.spaces) (launch_of pid loading)) is.pid
+
     -- without the old space
     spaces_gone : live_spaces mem (slice_set now.spaces e.value.space None) ≡ begun ∷ without id_of e.value.space (live_spaces k.mem k.spaces)
     spaces_gone =
@@ -132,12 +141,14 @@ module _ (k : Kept) (regular : Regular k) (e : Entry Task) (h : Held) (call : Ca
       loads = length-append k.spaces (Some (held_begin (length k.regions) loading) ∷ []) i;
       rest = record (then_world []).rest { pages = length-set k.regions page (block_region page (block_pages (flat_original f))) i };
       notes = notes_are i;
+      recording = recorded_is i;
     }
     left_world false = λ i. record (then_world (spaces_gone i)) {
       procs = procs_are a k regular call.pid e runs.lives loading i;
       loads = (length-set now.spaces e.value.space None ∙ length-append k.spaces (Some (held_begin (length k.regions) loading) ∷ [])) i;
       rest = record (then_world []).rest { pages = (length_released now.regions h.maps ∙ length-set k.regions page (block_region page (block_pages (flat_original f)))) i };
       notes = notes_are i;
+      recording = recorded_is i;
     }
 
     lent_world : (lent : Bool) → borrows (process_of e) (map process_of k.procs.entries) ≡ lent →
@@ -152,12 +163,12 @@ module _ (k : Kept) (regular : Regular k) (e : Entry Task) (h : Held) (call : Ca
         (noted (call_note (entry_of (ask_in a k e h call) 0 [])) (counted_in e.value.space (with_exec (world_of a k) (process_of e) (page_loading f page args env))))
     world_behind lent lends = left_world lent ∙ lent_world lent (borrows_is k.procs e ∙ lends)
 
-    pub room_there : has_room k.notes (length call.sent.items) ≡ true → room_in (world_of a k) (weight_of call.sent.items []) ≡ true
+    pub room_there : room_beside k (length call.sent.items) ≡ true → room_in (world_of a k) (weight_of call.sent.items []) ≡ true
     unfolding world_of
-    room_there room = ap (has_room k.notes) (add-zero (length call.sent.items)) ∙ room
+    room_there room = ap (room_beside k) (add-zero (length call.sent.items)) ∙ room
 
     pub exec_serves : (kind : Kind) → a.kind ≡ kind → (fits lent : Bool) → fits ≡ true → block_page kind k.regions (block_pages (flat_original f)) ≡ Some page →
-        has_room k.notes (length call.sent.items) ≡ true → entry_borrows k.procs e.pid ≡ lent →
+        room_beside k (length call.sent.items) ≡ true → entry_borrows k.procs e.pid ≡ lent →
         Answered a (exec_fitting (world_of a k) (ask_in a k e h call) (record { index = index; original = flat_original f }) (record { args = args; env = env }) fits)
         k (space_left (running k call e.value f args env page index mem) lent e.value.space h) call.pid Replied
     exec_serves kind same fits lent fit placed room lends =

@@ -19,7 +19,7 @@ use Rattle.vfork_exec.specs.Keyed.{find, change, Falls}
 use Rattle.vfork_exec.specs.Procs.{Listed, process, Lives, CanRun, count, value_at, with_value, with_state, with_value_at, with_child, most_entries}
 use Rattle.vfork_exec.specs.Procs.{pid_of as entry_pid}
 use Rattle.vfork_exec.proofs.Keyed.{decide, eqb_is, eqb_same, eqb_other, find_head, change_head, find_below, find_changed, find_beside_change, falls_change, length_change}
-use Rattle.machine_world.specs.World.{Process, World, pid_of}
+use Rattle.machine_world.specs.World.{Process, Recording, World, pid_of}
 use Rattle.machine_world.specs.Families.{is_full, AreChains}
 use Rattle.machine_world.specs.Ages.{kept_calls}
 use Rattle.flat_loader.specs.Alone.{child_regs}
@@ -36,6 +36,7 @@ use Rattle.kept_parts.specs.declared.effect.Effect.TheVariants.{Answer}
 use Rattle.kept_parts.specs.declared.served.Served.{Served}
 use Rattle.kept_parts.specs.declared.served.Served.TheVariants.{TurnEnds, LogFull}
 use Rattle.kept_parts.specs.Regular.{Regular, HasSpace}
+use Rattle.kept_parts.specs.Recorded.{room_beside}
 use Rattle.kept_parts.specs.Stands.{About, later, process_of, world_of}
 use Rattle.kept_parts.specs.Serves.{Serves, Answered}
 use Rattle.kept_parts.specs.Calls.{IsCall, child_task, after_fork, ask_in, reply_of}
@@ -195,9 +196,9 @@ module _ (k : Kept) (e : Entry Task) (call : Call) (regular : Regular k) (lives 
         (chains_forked (world_of a k) asks regular.chains (falls_is k.procs k.procs.next_pid regular.falls) (found_own k.procs call.pid e lives) (state_ready k.procs call.pid e lives runs))
 
   -- what holds of the parts still holds
-  pub regular_forked : CanRun k.procs call.pid → count k.procs < most_entries → (files : OpenFiles) (notes : List Note) → kept_calls notes ≡ kept_calls k.notes + 1 →
-      Regular (record k { procs = procs_now; files = files; notes = notes })
-  regular_forked runs few files notes counted = record {
+  pub regular_forked : CanRun k.procs call.pid → count k.procs < most_entries → (files : OpenFiles) (notes : List Note) (recording : Recording) → kept_calls notes ≡ kept_calls k.notes + 1 →
+      Regular (record k { procs = procs_now; files = files; notes = notes; recording = recording })
+  regular_forked runs few files notes recording counted = record {
     memory = regular.memory;
     some = regular.some;
     most = regular.most;
@@ -299,14 +300,14 @@ module _ (a : About) (k : Kept) (e : Entry Task) (h : Held) (call : Call) (is : 
       forks : event.cloned (world_of a k) ask ≡ event.forked (world_of a k) ask
       forks = clone_forks (world_of a k) ask are_flags (full_is false few)
 
-      room_there : (b : Bool) → has_room k.notes (length call.sent.items) ≡ b → room_in (world_of a k) (weight_of call.sent.items []) ≡ b
+      room_there : (b : Bool) → room_beside k (length call.sent.items) ≡ b → room_in (world_of a k) (weight_of call.sent.items []) ≡ b
       unfolding world_of
-      room_there b room = ap (has_room k.notes) (add-zero (length call.sent.items)) ∙ room
+      room_there b room = ap (room_beside k) (add-zero (length call.sent.items)) ∙ room
 
       by_outcome : (new : Kept) (s : Served) (o : Outcome) → event.forked (world_of a k) ask ≡ o → Answered a o k new call.pid s → Answered a (event.cloned (world_of a k) ask) k new call.pid s
       by_outcome new s o same = subst (λ (x : Outcome). Answered a x k new call.pid s) (sym (forks ∙ same))
 
-      pub fork_has_no_room : has_room k.notes (length call.sent.items) ≡ false → Answered a (event.cloned (world_of a k) ask) k k call.pid LogFull
+      pub fork_has_no_room : room_beside k (length call.sent.items) ≡ false → Answered a (event.cloned (world_of a k) ask) k k call.pid LogFull
       fork_has_no_room room = by_outcome k LogFull full (fork_full (world_of a k) ask (room_there false room)) refl
 
       module _ (regular : Regular k) (lives : process k.procs call.pid ≡ Some e) where
@@ -328,7 +329,7 @@ module _ (a : About) (k : Kept) (e : Entry Task) (h : Held) (call : Call) (is : 
             subst IsSome (sym (find_changed entry_pid call.pid replies (λ x. refl) (with_child k.procs call.pid (child_task k e call)).entries))
             (some_mapped replies _ _ (parent_there k.procs call.pid e lives regular.falls (child_task k e call)))
 
-        pub fork_serves : has_room k.notes (length call.sent.items) ≡ true → (new : Kept) → new ≡ after_fork k e call → Answered a (event.cloned (world_of a k) ask) k new call.pid TurnEnds
+        pub fork_serves : room_beside k (length call.sent.items) ≡ true → (new : Kept) → new ≡ after_fork k e call → Answered a (event.cloned (world_of a k) ask) k new call.pid TurnEnds
         fork_serves room new same =
             subst (λ (x : Kept). Answered a (event.cloned (world_of a k) ask) k x call.pid TurnEnds) (sym same)
             (by_outcome (after_fork k e call) TurnEnds _ (fork_when (world_of a k) ask (room_there true room)) (sym forked_world, (refl, refl, parent_stays)))

@@ -1,13 +1,13 @@
 -- What a call that gives bytes leaves of the one memory, and the end of one that writes outside it.
 use Rattle.std.proofs.Common.{◌≡◌, ℕ, ◌+◌, ◌*◌, ◌^◌, ◌<◌, ◌≤◌, Bool, true, false, ◌&&◌, List, [], ◌∷◌, length, map, Option, Some, None, refl, sym, ap, subst, ◌∙◌, arith}
-use Rattle.std.specs.Prelude.{if◌then◌else◌, option_map, slice_get, Result, Ok, Err}
+use Rattle.std.specs.Prelude.{◌==◌, if◌then◌else◌, option_map, slice_get, Result, Ok, Err}
 use Rattle.std.specs.declared.alloc.AllocError.{AllocError}
 use Rattle.std.proofs.lemmas.Bool.Decides.{nat_tests}
 use Rattle.byte_words.specs.ByteMap.{Bytes}
 use Rattle.rv32im_step.specs.declared.access.Access.{Access}
 use Rattle.call_log.specs.declared.note.Got.{Got}
 use Rattle.call_log.specs.Values.{written_value}
-use Rattle.call_log.specs.Notes.{Written, Note, call_note, weight_of, has_room}
+use Rattle.call_log.specs.Notes.{Written, Note, call_note, weight_of}
 use Rattle.call_log.specs.Sent.{Span}
 use Rattle.fd_tables.specs.Files.{OpenFiles}
 use Rattle.mmap_rules.specs.declared.mapping.Mapping.{Mapping}
@@ -18,7 +18,7 @@ use Rattle.vfork_exec.specs.declared.entry.Entry.{Entry}
 use Rattle.vfork_exec.specs.Procs.{Lives}
 use Rattle.machine_world.specs.World.{LiveSpace, World}
 use Rattle.machine_world.specs.Asks.{Ask, Reply, replies}
-use Rattle.machine_world.specs.Event.{Trace, Outcome, went, full, with_space, entry_of, item_of, replied, put_got, replied_world, served, answered, trapped, at_process}
+use Rattle.machine_world.specs.Event.{Trace, Outcome, went, full, with_space, entry_of, item_of, replied, put_got, maps_file, replied_world, room_for, served, answered, trapped, at_process}
 use Rattle.file_calls.specs.declared.call.Call.{Call}
 use Rattle.file_calls.specs.declared.outcome.Outcome.{Outcome as Output}
 use Rattle.file_calls.specs.Calls.{after as after_files, written_of}
@@ -38,13 +38,15 @@ use Rattle.kept_parts.specs.Reach.{writable}
 use Rattle.region_watch.specs.Private.{in_pages}
 use Rattle.kept_parts.specs.InMemory.{physical_of, GoesIn, ServesIn, DiedIn, InReach}
 use Rattle.kept_parts.specs.Serves.{Answered, Serves, Died}
-use Rattle.kept_parts.specs.Calls.{RunsIn, IsCall, ask_in, given, noted_call, after_reply, GaveIn}
+use Rattle.kept_parts.specs.Recorded.{call_recorded, room_beside}
+use Rattle.kept_parts.specs.Calls.{RunsIn, IsCall, ask_in, given, noted_entry, noted_call, after_reply, GaveIn}
 use Rattle.call_bytes.proofs.Places.{any_at}
 use Rattle.kept_parts.proofs.Apart.{is_used}
 use Rattle.call_bytes.proofs.Puts.{put_all, put_strays, none_strays, stray_wider, writable_own, part_frozen}
 use Rattle.kept_parts.proofs.CopiesKept.{copies_frozen}
 use Rattle.kept_parts.proofs.Stays.{set_kept}
 use Rattle.kept_parts.proofs.Moves.{moved_world}
+use Rattle.kept_parts.proofs.Recorded.{maps_none, room_plain, room_never}
 use Rattle.kept_parts.proofs.Settled.{room_is}
 use Rattle.kept_parts.proofs.Shows.{shown_as}
 use Rattle.kept_parts.proofs.FreeBytes.{bytes_none}
@@ -104,8 +106,11 @@ module _ (headers : List (List ℕ)) (a : About) (k : Kept) (e : Entry Task) (h 
   abbrev files_then : OpenFiles
   files_then = after_files o.then e.value.table k.files
 
-  note_is : noted_call call o.value (written_of o) ≡ call_note (entry_of ask o.value (written_of o))
-  note_is = λ i. call_note (record { pid = is.pid i; call = is.number i; args = is.args i; sent = call.sent.items; reply = o.value; got = written_of o })
+  entry_is : noted_entry call o.value (written_of o) ≡ entry_of ask o.value (written_of o)
+  entry_is = λ i. record { pid = is.pid i; call = is.number i; args = is.args i; sent = call.sent.items; reply = o.value; got = written_of o }
+
+  given_room : (call.number == 222) ≡ false → (b : Bool) → room_beside k (weight_of call.sent.items (written_of o)) ≡ b → room_for (world_of a k) ask gives ≡ b
+  given_room plain b room = room_plain a k e h call gives b (ap maps_file (sym entry_is) ∙ maps_none call o.value (written_of o) plain) room
 
   -- by the bytes that can be written
   put_is : (found : Result Bytes Span) → put_got (physical k.mem) (in_pages (length k.regions)) (written_of o) ≡ found →
@@ -119,25 +124,29 @@ module _ (headers : List (List ℕ)) (a : About) (k : Kept) (e : Entry Task) (h 
   abbrev now : World
   now = replied_world (record (world_of a k) { rest = gives.rest }) ask gives (private_bytes k.mem h)
 
-  served_is : has_room k.notes (weight_of call.sent.items (written_of o)) ≡ true → served (world_of a k) ask gives (private_bytes k.mem h) ≡ went now trace
-  unfolding served world_of
+  served_is : room_for (world_of a k) ask gives ≡ true → served (world_of a k) ask gives (private_bytes k.mem h) ≡ went now trace
+  unfolding served
   served_is room = rw room refl
 
-  served_full : has_room k.notes (weight_of call.sent.items (written_of o)) ≡ false → served (world_of a k) ask gives (private_bytes k.mem h) ≡ full
-  unfolding served world_of
+  served_full : room_for (world_of a k) ask gives ≡ false → served (world_of a k) ask gives (private_bytes k.mem h) ≡ full
+  unfolding served
   served_full room = rw room refl
 
   now_is : now ≡ world_of (later 1 a) (after_reply k e h call gives k.mem)
   unfolding world_of
   now_is =
-      (λ i. record (with_space (record (world_of a k) { rest = gives.rest }) (process_of e) (replied e.value.regs o.value) (private_of k.mem h)) { notes = sym note_is i ∷ k.notes; events = a.events + 1 })
-      ∙ sym (moved_world k call.pid e h runs (replied e.value.regs o.value) h k.mem (λ j x other there. refl) k.regions refl k.starts a 1 (noted_call call o.value (written_of o) ∷ k.notes) k.tree files_then k.console)
+      (λ i. record (with_space (record (world_of a k) { rest = gives.rest }) (process_of e) (replied e.value.regs o.value) (private_of k.mem h)) {
+        notes = call_note (sym entry_is i) ∷ k.notes;
+        events = a.events + 1;
+        recording = call_recorded k.recording e.value.space (sym entry_is i) (private_bytes k.mem h);
+      })
+      ∙ ap (λ (w : World). record w { recording = call_recorded k.recording e.value.space (noted_entry call o.value (written_of o)) (private_bytes k.mem h) }) (sym (moved_world k call.pid e h runs (replied e.value.regs o.value) h k.mem (λ j x other there. refl) k.regions refl k.starts a 1 (noted_call call o.value (written_of o) ∷ k.notes) k.tree files_then k.console))
 
   -- it has its bytes
-  pub given_serves_in : Regular k → (new : Kept) → GaveIn a k e h call o new → has_room k.notes (weight_of call.sent.items (written_of o)) ≡ true → Lives new.procs call.pid →
+  pub given_serves_in : Regular k → (new : Kept) → GaveIn a k e h call o new → (call.number == 222) ≡ false → room_beside k (weight_of call.sent.items (written_of o)) ≡ true → Lives new.procs call.pid →
       GoesIn headers a (answered_in (physical_of headers a k) ask (replies gives)) k new call.pid Replied
   unfolding physical_of
-  given_serves_in regular new gave room lives =
+  given_serves_in regular new gave plain room lives =
       subst (λ (x : After). GoesIn headers a x k new call.pid Replied) (sym goes) (refl, (refl, lives))
     where
       same_spaces : new.spaces ≡ k.spaces
@@ -145,14 +154,14 @@ module _ (headers : List (List ℕ)) (a : About) (k : Kept) (e : Entry Task) (h 
 
       carried_is : carried (physical_of headers a k) (physical new.mem) (served (world_of a k) ask gives (private_bytes k.mem h)) ≡ after (physical_of headers (later 1 a) new) false
       carried_is =
-          ap (carried (physical_of headers a k) (physical new.mem)) (served_is room)
+          ap (carried (physical_of headers a k) (physical new.mem)) (served_is (given_room plain true room))
           ∙ carried_given k regular headers a new same_spaces now trace refl (now_is ∙ ap (λ (x : Kept). world_of (later 1 a) (record x { mem = k.mem })) (sym gave.after))
 
       goes : answered_in (physical_of headers a k) ask (replies gives) ≡ after (physical_of headers (later 1 a) new) false
       goes = put_is (Ok (physical new.mem)) gave.put ∙ carried_is
 
   -- the log has no room
-  pub given_full_in : first_stray (in_pages (length k.regions)) (written_of o) ≡ None → has_room k.notes (weight_of call.sent.items (written_of o)) ≡ false →
+  pub given_full_in : first_stray (in_pages (length k.regions)) (written_of o) ≡ None → room_beside k (weight_of call.sent.items (written_of o)) ≡ false →
       GoesIn headers a (answered_in (physical_of headers a k) ask (replies gives)) k k call.pid LogFull
   unfolding physical_of
   given_full_in fits room =
@@ -160,7 +169,7 @@ module _ (headers : List (List ℕ)) (a : About) (k : Kept) (e : Entry Task) (h 
       subst (λ (x : After). GoesIn headers a x k k call.pid LogFull) (sym (put_is (Ok all.0) all.1 ∙ filled all.0)) (refl, refl, tt)
     where
       filled : (m : Bytes) → put_in (physical_of headers a k) ask gives (Ok m) ≡ no_room (physical_of headers a k)
-      filled m = ap (carried (physical_of headers a k) m) (served_full room)
+      filled m = ap (carried (physical_of headers a k) m) (served_full (room_never a k e h call gives room))
 
   -- a range lies outside memory
   pub given_strays_in : (access : Access) → Some access ≡ option_map (access_at e.value.regs.pc) (first_stray (in_pages (length k.regions)) (written_of o)) →
@@ -273,10 +282,10 @@ module _ (o : Output) (xs : List Got) (seen : xs ≡ o.got.items) where
     none_beyond none = none_strays e.value.regs.pc _ _ found_by none
 
   -- whether the log has room
-  pub room_by : (inside k : Kept) → inside ≡ k → (bytes : List ℕ) (found b : Bool) → found ≡ has_room inside.notes (weight_of bytes (map written_value xs)) → found ≡ b →
-      has_room k.notes (weight_of bytes (written_of o)) ≡ b
+  pub room_by : (inside k : Kept) → inside ≡ k → (bytes : List ℕ) (found b : Bool) → found ≡ room_beside inside (weight_of bytes (map written_value xs)) → found ≡ b →
+      room_beside k (weight_of bytes (written_of o)) ≡ b
   room_by inside k same bytes found b asked is =
-      room_is inside k same (weight_of bytes (written_of o)) found b (asked ∙ ap (λ (ys : List Got). has_room inside.notes (weight_of bytes (map written_value ys))) seen) is
+      room_is inside k same (weight_of bytes (written_of o)) found b (asked ∙ ap (λ (ys : List Got). room_beside inside (weight_of bytes (map written_value ys))) seen) is
 
 -- where all of memory is in reach a stray access was noted, else what is in reach is the caller's own
 pub fits_unstrayed : (reach : Reach) (notes : List Note) (pages : ℕ) (h : Held) (gots : List Written) → (reach ≡ Whole → has_stray notes ≡ true) →

@@ -11,6 +11,7 @@ use Rattle.vfork_exec.specs.declared.entry.Entry.{Entry}
 use Rattle.vfork_exec.specs.declared.family.State.TheVariants.{Ready}
 use Rattle.vfork_exec.specs.Procs.{process, borrows, with_end}
 use Rattle.kept_parts.specs.declared.task.Task.{Task}
+use Rattle.machine_world.specs.World.{Recording}
 use Rattle.kept_parts.specs.Kept.{Kept}
 use Rattle.kept_parts.specs.Regular.{Regular, named_in, uses_in}
 use Rattle.call_log.specs.declared.how.How.{How}
@@ -239,9 +240,10 @@ gone_procs k e h how = either (borrows k.procs e.pid)
     either false = refl
 
 -- other notes change nothing of it
-pub gone_noted : (k : Kept) (e : Entry Task) (h : Held) (how : How) (notes : List Note) → gone (record k { notes = notes }) e h how ≡ record (gone k e h how) { notes = notes }
-gone_noted k e h how notes = either (borrows k.procs e.pid)
+pub gone_noted : (k : Kept) (e : Entry Task) (h : Held) (how : How) (notes : List Note) (recording : Recording) →
+    gone (record k { notes = notes; recording = recording }) e h how ≡ record (gone k e h how) { notes = notes; recording = recording }
+gone_noted k e h how notes recording = either (borrows k.procs e.pid)
   where
-    either : (lent : Bool) → space_left (ended (record k { notes = notes }) e how) lent e.value.space h ≡ record (space_left (ended k e how) lent e.value.space h) { notes = notes }
+    either : (lent : Bool) → space_left (ended (record k { notes = notes; recording = recording }) e how) lent e.value.space h ≡ record (space_left (ended k e how) lent e.value.space h) { notes = notes; recording = recording }
     either true = refl
     either false = refl

@@ -15,6 +15,7 @@
 -- MapAgrees  what the code maps is what the world's row maps
 -- FreeBytes  at a free address no live space has a byte
 -- MapMemory  what an mmap2 leaves of the one memory
+-- MapRooms   the room that the log needs for an mmap2
 -- MapRegular  the parts stay regular where pages are mapped
 -- MapCopies  copies still hold their file then
 -- Unmapped   what munmap leaves of a space is what the world's row says
@@ -25,6 +26,8 @@
 -- Stays     what holds of the parts stays so where one process and its space change
 -- Settled   small facts of a call's reply
 -- Moves     the world after one process went on, and after one is gone
+-- Brought   what a mapping of a file brings
+-- Recorded  what is recorded behind an event, and the room beside it
 -- Outcomes  what comes of a call and of an end, in the world and in the parts
 -- Shows      what the live spaces show of the one memory
 -- Families   the list of processes, as the world has it
@@ -80,6 +83,7 @@ mod MapBytes
 mod MapAgrees
 mod FreeBytes
 pub mod MapMemory
+pub mod MapRooms
 mod MapRegular
 mod MapCopies
 mod Unmapped
@@ -91,6 +95,8 @@ pub mod Stays
 pub mod Holding
 pub mod Settled
 pub mod Moves
+pub mod Recorded
+pub mod Brought
 pub mod Outcomes
 pub mod Finishes
 pub mod GivenMemory

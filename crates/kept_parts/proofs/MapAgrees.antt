@@ -43,6 +43,7 @@ pub record Agrees (k : Kept) (number : ℕ) (h : Held) (want : Want) (o : Option
   pub others : OthersSame k number m.sides.memory
   pub pages : length m.sides.regions ≡ length k.regions
   pub len : length m.sides.memory ≡ length k.mem
+  pub below : mapping.range.from < 0xfffff001
 
 pub length-with_uses : (rs : List Region) (id : ℕ) (change : ℕ → ℕ) → length (with_uses rs id change) ≡ length rs
 length-with_uses rs id change = at (slice_get rs id)
@@ -94,6 +95,7 @@ module _ (a : About) (k : Kept) (regular : Regular k) (number : ℕ) (h : Held) 
           others = λ j other ne is. others_beside k regular page count free (first_bytes k.tree want) len fits j other is;
           pages = length-set k.regions page (record { first = page; pages = count; source = source; uses = 1 });
           len = length-laid k.mem (4096 * page) (first_bytes k.tree want) fits;
+          below = omega (arith, free.inside, some, regular.most);
         }
 
     fresh_agrees : (m : Mapped) → in_fresh_run (sides h k.regions k.mem) a.kind count writes anonymous source (first_bytes k.tree want) ≡ Some m →
@@ -164,6 +166,7 @@ module _ (a : About) (k : Kept) (regular : Regular k) (number : ℕ) (h : Held) 
           others = λ j other ne at. refl;
           pages = length-with_uses k.regions r.first (λ uses. uses + 1);
           len = refl;
+          below = omega (arith, start, c.from, c.to, inside, asks, regular.most);
         }
 
     copy_agrees : HoldsFiles k → (o : Option ℕ) → copy_of k.regions id change first pages ≡ o → (m : Mapped) →

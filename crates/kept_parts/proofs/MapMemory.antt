@@ -8,7 +8,7 @@ use Rattle.std.proofs.lemmas.List.{length-replicate, length-set}
 use Rattle.byte_words.specs.ByteMap.{Bytes, with_bytes}
 use Rattle.byte_words.specs.Patches.{laid}
 use Rattle.byte_words.proofs.ByteArrays.{byte_of-laid}
-use Rattle.call_log.specs.Notes.{Note, call_note, has_room}
+use Rattle.call_log.specs.Notes.{Note, call_note}
 use Rattle.nommu_regions.specs.declared.region.Region.{Region}
 use Rattle.nommu_regions.specs.declared.region.Source.{Source}
 use Rattle.nommu_regions.specs.declared.region.Source.TheVariants.{Own, Copy}
@@ -38,7 +38,7 @@ use Rattle.vfork_exec.specs.Procs.{Listed, Lives}
 use Rattle.vfork_exec.proofs.Keyed.{change_map}
 use Rattle.file_calls.specs.declared.call.Call.{Call}
 use Rattle.file_calls.specs.Calls.{with_all}
-use Rattle.machine_world.specs.World.{LiveSpace, World, id_of}
+use Rattle.machine_world.specs.World.{LiveSpace, Recording, World, id_of}
 use Rattle.machine_world.specs.Asks.{Ask, Reply, Row, leaves}
 use Rattle.machine_world.specs.MapCalls.{or_own, with_mapping, first_bytes, maps}
 use Rattle.machine_world.specs.MapCalls.{mapped as mapped_row}
@@ -48,14 +48,16 @@ use Rattle.kept_parts.specs.declared.task.Task.{Task}
 use Rattle.kept_parts.specs.Kept.{Kept}
 use Rattle.kept_parts.specs.Regular.{Regular}
 use Rattle.kept_parts.specs.Stands.{About, later, private_bytes, private_of, process_of, world_of, OthersSame}
-use Rattle.kept_parts.specs.Calls.{RunsIn, IsCall, ask_in, noted_call, with_task}
-use Rattle.kept_parts.specs.MapsIn.{MapsIn, IsAddress}
+use Rattle.kept_parts.specs.Calls.{RunsIn, IsCall, RoomFor, ask_in, noted_entry, noted_call, with_task}
+use Rattle.kept_parts.specs.Recorded.{call_recorded}
+use Rattle.kept_parts.specs.MapsIn.{MapsIn, IsAddress, IsAsked}
 use Rattle.kept_parts.specs.declared.served.Served.TheVariants.{Replied}
 use Rattle.kept_parts.specs.InMemory.{physical_of, GoesIn}
 use Rattle.kept_parts.proofs.Worlds.{find_space}
 use Rattle.kept_parts.proofs.Runs.{runs_in}
 use Rattle.kept_parts.proofs.Moves.{moved_world, moved_lives}
 use Rattle.kept_parts.proofs.Finishes.{Finishes}
+use Rattle.kept_parts.proofs.Brought.{Brought, brought_there, brought_nowhere}
 use Rattle.kept_parts.proofs.Shows.{showing_of}
 use Rattle.kept_parts.proofs.Apart.{page_of}
 use Rattle.kept_parts.proofs.FreeBytes.{below_with, bytes_changed, own_none, page_free, bytes_none, beside_run}
@@ -106,13 +108,13 @@ shown_changed m n x y spaces same =
 
 -- ---- memory behind it: at free addresses what the caller's space has then, else what stood there
 
-record Brings (a : About) (k : Kept) (space : Space) (mem : List ℕ) : Type 0 where
-  free : (at : ℕ) → is_free_at (world_of a k) at ≡ true → or_below (space.bytes at) (physical k.mem at) ≡ physical mem at
-  held : (at : ℕ) → is_free_at (world_of a k) at ≡ false → physical k.mem at ≡ physical mem at
+pub record Brings (a : About) (k : Kept) (space : Space) (mem : List ℕ) : Type 0 where
+  pub free : (at : ℕ) → is_free_at (world_of a k) at ≡ true → or_below (space.bytes at) (physical k.mem at) ≡ physical mem at
+  pub held : (at : ℕ) → is_free_at (world_of a k) at ≡ false → physical k.mem at ≡ physical mem at
 
 module _ (headers : List (List ℕ)) (a : About) (k : Kept) (regular : Regular k) (e : Entry Task) (h : Held) (call : Call) (runs : RunsIn k call.pid e h) (is_call : IsCall e call)
     (value : ℕ) (spaces : List (Option Held)) (rs : List Region) (procs : Listed Task) (notes : List Note)
-    (finishes : Finishes k call.pid value procs) (noted_is : notes ≡ noted_call call value [] ∷ k.notes) (room : has_room k.notes (length call.sent.items) ≡ true) where
+    (finishes : Finishes k call.pid value procs) (noted_is : notes ≡ noted_call call value [] ∷ k.notes) (recording : Recording) where
   abbrev ask : Ask
   ask = ask_in a k e h call
 
@@ -120,11 +122,16 @@ module _ (headers : List (List ℕ)) (a : About) (k : Kept) (regular : Regular k
   regs = replied e.value.regs value
 
   module _ (space : Space) (mem : List ℕ) (held : Held) (same : record space { bytes = only (own_in space.maps) (physical mem) } ≡ private_of mem held)
-      (others : OthersSame k e.value.space mem) (pages : length rs ≡ length k.regions) (brings : Brings a k space mem) where
+      (others : OthersSame k e.value.space mem) (pages : length rs ≡ length k.regions) (brings : Brings a k space mem)
+      (recorded : recording ≡ call_recorded k.recording e.value.space (noted_entry call value []) space.bytes) where
+    abbrev then_recording : Recording
+    then_recording = call_recorded k.recording e.value.space (noted_entry call value []) space.bytes
+
     abbrev then_world : Space → World
     then_world s = record (with_space (record (world_of a k) { rest = with_all (world_of a k).rest k.tree k.files k.console }) (process_of e) regs s) {
       notes = noted_call call value [] ∷ k.notes;
       events = a.events + 1;
+      recording = then_recording;
     }
 
     abbrev reply : Reply
@@ -134,21 +141,25 @@ module _ (headers : List (List ℕ)) (a : About) (k : Kept) (regular : Regular k
     went_world = replied_world (world_of a k) ask reply space.bytes
 
     abbrev then_kept : Kept
-    then_kept = record (with_task k call.pid e held mem regs) { regions = rs; notes = noted_call call value [] ∷ k.notes }
+    then_kept = record (with_task k call.pid e held mem regs) { regions = rs; notes = noted_call call value [] ∷ k.notes; recording = then_recording }
+
+    entry_same : entry_of ask value [] ≡ noted_entry call value []
+    entry_same = λ i. record { pid = sym is_call.pid i; call = sym is_call.number i; args = sym is_call.args i; sent = call.sent.items; reply = value; got = [] }
 
     went_is : went_world ≡ then_world space
     unfolding world_of
     went_is = λ i. record (then_world space) {
-      notes = call_note (record { pid = sym is_call.pid i; call = sym is_call.number i; args = sym is_call.args i; sent = call.sent.items; reply = value; got = [] }) ∷ k.notes;
+      notes = call_note (entry_same i) ∷ k.notes;
+      recording = call_recorded k.recording e.value.space (entry_same i) space.bytes;
     }
 
     shown_then : showing (physical mem) went_world ≡ world_of (later 1 a) then_kept
-    unfolding private_bytes
+    unfolding private_bytes world_of
     shown_then =
         ap (showing (physical mem)) went_is
         ∙ ap (λ (ss : List LiveSpace). record (then_world space) { spaces = ss })
         (shown_changed (physical mem) e.value.space space (private_of mem held) (world_of a k).spaces same)
-        ∙ ap (showing (physical mem)) (sym (moved_world k call.pid e h runs regs held mem others rs pages k.starts a 1 (noted_call call value [] ∷ k.notes) k.tree k.files k.console))
+        ∙ ap (λ (w : World). showing (physical mem) (record w { recording = then_recording })) (sym (moved_world k call.pid e h runs regs held mem others rs pages k.starts a 1 (noted_call call value [] ∷ k.notes) k.tree k.files k.console))
         ∙ showing_of (later 1 a) then_kept
 
     there : find id_of e.value.space (world_of a k).spaces ≡ Some (record { id = e.value.space; space = private_of k.mem h })
@@ -164,39 +175,37 @@ module _ (headers : List (List ℕ)) (a : About) (k : Kept) (regular : Regular k
     unfolding laid_behind physical_of only
     laid_then t nothing = rw nothing (λ i at. byte_then at (is_free_at (world_of a k) at) refl i)
 
-    room_there : room_for (world_of a k) ask reply ≡ true
-    unfolding world_of
-    room_there = ap (has_room k.notes) (let n = length call.sent.items in let e : n + 0 ≡ n = omega arith in e) ∙ room
-
-    kept_is : spaces ≡ slice_set k.spaces e.value.space (Some held) → then_kept ≡ record k { mem = mem; regions = rs; spaces = spaces; procs = procs; notes = notes }
+    kept_is : spaces ≡ slice_set k.spaces e.value.space (Some held) → then_kept ≡ record k { mem = mem; regions = rs; spaces = spaces; procs = procs; notes = notes; recording = recording }
     kept_is moves = λ i. record k {
       mem = mem;
       regions = rs;
       spaces = sym moves i;
       procs = sym (finishes e.value (ap (option_map (λ (x : Entry Task). x.value)) runs.lives)) i;
       notes = sym noted_is i;
+      recording = sym recorded i;
     }
 
-    moved_in : (r : Row) → r ≡ leaves ask value space → spaces ≡ slice_set k.spaces e.value.space (Some held) →
+    moved_in : (r : Row) → r ≡ leaves ask value space → RoomFor (world_of a k) (ask_in a k e h call) r → spaces ≡ slice_set k.spaces e.value.space (Some held) →
         carried (physical_of headers a k) (physical k.mem) (answered (world_of a k) (ask_in a k e h call) r)
-        ≡ after (physical_of headers (later 1 a) (record k { mem = mem; regions = rs; spaces = spaces; procs = procs; notes = notes })) false
-    moved_in r rows moves =
+        ≡ after (physical_of headers (later 1 a) (record k { mem = mem; regions = rs; spaces = spaces; procs = procs; notes = notes; recording = recording })) false
+    moved_in r rows room moves =
         let t : Trace = record { space = e.value.space; events = 1; items = item_of (entry_of ask value []) space.bytes ∷ []; begins = None; over = false } in
         ap (λ (x : Row). carried (physical_of headers a k) (physical k.mem) (answered (world_of a k) ask x)) rows
-        ∙ served_carried (physical_of headers a k) (physical k.mem) (world_of a k) ask reply space.bytes room_there
+        ∙ served_carried (physical_of headers a k) (physical k.mem) (world_of a k) ask reply space.bytes (room reply rows)
         ∙ ap (λ (p : Physical). after p false) (behind_is headers a k then_kept went_world t (laid_then t refl) shown_then)
         ∙ ap (λ (n : Kept). after (physical_of headers (later 1 a) n) false) (kept_is moves)
 
 -- ---- the world's choice, and what the code leaves, in every state
 
-record Chosen (a : About) (k : Kept) (number : ℕ) (h : Held) (want : Want) (o : Option Mapping) (m : Mapped) : Type 0 where
-  mapping : Mapping
-  chosen : o ≡ Some mapping
-  addr : m.addr ≡ mapping.range.from
-  held : m.sides.held ≡ record h { maps = h.maps ++ mapping ∷ [] }
-  others : OthersSame k number m.sides.memory
-  pages : length m.sides.regions ≡ length k.regions
-  brings : Brings a k (with_mapping (private_of k.mem h) mapping (first_bytes k.tree want)) m.sides.memory
+pub record Chosen (a : About) (k : Kept) (number : ℕ) (h : Held) (want : Want) (o : Option Mapping) (m : Mapped) : Type 0 where
+  pub mapping : Mapping
+  pub chosen : o ≡ Some mapping
+  pub addr : m.addr ≡ mapping.range.from
+  pub held : m.sides.held ≡ record h { maps = h.maps ++ mapping ∷ [] }
+  pub others : OthersSame k number m.sides.memory
+  pub pages : length m.sides.regions ≡ length k.regions
+  pub below : mapping.range.from < 0xfffff001
+  pub brings : Brings a k (with_mapping (private_of k.mem h) mapping (first_bytes k.tree want)) m.sides.memory
 
 module _ (a : About) (k : Kept) (regular : Regular k) (number : ℕ) (h : Held) (home : slice_get k.spaces number ≡ Some (Some h)) where
   -- bytes laid over memory at free addresses
@@ -239,6 +248,7 @@ module _ (a : About) (k : Kept) (regular : Regular k) (number : ℕ) (h : Held) 
           held = refl;
           others = λ j other ne is. others_beside k regular page count free bytes len fits j other is;
           pages = length-set k.regions page (record { first = page; pages = count; source = source; uses = 1 });
+          below = omega (arith, free.inside, some, regular.most);
           brings = brings_laid (run_mapping page count writes anonymous source) bytes (laid k.mem (4096 * page) bytes)
               (λ at is. sym (now at))
               (λ at is. sym (now at
@@ -288,6 +298,7 @@ module _ (a : About) (k : Kept) (regular : Regular k) (number : ℕ) (h : Held) 
         let live : 0 < r.uses = grind (arith, nat_tests, has) in
         let c = covered r.source id change first pages r.pages (grind (arith, nat_tests, has)) in
         let start : copied_from r.source ≡ c.start = ap copied_from c.is in
+        let inside = regular.regions.inside copy r there live in
         let skip : ℕ = first - copied_from r.source in
         let fits : (first - copied_from r.source) + pages ≤ r.pages = omega (arith, start, c.from, c.to) in
         let bytes : List ℕ = first_bytes k.tree wanted in
@@ -302,6 +313,7 @@ module _ (a : About) (k : Kept) (regular : Regular k) (number : ℕ) (h : Held) 
           held = refl;
           others = λ j other ne at. refl;
           pages = length-with_uses k.regions r.first (λ uses. uses + 1);
+          below = omega (arith, start, c.from, c.to, inside, asks, regular.most);
           brings = brings_laid mapping bytes k.mem
               (λ at is. with_beside (physical k.mem) (page_address (r.first + skip)) bytes at
               (subst (λ (n : ℕ). Beside (page_address (r.first + skip)) n at) (sym len) (beside_copy copy r there live skip pages fits at is)))
@@ -319,7 +331,7 @@ module _ (a : About) (k : Kept) (regular : Regular k) (number : ℕ) (h : Held) 
         subst (Chosen a k number h (File pages first false id change) (chosen a k (File pages first false id change)))
         (same_Some _ _ (rw live.there at is)) (shared_chosen copy live.region found live.there has)
 
-  map_chosen : (want : Want) → AsksPages want → IsKnown k.tree want → (m : Mapped) → mapped (sides h k.regions k.mem) a.kind (bytes_of k.tree (file_in want)) want ≡ Some m →
+  pub map_chosen : (want : Want) → AsksPages want → IsKnown k.tree want → (m : Mapped) → mapped (sides h k.regions k.mem) a.kind (bytes_of k.tree (file_in want)) want ≡ Some m →
       Chosen a k number h want (chosen a k want) m
   unfolding mapped
   map_chosen (Anon pages) asks known m is =
@@ -334,50 +346,56 @@ module _ (a : About) (k : Kept) (regular : Regular k) (number : ℕ) (h : Held) 
 
 module _ (headers : List (List ℕ)) (a : About) (k : Kept) (e : Entry Task) (h : Held) (call : Call) (runs : RunsIn k call.pid e h) (is_call : IsCall e call)
     (value : ℕ) (spaces : List (Option Held)) (rs : List Region) (procs : Listed Task) (notes : List Note)
-    (finishes : Finishes k call.pid value procs) (noted_is : notes ≡ noted_call call value [] ∷ k.notes) (room : has_room k.notes (length call.sent.items) ≡ true) where
+    (finishes : Finishes k call.pid value procs) (noted_is : notes ≡ noted_call call value [] ∷ k.notes) (recording : Recording) where
   abbrev the_ask : Ask
   the_ask = ask_in a k e h call
 
-  pub memory_mapped : Regular k → (want : Want) → AsksPages want → IsKnown k.tree want → (mem : List ℕ) (result : Result ℕ MapFault) →
+  pub memory_mapped : Regular k → (want : Want) → AsksPages want → IsKnown k.tree want → IsAsked call want → (mem : List ℕ) (result : Result ℕ MapFault) →
       MapsIn a.kind (bytes_of k.tree (file_in want)) want e.value.space h k.spaces spaces k.regions rs k.mem mem result → IsAddress result (Ok value) →
+      Brought k e.value.space a.kind want h result recording → RoomFor (world_of a k) (ask_in a k e h call) (mapped_row (ask_in a k e h call) want) →
       carried (physical_of headers a k) (physical k.mem) (answered (world_of a k) (ask_in a k e h call) (mapped_row (ask_in a k e h call) want))
-      ≡ after (physical_of headers (later 1 a) (record k { mem = mem; regions = rs; spaces = spaces; procs = procs; notes = notes })) false
+      ≡ after (physical_of headers (later 1 a) (record k { mem = mem; regions = rs; spaces = spaces; procs = procs; notes = notes; recording = recording })) false
   unfolding world_of private_bytes
-  memory_mapped regular want asks known mem result left says = by_mapped (mapped (sides h k.regions k.mem) a.kind (bytes_of k.tree (file_in want)) want) refl result left.maps says
+  memory_mapped regular want asks known asked mem result left says brought room =
+      by_mapped (mapped (sides h k.regions k.mem) a.kind (bytes_of k.tree (file_in want)) want) refl result left.maps says brought
     where
       by_mapped : (o : Option Mapped) → mapped (sides h k.regions k.mem) a.kind (bytes_of k.tree (file_in want)) want ≡ o → (r : Result ℕ MapFault) →
-          Maps o (sides h k.regions k.mem) (sides left.held rs mem) r → IsAddress r (Ok value) →
+          Maps o (sides h k.regions k.mem) (sides left.held rs mem) r → IsAddress r (Ok value) → Brought k e.value.space a.kind want h r recording →
           carried (physical_of headers a k) (physical k.mem) (answered (world_of a k) the_ask (mapped_row the_ask want))
-          ≡ after (physical_of headers (later 1 a) (record k { mem = mem; regions = rs; spaces = spaces; procs = procs; notes = notes })) false
-      by_mapped (Some m) is (Ok addr) all says =
+          ≡ after (physical_of headers (later 1 a) (record k { mem = mem; regions = rs; spaces = spaces; procs = procs; notes = notes; recording = recording })) false
+      by_mapped (Some m) is (Ok addr) all says b =
           let g : Chosen a k e.value.space h want (chosen a k want) m = map_chosen a k regular e.value.space h runs.home want asks known m is in
           let space = with_mapping (private_of k.mem h) g.mapping (first_bytes k.tree want) in
           let at : value ≡ g.mapping.range.from = says ∙ all.0 ∙ g.addr in
           let held_is : left.held ≡ m.sides.held = ap (λ (s : Sides). s.held) all.1 in
           let mem_is : mem ≡ m.sides.memory = ap (λ (s : Sides). s.memory) all.1 in
-          moved_in headers a k regular e h call runs is_call value spaces rs procs notes finishes noted_is room space mem left.held
+          moved_in headers a k regular e h call runs is_call value spaces rs procs notes finishes noted_is recording space mem left.held
           (ap (private_of mem) (sym (held_is ∙ g.held)))
           (subst (OthersSame k e.value.space) (sym mem_is) g.others)
           (ap (λ (s : Sides). length s.regions) all.1 ∙ g.pages)
           (subst (Brings a k space) (sym mem_is) g.brings)
+          (brought_there k e.value.space a.kind want h recording call asked m addr is b value g.mapping.range.from at g.below (private_bytes k.mem h))
           (mapped_row the_ask want)
           (ap (maps the_ask want) g.chosen ∙ ap (λ (v : ℕ). leaves the_ask v space) (sym at))
+          room
           left.spaces
-      by_mapped (Some m) is (Err fault.Enomem) all says = absurd all
-      by_mapped (Some m) is (Err fault.Memory) all says = absurd says
-      by_mapped None is (Ok addr) all says = absurd all
-      by_mapped None is (Err fault.Memory) all says = absurd says
-      by_mapped None is (Err fault.Enomem) all says =
+      by_mapped (Some m) is (Err fault.Enomem) all says b = absurd all
+      by_mapped (Some m) is (Err fault.Memory) all says b = absurd says
+      by_mapped None is (Ok addr) all says b = absurd all
+      by_mapped None is (Err fault.Memory) all says b = absurd says
+      by_mapped None is (Err fault.Enomem) all says b =
           let none = map_refused a k regular e.value.space h runs.home want asks known is in
           let held_is : left.held ≡ h = ap (λ (s : Sides). s.held) all in
           let mem_is : mem ≡ k.mem = ap (λ (s : Sides). s.memory) all in
-          moved_in headers a k regular e h call runs is_call value spaces rs procs notes finishes noted_is room (private_of k.mem h) mem left.held
+          moved_in headers a k regular e h call runs is_call value spaces rs procs notes finishes noted_is recording (private_of k.mem h) mem left.held
           (ap (private_of mem) (sym held_is))
           (subst (OthersSame k e.value.space) (sym mem_is) (λ j o other there. refl))
           (ap (λ (s : Sides). length s.regions) all)
           (subst (Brings a k (private_of k.mem h)) (sym mem_is) (brings_none a k regular e.value.space h runs.home))
+          (brought_nowhere k e.value.space a.kind want h recording call b value says (private_bytes k.mem h))
           (mapped_row the_ask want)
           (ap (maps the_ask want) none ∙ ap (λ (v : ℕ). leaves the_ask v (private_of k.mem h)) (sym says))
+          room
           left.spaces
 
 -- whatever ids the regions have

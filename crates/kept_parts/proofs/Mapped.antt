@@ -1,6 +1,6 @@
 -- The parts after an mmap2 and after a munmap.
 use Rattle.std.proofs.Common.{◌≡◌, ℕ, ◌+◌, ◌≤◌, false, List, [], ◌∷◌, length, Option, Some, None, Ok, Err, refl, sym, ap, subst, ◌∙◌, arith}
-use Rattle.std.specs.Prelude.{Result, ⊤, slice_get, slice_set}
+use Rattle.std.specs.Prelude.{◌==◌, Result, ⊤, slice_get, slice_set}
 use Rattle.std.specs.declared.alloc.AllocError.{AllocError}
 use Rattle.call_log.specs.declared.errno.Errno.{Errno}
 use Rattle.call_log.specs.Errno.{refusal}
@@ -10,6 +10,7 @@ use Rattle.mmap_rules.specs.declared.want.Want.{Want}
 use Rattle.mmap_rules.specs.declared.maps.MapFault.{MapFault}
 use Rattle.mmap_rules.specs.declared.maps.MapFault.TheVariants as fault
 use Rattle.mmap_rules.specs.Want.{AsksPages}
+use Rattle.mmap_rules.specs.Space.{Space}
 use Rattle.mmap_rules.specs.Held.{Held}
 use Rattle.mmap_rules.specs.Mappings.{hit, without_hit}
 use Rattle.mmap_rules.specs.Sides.{Sides, sides, Mapped, mapped, file_in, Maps, Freed, freed, unmapped, Unmaps}
@@ -28,11 +29,15 @@ use Rattle.kept_parts.specs.Copies.{CopiesHold, HoldsFiles}
 use Rattle.machine_world.specs.Ages.{kept_calls}
 use Rattle.physical_turns.specs.Physical.{has_stray}
 use Rattle.mmap_rules.specs.Copies.{IsKnown}
-use Rattle.kept_parts.specs.Stands.{About, private_of, OthersSame, world_of}
-use Rattle.kept_parts.specs.Calls.{RunsIn, IsCall, ask_in, noted_call, Changed}
-use Rattle.kept_parts.specs.MapsIn.{MapsIn, UnmapsIn, IsAddress, status_of}
+use Rattle.machine_world.specs.World.{Recording}
+use Rattle.kept_parts.specs.Recorded.{event_recorded, call_recorded}
+use Rattle.kept_parts.specs.Stands.{About, private_bytes, private_of, OthersSame, world_of}
+use Rattle.kept_parts.specs.Calls.{RunsIn, IsCall, ask_in, noted_entry, noted_call, Changed}
+use Rattle.kept_parts.specs.MapsIn.{MapsIn, UnmapsIn, IsAddress, IsAsked, status_of}
 use Rattle.kept_parts.proofs.Stays.{set_kept}
 use Rattle.kept_parts.proofs.Finishes.{Finishes, moved_by}
+use Rattle.kept_parts.proofs.Recorded.{maps_none, recorded_plain}
+use Rattle.kept_parts.proofs.Brought.{Brought, brought_there, brought_nowhere}
 use Rattle.kept_parts.proofs.CopiesStay.{copies_noted}
 use Rattle.kept_parts.proofs.MapAgrees.{Agrees, map_agrees, map_refused}
 use Rattle.kept_parts.proofs.MapChoice.{chosen}
@@ -123,74 +128,84 @@ module _ (k : Kept) (regular : Regular k) (copies : CopiesHold k.regions k.mem k
 
 module _ (a : About) (k : Kept) (e : Entry Task) (h : Held) (call : Call) (runs : RunsIn k call.pid e h) (is_call : IsCall e call)
     (value : ℕ) (spaces : List (Option Held)) (rs : List Region) (procs : Listed Task) (notes : List Note)
-    (finishes : Finishes k call.pid value procs) (noted : notes ≡ noted_call call value [] ∷ k.notes) where
+    (finishes : Finishes k call.pid value procs) (noted : notes ≡ noted_call call value [] ∷ k.notes) (recording : Recording) where
   abbrev ask : Ask
   ask = ask_in a k e h call
 
-  pub changed_mapped : Regular k → HoldsFiles k → (want : Want) → AsksPages want → IsKnown k.tree want → (mem : List ℕ) (result : Result ℕ MapFault) →
+  -- a call that maps no file brings nothing
+  plainly : (space : Space) → recording ≡ event_recorded k.recording e.value.space → (call.number == 222) ≡ false →
+      recording ≡ call_recorded k.recording e.value.space (noted_entry call value []) space.bytes
+  plainly space recorded plain = recorded ∙ sym (recorded_plain k.recording e.value.space (noted_entry call value []) space.bytes (maps_none call value [] plain))
+
+  pub changed_mapped : Regular k → HoldsFiles k → (want : Want) → AsksPages want → IsKnown k.tree want → IsAsked call want → (mem : List ℕ) (result : Result ℕ MapFault) →
       MapsIn a.kind (bytes_of k.tree (file_in want)) want e.value.space h k.spaces spaces k.regions rs k.mem mem result → IsAddress result (Ok value) →
-      Changed a k e h call (mapped_row (ask_in a k e h call) want) (record k { mem = mem; regions = rs; spaces = spaces; procs = procs; notes = notes })
+      Brought k e.value.space a.kind want h result recording →
+      Changed a k e h call (mapped_row (ask_in a k e h call) want) (record k { mem = mem; regions = rs; spaces = spaces; procs = procs; notes = notes; recording = recording })
   unfolding world_of
-  changed_mapped regular holds want asks known mem result left says = by_mapped (mapped (sides h k.regions k.mem) a.kind (bytes_of k.tree (file_in want)) want) refl result left.maps says
+  changed_mapped regular holds want asks known asked mem result left says brought =
+      by_mapped (mapped (sides h k.regions k.mem) a.kind (bytes_of k.tree (file_in want)) want) refl result left.maps says brought
     where
       by_mapped : (o : Option Mapped) → mapped (sides h k.regions k.mem) a.kind (bytes_of k.tree (file_in want)) want ≡ o → (r : Result ℕ MapFault) →
-          Maps o (sides h k.regions k.mem) (sides left.held rs mem) r → IsAddress r (Ok value) →
-          Changed a k e h call (mapped_row ask want) (record k { mem = mem; regions = rs; spaces = spaces; procs = procs; notes = notes })
-      by_mapped (Some m) is (Ok addr) all says =
+          Maps o (sides h k.regions k.mem) (sides left.held rs mem) r → IsAddress r (Ok value) → Brought k e.value.space a.kind want h r recording →
+          Changed a k e h call (mapped_row ask want) (record k { mem = mem; regions = rs; spaces = spaces; procs = procs; notes = notes; recording = recording })
+      by_mapped (Some m) is (Ok addr) all says b =
           let g : Agrees k e.value.space h want (chosen a k want) m = map_agrees a k regular e.value.space h runs.home holds want asks known m is in
           let space = with_mapping (private_of k.mem h) g.mapping (first_bytes k.tree want) in
           let at : value ≡ g.mapping.range.from = says ∙ all.0 ∙ g.addr in
           let held_is : left.held ≡ m.sides.held = ap (λ (s : Sides). s.held) all.1 in
           let mem_is : mem ≡ m.sides.memory = ap (λ (s : Sides). s.memory) all.1 in
-          moved_by a k e h call runs is_call (mapped_row ask want) space value mem rs left.held spaces procs notes
+          moved_by a k e h call runs is_call (mapped_row ask want) space value mem rs left.held spaces procs notes recording
           (ap (maps ask want) g.chosen ∙ ap (λ (v : ℕ). leaves ask v space) (sym at))
           (held_is ∙ g.held)
           (sym g.space ∙ (λ i. private_of (sym mem_is i) (sym held_is i)))
           (subst (OthersSame k e.value.space) (sym mem_is) g.others)
           (ap (λ (s : Sides). length s.regions) all.1 ∙ g.pages)
           left.spaces finishes noted
-      by_mapped (Some m) is (Err fault.Enomem) all says = absurd all
-      by_mapped (Some m) is (Err fault.Memory) all says = absurd says
-      by_mapped None is (Ok addr) all says = absurd all
-      by_mapped None is (Err fault.Memory) all says = absurd says
-      by_mapped None is (Err fault.Enomem) all says =
+          (brought_there k e.value.space a.kind want h recording call asked m addr is b value g.mapping.range.from at g.below (private_bytes k.mem h))
+      by_mapped (Some m) is (Err fault.Enomem) all says b = absurd all
+      by_mapped (Some m) is (Err fault.Memory) all says b = absurd says
+      by_mapped None is (Ok addr) all says b = absurd all
+      by_mapped None is (Err fault.Memory) all says b = absurd says
+      by_mapped None is (Err fault.Enomem) all says b =
           let none = map_refused a k regular e.value.space h runs.home want asks known is in
           let held_is : left.held ≡ h = ap (λ (s : Sides). s.held) all in
           let mem_is : mem ≡ k.mem = ap (λ (s : Sides). s.memory) all in
-          moved_by a k e h call runs is_call (mapped_row ask want) (private_of k.mem h) value mem rs left.held spaces procs notes
+          moved_by a k e h call runs is_call (mapped_row ask want) (private_of k.mem h) value mem rs left.held spaces procs notes recording
           (ap (maps ask want) none ∙ ap (λ (v : ℕ). leaves ask v (private_of k.mem h)) (sym says))
           held_is
           (λ i. private_of (sym mem_is i) (sym held_is i))
           (subst (OthersSame k e.value.space) (sym mem_is) (λ j o other there. refl))
           (ap (λ (s : Sides). length s.regions) all)
           left.spaces finishes noted
+          (brought_nowhere k e.value.space a.kind want h recording call b value says (private_bytes k.mem h))
 
   pub changed_unmapped : (addr len : ℕ) (result : Result ⊤ Errno) → UnmapsIn addr len e.value.space h k.spaces spaces k.regions rs result → value ≡ status_of result →
-      Changed a k e h call (unmaps (ask_in a k e h call) (hit h.maps addr len)) (record k { regions = rs; spaces = spaces; procs = procs; notes = notes })
+      recording ≡ event_recorded k.recording e.value.space → (call.number == 222) ≡ false →
+      Changed a k e h call (unmaps (ask_in a k e h call) (hit h.maps addr len)) (record k { regions = rs; spaces = spaces; procs = procs; notes = notes; recording = recording })
   unfolding world_of
-  changed_unmapped addr len result left says = by_freed (unmapped h k.regions addr len) refl result left.unmaps says
+  changed_unmapped addr len result left says recorded plain = by_freed (unmapped h k.regions addr len) refl result left.unmaps says
     where
       by_freed : (o : Option Freed) → unmapped h k.regions addr len ≡ o → (r : Result ⊤ Errno) → Unmaps o (freed h k.regions) (freed left.held rs) r → value ≡ status_of r →
-          Changed a k e h call (unmaps ask (hit h.maps addr len)) (record k { regions = rs; spaces = spaces; procs = procs; notes = notes })
+          Changed a k e h call (unmaps ask (hit h.maps addr len)) (record k { regions = rs; spaces = spaces; procs = procs; notes = notes; recording = recording })
       by_freed (Some f) is (Ok done) all says =
           let g : Unmapped k e.value.space h addr len f = unmap_agrees k e.value.space h addr len left.shaped f is in
           let space = over_maps (private_of k.mem h) (without_hit h.maps g.what) in
           let held_is : left.held ≡ f.held = ap (λ (x : Freed). x.held) all in
-          moved_by a k e h call runs is_call (unmaps ask (hit h.maps addr len)) space value k.mem rs left.held spaces procs notes
+          moved_by a k e h call runs is_call (unmaps ask (hit h.maps addr len)) space value k.mem rs left.held spaces procs notes recording
           (ap (unmaps ask) g.found ∙ ap (λ (v : ℕ). leaves ask v space) (sym says))
           (held_is ∙ g.held)
           (sym g.space ∙ ap (private_of k.mem) (sym held_is))
           (λ j o other there. refl)
           (ap (λ (x : Freed). length x.regions) all ∙ g.pages)
-          left.spaces finishes noted
+          left.spaces finishes noted (plainly space recorded plain)
       by_freed (Some f) is (Err errno) all says = absurd all
       by_freed None is (Ok done) all says = absurd all
       by_freed None is (Err errno) all says =
           let held_is : left.held ≡ h = ap (λ (x : Freed). x.held) all.1 in
-          moved_by a k e h call runs is_call (unmaps ask (hit h.maps addr len)) (private_of k.mem h) value k.mem rs left.held spaces procs notes
+          moved_by a k e h call runs is_call (unmaps ask (hit h.maps addr len)) (private_of k.mem h) value k.mem rs left.held spaces procs notes recording
           (ap (unmaps ask) (unmap_refused h k.regions addr len is) ∙ ap (λ (v : ℕ). leaves ask v (private_of k.mem h)) (sym (says ∙ ap refusal all.0)))
           held_is
           (ap (private_of k.mem) (sym held_is))
           (λ j o other there. refl)
           (ap (λ (x : Freed). length x.regions) all.1)
-          left.spaces finishes noted
+          left.spaces finishes noted (plainly (private_of k.mem h) recorded plain)

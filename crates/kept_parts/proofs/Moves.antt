@@ -15,7 +15,7 @@ use Rattle.vfork_exec.proofs.Keyed.{find_changed}
 use Rattle.mem_files.specs.Inodes.{Inodes}
 use Rattle.fd_tables.specs.Files.{OpenFiles}
 use Rattle.file_calls.specs.Calls.{with_all}
-use Rattle.machine_world.specs.World.{Process, LiveSpace, World, pid_of, id_of}
+use Rattle.machine_world.specs.World.{Process, LiveSpace, Recording, World, pid_of, id_of}
 use Rattle.machine_world.specs.Families.{borrows, spaces_left}
 use Rattle.machine_world.specs.Event.{with_space, departed}
 use Rattle.kept_parts.specs.declared.task.Task.{Task}
@@ -73,47 +73,53 @@ module _ (k : Kept) (pid : ℕ) (e : Entry Task) (h : Held) (runs : RunsIn k pid
 
   module _ (how : How) where
     -- and its space, if no other one lent it
-    left_world : (lent : Bool) (a : About) (n : ℕ) (notes : List Note) →
-        world_of (later n a) (record (space_left (ended k e how) lent e.value.space h) { notes = notes })
+    left_world : (lent : Bool) (a : About) (n : ℕ) (notes : List Note) (recording : Recording) → recording.keep ≡ k.recording.keep →
+        world_of (later n a) (record (space_left (ended k e how) lent e.value.space h) { notes = notes; recording = recording })
         ≡ record (departed (world_of a k) (process_of e) how) {
           spaces = if lent then live_spaces k.mem k.spaces else without id_of e.value.space (live_spaces k.mem k.spaces);
           notes = notes;
           events = a.events + n;
+          recording = recording;
         }
     unfolding world_of
-    left_world true a n notes = λ i. record (departed (world_of a k) (process_of e) how) {
+    left_world true a n notes recording keep = λ i. record (departed (world_of a k) (process_of e) how) {
       procs = left_is k.procs e how i;
       spaces = live_spaces k.mem k.spaces;
+      rest = record (departed (world_of a k) (process_of e) how).rest { keep = keep i };
       notes = notes;
       events = a.events + n;
+      recording = recording;
     }
-    left_world false a n notes = λ i. record (departed (world_of a k) (process_of e) how) {
+    left_world false a n notes recording keep = λ i. record (departed (world_of a k) (process_of e) how) {
       procs = left_is k.procs e how i;
       spaces = sym (without_space k.mem k.spaces e.value.space h runs.home) i;
       loads = length-set k.spaces e.value.space None i;
-      rest = record (departed (world_of a k) (process_of e) how).rest { pages = length_released k.regions h.maps i };
+      rest = record (departed (world_of a k) (process_of e) how).rest { pages = length_released k.regions h.maps i; keep = keep i };
       notes = notes;
       events = a.events + n;
+      recording = recording;
     }
 
-    lent_world : (a : About) (n : ℕ) (notes : List Note) (lent : Bool) → borrows (process_of e) (map process_of k.procs.entries) ≡ lent →
+    lent_world : (a : About) (n : ℕ) (notes : List Note) (recording : Recording) (lent : Bool) → borrows (process_of e) (map process_of k.procs.entries) ≡ lent →
         record (departed (world_of a k) (process_of e) how) {
           spaces = if lent then live_spaces k.mem k.spaces else without id_of e.value.space (live_spaces k.mem k.spaces);
           notes = notes;
           events = a.events + n;
+          recording = recording;
         }
-        ≡ record (departed (world_of a k) (process_of e) how) { notes = notes; events = a.events + n }
+        ≡ record (departed (world_of a k) (process_of e) how) { notes = notes; events = a.events + n; recording = recording }
     unfolding world_of spaces_left
-    lent_world a n notes lent is = ap (λ (b : Bool). record (departed (world_of a k) (process_of e) how) {
+    lent_world a n notes recording lent is = ap (λ (b : Bool). record (departed (world_of a k) (process_of e) how) {
       spaces = if b then live_spaces k.mem k.spaces else without id_of e.value.space (live_spaces k.mem k.spaces);
       notes = notes;
       events = a.events + n;
+      recording = recording;
     }) (sym is)
 
-    pub gone_world : (a : About) (n : ℕ) (notes : List Note) →
-        world_of (later n a) (record (gone k e h how) { notes = notes })
-        ≡ record (departed (world_of a k) (process_of e) how) { notes = notes; events = a.events + n }
-    gone_world a n notes = left_world (entry_borrows k.procs e.pid) a n notes ∙ lent_world a n notes (entry_borrows k.procs e.pid) (borrows_is k.procs e)
+    pub gone_world : (a : About) (n : ℕ) (notes : List Note) (recording : Recording) → recording.keep ≡ k.recording.keep →
+        world_of (later n a) (record (gone k e h how) { notes = notes; recording = recording })
+        ≡ record (departed (world_of a k) (process_of e) how) { notes = notes; events = a.events + n; recording = recording }
+    gone_world a n notes recording keep = left_world (entry_borrows k.procs e.pid) a n notes recording keep ∙ lent_world a n notes recording (entry_borrows k.procs e.pid) (borrows_is k.procs e)
 
     pub gone_dead : process (gone k e h how).procs pid ≡ None
     gone_dead = ap (λ (s : Listed Task). process s pid) (gone_procs k e h how) ∙ dead_ended k.procs pid e runs.lives how

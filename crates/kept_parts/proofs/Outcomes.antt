@@ -8,7 +8,7 @@ use Rattle.rv32im_step.specs.declared.access.AccessKind.TheVariants as access_ki
 use Rattle.rv32im_step.specs.Registers.{register}
 use Rattle.call_log.specs.declared.how.How.{How}
 use Rattle.call_log.specs.declared.how.How.TheVariants.{Exit, Signal}
-use Rattle.call_log.specs.Notes.{Written, Note, call_note, end_note, weight_of, has_room}
+use Rattle.call_log.specs.Notes.{Written, CallEntry, Note, call_note, end_note, weight_of}
 use Rattle.call_log.specs.Sent.{Span, sent}
 use Rattle.nommu_regions.specs.declared.region.Region.{Region}
 use Rattle.mmap_rules.specs.Held.{Held}
@@ -19,15 +19,15 @@ use Rattle.vfork_exec.specs.declared.entry.Entry.{Entry}
 use Rattle.vfork_exec.specs.declared.family.State.TheVariants.{OnPipe}
 use Rattle.vfork_exec.specs.Keyed.{find}
 use Rattle.vfork_exec.specs.Procs.{Lives, value_at}
-use Rattle.machine_world.specs.World.{Process, LiveSpace, World, pid_of, id_of}
+use Rattle.machine_world.specs.World.{Process, LiveSpace, Recording, World, pid_of, id_of}
 use Rattle.machine_world.specs.Asks.{Ask, Reply, Row, replies, waits}
-use Rattle.machine_world.specs.Rows.{row}
+use Rattle.machine_world.specs.Rows.{next_brk, row}
 use Rattle.machine_world.specs.Recordings.{room_in}
-use Rattle.machine_world.specs.Event.{Trace, Outcome, went, strays, full, with_space, counted_in, noted, departed, ended, number_of, args_of, entry_of, item_of, call_access, replied, replied_world, room_for, served, put, put_got, waited, answered, exit_code, exited, is_exit, waitid, cloned, exec, classed, answer, asked, trapped, called, settled, at_process, by_process, in_space}
+use Rattle.machine_world.specs.Event.{Trace, Outcome, went, strays, full, with_space, counted_in, noted, departed, ended, number_of, args_of, entry_of, item_of, call_access, replied, replied_world, maps_file, room_for, served, put, put_got, waited, answered, exit_code, exited, is_exit, waitid, cloned, exec, classed, answer, asked, trapped, called, settled, at_process, by_process, in_space}
 use Rattle.kept_parts.specs.declared.task.Task.{Task}
 use Rattle.file_calls.specs.declared.call.Call.{Call}
 use Rattle.file_calls.specs.declared.outcome.Outcome.{Outcome as Output}
-use Rattle.file_calls.specs.Calls.{MadeBy, WaitsOn, is_change, is_output, with_all, after, written_of}
+use Rattle.file_calls.specs.Calls.{MadeBy, WaitsOn, IsChange, is_change, is_output, with_all, after, written_of}
 use Rattle.kept_parts.specs.declared.effect.Effect.{Effect}
 use Rattle.kept_parts.specs.declared.effect.Effect.TheVariants.{Answer, Yield, Break}
 use Rattle.kept_parts.specs.declared.served.Served.{Served}
@@ -38,11 +38,13 @@ use Rattle.kept_parts.specs.Stands.{About, later, private_bytes, private_of, pro
 use Rattle.call_bytes.specs.Puts.{first_stray, access_at}
 use Rattle.kept_parts.specs.Serves.{Went, Answered, Serves, Died}
 use Rattle.kept_parts.specs.Gone.{gone}
+use Rattle.kept_parts.specs.Recorded.{event_recorded, call_recorded, room_beside}
 use Rattle.call_bytes.specs.declared.reading.Unread.TheVariants as unread
-use Rattle.kept_parts.specs.Calls.{RunsIn, IsCall, Made, Changed, given, Gave, reply_of, ask_in, served_by, noted_call, held_as, after_reply, exit_of, after_exit}
+use Rattle.kept_parts.specs.Calls.{RunsIn, IsCall, Made, Changed, given, Gave, RoomFor, reply_of, ask_in, value_of, maps_by, served_by, noted_entry, noted_call, held_as, after_reply, exit_of, after_exit}
 use Rattle.std.proofs.lemmas.Option.{same_Some}
 use Rattle.call_bytes.proofs.Puts.{put_all, put_strays}
 use Rattle.kept_parts.proofs.QuietRows.{Quiet}
+use Rattle.kept_parts.proofs.Recorded.{maps_by_none, maps_none, room_plain, room_never}
 use Rattle.kept_parts.proofs.Worlds.{find_space, find_process}
 use Rattle.kept_parts.proofs.Runs.{pid_found, value_found, runs_in}
 use Rattle.std.proofs.lemmas.Bool.{false≢true}
@@ -128,6 +130,13 @@ module _ (n : ℕ) (goes : is_exit n ≡ false) where
   pub number_row : (m : ℕ) → n ≡ m → (m == 95) ≡ false → (m == 220) ≡ false → (m == 221) ≡ false → IsRow n
   number_row m is n95 n220 n221 = record { exits = goes; n95 = ap (λ x. x == 95) is ∙ n95; n220 = ap (λ x. x == 220) is ∙ n220; n221 = ap (λ x. x == 221) is ∙ n221 }
 
+-- a call that changes files is no mmap2
+pub maps_none_changed : (call : Call) → IsChange call.number → (call.number == 222) ≡ false
+maps_none_changed call is = eqb_other call.number 222 (isnt_change call.number is)
+  where
+    isnt_change : (n : ℕ) → IsChange n → n ≢ 222
+    isnt_change n is same = false≢true (ap is_change (sym same) ∙ is)
+
 -- a call that waits on a pipe is one
 pub waits_is : (r : Row) (pipe : ℕ) → WaitsOn r (Some pipe) → r ≡ waits (OnPipe pipe)
 waits_is (replies r) pipe is = absurd is
@@ -165,14 +174,9 @@ exited_full : (w : World) (a : Ask) → room_in w (weight_of a.sent []) ≡ fals
 unfolding exited
 exited_full w a room = rw room refl
 
-room_there : (a : About) (k : Kept) (bytes : List ℕ) (b : Bool) → has_room k.notes (weight_of bytes []) ≡ b → room_in (world_of a k) (weight_of bytes []) ≡ b
+room_there : (a : About) (k : Kept) (bytes : List ℕ) (b : Bool) → room_beside k (weight_of bytes []) ≡ b → room_in (world_of a k) (weight_of bytes []) ≡ b
 unfolding world_of
 room_there a k bytes b room = room
-
--- nothing is recorded of what a reply brings
-reply_room : (a : About) (k : Kept) (e : Entry Task) (h : Held) (call : Call) (r : Reply) (b : Bool) → has_room k.notes (weight_of call.sent.items r.got) ≡ b → room_for (world_of a k) (ask_in a k e h call) r ≡ b
-unfolding world_of
-reply_room a k e h call r b room = room
 
 -- ---- what the parts are after it
 
@@ -186,8 +190,8 @@ went_by Yield ask t new pid over events lives = (over, events, lives)
 went_by (Break to) ask t new pid over events lives = (over, events, lives)
 
 same_entry : (p q n m : ℕ) (xs ys : List ℕ) (bytes : List ℕ) (value : ℕ) (got : List Written) → p ≡ q → n ≡ m → xs ≡ ys →
-    call_note (record { pid = p; call = n; args = xs; sent = bytes; reply = value; got = got }) ≡ call_note (record { pid = q; call = m; args = ys; sent = bytes; reply = value; got = got })
-same_entry p q n m xs ys bytes value got e f g = cc
+    ◌≡◌ {A = CallEntry} (record { pid = p; call = n; args = xs; sent = bytes; reply = value; got = got }) (record { pid = q; call = m; args = ys; sent = bytes; reply = value; got = got })
+same_entry p q n m xs ys bytes value got e f g = λ i. record { pid = e i; call = f i; args = g i; sent = bytes; reply = value; got = got }
 
 -- the files of the call are those of the parts
 pub files_in : (a : About) (k : Kept) (e : Entry Task) (h : Held) (call : Call) {files : OpenFiles} → k.files ≡ files → (ask_in a k e h call).rest.files ≡ files
@@ -200,11 +204,19 @@ tree_in a k e h call is = is
 
 module _ (a : About) (k : Kept) (e : Entry Task) (h : Held) (call : Call) (runs : RunsIn k call.pid e h) (is : IsCall e call) where
   -- a call without bytes weighs what it sends
-  weighs : (bytes : List ℕ) (b : Bool) → has_room k.notes (length bytes) ≡ b → has_room k.notes (weight_of bytes []) ≡ b
-  weighs bytes b room = ap (has_room k.notes) (add-zero (length bytes)) ∙ room
+  weighs : (bytes : List ℕ) (b : Bool) → room_beside k (length bytes) ≡ b → room_beside k (weight_of bytes []) ≡ b
+  weighs bytes b room = ap (room_beside k) (add-zero (length bytes)) ∙ room
+
+  pub entry_is : (value : ℕ) (got : List Written) → noted_entry call value got ≡ entry_of (ask_in a k e h call) value got
+  entry_is value got = same_entry call.pid e.pid call.number (number_of e.value.regs) call.args (args_of e.value.regs) call.sent.items value got is.pid is.number is.args
 
   note_is : (value : ℕ) (got : List Written) → noted_call call value got ≡ call_note (entry_of (ask_in a k e h call) value got)
-  note_is value got = same_entry call.pid e.pid call.number (number_of e.value.regs) call.args (args_of e.value.regs) call.sent.items value got is.pid is.number is.args
+  note_is value got = ap call_note (entry_is value got)
+
+  -- a call that maps no file has room where it has it for itself
+  pub plain_room : (r : Reply) (b : Bool) → maps_file (noted_entry call r.value r.got) ≡ false → room_beside k (weight_of call.sent.items r.got) ≡ b →
+      room_for (world_of a k) (ask_in a k e h call) r ≡ b
+  plain_room r b plain room = room_plain a k e h call r b (ap maps_file (sym (entry_is r.value r.got)) ∙ plain) room
 
   pub call_answer : sent (number_of e.value.regs) (args_of e.value.regs) (private_bytes k.mem h) ≡ Ok call.sent.items →
       called (world_of a k) call.pid ≡ settled (classed (world_of a k) (ask_in a k e h call))
@@ -240,23 +252,28 @@ module _ (a : About) (k : Kept) (e : Entry Task) (h : Held) (call : Call) (runs 
       after_world : OthersSame k e.value.space mem → world_of (later 1 a) then_kept ≡ replied_world (record (world_of a k) { rest = reply.rest }) ask reply then_space.bytes
       unfolding world_of
       after_world others =
-          moved_world k call.pid e h runs (replied e.value.regs value) (held_as h space) mem others rs pages starts a 1 (noted_call call value got ∷ k.notes) tree files console
-          ∙ (λ i. record (then_state (sym stays i)) { notes = note_is value got i ∷ k.notes; events = a.events + 1 })
+          ap (λ (w : World). record w { recording = call_recorded k.recording e.value.space (noted_entry call value got) space.bytes })
+          (moved_world k call.pid e h runs (replied e.value.regs value) (held_as h space) mem others rs pages starts a 1 (noted_call call value got ∷ k.notes) tree files console)
+          ∙ (λ i. record (then_state (sym stays i)) {
+            notes = note_is value got i ∷ k.notes;
+            events = a.events + 1;
+            recording = call_recorded k.recording e.value.space (entry_is value got i) space.bytes;
+          })
 
-      pub reply_serves : OthersSame k e.value.space mem → has_room k.notes (weight_of call.sent.items got) ≡ true →
+      pub reply_serves : OthersSame k e.value.space mem → room_for (world_of a k) ask reply ≡ true →
           (s : Served) → ((t : Trace) (new : Kept) → t.over ≡ over → t.events ≡ 1 → Lives new.procs call.pid → Went t new call.pid s) →
           Answered a (answered (world_of a k) ask (replies reply)) k then_kept call.pid s
       reply_serves others room s goes =
           let t : Trace = record { space = e.value.space; events = 1; items = item_of (entry_of ask value got) then_space.bytes ∷ []; begins = None; over = over } in
           it_went a (answered (world_of a k) ask (replies reply)) (replied_world (record (world_of a k) { rest = reply.rest }) ask reply then_space.bytes) t k then_kept call.pid s
-          (answered_is (Ok then_space.bytes) puts ∙ served_when (world_of a k) ask reply then_space.bytes (reply_room a k e h call reply true room))
+          (answered_is (Ok then_space.bytes) puts ∙ served_when (world_of a k) ask reply then_space.bytes room)
           (after_world others)
           (goes t then_kept refl refl (moved_lives k call.pid e h runs (replied e.value.regs value) h k.mem))
 
-    pub reply_full : (bytes : Bytes) → put_got space.bytes (writable_in space.maps) got ≡ Ok bytes → has_room k.notes (weight_of call.sent.items got) ≡ false →
+    pub reply_full : (bytes : Bytes) → put_got space.bytes (writable_in space.maps) got ≡ Ok bytes → room_for (world_of a k) ask reply ≡ false →
         Answered a (answered (world_of a k) ask (replies reply)) k k call.pid LogFull
     reply_full bytes puts room = subst (λ (o : Outcome). Answered a o k k call.pid LogFull)
-        (sym (answered_is (Ok bytes) puts ∙ served_full (world_of a k) ask reply bytes (reply_room a k e h call reply false room))) refl
+        (sym (answered_is (Ok bytes) puts ∙ served_full (world_of a k) ask reply bytes room)) refl
 
     pub reply_strays : (span : Span) → put_got space.bytes (writable_in space.maps) got ≡ Err span →
         Answered a (answered (world_of a k) ask (replies reply)) k k call.pid (Stray (access_at e.value.regs.pc span))
@@ -288,21 +305,39 @@ module _ (a : About) (k : Kept) (e : Entry Task) (h : Held) (call : Call) (runs 
     space_stays Yield = refl
     space_stays (Break to) = refl
 
-    pub effect_serves : has_room k.notes (length call.sent.items) ≡ true →
+    got_none : (g : Effect) → (reply_of ask g).got ≡ []
+    got_none (Answer value) = refl
+    got_none Yield = refl
+    got_none (Break to) = refl
+
+    value_is : (g : Effect) → value_of (next_brk (private_of k.mem h)) g ≡ (reply_of ask g).value
+    value_is (Answer value) = refl
+    value_is Yield = refl
+    value_is (Break to) = refl
+
+    weighs_alone : (b : Bool) → room_beside k (length call.sent.items) ≡ b → room_beside k (weight_of call.sent.items effect_reply.got) ≡ b
+    weighs_alone b room = ap (λ (gots : List Written). room_beside k (weight_of call.sent.items gots)) (got_none f) ∙ weighs call.sent.items b room
+
+    maps_no_file : maps_by call f ≡ false → maps_file (noted_entry call effect_reply.value effect_reply.got) ≡ false
+    maps_no_file plain =
+        ap (λ (v : ℕ). maps_file (noted_entry call v effect_reply.got)) (sym (value_is f)) ∙ maps_by_none call f (next_brk (private_of k.mem h)) effect_reply.got plain
+
+    pub effect_serves : room_beside k (length call.sent.items) ≡ true → maps_by call f ≡ false →
         Answered a (answered (world_of a k) ask (replies effect_reply)) k (after_reply k e h call effect_reply k.mem) call.pid (served_by f)
-    effect_serves room =
+    effect_serves room plain =
         subst (λ (r : Reply). Answered a (answered (world_of a k) ask (replies r)) k (after_reply k e h call r k.mem) call.pid (served_by f)) (sym effect_shape)
         (reply_serves effect_reply.value [] k.tree k.files k.console effect_reply.space effect_reply.over k.mem k.regions refl k.starts (bytes_stay f) (space_stays f) (λ j o other there. refl)
-        (weighs call.sent.items true room) (served_by f) (λ t n. went_by f ask t n call.pid))
+        (subst (λ (r : Reply). room_for (world_of a k) ask r ≡ true) effect_shape (plain_room effect_reply true (maps_no_file plain) (weighs_alone true room))) (served_by f) (λ t n. went_by f ask t n call.pid))
 
-    pub effect_full : has_room k.notes (length call.sent.items) ≡ false → Answered a (answered (world_of a k) ask (replies effect_reply)) k k call.pid LogFull
+    pub effect_full : room_beside k (length call.sent.items) ≡ false → Answered a (answered (world_of a k) ask (replies effect_reply)) k k call.pid LogFull
     effect_full room =
         subst (λ (r : Reply). Answered a (answered (world_of a k) ask (replies r)) k k call.pid LogFull) (sym effect_shape)
-        (reply_full effect_reply.value [] k.tree k.files k.console effect_reply.space effect_reply.over effect_reply.space.bytes refl (weighs call.sent.items false room))
+        (reply_full effect_reply.value [] k.tree k.files k.console effect_reply.space effect_reply.over effect_reply.space.bytes refl
+        (subst (λ (r : Reply). room_for (world_of a k) ask r ≡ false) effect_shape (room_never a k e h call effect_reply (weighs_alone false room))))
 
   -- ---- by a change of files
 
-  pub change_serves : (rows : Row) (new : Kept) → Changed a k e h call rows new → has_room k.notes (length call.sent.items) ≡ true →
+  pub change_serves : (rows : Row) (new : Kept) → Changed a k e h call rows new → RoomFor (world_of a k) (ask_in a k e h call) rows →
       Answered a (answered (world_of a k) ask rows) k new call.pid Replied
   change_serves rows new c room =
       let r = c.reply in
@@ -311,22 +346,41 @@ module _ (a : About) (k : Kept) (e : Entry Task) (h : Held) (call : Call) (runs 
       (λ i. record { value = r.value; got = c.got i; rest = c.rest i; space = r.space; over = c.over i }) in
       let served = reply_serves r.value [] r.rest.tree r.rest.files r.rest.console r.space false new.mem new.regions c.pages new.starts
       (ap (λ (s : Space). Ok s.bytes) c.space) (ap (λ (s : Space). record s { bytes = private_bytes new.mem g }) c.space) c.others
-      (weighs call.sent.items true room) Replied (λ t n over events lives. (over, events, lives)) in
+      (subst (λ (x : Reply). room_for (world_of a k) ask x ≡ true) shape (room r c.replies)) Replied (λ t n over events lives. (over, events, lives)) in
       let by_reply = subst (λ (x : Reply). Answered a (answered (world_of a k) ask (replies x)) k (record (after_reply k e h call x new.mem) { regions = new.regions; starts = new.starts }) call.pid Replied) (sym shape) served in
       let by_new = subst (λ (x : Kept). Answered a (answered (world_of a k) ask (replies r)) k x call.pid Replied) (sym c.after) by_reply in
       subst (λ (x : Row). Answered a (answered (world_of a k) ask x) k new call.pid Replied) (sym c.replies) by_new
 
-  pub quiet_full : (rows : Row) → Quiet rows → has_room k.notes (length call.sent.items) ≡ false → Answered a (answered (world_of a k) ask rows) k k call.pid LogFull
-  quiet_full rows quiet room = by_row rows quiet
+  -- where a call changes no file's mapping there is room for it where it has it for itself
+  pub room_for_row : (rows : Row) → Quiet rows → (call.number == 222) ≡ false → room_beside k (length call.sent.items) ≡ true → RoomFor (world_of a k) (ask_in a k e h call) rows
+  room_for_row rows quiet plain room = λ r is.
+      plain_room r true (maps_none call r.value r.got plain)
+      (ap (λ (gots : List Written). room_beside k (weight_of call.sent.items gots)) (quiet_got r (subst Quiet is quiet)) ∙ weighs call.sent.items true room)
     where
-      by_row : (x : Row) → Quiet x → Answered a (answered (world_of a k) ask x) k k call.pid LogFull
-      by_row (replies r) got = subst (λ (o : Outcome). Answered a o k k call.pid LogFull) (sym (is_full r got)) refl
+      quiet_got : (r : Reply) → Quiet (replies r) → r.got ≡ []
+      quiet_got r got = got
+
+  -- the log has no room for the call with what it brings
+  pub brings_full : (rows : Row) → Quiet rows → ((r : Reply) → rows ≡ replies r → room_for (world_of a k) (ask_in a k e h call) r ≡ false) →
+      Answered a (answered (world_of a k) ask rows) k k call.pid LogFull
+  brings_full rows quiet room = by_row rows quiet room
+    where
+      by_row : (x : Row) → Quiet x → ((r : Reply) → x ≡ replies r → room_for (world_of a k) ask r ≡ false) → Answered a (answered (world_of a k) ask x) k k call.pid LogFull
+      by_row (replies r) got none = subst (λ (o : Outcome). Answered a o k k call.pid LogFull) (sym is_full) refl
         where
-          is_full : (r : Reply) → r.got ≡ [] → answered (world_of a k) ask (replies r) ≡ full
-          is_full r got =
+          is_full : answered (world_of a k) ask (replies r) ≡ full
+          is_full =
               ap (λ (gots : List Written). put (world_of a k) ask r (put_got r.space.bytes (writable_in r.space.maps) gots)) got
-              ∙ served_full (world_of a k) ask r r.space.bytes (reply_room a k e h call r false (ap (λ (gots : List Written). has_room k.notes (weight_of call.sent.items gots)) got ∙ weighs call.sent.items false room))
-      by_row (waits who) quiet = absurd quiet
+              ∙ served_full (world_of a k) ask r r.space.bytes (none r refl)
+      by_row (waits who) quiet none = absurd quiet
+
+  -- nor for the call alone
+  pub quiet_full : (rows : Row) → Quiet rows → room_beside k (length call.sent.items) ≡ false → Answered a (answered (world_of a k) ask rows) k k call.pid LogFull
+  quiet_full rows quiet room = brings_full rows quiet (λ r is.
+      room_never a k e h call r (ap (λ (gots : List Written). room_beside k (weight_of call.sent.items gots)) (quiet_got r (subst Quiet is quiet)) ∙ weighs call.sent.items false room))
+    where
+      quiet_got : (r : Reply) → Quiet (replies r) → r.got ≡ []
+      quiet_got r got = got
 
   -- ---- by an output
 
@@ -341,19 +395,24 @@ module _ (a : About) (k : Kept) (e : Entry Task) (h : Held) (call : Call) (runs 
     private_is : (mem : List ℕ) → record (private_of k.mem h) { bytes = private_bytes mem h } ≡ private_of mem h
     private_is mem = refl
 
-    pub output_serves : (new : Kept) → Gave a k e h call o new → has_room k.notes (weight_of call.sent.items (written_of o)) ≡ true →
+    output_room : (b : Bool) → (call.number == 222) ≡ false → room_beside k (weight_of call.sent.items (written_of o)) ≡ b → room_for (world_of a k) (ask_in a k e h call) (given ask o) ≡ b
+    output_room b plain room = plain_room (given ask o) b (maps_none call o.value (written_of o) plain) room
+
+    pub output_serves : (new : Kept) → Gave a k e h call o new → (call.number == 222) ≡ false → room_beside k (weight_of call.sent.items (written_of o)) ≡ true →
         Answered a (answered (world_of a k) ask (replies (given ask o))) k new call.pid Replied
-    output_serves new c room =
-        let served = reply_serves o.value (written_of o) k.tree files_then k.console (private_of k.mem h) false new.mem k.regions refl k.starts c.put (private_is new.mem) c.others room Replied (λ t n over events lives. (over, events, lives)) in
+    output_serves new c plain room =
+        let served = reply_serves o.value (written_of o) k.tree files_then k.console (private_of k.mem h) false new.mem k.regions refl k.starts c.put (private_is new.mem) c.others
+        (subst (λ (x : Reply). room_for (world_of a k) ask x ≡ true) given_shape (output_room true plain room)) Replied (λ t n over events lives. (over, events, lives)) in
         let by_reply = subst (λ (x : Reply). Answered a (answered (world_of a k) ask (replies x)) k (after_reply k e h call x new.mem) call.pid Replied) (sym given_shape) served in
         subst (λ (x : Kept). Answered a (answered (world_of a k) ask (replies (given ask o))) k x call.pid Replied) (sym c.after) by_reply
 
-    pub output_full : first_stray (writable_in h.maps) (written_of o) ≡ None → has_room k.notes (weight_of call.sent.items (written_of o)) ≡ false →
+    pub output_full : first_stray (writable_in h.maps) (written_of o) ≡ None → room_beside k (weight_of call.sent.items (written_of o)) ≡ false →
         Answered a (answered (world_of a k) ask (replies (given ask o))) k k call.pid LogFull
     output_full fits room =
         let all = put_all (private_bytes k.mem h) (writable_in h.maps) (written_of o) fits in
         subst (λ (x : Reply). Answered a (answered (world_of a k) ask (replies x)) k k call.pid LogFull) (sym given_shape)
-        (reply_full o.value (written_of o) k.tree files_then k.console (private_of k.mem h) false all.0 all.1 room)
+        (reply_full o.value (written_of o) k.tree files_then k.console (private_of k.mem h) false all.0 all.1
+        (subst (λ (x : Reply). room_for (world_of a k) ask x ≡ false) given_shape (room_never a k e h call (given ask o) room)))
 
     pub output_strays : (access : Access) → Some access ≡ option_map (access_at e.value.regs.pc) (first_stray (writable_in h.maps) (written_of o)) →
         Answered a (answered (world_of a k) ask (replies (given ask o))) k k call.pid (Stray access)
@@ -386,12 +445,20 @@ module _ (a : About) (k : Kept) (e : Entry Task) (h : Held) (call : Call) (runs 
       ≡ ended (noted (call_note (entry_of (ask_in a k e h call) 0 [])) (counted_in e.value.space (world_of a k))) (process_of e) (Exit (exit_code (ask_in a k e h call)))
   unfolding world_of ended
   after_exit_world =
-      gone_world k call.pid e h runs exit_how a 1 (end_note call.pid exit_how ∷ noted_call call 0 [] ∷ k.notes)
-      ∙ ap (λ (note : Note). record (departed (world_of a k) (process_of e) exit_how) { notes = end_note call.pid exit_how ∷ note ∷ k.notes; events = a.events + 1 }) (note_is 0 [])
-      ∙ ap (λ (pid : ℕ). record (departed (world_of a k) (process_of e) exit_how) { notes = end_note pid exit_how ∷ call_note (entry_of (ask_in a k e h call) 0 []) ∷ k.notes; events = a.events + 1 }) is.pid
-      ∙ ap (λ (how : How). record (departed (world_of a k) (process_of e) how) { notes = end_note e.pid how ∷ call_note (entry_of (ask_in a k e h call) 0 []) ∷ k.notes; events = a.events + 1 }) exit_how_is
+      gone_world k call.pid e h runs exit_how a 1 (end_note call.pid exit_how ∷ noted_call call 0 [] ∷ k.notes) (event_recorded k.recording e.value.space) refl
+      ∙ ap (λ (note : Note). record (departed (world_of a k) (process_of e) exit_how) { notes = end_note call.pid exit_how ∷ note ∷ k.notes; events = a.events + 1; recording = event_recorded k.recording e.value.space }) (note_is 0 [])
+      ∙ ap (λ (pid : ℕ). record (departed (world_of a k) (process_of e) exit_how) {
+        notes = end_note pid exit_how ∷ call_note (entry_of (ask_in a k e h call) 0 []) ∷ k.notes;
+        events = a.events + 1;
+        recording = event_recorded k.recording e.value.space;
+      }) is.pid
+      ∙ ap (λ (how : How). record (departed (world_of a k) (process_of e) how) {
+        notes = end_note e.pid how ∷ call_note (entry_of (ask_in a k e h call) 0 []) ∷ k.notes;
+        events = a.events + 1;
+        recording = event_recorded k.recording e.value.space;
+      }) exit_how_is
 
-  pub exit_serves : has_room k.notes (length call.sent.items) ≡ true → Answered a (exited (world_of a k) (ask_in a k e h call)) k (after_exit k e h call) call.pid Ended
+  pub exit_serves : room_beside k (length call.sent.items) ≡ true → Answered a (exited (world_of a k) (ask_in a k e h call)) k (after_exit k e h call) call.pid Ended
   exit_serves room =
       it_went a (exited (world_of a k) (ask_in a k e h call)) _
       (record { space = e.value.space; events = 1; items = record { entry = entry_of (ask_in a k e h call) 0 []; brought = [] } ∷ []; begins = None; over = true })
@@ -400,7 +467,7 @@ module _ (a : About) (k : Kept) (e : Entry Task) (h : Held) (call : Call) (runs 
       after_exit_world
       (refl, refl, gone_dead k call.pid e h runs exit_how)
 
-  pub exit_full : has_room k.notes (length call.sent.items) ≡ false → Answered a (exited (world_of a k) (ask_in a k e h call)) k k call.pid LogFull
+  pub exit_full : room_beside k (length call.sent.items) ≡ false → Answered a (exited (world_of a k) (ask_in a k e h call)) k k call.pid LogFull
   exit_full room = subst (λ (o : Outcome). Answered a o k k call.pid LogFull) (sym (exited_full (world_of a k) (ask_in a k e h call) (room_there a k call.sent.items false (weighs call.sent.items false room)))) refl
 
   -- ---- either
@@ -468,13 +535,14 @@ module _ (a : About) (k : Kept) (pid : ℕ) (regular : Regular k) (lives : Lives
 
 module _ (a : About) (k : Kept) (pid : ℕ) (e : Entry Task) (h : Held) (runs : RunsIn k pid e h) (signal : ℕ) where
   abbrev after_end : Kept
-  after_end = record (gone k e h (Signal signal)) { notes = end_note pid (Signal signal) ∷ k.notes }
+  after_end = record (gone k e h (Signal signal)) { notes = end_note pid (Signal signal) ∷ k.notes; recording = event_recorded k.recording e.value.space }
 
   after_end_world : world_of (later 1 a) after_end ≡ counted_in e.value.space (ended (world_of a k) (process_of e) (Signal signal))
   unfolding world_of ended
   after_end_world =
-      gone_world k pid e h runs (Signal signal) a 1 (end_note pid (Signal signal) ∷ k.notes)
-      ∙ ap (λ (n : ℕ). record (departed (world_of a k) (process_of e) (Signal signal)) { notes = end_note n (Signal signal) ∷ k.notes; events = a.events + 1 }) (pid_found k.procs pid e runs.lives)
+      gone_world k pid e h runs (Signal signal) a 1 (end_note pid (Signal signal) ∷ k.notes) (event_recorded k.recording e.value.space) refl
+      ∙ ap (λ (n : ℕ). record (departed (world_of a k) (process_of e) (Signal signal)) { notes = end_note n (Signal signal) ∷ k.notes; events = a.events + 1; recording = event_recorded k.recording e.value.space })
+      (pid_found k.procs pid e runs.lives)
 
   trapped_is : trapped (world_of a k) (process_of e) signal ≡ went (counted_in e.value.space (ended (world_of a k) (process_of e) (Signal signal))) (record { space = e.value.space; events = 1; items = []; begins = None; over = true })
   unfolding trapped
@@ -484,20 +552,23 @@ module _ (a : About) (k : Kept) (pid : ℕ) (e : Entry Task) (h : Held) (runs : 
   end_serves = subst (λ (o : Outcome). Died a o after_end pid) (sym (acts_is a k pid e h runs (λ p s. trapped (world_of a k) p signal) ∙ trapped_is)) (sym after_end_world, refl, gone_dead k pid e h runs (Signal signal))
 
 -- what an exit leaves, where it was noted before the process went
-pub exit_done : (k : Kept) (call : Call) (e : Entry Task) (h : Held) (new : Kept) (notes : List Note) → notes ≡ end_note call.pid (exit_of call) ∷ noted_call call 0 [] ∷ k.notes →
-    new ≡ gone (record k { notes = notes }) e h (exit_of call) → new ≡ after_exit k e h call
-exit_done k call e h new notes is_noted departs =
-    departs ∙ gone_noted k e h (exit_of call) notes ∙ ap (λ (ns : List Note). record (gone k e h (exit_of call)) { notes = ns }) is_noted
+pub exit_done : (k : Kept) (call : Call) (e : Entry Task) (h : Held) (new : Kept) (notes : List Note) (recording : Recording) → notes ≡ end_note call.pid (exit_of call) ∷ noted_call call 0 [] ∷ k.notes →
+    recording ≡ event_recorded k.recording e.value.space → new ≡ gone (record k { notes = notes; recording = recording }) e h (exit_of call) → new ≡ after_exit k e h call
+exit_done k call e h new notes recording is_noted is_recorded departs =
+    departs ∙ gone_noted k e h (exit_of call) notes recording ∙ (λ i. record (gone k e h (exit_of call)) { notes = is_noted i; recording = is_recorded i })
 
 -- the same of the parts that are left, where the end was noted before the process went
-pub end_done : (a : About) (k : Kept) (pid signal : ℕ) → Regular k → Lives k.procs pid → (new : Kept) (notes : List Note) → notes ≡ end_note pid (Signal signal) ∷ k.notes →
-    ((e : Entry Task) → (h : Held) → RunsIn (record k { notes = notes }) pid e h → new ≡ gone (record k { notes = notes }) e h (Signal signal)) → Died a (at_process (world_of a k) pid (λ p s. trapped (world_of a k) p signal)) new pid
-end_done a k pid signal regular lives new notes is_noted departs =
+pub end_done : (a : About) (k : Kept) (pid signal : ℕ) → Regular k → Lives k.procs pid → (new : Kept) (notes : List Note) (recording : Recording) → notes ≡ end_note pid (Signal signal) ∷ k.notes →
+    ((e : Entry Task) → (h : Held) → RunsIn k pid e h → recording ≡ event_recorded k.recording e.value.space) →
+    ((e : Entry Task) → (h : Held) → RunsIn (record k { notes = notes; recording = recording }) pid e h → new ≡ gone (record k { notes = notes; recording = recording }) e h (Signal signal)) →
+    Died a (at_process (world_of a k) pid (λ p s. trapped (world_of a k) p signal)) new pid
+end_done a k pid signal regular lives new notes recording is_noted is_recorded departs =
     let r = runs_in k pid regular lives in
     let e : Entry Task = r.0 in
     let h : Held = r.1.0 in
     let runs : RunsIn k pid e h = r.1.1 in
-    let is = departs e h (record { lives = runs.lives; home = runs.home }) ∙ gone_noted k e h (Signal signal) notes ∙ ap (λ (ns : List Note). record (gone k e h (Signal signal)) { notes = ns }) is_noted in
+    let is = departs e h (record { lives = runs.lives; home = runs.home }) ∙ gone_noted k e h (Signal signal) notes recording
+    ∙ (λ i. record (gone k e h (Signal signal)) { notes = is_noted i; recording = is_recorded e h runs i }) in
     subst (λ (now : Kept). Died a (at_process (world_of a k) pid (λ p s. trapped (world_of a k) p signal)) now pid) (sym is) (end_serves a k pid e h runs signal)
 
 -- ---- a note alone

@@ -13,7 +13,7 @@ use Rattle.mmap_rules.specs.Held.{Held}
 use Rattle.call_log.specs.declared.how.How.{How}
 use Rattle.vfork_exec.specs.Keyed.{find}
 use Rattle.vfork_exec.specs.declared.family.State.{State}
-use Rattle.machine_world.specs.World.{Process, LiveSpace, World, pid_of, id_of}
+use Rattle.machine_world.specs.World.{Process, LiveSpace, Recording, World, pid_of, id_of}
 use Rattle.machine_world.specs.Asks.{Ask, Reply, Row, replies, waits, refuses}
 use Rattle.machine_world.specs.Recordings.{room_in}
 use Rattle.machine_world.specs.Event.{Trace, Outcome, went, strays, full, idle, trapped, room_for, served, put, waited, answered, exited, forked, cloned, in_space, by_process, at_process}
@@ -158,12 +158,12 @@ left_mem : (k : Kept) (lent : Bool) (number : ℕ) (h : Held) → (space_left k 
 left_mem k true number h = refl
 left_mem k false number h = refl
 
-pub end_mem : (k : Kept) (pid : ℕ) → Regular k → Lives k.procs pid → (notes : List Note) (how : How) (new : Kept) →
-    ((e : Entry Task) → (h : Held) → RunsIn (record k { notes = notes }) pid e h → new ≡ gone (record k { notes = notes }) e h how) → new.mem ≡ k.mem
-end_mem k pid regular lives notes how new departs =
+pub end_mem : (k : Kept) (pid : ℕ) → Regular k → Lives k.procs pid → (notes : List Note) (recording : Recording) (how : How) (new : Kept) →
+    ((e : Entry Task) → (h : Held) → RunsIn (record k { notes = notes; recording = recording }) pid e h → new ≡ gone (record k { notes = notes; recording = recording }) e h how) → new.mem ≡ k.mem
+end_mem k pid regular lives notes recording how new departs =
     let r = runs_in k pid regular lives in
     let e : Entry Task = r.0 in
     let h : Held = r.1.0 in
-    let now = record k { notes = notes } in
+    let now = record k { notes = notes; recording = recording } in
     ap (λ (s : Kept). s.mem) (departs e h (record { lives = r.1.1.lives; home = r.1.1.home }))
     ∙ left_mem (ended now e how) (borrows now.procs e.pid) e.value.space h

@@ -3,7 +3,7 @@ use Rattle.std.proofs.Common.{◌≡◌, ◌≢◌, ℕ, Bool, true, false, List
 use Rattle.std.specs.Prelude.{◌≤◌, slice_get, slice_set, Vec}
 use Rattle.std.specs.Vec.{with_items}
 use Rattle.std.proofs.lemmas.List.{with_items_is, length-set}
-use Rattle.call_log.specs.Notes.{Note, has_room}
+use Rattle.call_log.specs.Notes.{Note}
 use Rattle.mmap_rules.specs.Held.{Held}
 use Rattle.mem_files.specs.Inodes.{Inodes}
 use Rattle.fd_tables.specs.Files.{OpenFiles}
@@ -16,6 +16,7 @@ use Rattle.vfork_exec.specs.declared.entry.Entry.{Entry}
 use Rattle.vfork_exec.specs.Procs.{Listed, Lives, CanRun, process, pid_of, value_at, borrows, with_value_at, with_end}
 use Rattle.kept_parts.specs.declared.task.Task.{Task}
 use Rattle.kept_parts.specs.Kept.{Kept}
+use Rattle.kept_parts.specs.Recorded.{room_beside}
 use Rattle.kept_parts.specs.Regular.{Regular, IsRegular, HasSpace}
 use Rattle.kept_parts.specs.Calls.{RunsIn}
 use Rattle.machine_world.specs.Ages.{kept_calls}
@@ -38,8 +39,8 @@ items_set v ws i x is = with_items_is v ws (ap length is ∙ length-set v.items 
 -- ---- room
 
 -- the log was asked for its room
-pub room_is : (k now : Kept) → k ≡ now → (bytes : ℕ) (room b : Bool) → room ≡ has_room k.notes bytes → room ≡ b → has_room now.notes bytes ≡ b
-room_is k now same bytes room b asked is = ap (λ (x : Kept). has_room x.notes bytes) (sym same) ∙ sym asked ∙ is
+pub room_is : (k now : Kept) → k ≡ now → (bytes : ℕ) (room b : Bool) → room ≡ room_beside k bytes → room ≡ b → room_beside now bytes ≡ b
+room_is k now same bytes room b asked is = ap (λ (x : Kept). room_beside x bytes) (sym same) ∙ sym asked ∙ is
 
 -- ---- what stays regular
 

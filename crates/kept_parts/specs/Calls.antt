@@ -1,24 +1,25 @@
 -- A system call by its parts, and what the parts of a run are after it.
-use Rattle.std.specs.Prelude.{◌≡◌, ℕ, true, false, List, [], ◌∷◌, length, Some, Result, Ok, Err, ⊤, ◌%◌, slice_index, slice_get, slice_set}
+use Rattle.std.specs.Prelude.{◌≡◌, ℕ, true, false, List, [], ◌∷◌, length, Some, Result, Ok, Err, ⊤, ◌%◌, ◌==◌, Bool, not, ◌&&◌, slice_index, slice_get, slice_set}
 use Rattle.std.specs.declared.alloc.AllocError.{AllocError}
 use Rattle.byte_words.specs.ByteMap.{Bytes}
-use Rattle.call_log.specs.Notes.{Written, Note, call_note, end_note}
+use Rattle.call_log.specs.Notes.{Written, CallEntry, Note, call_note, end_note}
 use Rattle.call_log.specs.Sent.{sent}
 use Rattle.call_log.specs.declared.how.How.{How}
 use Rattle.call_log.specs.declared.how.How.TheVariants.{Exit}
 use Rattle.fd_tables.specs.Files.{free_number}
 use Rattle.fd_tables.specs.Changes.{with_copy}
-use Rattle.flat_loader.specs.Alone.{child_regs}
+use Rattle.flat_loader.specs.Alone.{child_regs, is_errno}
 use Rattle.mmap_rules.specs.Held.{Held}
 use Rattle.mmap_rules.specs.Space.{Space, writable_in}
 use Rattle.region_watch.specs.Private.{physical}
 use Rattle.rv32im_step.specs.declared.regs.Regs.{Regs}
 use Rattle.vfork_exec.specs.declared.entry.Entry.{Entry}
 use Rattle.vfork_exec.specs.Procs.{process, with_value_at, with_child}
+use Rattle.machine_world.specs.World.{World}
 use Rattle.machine_world.specs.Asks
 use Rattle.machine_world.specs.Asks.{Ask, Reply, Row, with_files}
 use Rattle.machine_world.specs.Rows.{next_brk}
-use Rattle.machine_world.specs.Event.{number_of, args_of, ask_of, put_got, replied}
+use Rattle.machine_world.specs.Event.{number_of, args_of, ask_of, put_got, replied, room_for}
 use Rattle.file_calls.specs.Calls.{with_all, after, written_of}
 use Rattle.file_calls.specs.declared.call.Call.{Call}
 use Rattle.file_calls.specs.declared.outcome.Outcome.{Outcome}
@@ -32,6 +33,7 @@ use Rattle.kept_parts.specs.declared.served.Served.TheVariants.{Replied, TurnEnd
 use Rattle.kept_parts.specs.Kept.{Kept}
 use Rattle.kept_parts.specs.Stands.{About, private_bytes, private_of, process_of, world_of, OthersSame}
 use Rattle.kept_parts.specs.Gone.{gone}
+use Rattle.kept_parts.specs.Recorded.{event_recorded, call_recorded}
 use Rattle.region_watch.specs.Private.{in_pages}
 
 -- a process lives, in a live space
@@ -59,6 +61,10 @@ Made bytes e (Err Memory) = Unit {0}
 abbrev pub ask_in : About → Kept → Entry Task → Held → Call → Ask
 ask_in a k e h call = ask_of (world_of a k) (process_of e) (private_of k.mem h) call.sent.items
 
+-- the log has room for a call with this row, and for what its mapping brings
+abbrev pub RoomFor : World → Ask → Row → Type 0
+RoomFor w a r = (reply : Reply) → r ≡ Asks.replies reply → room_for w a reply ≡ true
+
 -- ---- a call that touches neither files nor memory
 
 -- its reply, and the break after it
@@ -78,6 +84,12 @@ brk_of next brk (Answer value) = brk
 brk_of next brk Yield = brk
 brk_of next brk (Break to) = next to
 
+-- it would map a file
+abbrev pub maps_by : Call → Effect → Bool
+maps_by call (Answer value) = call.number == 222 && not (is_errno value)
+maps_by call Yield = call.number == 222
+maps_by call (Break to) = call.number == 222
+
 -- what comes of it, where the process lives
 abbrev pub served_by : Effect → Served
 served_by (Answer value) = Replied
@@ -87,9 +99,11 @@ served_by (Break to) = Replied
 -- ---- what is kept after it
 
 -- the note of a call
+abbrev pub noted_entry : Call → ℕ → List Written → CallEntry
+noted_entry call value got = record { pid = call.pid; call = call.number; args = call.args; sent = call.sent.items; reply = value; got = got }
+
 abbrev pub noted_call : Call → ℕ → List Written → Note
-noted_call call value got =
-    call_note (record { pid = call.pid; call = call.number; args = call.args; sent = call.sent.items; reply = value; got = got })
+noted_call call value got = call_note (noted_entry call value got)
 
 -- memory, the registers of one process and its space are others
 abbrev pub with_task : Kept → ℕ → Entry Task → Held → List ℕ → Regs → Kept
@@ -103,13 +117,14 @@ with_task k pid e h mem regs = record k {
 abbrev pub held_as : Held → Space → Held
 held_as h s = record h { maps = s.maps; brk = s.brk }
 
--- a call has its reply, and is noted; memory is this
+-- a call has its reply, and is noted and recorded; memory is this
 abbrev pub after_reply : Kept → Entry Task → Held → Call → Reply → List ℕ → Kept
 after_reply k e h call r mem = record (with_task k call.pid e (held_as h r.space) mem (replied e.value.regs r.value)) {
   notes = noted_call call r.value r.got ∷ k.notes;
   tree = r.rest.tree;
   files = r.rest.files;
   console = r.rest.console;
+  recording = call_recorded k.recording e.value.space (noted_entry call r.value r.got) r.space.bytes;
 }
 
 -- out of memory nothing changed
@@ -170,7 +185,10 @@ exit_of call = Exit (slice_index call.args 0 % 256)
 
 -- a call ends its process: it is noted, and then the end
 abbrev pub after_exit : Kept → Entry Task → Held → Call → Kept
-after_exit k e h call = record (gone k e h (exit_of call)) { notes = end_note call.pid (exit_of call) ∷ noted_call call 0 [] ∷ k.notes }
+after_exit k e h call = record (gone k e h (exit_of call)) {
+  notes = end_note call.pid (exit_of call) ∷ noted_call call 0 [] ∷ k.notes;
+  recording = event_recorded k.recording e.value.space;
+}
 
 abbrev pub Exits : Kept → Entry Task → Held → Call → Kept → Result ⊤ AllocError → Type 0
 Exits old e h call new (Ok done) = new ≡ after_exit old e h call
@@ -190,6 +208,7 @@ after_fork k e call = record k {
   procs = with_value_at (with_child k.procs call.pid (child_task k e call)) call.pid (record e.value { regs = replied e.value.regs k.procs.next_pid });
   files = with_copy k.files e.value.table;
   notes = noted_call call k.procs.next_pid [] ∷ k.notes;
+  recording = event_recorded k.recording e.value.space;
 }
 
 abbrev pub Forks : Kept → Entry Task → Call → Kept → Result ⊤ AllocError → Type 0

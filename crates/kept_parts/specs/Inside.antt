@@ -13,4 +13,5 @@ kept_of p = record {
   procs = p.procs;
   notes = p.log.notes;
   console = p.console.items;
+  recording = p.recording;
 }

@@ -9,11 +9,13 @@ use Rattle.vfork_exec.specs.Procs.{Listed, none_yet}
 use Rattle.call_log.specs.Notes.{Note}
 use Rattle.mem_files.specs.Inodes.{Inodes}
 use Rattle.fd_tables.specs.Files.{OpenFiles}
+use Rattle.machine_world.specs.World.{Recording}
+use Rattle.machine_world.specs.Recordings.{nothing_recorded}
 use Rattle.kept_parts.specs.declared.task.Task.{Task}
 
 -- memory, the regions of its pages, and for each id of a region the page at which it begins; the spaces by the number of their load note,
--- none where the space is gone; the files and folders, and what is open; the processes; the notes, newest first; and what was written
--- to the console
+-- none where the space is gone; the files and folders, and what is open; the processes; the notes, newest first; what was written
+-- to the console; and what is recorded of one space
 pub record Kept : Type 0 where
   pub mem : List ℕ
   pub regions : List Region
@@ -24,10 +26,11 @@ pub record Kept : Type 0 where
   pub procs : Listed Task
   pub notes : List Note
   pub console : List ℕ
+  pub recording : Recording
 
--- before the first program, over these files
-abbrev pub nothing_yet : ℕ → Inodes → OpenFiles → Kept
-nothing_yet pages tree files = record {
+-- before the first program, over these files, of a run that records the space of this load note
+abbrev pub nothing_yet : ℕ → Inodes → OpenFiles → ℕ → Kept
+nothing_yet pages tree files keep = record {
   mem = replicate (page_size * pages) 0;
   regions = replicate pages (record { first = 0; pages = 0; source = Own; uses = 0 });
   starts = range_with_len 0 pages;
@@ -37,4 +40,5 @@ nothing_yet pages tree files = record {
   procs = none_yet;
   notes = [];
   console = [];
+  recording = nothing_recorded keep;
 }

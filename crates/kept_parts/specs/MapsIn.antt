@@ -1,5 +1,5 @@
 -- What mmap2 and munmap leave of the spaces and of all that they map.
-use Rattle.std.specs.Prelude.{◌≡◌, ℕ, ◌==◌, ◌||◌, Bool, List, Option, Some, Result, Ok, Err, ⊤, slice_set}
+use Rattle.std.specs.Prelude.{◌≡◌, ℕ, ◌==◌, ◌||◌, Bool, true, false, List, Option, Some, Result, Ok, Err, ⊤, slice_index, slice_set}
 use Rattle.std.specs.declared.alloc.AllocError.{AllocError}
 use Rattle.page_runs.specs.declared.place.Kind.{Kind}
 use Rattle.call_log.specs.declared.errno.Errno.{Errno}
@@ -7,6 +7,10 @@ use Rattle.call_log.specs.declared.errno.Errno.TheVariants.{Enomem as No_memory}
 use Rattle.call_log.specs.Errno.{refusal}
 use Rattle.nommu_regions.specs.declared.region.Region.{Region}
 use Rattle.mmap_rules.specs.declared.want.Want.{Want}
+use Rattle.mmap_rules.specs.declared.want.Want.TheVariants.{Anon, File}
+use Rattle.mmap_rules.specs.Want.{pages_for, map_anonymous}
+use Rattle.call_log.specs.Flags.{has_flag}
+use Rattle.file_calls.specs.declared.call.Call.{Call}
 use Rattle.mmap_rules.specs.declared.maps.MapFault.{MapFault}
 use Rattle.mmap_rules.specs.declared.maps.MapFault.TheVariants.{Enomem, Memory}
 use Rattle.mmap_rules.specs.Held.{Held, AreMappings}
@@ -15,6 +19,17 @@ use Rattle.mmap_rules.specs.Sides.{sides, mapped, Maps, freed, unmapped, Unmaps}
 -- munmap and mmap2
 abbrev pub is_mapping : ℕ → Bool
 is_mapping number = number == 215 || number == 222
+
+-- pages of a file are wanted
+abbrev pub is_file : Want → Bool
+is_file (Anon pages) = false
+is_file (File pages first write id change) = true
+
+-- it is what the mmap2 asks for
+abbrev pub IsAsked : Call → Want → Type 0
+IsAsked call (Anon pages) = has_flag (slice_index call.args 3) map_anonymous ≡ true
+IsAsked call (File pages first write id change) =
+    (call.number ≡ 222) × (has_flag (slice_index call.args 3) map_anonymous ≡ false) × (pages ≡ pages_for (slice_index call.args 1))
 
 -- the space of a number, after what is wanted was mapped in it
 pub record MapsIn (kind : Kind) (bytes : List ℕ) (want : Want) (number : ℕ) (h : Held) (old new : List (Option Held)) (rs now : List Region) (mem after : List ℕ) (result : Result ℕ MapFault) : Type 0 where

@@ -1,7 +1,6 @@
 //! The end of a process.
 
 ghost use Rattle.std.specs.Prelude.{◌≡◌, ◌≢◌, ℕ, true, List, [], length, None, Some, slice_get, slice_set};
-ghost use Rattle.call_log.specs.Notes.{has_room};
 ghost use Rattle.mmap_rules.specs.Held.{Held};
 ghost use Rattle.vfork_exec.specs.declared.entry.Entry.{Entry as Listed};
 ghost use Rattle.vfork_exec.specs.Procs.{CanRun, process};
@@ -12,6 +11,7 @@ ghost use Rattle.kept_parts.specs.Stands.{About, world_of};
 ghost use Rattle.physical_turns.specs.Physical.{died_in};
 ghost use Rattle.kept_parts.specs.InMemory.{physical_of, DiesIn};
 ghost use Rattle.kept_parts.specs.Copies.{HoldsFiles};
+ghost use Rattle.kept_parts.specs.Recorded.{room_beside};
 ghost use Rattle.kept_parts.specs.Serves.{Dies};
 ghost use Rattle.kept_parts.specs.Gone.{gone, without_space};
 ghost use Rattle.kept_parts.specs.Calls.{RunsIn, Exits};
@@ -67,7 +67,7 @@ impl KeptParts {
     /// and then the end; there is room for the call's note.
     pub fn exit(&mut self, call: Call) -> Result<(), AllocError>
         requires ready { CanRun self.old.procs call.pid }
-        requires room { has_room self.old.notes (length call.sent.items) ≡ true }
+        requires room { room_beside self.old (length call.sent.items) ≡ true }
         ensures exits { (e : Listed Task) → (h : Held) → RunsIn self.old call.pid e h → Exits self.old e h call self.new result }
         ensures memory { self.new.mem ≡ self.old.mem }
         ensures holds { HoldsFiles self.old → HoldsFiles self.new }
@@ -94,6 +94,7 @@ impl KeptParts {
             }),
         );
         keep(&mut self.log, Note::End { pid, how });
+        self.recording.pass(self.procs.get(pid).space, 1);
         self.depart(pid, how);
         Ok(())
     }
@@ -108,6 +109,7 @@ impl KeptParts {
         self.log.reserve(1)?;
         let how = How::Signal(signal);
         keep(&mut self.log, Note::End { pid, how });
+        self.recording.pass(self.procs.get(pid).space, 1);
         self.depart(pid, how);
         Ok(())
     }

@@ -9,6 +9,7 @@ ghost use Rattle.flat_loader.specs.Original.{flat_original};
 ghost use Rattle.vfork_exec.specs.declared.entry.Entry.{Entry as Listed};
 ghost use Rattle.vfork_exec.specs.Procs.{CanRun, Lives, value_at, with_exec, with_value_at};
 ghost use Rattle.machine_world.specs.Asks.{refuses};
+ghost use Rattle.recordings.specs.Inside.{launch_value};
 ghost use Rattle.machine_world.specs.Event.{answered, exec_fitting};
 ghost use Rattle.kept_parts.specs.declared.task.Task.{Task};
 ghost use Rattle.kept_parts.specs.Stands.{About, world_of};
@@ -17,6 +18,7 @@ ghost use Rattle.physical_turns.specs.Physical.{carried};
 ghost use Rattle.kept_parts.specs.InMemory.{header_of, physical_of, ServesIn};
 ghost use Rattle.kept_parts.specs.declared.served.Served.TheVariants.{Replied};
 ghost use Rattle.kept_parts.specs.Copies.{HoldsFiles};
+ghost use Rattle.kept_parts.specs.Recorded.{room_beside, program_recorded};
 ghost use Rattle.kept_parts.specs.Serves.{Serves};
 ghost use Rattle.kept_parts.specs.Calls.{RunsIn, IsCall, ask_in, noted_call};
 
@@ -31,6 +33,7 @@ use call_log::{Entry, Errno, Got, Log, Note};
 use file_calls::Call;
 use flat_loader::{LoadRefusal, Loaded, load};
 use page_runs::{Chooser, Run};
+use recordings::{Launch, Recording};
 use rv32im_step::Regs;
 use std::alloc::AllocError;
 use vfork_exec::Procs;
@@ -44,6 +47,15 @@ fn switch(procs: &mut Procs<Task>, pid: u32, regs: Regs, space: u32)
     let task = procs.get_mut(pid);
     task.regs = regs;
     task.space = space;
+}
+
+/// The program that is loaded into a space is recorded, if that is the recorded one.
+pub(crate) fn record_program(recording: &mut Recording, space: u32, launch: Launch)
+    ensures { recording.new ≡ program_recorded recording.old space (launch_value launch) }
+{
+    if recording.has(space) {
+        recording.launch(launch);
+    }
 }
 
 /// The call is noted, and then the program that begins.
@@ -86,27 +98,28 @@ fn note_exec(log: &mut Log, call: Call, got: Vec<Got>, index: u32, base: u32, pa
 impl KeptParts {
     /// Puts program number `index`, with these strings, in the place of the one that makes this call. Its block is looked for while
     /// the old space is held; then that goes, unless another process lent it. Descriptors close that are marked so. E2BIG where the
-    /// start frame doesn't fit, ENOMEM where no free run is long enough. There is room for the call's note.
+    /// start frame doesn't fit, ENOMEM where no free run is long enough. There is room for the call's note. Its strings are recorded
+    /// where its space is.
     pub fn exec<F: Fn(&[Run], u32) -> Option<usize>>(
         &mut self,
         call: Call,
         index: u32,
         flat: &Flat,
-        strings: &ProgramStrings,
+        strings: ProgramStrings,
         chooser: &Chooser<F>,
     ) -> Result<Served, AllocError>
         requires chooser { IsChooser F.pre F.post chooser.now }
         requires ready { CanRun self.old.procs call.pid }
-        requires room { has_room self.old.notes (length call.sent.items) ≡ true }
+        requires room { room_beside self.old (length call.sent.items) ≡ true }
         ensures serves { (a : About) → a.kind ≡ kind_of chooser.now → (e : Listed Task) → (h : Held) → RunsIn self.old call.pid e h → IsCall e call →
             Serves a
-            (exec_fitting (world_of a self.old) (ask_in a self.old e h call) (record { index = index; original = flat_original flat.now }) (record { args = texts strings.now.args.items; env = texts strings.now.env.items })
-            (frame_fits (flat_original flat.now) (texts strings.now.args.items) (texts strings.now.env.items)))
+            (exec_fitting (world_of a self.old) (ask_in a self.old e h call) (record { index = index; original = flat_original flat.now }) (record { args = texts strings.args.items; env = texts strings.env.items })
+            (frame_fits (flat_original flat.now) (texts strings.args.items) (texts strings.env.items)))
             self.old self.new call.pid result }
         ensures memory { (headers : List (List ℕ)) → (a : About) → a.kind ≡ kind_of chooser.now → slice_get headers index ≡ Some (header_of flat.now) → (e : Listed Task) → (h : Held) → RunsIn self.old call.pid e h → IsCall e call →
             ServesIn headers a (carried (physical_of headers a self.old) (physical self.old.mem)
-            (exec_fitting (world_of a self.old) (ask_in a self.old e h call) (record { index = index; original = flat_original flat.now }) (record { args = texts strings.now.args.items; env = texts strings.now.env.items })
-            (frame_fits (flat_original flat.now) (texts strings.now.args.items) (texts strings.now.env.items))))
+            (exec_fitting (world_of a self.old) (ask_in a self.old e h call) (record { index = index; original = flat_original flat.now }) (record { args = texts strings.args.items; env = texts strings.env.items })
+            (frame_fits (flat_original flat.now) (texts strings.args.items) (texts strings.env.items))))
             self.old self.new call.pid result }
         ensures holds { HoldsFiles self.old → HoldsFiles self.new }
         ensures replied { IfOk result (λ served. served ≡ Replied) }
@@ -138,6 +151,15 @@ impl KeptParts {
                 self.spaces.push_reserved(Some(space));
                 self.files.exec_close(&mut self.tree, task.table);
                 switch(&mut self.procs, call.pid, regs, number);
+                self.recording.pass(task.space, 1);
+                let launch = Launch {
+                    stack: flat.stack(),
+                    base,
+                    pid: call.pid,
+                    args: strings.args,
+                    env: strings.env,
+                };
+                record_program(&mut self.recording, number, launch);
                 note_exec(&mut self.log, call, Vec::new(alloc), index, base, pages);
                 if !lent {
                     self.give_up(task.space);
@@ -153,7 +175,7 @@ impl KeptParts {
     /// A call is refused. There is room for its note.
     fn refuse(&mut self, call: Call, errno: Errno) -> Result<Served, AllocError>
         requires lives { Lives self.old.procs call.pid }
-        requires room { has_room self.old.notes (length call.sent.items) ≡ true }
+        requires room { room_beside self.old (length call.sent.items) ≡ true }
         ensures memory { self.new.mem ≡ self.old.mem }
         ensures serves { (a : About) → (e : Listed Task) → (h : Held) → RunsIn self.old call.pid e h → IsCall e call →
             Serves a (answered (world_of a self.old) (ask_in a self.old e h call) (refuses (ask_in a self.old e h call) errno)) self.old self.new call.pid result }

@@ -1,13 +1,13 @@
 //! A process more, that borrows its parent's space (Linux, vfork(2), in this project's profile).
 
 ghost use Rattle.std.specs.Prelude.{◌≡◌, ◌<◌, ◌^◌, true, length};
-ghost use Rattle.call_log.specs.Notes.{has_room};
 ghost use Rattle.mmap_rules.specs.Held.{Held};
 ghost use Rattle.vfork_exec.specs.declared.entry.Entry.{Entry as Listed};
 ghost use Rattle.vfork_exec.specs.Procs.{CanRun, count, most_entries};
 ghost use Rattle.flat_loader.specs.Alone.{child_regs};
 ghost use Rattle.kept_parts.specs.declared.task.Task.{Task};
 ghost use Rattle.kept_parts.specs.Copies.{HoldsFiles};
+ghost use Rattle.kept_parts.specs.Recorded.{room_beside};
 ghost use Rattle.kept_parts.specs.Calls.{RunsIn, Forks};
 
 use crate::keep::or_unreserve;
@@ -36,7 +36,7 @@ impl KeptParts {
     pub fn fork(&mut self, call: Call) -> Result<(), AllocError>
         requires ready { CanRun self.old.procs call.pid }
         requires few { count self.old.procs < most_entries }
-        requires room { has_room self.old.notes (length call.sent.items) ≡ true }
+        requires room { room_beside self.old (length call.sent.items) ≡ true }
         ensures forks { (e : Listed Task) → (h : Held) → RunsIn self.old call.pid e h → Forks self.old e call self.new result }
         ensures memory { self.new.mem ≡ self.old.mem }
         ensures holds { HoldsFiles self.old → HoldsFiles self.new }
@@ -50,6 +50,7 @@ impl KeptParts {
             space,
             table: or_unreserve(&mut self.log, copied)?,
         };
+        self.recording.pass(space, 1);
         match self.procs.vfork(call.pid, child) {
             Ok(pid) => finish(&mut self.procs, &mut self.log, call, pid, got),
             Err(_) => unreachable!(),

@@ -11,6 +11,7 @@ use mem_files::Tree;
 use mmap_rules::Space;
 use nommu_regions::Regions;
 use phys_mem::PhysMem;
+use recordings::Recording;
 use std::alloc::{AllocError, Global};
 use std::marker::Model;
 use vfork_exec::Procs;
@@ -34,6 +35,8 @@ pub struct KeptParts {
     pub log: Log,
     /// What was written to the console.
     pub console: Vec<u8>,
+    /// What is recorded of one space.
+    pub recording: Recording,
 }
 
 impl Model for KeptParts {
@@ -51,12 +54,19 @@ impl Model for KeptParts {
 }
 
 impl KeptParts {
-    /// A memory of so many pages, in which nothing runs, over these files, which were changed at most 2^63 times each.
-    pub fn new(alloc: Global, pages: u32, tree: Tree, files: Files) -> Result<KeptParts, AllocError>
+    /// A memory of so many pages, in which nothing runs, over these files, which were changed at most 2^63 times each. The space of
+    /// load note number `keep` is recorded, or none where that is 0.
+    pub fn new(
+        alloc: Global,
+        pages: u32,
+        tree: Tree,
+        files: Files,
+        keep: u32,
+    ) -> Result<KeptParts, AllocError>
         requires some { 1 ≤ pages }
         requires most { pages ≤ 16384 }
         requires changes { AreChanged most_at_boot tree }
-        ensures { IfOk result (λ parts. parts ≡ nothing_yet pages tree files.open_files) }
+        ensures { IfOk result (λ parts. parts ≡ nothing_yet pages tree files.open_files keep) }
     {
         Ok(KeptParts {
             mem: PhysMem::new(alloc, pages)?,
@@ -67,6 +77,7 @@ impl KeptParts {
             procs: Procs::new(alloc)?,
             log: Log::new(alloc)?,
             console: Vec::new(alloc),
+            recording: Recording::new(alloc, keep),
         })
     }
 }

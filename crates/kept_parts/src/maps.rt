@@ -1,25 +1,28 @@
 //! Pages that are mapped and unmapped (Linux, mmap(2), munmap(2), in this project's profile).
 
-ghost use Rattle.std.specs.Prelude.{◌≡◌, ℕ, ◌*◌, true, List, length, slice_get, slice_index, Some};
+ghost use Rattle.std.specs.Prelude.{◌≡◌, ℕ, ◌*◌, ◌^◌, ◌<◌, ◌++◌, [], ◌∷◌, ◌&&◌, if◌then◌else◌, true, List, length, take, drop, slice_get, slice_index, Some, is_some, is_ok, IfOk, OnErr};
 ghost use Rattle.page_runs.specs.Choosers.{IsChooser, kind_of};
-ghost use Rattle.call_log.specs.Notes.{has_room};
+ghost use Rattle.page_runs.specs.declared.place.Kind.{Kind};
 ghost use Rattle.mem_files.specs.Inodes.{bytes_of};
 ghost use Rattle.mmap_rules.specs.Held.{Held};
 ghost use Rattle.mmap_rules.specs.Want.{wanted, AsksPages};
 ghost use Rattle.mmap_rules.specs.Copies.{IsKnown};
-ghost use Rattle.mmap_rules.specs.Sides.{NameRegions, AreFew, file_in};
+ghost use Rattle.mmap_rules.specs.Sides.{Sides, NameRegions, AreFew, file_in};
+ghost use Rattle.mmap_rules.specs.Sides.{mapped as mapped_in};
 ghost use Rattle.vfork_exec.specs.declared.entry.Entry.{Entry};
 ghost use Rattle.vfork_exec.specs.Procs.{Lives};
-ghost use Rattle.mmap_rules.specs.Mappings.{hit};
-ghost use Rattle.machine_world.specs.MapCalls.{mapped, unmaps};
+ghost use Rattle.mmap_rules.specs.Mappings.{hit, file_pages};
+ghost use Rattle.machine_world.specs.MapCalls.{first_bytes, mapped, unmaps};
+ghost use Rattle.machine_world.specs.Recordings.{is_recorded, with_brought};
 ghost use Rattle.kept_parts.specs.declared.task.Task.{Task};
 ghost use Rattle.kept_parts.specs.Regular.{HasSpace};
 ghost use Rattle.machine_world.specs.Event.{answered};
 ghost use Rattle.kept_parts.specs.Copies.{HoldsFiles, StillHolds};
 ghost use Rattle.kept_parts.specs.InMemory.{ChangesIn};
 ghost use Rattle.kept_parts.specs.Stands.{About, world_of};
-ghost use Rattle.kept_parts.specs.Calls.{RunsIn, IsCall, ask_in, Changes};
-ghost use Rattle.kept_parts.specs.MapsIn.{MapsIn, UnmapsIn, IsAddress, status_of};
+ghost use Rattle.kept_parts.specs.Calls.{RunsIn, IsCall, RoomFor, ask_in, Changes};
+ghost use Rattle.kept_parts.specs.Recorded.{room_beside};
+ghost use Rattle.kept_parts.specs.MapsIn.{MapsIn, UnmapsIn, IsAddress, IsAsked, is_file, status_of};
 
 use crate::keep::or_unreserve;
 use crate::kept::KeptParts;
@@ -27,11 +30,12 @@ use crate::reply::finish;
 use call_log::Errno;
 use file_calls::Call;
 use mem_files::Tree;
-use mmap_rules::{MapFault, Space, Want};
+use mmap_rules::{MapFault, Space, Want, fits};
 use nommu_regions::Regions;
 use page_runs::{Chooser, Run};
-use phys_mem::PhysMem;
-use std::alloc::AllocError;
+use phys_mem::{PAGE, PhysMem};
+use recordings::Recording;
+use std::alloc::{AllocError, Global};
 
 /// Maps what is wanted in a space that lives.
 fn map_in<F: Fn(&[Run], u32) -> Option<usize>>(
@@ -84,6 +88,72 @@ fn unmap_in(
     }
 }
 
+/// Pages of a file, from its page `first` on, as far as it goes.
+fn front_of(bytes: &[u8], first: u32, pages: u32) -> &[u8]
+    ensures { result.now ≡ take (4096 * pages) (drop (4096 * first) bytes.now) }
+{
+    let page = u64::from(PAGE);
+    let from = (page * u64::from(first)).min(bytes.len() as u64) as usize;
+    let left = &bytes[from..];
+    let count = (page * u64::from(pages)).min(left.len() as u64) as usize;
+    &left[..count]
+}
+
+/// The same with zeros past its end.
+fn file_pages(alloc: Global, bytes: &[u8], first: u32, pages: u32) -> Result<Vec<u8>, AllocError>
+    ensures bytes { IfOk result (λ made. made.items ≡ file_pages bytes.now first pages) }
+    ensures few { IfOk result (λ made. length made.items < 2 ^ 44) }
+{
+    let size = (u64::from(PAGE) * u64::from(pages)) as usize;
+    let mut made = Vec::with_capacity(alloc, size)?;
+    made.extend_from_slice(front_of(bytes, first, pages))?;
+    made.resize(size, 0)?;
+    Ok(made)
+}
+
+/// Records what a mapping of a file brings, if it goes into the space that is recorded and comes about where there is memory for it.
+/// Whether it is recorded is the result.
+fn bring(
+    alloc: Global,
+    recording: &mut Recording,
+    space: u32,
+    regions: &Regions,
+    tree: &Tree,
+    want: Want,
+) -> Result<bool, AllocError>
+    requires few { with_brought recording.old.brought 0 < 2 ^ 63 }
+    requires want { AsksPages want }
+    ensures same { OnErr result (recording.new ≡ recording.old) }
+    ensures brings { IfOk result (λ done. recording.new ≡ record recording.old { brought = recording.old.brought ++ (if done then first_bytes tree.now want ∷ [] else []) }) }
+    ensures done { IfOk result (λ done. (s : Sides) → (kind : Kind) → (bytes : List ℕ) → s.regions ≡ regions.now.regions →
+        done ≡ (is_recorded recording.old space && is_file want && is_some (mapped_in s kind bytes want))) }
+{
+    let Want::File {
+        pages,
+        first,
+        id,
+        ..
+    } = want
+    else {
+        return Ok(false);
+    };
+    if !recording.has(space) || !fits(regions, want) {
+        return Ok(false);
+    }
+    recording.bring(file_pages(alloc, tree.bytes(id), first, pages)?)?;
+    Ok(true)
+}
+
+/// What was recorded of a mapping is taken back, where it didn't come about.
+fn settle_brought(recording: &mut Recording, brings: bool, mapped: Result<u32, MapFault>)
+    ensures { (lists : List (List ℕ)) → (bytes : List ℕ) → recording.old.brought ≡ lists ++ (if brings then bytes ∷ [] else []) →
+        recording.new ≡ record recording.old { brought = lists ++ (if brings && is_ok mapped then bytes ∷ [] else []) } }
+{
+    if brings && mapped.is_err() {
+        recording.take_back();
+    }
+}
+
 /// The reply of an mmap2 by what the mapping answers.
 fn address(mapped: Result<u32, MapFault>) -> Result<u32, AllocError>
     ensures { IsAddress mapped result }
@@ -106,7 +176,8 @@ fn status(unmapped: Result<(), Errno>) -> u32
 }
 
 impl KeptParts {
-    /// Maps what an mmap2 asks for, and notes the call. There is room for its note.
+    /// Maps what an mmap2 asks for, and notes the call. There is room for its note. What a file's mapping brings into the space that is
+    /// recorded is recorded, where there is room for it too.
     pub fn map<F: Fn(&[Run], u32) -> Option<usize>>(
         &mut self,
         call: Call,
@@ -115,9 +186,12 @@ impl KeptParts {
     ) -> Result<(), AllocError>
         requires chooser { IsChooser F.pre F.post chooser.now }
         requires lives { Lives self.old.procs call.pid }
-        requires room { has_room self.old.notes (length call.sent.items) ≡ true }
+        requires room { room_beside self.old (length call.sent.items) ≡ true }
+        requires brings { (a : About) → a.kind ≡ kind_of chooser.now → (e : Entry Task) → (h : Held) → RunsIn self.old call.pid e h → IsCall e call →
+            RoomFor (world_of a self.old) (ask_in a self.old e h call) (mapped (ask_in a self.old e h call) want) }
         requires known { IsKnown self.old.tree want }
         requires pages { AsksPages want }
+        requires asked { IsAsked call want }
         ensures changes { (a : About) → a.kind ≡ kind_of chooser.now → StillHolds self.old → (e : Entry Task) → (h : Held) → RunsIn self.old call.pid e h → IsCall e call →
             Changes a self.old e h call (mapped (ask_in a self.old e h call) want) self.new result }
         ensures memory { (headers : List (List ℕ)) → (a : About) → a.kind ≡ kind_of chooser.now → (e : Entry Task) → (h : Held) → RunsIn self.old call.pid e h → IsCall e call →
@@ -127,6 +201,16 @@ impl KeptParts {
     {
         self.log.reserve(1)?;
         let number = self.procs.get(call.pid).space;
+        let alloc = *self.console.allocator();
+        let bringing = bring(
+            alloc,
+            &mut self.recording,
+            number,
+            &self.regions,
+            &self.tree,
+            want,
+        );
+        let brings = or_unreserve(&mut self.log, bringing)?;
         let mapped = map_in(
             &mut self.spaces,
             number,
@@ -136,8 +220,10 @@ impl KeptParts {
             want,
             chooser,
         );
+        settle_brought(&mut self.recording, brings, mapped);
         let value = or_unreserve(&mut self.log, address(mapped))?;
-        let got = Vec::new(*self.console.allocator());
+        let got = Vec::new(alloc);
+        self.recording.pass(number, 1);
         finish(&mut self.procs, &mut self.log, call, value, got);
         Ok(())
     }
@@ -145,7 +231,8 @@ impl KeptParts {
     /// Unmaps what a munmap asks for, and notes the call. There is room for its note.
     pub fn unmap(&mut self, call: Call) -> Result<(), AllocError>
         requires lives { Lives self.old.procs call.pid }
-        requires room { has_room self.old.notes (length call.sent.items) ≡ true }
+        requires room { room_beside self.old (length call.sent.items) ≡ true }
+        requires munmap { call.number ≡ 215 }
         ensures memory { self.new.mem ≡ self.old.mem }
         ensures holds { HoldsFiles self.old → HoldsFiles self.new }
         ensures changes { (a : About) → (e : Entry Task) → (h : Held) → RunsIn self.old call.pid e h → IsCall e call →
@@ -162,6 +249,7 @@ impl KeptParts {
         );
         let value = status(unmapped);
         let got = Vec::new(*self.console.allocator());
+        self.recording.pass(number, 1);
         finish(&mut self.procs, &mut self.log, call, value, got);
         Ok(())
     }

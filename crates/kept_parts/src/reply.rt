@@ -1,6 +1,6 @@
 //! The reply of a system call after which its process lives.
 
-ghost use Rattle.std.specs.Prelude.{◌≡◌, ◌-◌, ◌≤◌, ◌∷◌, All, None, Some, false, true, length, map, slice_get, slice_set};
+ghost use Rattle.std.specs.Prelude.{◌≡◌, ◌==◌, ◌-◌, ◌≤◌, ◌∷◌, All, None, Some, false, true, length, map, slice_get, slice_set};
 ghost use Rattle.call_log.specs.Notes.{has_room, weight_of};
 ghost use Rattle.call_log.specs.Values.{written_value};
 ghost use Rattle.mmap_rules.specs.Held.{Held, next_brk};
@@ -16,9 +16,10 @@ ghost use Rattle.kept_parts.specs.declared.task.Task.{Task};
 ghost use Rattle.kept_parts.specs.Copies.{HoldsFiles};
 ghost use Rattle.kept_parts.specs.Regular.{HasSpace};
 ghost use Rattle.kept_parts.specs.Stands.{About};
+ghost use Rattle.kept_parts.specs.Recorded.{room_beside};
 ghost use Rattle.call_bytes.specs.Puts.{first_stray, IsRange};
 ghost use Rattle.region_watch.specs.Private.{in_pages};
-ghost use Rattle.kept_parts.specs.Calls.{RunsIn, IsCall, ask_in, value_of, brk_of, noted_call, Replies, Changes, Gives, GivesIn};
+ghost use Rattle.kept_parts.specs.Calls.{RunsIn, IsCall, ask_in, maps_by, value_of, brk_of, noted_call, Replies, Changes, Gives, GivesIn};
 
 use crate::effect::Effect;
 use crate::follow::follow;
@@ -100,10 +101,11 @@ pub(crate) fn finish(procs: &mut Procs<Task>, log: &mut Log, call: Call, value: 
 }
 
 impl KeptParts {
-    /// Gives a call its reply, and notes it. There is room for its note.
+    /// Gives a call its reply, and notes it. There is room for its note, and it maps no file.
     pub fn reply(&mut self, call: Call, effect: Effect) -> Result<(), AllocError>
         requires lives { Lives self.old.procs call.pid }
-        requires room { has_room self.old.notes (length call.sent.items) ≡ true }
+        requires room { room_beside self.old (length call.sent.items) ≡ true }
+        requires plain { maps_by call effect ≡ false }
         ensures replies { (a : About) → (e : Listed Task) → (h : Held) → RunsIn self.old call.pid e h → Replies a self.old e h call effect self.new result }
         ensures memory { self.new.mem ≡ self.old.mem }
         ensures holds { HoldsFiles self.old → HoldsFiles self.new }
@@ -112,6 +114,7 @@ impl KeptParts {
         let got = Vec::new(*self.console.allocator());
         let number = self.procs.get(call.pid).space;
         let value = settle(&mut self.spaces, number, effect);
+        self.recording.pass(number, 1);
         finish(&mut self.procs, &mut self.log, call, value, got);
         Ok(())
     }
@@ -119,7 +122,7 @@ impl KeptParts {
     /// Carries out a call that changes files and doesn't wait, and notes it. There is room for its note.
     pub fn change(&mut self, call: Call) -> Result<(), AllocError>
         requires lives { Lives self.old.procs call.pid }
-        requires room { has_room self.old.notes (length call.sent.items) ≡ true }
+        requires room { room_beside self.old (length call.sent.items) ≡ true }
         requires change { IsChange call.number }
         requires replies { RepliesOnly call self.old.files }
         ensures changes { (a : About) → (e : Listed Task) → (h : Held) → RunsIn self.old call.pid e h → IsCall e call → Changes a self.old e h call (row (ask_in a self.old e h call)) self.new result }
@@ -130,14 +133,16 @@ impl KeptParts {
         let changed = file_calls::change(&mut self.tree, &mut self.files, &mut self.console, &call);
         let value = or_unreserve(&mut self.log, changed)?;
         let got = Vec::new(*self.console.allocator());
+        self.recording.pass(self.procs.get(call.pid).space, 1);
         finish(&mut self.procs, &mut self.log, call, value, got);
         Ok(())
     }
 
-    /// Gives a call its reply and its bytes, which all lie in memory, and notes it. There is room for its note.
+    /// Gives a call its reply and its bytes, which all lie in memory, and notes it. There is room for its note, and it is no mmap2.
     pub fn give(&mut self, call: Call, outcome: Outcome) -> Result<(), AllocError>
         requires lives { Lives self.old.procs call.pid }
-        requires room { has_room self.old.notes (weight_of call.sent.items (written_of outcome)) ≡ true }
+        requires room { room_beside self.old (weight_of call.sent.items (written_of outcome)) ≡ true }
+        requires plain { (call.number == 222) ≡ false }
         requires fits { CanTake self.old.files outcome.then }
         requires ends { HasEnds self.old.files call.table outcome.then }
         requires ranges { All IsRange (written_of outcome) }
@@ -153,6 +158,7 @@ impl KeptParts {
         let followed = follow(&mut self.files, call.table, outcome.then);
         or_unreserve(&mut self.log, followed)?;
         put(&mut self.mem, &outcome.got);
+        self.recording.pass(self.procs.get(call.pid).space, 1);
         finish(
             &mut self.procs,
             &mut self.log,

@@ -1,12 +1,13 @@
 //! The start of a program.
 
-ghost use Rattle.std.specs.Prelude.{◌≡◌, ℕ, ◌<◌, ◌^◌, IfOk, List, Some, length, slice_get};
+ghost use Rattle.std.specs.Prelude.{◌≡◌, ℕ, [], ◌<◌, ◌^◌, IfOk, List, Some, length, slice_get};
 ghost use Rattle.page_runs.specs.Choosers.{IsChooser, kind_of};
 ghost use Rattle.flat_loader.specs.Frame.{texts};
 ghost use Rattle.flat_loader.specs.Original.{flat_original};
 ghost use Rattle.vfork_exec.specs.Procs.{count, most_entries};
 ghost use Rattle.kept_parts.specs.Regular.{most_first};
 ghost use Rattle.kept_parts.specs.Refusals.{refusal_of};
+ghost use Rattle.kept_parts.specs.Recorded.{args_of, args_in, program_recorded};
 ghost use Rattle.kept_parts.specs.InMemory.{header_of, LaysOn};
 ghost use Rattle.kept_parts.specs.Starts.{LeavesOtherBytes, Starts};
 
@@ -17,6 +18,8 @@ use bflt_format::Flat;
 use call_log::Note;
 use flat_loader::{LoadRefusal, Loaded, load};
 use page_runs::{Chooser, Run};
+use recordings::{Launch, Recording};
+use std::alloc::{AllocError, Global};
 
 /// Why a program doesn't start.
 #[derive(Clone, Copy, PartialEq, Eq)]
@@ -41,8 +44,54 @@ impl From<LoadRefusal> for StartRefusal {
     }
 }
 
+/// The same strings once more.
+fn copied(alloc: Global, strings: &[Vec<u8>]) -> Result<Vec<Vec<u8>>, AllocError>
+    ensures { IfOk result (λ copies. texts copies.items ≡ texts strings.now) }
+{
+    let mut copies = Vec::new(alloc);
+    for string in strings {
+        copies.push(string.clone()?)?;
+    }
+    Ok(copies)
+}
+
+/// The program that a process starts with is recorded, if its arguments were copied for that.
+fn record_start(
+    recording: &mut Recording,
+    flat: &Flat,
+    base: u32,
+    pid: u32,
+    args: Option<Vec<Vec<u8>>>,
+    alloc: Global,
+)
+    ensures { (space : ℕ) → (strings : List (List ℕ)) → args_of args ≡ args_in recording.old space strings →
+        recording.new ≡ program_recorded recording.old space (record { stack = flat.now.stack; base = base; pid = pid; args = strings; env = [] }) }
+{
+    let Some(args) = args else {
+        return;
+    };
+    recording.launch(Launch {
+        stack: flat.stack(),
+        base,
+        pid,
+        args,
+        env: Vec::new(alloc),
+    });
+}
+
 impl KeptParts {
-    /// Loads program number `index` and starts a process with it. A refusal changes nothing.
+    /// The arguments of a program once more, if it goes into the space that is recorded.
+    fn recorded_args(&self, args: &[Vec<u8>]) -> Result<Option<Vec<Vec<u8>>>, AllocError>
+        requires { length self.now.spaces < most_first }
+        ensures { IfOk result (λ copies. args_of copies ≡ args_in self.now.recording (length self.now.spaces) (texts args.now)) }
+    {
+        if !self.recording.has(self.spaces.len() as u32) {
+            return Ok(None);
+        }
+        Ok(Some(copied(*self.spaces.allocator(), args)?))
+    }
+
+    /// Loads program number `index` and starts a process with it. Its arguments are recorded where its space is. A refusal changes nothing.
     pub fn start<F: Fn(&[Run], u32) -> Option<usize>>(
         &mut self,
         index: u32,
@@ -58,6 +107,9 @@ impl KeptParts {
         ensures memory { (headers : List (List ℕ)) → slice_get headers index ≡ Some (header_of flat.now) → IfOk result (λ _. LaysOn headers self.old self.new) }
         ensures others { IfOk result (λ _. LeavesOtherBytes self.old self.new) }
     {
+        let Ok(copies) = self.recorded_args(args) else {
+            return Err(StartRefusal::Memory);
+        };
         if self.spaces.reserve(1).is_err()
             || self.files.ready().is_err()
             || self.log.reserve(1).is_err()
@@ -89,6 +141,7 @@ impl KeptParts {
             table,
         };
         let pid = self.procs.start(task).unwrap();
+        record_start(&mut self.recording, flat, base, pid, copies, alloc);
         let note = Note::Load {
             pid,
             program: index,

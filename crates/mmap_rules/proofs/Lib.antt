@@ -22,6 +22,7 @@
 -- Chosen     what `map` chooses
 -- Fresh      a run that is taken is free
 -- Refused    ENOMEM is due where no run fits, and only there
+-- Fitting    what is wanted is mapped where a copy has its pages, or a free run is long enough
 -- Names      mappings and their regions after a mapping more
 -- NamesMore  the same after a mapping of a copy more
 -- FilePages  pages of a file, byte by byte
@@ -53,6 +54,7 @@ pub mod Left
 pub mod Chosen
 pub mod Fresh
 pub mod Refused
+mod Fitting
 pub mod Names
 pub mod NamesMore
 pub mod FilePages

@@ -14,7 +14,7 @@ mod unmaps;
 mod want;
 
 pub use mapping::{Mapping, Range};
-pub use maps::MapFault;
+pub use maps::{MapFault, fits};
 pub use owners::{Owners, PageOwner};
 pub use space::{Space, SpaceRoom};
 pub use steps::Steps;

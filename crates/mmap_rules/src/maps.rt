@@ -11,11 +11,12 @@ ghost use Rattle.nommu_regions.specs.Ids.{Lives, region_of, start_of};
 ghost use Rattle.mmap_rules.specs.declared.maps.MapFault.TheVariants.{Enomem};
 ghost use Rattle.mmap_rules.specs.Owners.{IsTable};
 ghost use Rattle.mmap_rules.specs.Held.{AreMappings, places_of};
+ghost use Rattle.page_runs.specs.declared.place.Kind.{Kind};
 ghost use Rattle.mmap_rules.specs.Want.{AsksPages};
 ghost use Rattle.mmap_rules.specs.Copies.{AllHold, IsKnown, pages_at, pages_of, wanted_bytes};
 ghost use Rattle.mmap_rules.specs.Mappings.{run_mapping, part_mapping, copied_from, filled, page_at, IsNewRun, CopyHas, CanAdd};
 ghost use Rattle.mmap_rules.specs.Chosen.{part_at, part_for, new_run, first_bytes, file_source};
-ghost use Rattle.mmap_rules.specs.Sides.{sides, mapped, in_fresh_run, in_copy, file_in, Maps, NameRegions, AreFew};
+ghost use Rattle.mmap_rules.specs.Sides.{Sides, sides, mapped, in_fresh_run, in_copy, file_in, Maps, NameRegions, AreFew};
 
 use crate::mapping::{Mapping, Range};
 use crate::owners::Owners;
@@ -84,6 +85,23 @@ fn part_for(regions: &Regions, want: Want) -> Option<Part>
     };
     let copy = regions.find(id, change, first, pages)?;
     Some(Part { copy, first, pages })
+}
+
+/// How many pages are wanted.
+fn pages_of(want: Want) -> u32
+    ensures { result ≡ (new_run want).pages }
+{
+    match want {
+        Want::Anon { pages } | Want::File { pages, .. } => pages,
+    }
+}
+
+/// Whether what is wanted would be mapped now: a copy that is there has its pages, or a free run is long enough. Nothing is done.
+pub fn fits(regions: &Regions, want: Want) -> bool
+    requires { AsksPages want }
+    ensures { (s : Sides) → (kind : Kind) → (bytes : List ℕ) → s.regions ≡ regions.now.regions → result ≡ is_some (mapped s kind bytes want) }
+{
+    part_for(regions, want).is_some() || regions.fits(pages_of(want))
 }
 
 /// The run of its own that is wanted, and the bytes with which it begins.

@@ -1,8 +1,8 @@
 -- The files are changed, and the call has its reply.
-use Rattle.std.proofs.Common.{rules, ◌≡◌, arith, true, List, [], ◌∷◌, length, refl, sym, ap, subst, ◌∙◌}
+use Rattle.std.proofs.Common.{rules, ◌≡◌, arith, List, [], ◌∷◌, length, refl, sym, ap, subst, ◌∙◌}
 use Rattle.std.specs.Prelude.{map}
 use Rattle.std.proofs.lemmas.Result.{err_from_is_err_and}
-use Rattle.call_log.specs.Notes.{Note, has_room}
+use Rattle.call_log.specs.Notes.{Note}
 use Rattle.call_log.specs.Values.{written_value}
 use Rattle.file_calls.specs.Calls.{MadeBy}
 use Rattle.vfork_exec.specs.Procs.{Lives}
@@ -11,7 +11,11 @@ use Rattle.kept_parts.specs.Kept.{Kept}
 use Rattle.kept_parts.specs.Inside.{kept_of}
 use Rattle.kept_parts.specs.Regular.{IsRegular}
 use Rattle.kept_parts.specs.Calls.{RunsIn, IsCall, ask_in, noted_call, Changed, Changes}
-use Rattle.kept_parts.proofs.Outcomes.{made_by}
+use Rattle.kept_parts.specs.declared.task.Task.{Task}
+use Rattle.kept_parts.specs.Recorded.{event_recorded}
+use Rattle.kept_parts.proofs.Recorded.{room_inside, room_left}
+use Rattle.kept_parts.proofs.Runs.{value_found}
+use Rattle.kept_parts.proofs.Outcomes.{made_by, maps_none_changed}
 use Rattle.kept_parts.proofs.Sound.{plain_ask, counts, call_strays, copies_changed}
 use Rattle.kept_parts.proofs.Finishes.{regular_finished, is_rest, changed_by}
 use Rattle.kept_parts.proofs.CopiesStay.{room_counts}
@@ -28,7 +32,12 @@ new_parts c = record (kept_of c.self.inside) {
   procs = c.finish.new.procs;
   notes = c.finish.new.log.notes;
   console = c.change-changed.new.console.items;
+  recording = c.pass.new.self;
 }
+
+pub finish-requires-clause-room : goal.finish-requires-clause-room
+finish-requires-clause-room c =
+    room_left (kept_of c.self.inside) c.args.self.now c.self.view_is c.args.call.sent.items c.requires.room c.or_unreserve.new.log.notes (c.or_unreserve.ensures.notes ∙ c.reserve.ensures.same) c.new-got.result.items c.new-got.ensures.items
 
 stays : (c : goal.After-drop-call-in_err-value) → kept_of c.self.inside ≡ left c
 stays c =
@@ -58,12 +67,12 @@ invariant_of-self-2 c =
     let k = kept_of c.self.inside in
     let lives = subst (λ (s : Kept). Lives s.procs c.args.call.pid) (sym c.self.view_is) c.requires.lives in
     let call = c.args.call in
-    let few = room_counts k.notes (length call.sent.items) (subst (λ (s : Kept). has_room s.notes (length call.sent.items) ≡ true) (sym c.self.view_is) c.requires.room) in
+    let few = room_counts k.notes (length call.sent.items) (room_inside k c.args.self.now c.self.view_is call.sent.items c.requires.room) in
     let made : MadeBy call (plain_ask k call) = record { pid = refl; parent = refl; table = refl; number = refl; args = refl; sent = refl } in
     let noted = c.finish.ensures.notes ∙ ap (λ (ns : List Note). noted_call call c.in_ok-value.value (map written_value c.new-got.result.items) ∷ ns) (c.or_unreserve.ensures.notes ∙ c.reserve.ensures.same) in
     let counted = counts call c.in_ok-value.value _ k.notes _ noted in (
       (
-        regular_finished k call.pid c.self.invariant.0.0 lives c.in_ok-value.value k.mem c.change-changed.new.tree c.change-changed.new.files.open_files c.finish.new.procs c.finish.new.log.notes c.change-changed.new.console.items
+        regular_finished k call.pid c.self.invariant.0.0 lives c.in_ok-value.value k.mem c.change-changed.new.tree c.change-changed.new.files.open_files c.finish.new.procs c.finish.new.log.notes c.change-changed.new.console.items c.pass.new.self
             refl c.finish.ensures.procs (omega (arith, counted)),
         copies_changed k c.self.invariant.0.1 call c.in_ok-value.value c.change-changed.new.tree c.change-changed.new.files.open_files c.change-changed.new.console.items c.finish.new.log.notes few
             (rw (← c.in_ok-value.ensures.same) at (c.change-changed.ensures.changes (plain_ask k call) made (record { tree = refl; files = refl; console = refl }))) counted (call_strays call c.in_ok-value.value _ k.notes _ noted),
@@ -78,16 +87,16 @@ returns-clause-changes c = λ a e h.
     let noted = c.finish.ensures.notes
     ∙ (λ i. noted_call call c.in_ok-value.value (map written_value (c.new-got.ensures.items i)) ∷ (c.or_unreserve.ensures.notes ∙ c.reserve.ensures.same) i) in
     subst (λ (old : Kept). RunsIn old call.pid e h → IsCall e call → Changed a old e h call (row (ask_in a old e h call)) (new_parts c)) c.self.view_is
-    (λ runs is. changed_by a k e h call runs is c.change-changed.new.tree c.change-changed.new.files.open_files c.change-changed.new.console.items c.in_ok-value.value c.finish.new.procs c.finish.new.log.notes
+    (λ runs is. changed_by a k e h call runs is c.change-changed.new.tree c.change-changed.new.files.open_files c.change-changed.new.console.items c.in_ok-value.value c.finish.new.procs c.finish.new.log.notes c.pass.new.self
     (rw (← c.in_ok-value.ensures.same) at (c.change-changed.ensures.changes (ask_in a k e h call) (made_by a k e h call runs is) (is_rest a k e h call runs is c.self.inside.files refl)))
-    c.finish.ensures.procs noted)
+    c.finish.ensures.procs noted (c.pass.ensures ∙ ap (λ (t : Task). event_recorded k.recording t.space) (value_found k.procs call.pid e runs.lives c.get.result.now c.get.ensures)) (maps_none_changed call c.requires.change))
 
 pub returns-clause-holds : goal.returns-clause-holds
 returns-clause-holds c = λ holds.
     let k = kept_of c.self.inside in
     let call = c.args.call in
     let value = c.in_ok-value.value in
-    let few = room_counts k.notes (length call.sent.items) (subst (λ (s : Kept). has_room s.notes (length call.sent.items) ≡ true) (sym c.self.view_is) c.requires.room) in
+    let few = room_counts k.notes (length call.sent.items) (room_inside k c.args.self.now c.self.view_is call.sent.items c.requires.room) in
     let made : MadeBy call (plain_ask k call) = record { pid = refl; parent = refl; table = refl; number = refl; args = refl; sent = refl } in
     let copies = copies_clean k c.self.invariant.0.1 (holds_inside k c.args.self.now c.self.view_is holds) in
     (copies_changed (cleaned k) copies call value c.change-changed.new.tree c.change-changed.new.files.open_files c.change-changed.new.console.items (noted_call call value [] ∷ clean k.notes) (omega (arith, few, calls_clean k.notes))

@@ -1,7 +1,7 @@
 -- The parent's reply is its child's pid.
-use Rattle.std.proofs.Common.{rules, ◌≡◌, ◌<◌, List, ◌∷◌, true, length, map, sym, ap, subst, ◌∙◌}
+use Rattle.std.proofs.Common.{rules, ◌≡◌, ◌<◌, List, ◌∷◌, length, map, sym, ap, subst, ◌∙◌}
 use Rattle.std.specs.Prelude.{Some}
-use Rattle.call_log.specs.Notes.{Note, has_room}
+use Rattle.call_log.specs.Notes.{Note}
 use Rattle.call_log.specs.Values.{written_value}
 use Rattle.vfork_exec.specs.declared.entry.Entry.{Entry}
 use Rattle.fd_tables.specs.Changes.{with_copy}
@@ -11,6 +11,8 @@ use Rattle.kept_parts.specs.Kept.{Kept}
 use Rattle.kept_parts.specs.Regular.{Regular}
 use Rattle.kept_parts.specs.Inside.{kept_of}
 use Rattle.kept_parts.specs.Calls.{RunsIn, after_fork, noted_call}
+use Rattle.kept_parts.specs.Recorded.{event_recorded}
+use Rattle.kept_parts.proofs.Recorded.{room_inside, room_left}
 use Rattle.kept_parts.proofs.Runs.{runs_in, value_found}
 use Rattle.kept_parts.proofs.Families.{can_run_lives}
 use Rattle.kept_parts.proofs.Sound.{counts, call_strays, copies_called}
@@ -21,7 +23,11 @@ use Rattle.kept_parts.proofs.kept.KeptParts.fork.Goals as goal
 pub vfork-requires-clause-pids : goal.vfork-requires-clause-pids
 vfork-requires-clause-pids c =
     let k = kept_of c.self.inside in
-    pids_fit k c.self.invariant.0.0 (length c.args.call.sent.items) (subst (λ (s : Kept). has_room s.notes (length c.args.call.sent.items) ≡ true) (sym c.self.view_is) c.requires.room)
+    pids_fit k c.self.invariant.0.0 (length c.args.call.sent.items) (room_inside k c.args.self.now c.self.view_is c.args.call.sent.items c.requires.room)
+
+pub finish-requires-clause-room : goal.finish-requires-clause-room
+finish-requires-clause-room c =
+    room_left (kept_of c.self.inside) c.args.self.now c.self.view_is c.args.call.sent.items c.requires.room c.or_unreserve.new.log.notes (c.or_unreserve.ensures.notes ∙ c.reserve.ensures.same) c.new-got.result.items c.new-got.ensures.items
 
 pub finish-requires-clause-lives : goal.finish-requires-clause-lives
 finish-requires-clause-lives c =
@@ -47,8 +53,8 @@ invariant_of-self-in-Ok c =
     let noted = c.finish.ensures.notes ∙ ap (λ (ns : List Note). noted_call call c.in-Ok.pid (map written_value c.new-got.result.items) ∷ ns) (c.or_unreserve.ensures.notes ∙ c.reserve.ensures.same) in
     let counted = counts call c.in-Ok.pid _ k.notes c.finish.new.log.notes noted in (
       (
-        subst (λ (s : Listed Task). Regular (record k { procs = s; files = c.copy_table-copied.new.self.open_files; notes = c.finish.new.log.notes })) (sym (procs_are c r.0 r.1.1.lives))
-            (regular_forked k r.0 call c.self.invariant.0.0 r.1.1.lives ready few c.copy_table-copied.new.self.open_files c.finish.new.log.notes counted),
+        subst (λ (s : Listed Task). Regular (record k { procs = s; files = c.copy_table-copied.new.self.open_files; notes = c.finish.new.log.notes; recording = c.pass.new.self })) (sym (procs_are c r.0 r.1.1.lives))
+            (regular_forked k r.0 call c.self.invariant.0.0 r.1.1.lives ready few c.copy_table-copied.new.self.open_files c.finish.new.log.notes c.pass.new.self counted),
         copies_called k c.self.invariant.0.1 c.finish.new.log.notes counted (call_strays call c.in-Ok.pid _ k.notes c.finish.new.log.notes noted),
       ),
       search rules,
@@ -61,11 +67,12 @@ returns-clause-forks c = λ e h.
     let noted = c.finish.ensures.notes
     ∙ (λ i. noted_call call (c.in-Ok.ensures.1 i) (map written_value (c.new-got.ensures.items i)) ∷ (c.or_unreserve.ensures.notes ∙ c.reserve.ensures.same) i) in
     subst (λ (old : Kept). RunsIn old call.pid e h →
-    record k { procs = c.finish.new.procs; files = c.copy_table-copied.new.self.open_files; notes = c.finish.new.log.notes } ≡ after_fork old e call) c.self.view_is
+    record k { procs = c.finish.new.procs; files = c.copy_table-copied.new.self.open_files; notes = c.finish.new.log.notes; recording = c.pass.new.self } ≡ after_fork old e call) c.self.view_is
     (λ runs. λ i. record k {
       procs = procs_are c e runs.lives i;
       files = ((rw (← c.in_ok-or_unreserve.ensures.same) at c.copy_table-copied.ensures.added) ∙ ap (λ (x : Task). with_copy k.files x.table) (value_found k.procs call.pid e runs.lives c.get.result.now c.get.ensures)) i;
       notes = noted i;
+      recording = (c.pass.ensures ∙ ap (λ (t : Task). event_recorded k.recording t.space) (value_found k.procs call.pid e runs.lives c.get.result.now c.get.ensures)) i;
     })
 
 pub returns-clause-holds : goal.returns-clause-holds

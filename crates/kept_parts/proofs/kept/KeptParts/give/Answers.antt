@@ -1,9 +1,9 @@
 -- The bytes are given, and the call has its reply.
-use Rattle.std.proofs.Common.{rules, ◌≡◌, arith, List, length, None, ◌∷◌, sym, ap, subst, ◌∙◌}
+use Rattle.std.proofs.Common.{rules, ◌≡◌, arith, true, List, length, None, ◌∷◌, sym, ap, subst, ◌∙◌}
 use Rattle.std.specs.Prelude.{map, Ok, false}
 use Rattle.region_watch.specs.Private.{physical}
 use Rattle.call_log.specs.declared.note.Got.{Got}
-use Rattle.call_log.specs.Notes.{Note}
+use Rattle.call_log.specs.Notes.{Note, weight_of, has_room}
 use Rattle.call_log.specs.Values.{written_value}
 use Rattle.vfork_exec.specs.Procs.{Lives}
 use Rattle.mmap_rules.specs.Space.{writable_in}
@@ -15,7 +15,10 @@ use Rattle.kept_parts.specs.Inside.{kept_of}
 use Rattle.call_bytes.specs.Puts.{first_stray}
 use Rattle.region_watch.specs.Private.{in_pages}
 use Rattle.kept_parts.specs.Calls.{RunsIn, IsCall, noted_call, Gave, GaveIn}
-use Rattle.kept_parts.proofs.Runs.{runs_in}
+use Rattle.kept_parts.specs.declared.task.Task.{Task}
+use Rattle.kept_parts.specs.Recorded.{event_recorded, room_beside}
+use Rattle.kept_parts.proofs.Recorded.{room_alone}
+use Rattle.kept_parts.proofs.Runs.{runs_in, value_found}
 use Rattle.kept_parts.proofs.Sound.{counts, call_strays, copies_called}
 use Rattle.kept_parts.proofs.Waits.{replied_lives}
 use Rattle.kept_parts.proofs.Finishes.{regular_finished, gave_by, gave_in_by}
@@ -29,7 +32,15 @@ new_parts c = record (kept_of c.self.inside) {
   files = c.follow-followed.new.files.open_files;
   procs = c.finish.new.procs;
   notes = c.finish.new.log.notes;
+  recording = c.pass.new.self;
 }
+
+pub finish-requires-clause-room : goal.finish-requires-clause-room
+finish-requires-clause-room c =
+    let k = kept_of c.self.inside in
+    let weight = weight_of c.args.call.sent.items (written_of c.args.outcome) in
+    ap (λ (ns : List Note). has_room ns weight) (c.or_unreserve.ensures.notes ∙ c.reserve.ensures.same)
+    ∙ room_alone k weight (subst (λ (s : Kept). room_beside s weight ≡ true) (sym c.self.view_is) c.requires.room)
 
 -- all bytes were written
 puts_all : (c : goal.After-finish) → put_got (physical (kept_of c.self.inside).mem) (in_pages (length (kept_of c.self.inside).regions)) (written_of c.args.outcome) ≡ Ok (physical c.put.new.mem)
@@ -57,7 +68,7 @@ invariant_of-self-2 c =
     let fits = subst (λ (s : Kept). has_stray s.notes ≡ false → (e : _) → (h : _) → RunsIn s call.pid e h → first_stray (writable_in h.maps) gots ≡ None) (sym c.self.view_is) c.requires.kept in
     let counted = counts call c.args.outcome.value gots k.notes _ (noted_so c) in (
       (
-        regular_finished k call.pid c.self.invariant.0.0 lives c.args.outcome.value c.put.new.mem k.tree c.follow-followed.new.files.open_files c.finish.new.procs c.finish.new.log.notes k.console
+        regular_finished k call.pid c.self.invariant.0.0 lives c.args.outcome.value c.put.new.mem k.tree c.follow-followed.new.files.open_files c.finish.new.procs c.finish.new.log.notes k.console c.pass.new.self
             c.put.ensures.len c.finish.ensures.procs (omega (arith, counted)),
         copies_called (record k { mem = c.put.new.mem })
             (copies_given k c.self.invariant.0.0 r.0.value.space r.1.0 r.1.1.home c.self.invariant.0.1 c.put.new.mem c.put.ensures.len gots (puts_all c) (λ unstrayed. fits unstrayed r.0 r.1.0 r.1.1))
@@ -73,8 +84,9 @@ returns-clause-gives c = λ a e h.
     let o = c.args.outcome in
     subst (λ (old : Kept). RunsIn old call.pid e h → IsCall e call → first_stray (writable_in h.maps) (written_of o) ≡ None → Gave a old e h call o (new_parts c)) c.self.view_is
     (λ runs is fits.
-    gave_by a k e h call runs is o c.put.new.mem (puts_all c) c.follow-followed.new.files.open_files c.finish.new.procs c.finish.new.log.notes
-    (rw (← c.in_ok-or_unreserve.ensures.same) at c.follow-followed.ensures.after) c.finish.ensures.procs (noted_so c) c.self.invariant.0.0 fits)
+    gave_by a k e h call runs is o c.put.new.mem (puts_all c) c.follow-followed.new.files.open_files c.finish.new.procs c.finish.new.log.notes c.pass.new.self
+    (rw (← c.in_ok-or_unreserve.ensures.same) at c.follow-followed.ensures.after) c.finish.ensures.procs (noted_so c)
+    (c.pass.ensures ∙ ap (λ (t : Task). event_recorded k.recording t.space) (value_found k.procs call.pid e runs.lives c.get.result.now c.get.ensures)) c.requires.plain c.self.invariant.0.0 fits)
 
 pub returns-clause-memory : goal.returns-clause-memory
 returns-clause-memory c = λ a e h.
@@ -83,8 +95,9 @@ returns-clause-memory c = λ a e h.
     let o = c.args.outcome in
     subst (λ (old : Kept). RunsIn old call.pid e h → IsCall e call → GaveIn a old e h call o (new_parts c)) c.self.view_is
     (λ runs is.
-    gave_in_by a k e h call runs is o c.put.new.mem (puts_all c) c.follow-followed.new.files.open_files c.finish.new.procs c.finish.new.log.notes
-    (rw (← c.in_ok-or_unreserve.ensures.same) at c.follow-followed.ensures.after) c.finish.ensures.procs (noted_so c) c.put.ensures.len)
+    gave_in_by a k e h call runs is o c.put.new.mem (puts_all c) c.follow-followed.new.files.open_files c.finish.new.procs c.finish.new.log.notes c.pass.new.self
+    (rw (← c.in_ok-or_unreserve.ensures.same) at c.follow-followed.ensures.after) c.finish.ensures.procs (noted_so c)
+    (c.pass.ensures ∙ ap (λ (t : Task). event_recorded k.recording t.space) (value_found k.procs call.pid e runs.lives c.get.result.now c.get.ensures)) c.requires.plain c.put.ensures.len)
 
 pub returns-clause-lives : goal.returns-clause-lives
 returns-clause-lives c =

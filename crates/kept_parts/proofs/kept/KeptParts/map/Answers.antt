@@ -5,15 +5,14 @@ use Rattle.std.specs.Vec.{with_items}
 use Rattle.std.proofs.lemmas.Result.{err_from_is_err_and}
 use Rattle.page_runs.specs.declared.place.Kind.{Kind}
 use Rattle.page_runs.specs.Choosers.{kind_of}
-use Rattle.call_log.specs.Notes.{has_room}
 use Rattle.call_log.specs.Values.{written_value}
 use Rattle.mem_files.specs.Inodes.{bytes_of}
 use Rattle.mmap_rules.specs.Held.{Held}
-use Rattle.mmap_rules.specs.Sides.{file_in}
+use Rattle.mmap_rules.specs.Sides.{sides, file_in}
 use Rattle.region_watch.specs.Private.{physical}
 use Rattle.vfork_exec.specs.declared.entry.Entry.{Entry}
 use Rattle.vfork_exec.specs.Procs.{Lives}
-use Rattle.machine_world.specs.MapCalls.{mapped}
+use Rattle.machine_world.specs.MapCalls.{first_bytes, mapped}
 use Rattle.machine_world.specs.Event.{answered}
 use Rattle.physical_turns.specs.Physical.{Physical, after, carried}
 use Rattle.kept_parts.specs.declared.task.Task.{Task}
@@ -24,8 +23,11 @@ use Rattle.kept_parts.specs.Copies.{StillHolds}
 use Rattle.kept_parts.specs.Stands.{later, world_of}
 use Rattle.kept_parts.specs.InMemory.{physical_of}
 use Rattle.mmap_rules.specs.Copies.{IsKnown}
-use Rattle.kept_parts.specs.Calls.{RunsIn, IsCall, ask_in, noted_call, Changed}
+use Rattle.kept_parts.specs.Calls.{RunsIn, IsCall, RoomFor, ask_in, noted_call, Changed}
 use Rattle.kept_parts.specs.MapsIn.{MapsIn}
+use Rattle.kept_parts.specs.Recorded.{room_beside}
+use Rattle.kept_parts.proofs.Recorded.{room_inside, room_left, few_brought}
+use Rattle.kept_parts.proofs.Brought.{Brought, brought_none, brought_by}
 use Rattle.kept_parts.proofs.Runs.{value_found, has_space}
 use Rattle.kept_parts.proofs.Settled.{items_set}
 use Rattle.kept_parts.proofs.Stays.{regular_ids}
@@ -47,10 +49,15 @@ map_in-mapped-requires-clause-names g c = λ h there.
 
 pub map_in-mapped-requires-clause-few : goal.map_in-mapped-requires-clause-few
 map_in-mapped-requires-clause-few g c =
-    let room = subst (λ (s : Kept). has_room s.notes (length c.args.call.sent.items) ≡ true) (sym c.self.view_is) c.requires.room in
-    few_uses (kept_of c.self.inside) c.self.invariant.0.1 (room_counts c.self.inside.log.notes (length c.args.call.sent.items) room)
+    few_uses (kept_of c.self.inside) c.self.invariant.0.1
+    (room_counts c.self.inside.log.notes (length c.args.call.sent.items) (room_inside (kept_of c.self.inside) c.args.self.now c.self.view_is c.args.call.sent.items c.requires.room))
 
 -- ---- out of memory
+
+recorded_none : (g : Over) (c : goal.After-drop-call-in_err-value g) → c.settle_brought.new.recording ≡ c.self.inside.recording
+recorded_none g c =
+    brought_none c.self.inside.recording c.bring-bringing.new.recording c.settle_brought.new.recording c.in_ok-brings.brings (first_bytes c.self.inside.tree c.args.want) c.map_in-mapped.result c.in_err-value.field-0.0
+    (rw (← c.in_ok-brings.ensures.same) at c.bring-bringing.ensures.brings) c.settle_brought.ensures (rw (← c.in_err-value.ensures.same) at c.address.ensures)
 
 stays : (g : Over) (c : goal.After-drop-call-in_err-value g) → kept_of c.self.inside
     ≡ record (kept_of c.self.inside) {
@@ -58,7 +65,8 @@ stays : (g : Over) (c : goal.After-drop-call-in_err-value g) → kept_of c.self.
       regions = c.map_in-mapped.new.regions.regions;
       starts = c.map_in-mapped.new.regions.starts;
       spaces = (with_items c.self.inside.spaces c.map_in-mapped.new.spaces).items;
-      notes = c.or_unreserve.new.log.notes;
+      notes = c.or_unreserve-2.new.log.notes;
+      recording = c.settle_brought.new.recording;
     }
 stays g c =
     let k = kept_of c.self.inside in
@@ -77,7 +85,11 @@ stays g c =
     } in
     let same = same_mapped k c.self.invariant.0.0 c.self.invariant.0.1 number live.held live.there (kind_of c.args.chooser.now) c.args.want c.requires.pages known spaces
     c.map_in-mapped.new.regions.regions c.map_in-mapped.new.mem c.map_in-mapped.result c.in_err-value.field-0.0 at (rw (← c.in_err-value.ensures.same) at c.address.ensures) in
-    λ i. record (same i) { starts = sym c.map_in-mapped.ensures.ids i; notes = sym (c.or_unreserve.ensures.notes ∙ c.reserve.ensures.same) i }
+    λ i. record (same i) {
+      starts = sym c.map_in-mapped.ensures.ids i;
+      notes = sym (c.or_unreserve-2.ensures.notes ∙ c.or_unreserve.ensures.notes ∙ c.reserve.ensures.same) i;
+      recording = sym (recorded_none g c) i;
+    }
 
 pub invariant_of-self-in_err-value : goal.invariant_of-self-in_err-value
 invariant_of-self-in_err-value g c = (subst IsRegular (stays g c) c.self.invariant.0, search rules)
@@ -102,7 +114,17 @@ new_parts g c = record (kept_of c.self.inside) {
   spaces = (with_items c.self.inside.spaces c.map_in-mapped.new.spaces).items;
   procs = c.finish.new.procs;
   notes = c.finish.new.log.notes;
+  recording = c.pass.new.self;
 }
+
+pub finish-requires-clause-room : goal.finish-requires-clause-room
+finish-requires-clause-room g c =
+    room_left (kept_of c.self.inside) c.args.self.now c.self.view_is c.args.call.sent.items c.requires.room c.or_unreserve-2.new.log.notes
+    (c.or_unreserve-2.ensures.notes ∙ c.or_unreserve.ensures.notes ∙ c.reserve.ensures.same) c.new-got.result.items c.new-got.ensures.items
+
+pub bring-bringing-requires-clause-few : goal.bring-bringing-requires-clause-few
+bring-bringing-requires-clause-few g c =
+    few_brought (kept_of c.self.inside) (length c.args.call.sent.items) (subst (λ (s : Kept). room_beside s (length c.args.call.sent.items) ≡ true) (sym c.self.view_is) c.requires.room)
 
 -- what is left of the space
 left : (g : Over) (c : goal.After-finish g) (kind : Kind) → kind ≡ kind_of c.args.chooser.now → (h : Held) → slice_get c.self.inside.spaces.items c.get.result.now.space ≡ Some (Some h) →
@@ -119,7 +141,7 @@ left g c kind same h there =
     })
 
 noted : (g : Over) (c : goal.After-finish g) → c.finish.new.log.notes ≡ noted_call c.args.call c.in_ok-value.value [] ∷ c.self.inside.log.notes
-noted g c = c.finish.ensures.notes ∙ (λ i. noted_call c.args.call c.in_ok-value.value (map written_value (c.new-got.ensures.items i)) ∷ (c.or_unreserve.ensures.notes ∙ c.reserve.ensures.same) i)
+noted g c = c.finish.ensures.notes ∙ (λ i. noted_call c.args.call c.in_ok-value.value (map written_value (c.new-got.ensures.items i)) ∷ (c.or_unreserve-2.ensures.notes ∙ c.or_unreserve.ensures.notes ∙ c.reserve.ensures.same) i)
 
 pub invariant_of-self-2 : goal.invariant_of-self-2
 invariant_of-self-2 g c =
@@ -133,11 +155,24 @@ invariant_of-self-2 g c =
     let now = with_maps k c.map_in-mapped.new.mem c.map_in-mapped.new.regions.regions (new_parts g c).spaces in
     let counted = counts c.args.call c.in_ok-value.value [] k.notes c.finish.new.log.notes (noted g c) in (
       (
-        regular_ids _ (regular_finished now c.args.call.pid keeps.0 lives c.in_ok-value.value now.mem k.tree k.files c.finish.new.procs c.finish.new.log.notes k.console refl c.finish.ensures.procs (omega (arith, counted))) (new_parts g c).starts,
+        regular_ids _ (regular_finished now c.args.call.pid keeps.0 lives c.in_ok-value.value now.mem k.tree k.files c.finish.new.procs c.finish.new.log.notes k.console c.pass.new.self refl c.finish.ensures.procs (omega (arith, counted))) (new_parts g c).starts,
         keeps.1 c.finish.new.log.notes (omega (arith, counted)) (call_strays c.args.call c.in_ok-value.value [] k.notes c.finish.new.log.notes (noted g c)),
       ),
       search rules,
     )
+
+-- what is recorded
+brought : (g : Over) (c : goal.After-finish g) (kind : Kind) (e : Entry Task) (h : Held) → RunsIn (kept_of c.self.inside) c.args.call.pid e h →
+    Brought (kept_of c.self.inside) e.value.space kind c.args.want h c.map_in-mapped.result c.pass.new.self
+brought g c kind e h runs =
+    let k = kept_of c.self.inside in
+    let want = c.args.want in
+    let task : c.get.result.now ≡ e.value = value_found k.procs c.args.call.pid e runs.lives c.get.result.now c.get.ensures in
+    let done = rw (← c.in_ok-brings.ensures.same) at c.bring-bringing.ensures.done in
+    let now = rw (← c.in_ok-brings.ensures.same) at c.bring-bringing.ensures.brings in
+    subst (λ (t : Task). Brought k t.space kind want h c.map_in-mapped.result c.pass.new.self) task
+    (brought_by k c.get.result.now.space kind want h c.map_in-mapped.result c.bring-bringing.new.recording c.settle_brought.new.recording c.pass.new.self c.in_ok-brings.brings
+    (done (sides h k.regions k.mem) kind (bytes_of k.tree (file_in want)) refl) now c.settle_brought.ensures c.pass.ensures)
 
 -- the same by the entry of the process
 left_at : (g : Over) (c : goal.After-finish g) (kind : Kind) → kind ≡ kind_of c.args.chooser.now → (e : Entry Task) (h : Held) → RunsIn (kept_of c.self.inside) c.args.call.pid e h →
@@ -161,8 +196,8 @@ returns-clause-changes g c = λ a kind holding e h.
     subst (λ (old : Kept). RunsIn old call.pid e h → IsCall e call → Changed a old e h call (mapped (ask_in a old e h call) want) (new_parts g c)) c.self.view_is
     (λ runs is_call. changed_ids a k e h call _ _ (
     changed_mapped a k e h call runs is_call c.in_ok-value.value (new_parts g c).spaces c.map_in-mapped.new.regions.regions c.finish.new.procs c.finish.new.log.notes
-    c.finish.ensures.procs (noted g c) c.self.invariant.0.0 holds want c.requires.pages known c.map_in-mapped.new.mem c.map_in-mapped.result
-    (left_at g c a.kind kind e h runs) (rw (← c.in_ok-value.ensures.same) at c.address.ensures)) (new_parts g c).starts)
+    c.finish.ensures.procs (noted g c) c.pass.new.self c.self.invariant.0.0 holds want c.requires.pages known c.requires.asked c.map_in-mapped.new.mem c.map_in-mapped.result
+    (left_at g c a.kind kind e h runs) (rw (← c.in_ok-value.ensures.same) at c.address.ensures) (brought g c a.kind e h runs)) (new_parts g c).starts)
 
 pub returns-clause-memory : goal.returns-clause-memory
 returns-clause-memory g c = λ headers a kind e h.
@@ -170,14 +205,15 @@ returns-clause-memory g c = λ headers a kind e h.
     let call = c.args.call in
     let want = c.args.want in
     let known = subst (λ (s : Kept). IsKnown s.tree want) (sym c.self.view_is) c.requires.known in
-    let room = subst (λ (s : Kept). has_room s.notes (length call.sent.items) ≡ true) (sym c.self.view_is) c.requires.room in
+    let room = subst (λ (s : Kept). RunsIn s call.pid e h → IsCall e call → RoomFor (world_of a s) (ask_in a s e h call) (mapped (ask_in a s e h call) want)) (sym c.self.view_is)
+    (c.requires.brings a kind e h) in
     subst (λ (old : Kept). RunsIn old call.pid e h → IsCall e call →
     carried (physical_of headers a old) (physical old.mem) (answered (world_of a old) (ask_in a old e h call) (mapped (ask_in a old e h call) want)) ≡ after (physical_of headers (later 1 a) (new_parts g c)) false)
     c.self.view_is
     (λ runs is_call.
     memory_mapped headers a k e h call runs is_call c.in_ok-value.value (new_parts g c).spaces c.map_in-mapped.new.regions.regions c.finish.new.procs c.finish.new.log.notes
-    c.finish.ensures.procs (noted g c) room c.self.invariant.0.0 want c.requires.pages known c.map_in-mapped.new.mem c.map_in-mapped.result
-    (left_at g c a.kind kind e h runs) (rw (← c.in_ok-value.ensures.same) at c.address.ensures)
+    c.finish.ensures.procs (noted g c) c.pass.new.self c.self.invariant.0.0 want c.requires.pages known c.requires.asked c.map_in-mapped.new.mem c.map_in-mapped.result
+    (left_at g c a.kind kind e h runs) (rw (← c.in_ok-value.ensures.same) at c.address.ensures) (brought g c a.kind e h runs) (room runs is_call)
     ∙ ap (λ (x : Physical). after x false) (sym (physical_ids headers (later 1 a) _ (new_parts g c).starts)))
 
 pub returns-clause-lives : goal.returns-clause-lives
@@ -201,3 +237,6 @@ returns-clause-holds g c = λ holds.
 
 pub returns-in_err-value-clause-holds : goal.returns-in_err-value-clause-holds
 returns-in_err-value-clause-holds g c = holds_inside _ c.args.self.now (sym (stays g c) ∙ c.self.view_is)
+
+pub returns-in_err-brings-clause-holds : goal.returns-in_err-brings-clause-holds
+returns-in_err-brings-clause-holds g c = holds_inside (kept_of c.self.inside) c.args.self.now c.self.view_is

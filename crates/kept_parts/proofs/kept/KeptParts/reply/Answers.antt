@@ -10,6 +10,8 @@ use Rattle.kept_parts.specs.declared.task.Task.{Task}
 use Rattle.kept_parts.specs.Kept.{Kept}
 use Rattle.kept_parts.specs.Inside.{kept_of}
 use Rattle.kept_parts.specs.Calls.{RunsIn, value_of, brk_of, noted_call, Replies}
+use Rattle.kept_parts.specs.Recorded.{event_recorded}
+use Rattle.kept_parts.proofs.Recorded.{room_left}
 use Rattle.kept_parts.proofs.Runs.{value_found}
 use Rattle.kept_parts.proofs.Settled.{items_set}
 use Rattle.kept_parts.proofs.Sound.{counts, call_strays, copies_called}
@@ -22,7 +24,12 @@ new_parts c = record (kept_of c.self.inside) {
   spaces = (with_items c.self.inside.spaces c.settle-value.new.spaces).items;
   procs = c.finish.new.procs;
   notes = c.finish.new.log.notes;
+  recording = c.pass.new.self;
 }
+
+pub finish-requires-clause-room : goal.finish-requires-clause-room
+finish-requires-clause-room c =
+    room_left (kept_of c.self.inside) c.args.self.now c.self.view_is c.args.call.sent.items c.requires.room c.reserve.new.self.notes c.reserve.ensures.same c.new-got.result.items c.new-got.ensures.items
 
 -- what became of the space
 settled : (c : goal.After-finish) (h : Held) → slice_get c.self.inside.spaces.items c.get.result.now.space ≡ Some (Some h) →
@@ -44,7 +51,7 @@ invariant_of-self-2 c =
     let counted = counts c.args.call c.settle-value.result _ k.notes _ noted in (
       (
         regular_settled k c.args.call.pid c.self.invariant.0.0 lives c.get.result.now c.get.ensures c.settle-value.result (λ h. brk_of (next_brk h) h.brk c.args.effect)
-            (new_parts c).spaces c.finish.new.procs c.finish.new.log.notes (λ h there. (settled c h there).1) c.finish.ensures.procs (omega (arith, counted)),
+            (new_parts c).spaces c.finish.new.procs c.finish.new.log.notes c.pass.new.self (λ h there. (settled c h there).1) c.finish.ensures.procs (omega (arith, counted)),
         copies_called k c.self.invariant.0.1 c.finish.new.log.notes counted (call_strays c.args.call c.settle-value.result _ k.notes _ noted),
       ),
       search rules,
@@ -61,7 +68,8 @@ returns-clause-replies c = λ a e h.
     let same : c.get.result.now ≡ e.value = value_found k.procs call.pid e runs.lives c.get.result.now c.get.ensures in
     let done = settled c h (ap (λ (t : Task). slice_get k.spaces t.space) same ∙ runs.home) in
     let spaces = done.1 ∙ ap (λ (t : Task). slice_set k.spaces t.space (Some (record h { brk = brk_of (next_brk h) h.brk c.args.effect }))) same in
-    replied_by a k e h call runs c.args.effect c.settle-value.result (new_parts c).spaces c.finish.new.procs c.finish.new.log.notes done.0 spaces c.finish.ensures.procs noted)
+    replied_by a k e h call runs c.args.effect c.settle-value.result (new_parts c).spaces c.finish.new.procs c.finish.new.log.notes c.pass.new.self done.0 spaces c.finish.ensures.procs noted
+    (c.pass.ensures ∙ ap (λ (t : Task). event_recorded k.recording t.space) same) c.requires.plain)
 
 pub returns-clause-holds : goal.returns-clause-holds
 returns-clause-holds c = holds_inside (kept_of c.self.inside) c.args.self.now c.self.view_is

@@ -16,7 +16,7 @@ use Rattle.kept_parts.proofs.kept.KeptParts.start.Goals as goal
 pub returns-in_err-space-clause-starts : goal.returns-in_err-space-clause-starts
 returns-in_err-space-clause-starts g c =
     refuses_by _ (kept_of c.self.inside) _ _ (search rules) c.self.invariant.0.0 _ _ _ _ c.in_err-space.field-0.0 (rw (← c.in_err-space.ensures.same) at c.load-loaded.ensures.loads)
-    c.load-loaded.ensures.ids c.reserve.ensures.items refl c.ready.ensures.same refl (c.or_unreserve.ensures.notes ∙ c.reserve-else-is_err-2.ensures.same) refl (search rules)
+    c.load-loaded.ensures.ids c.reserve.ensures.items refl c.ready.ensures.same refl (c.or_unreserve.ensures.notes ∙ c.reserve-else-is_err-2.ensures.same) refl refl (search rules)
 
 abbrev new_parts : (g : Over) → goal.After-unwrap g → Kept
 new_parts g c = record {
@@ -29,6 +29,7 @@ new_parts g c = record {
   procs = c.start.new.self;
   notes = c.push.new.self.notes;
   console = c.self.inside.console.items;
+  recording = c.record_start.new.recording;
 }
 
 if_ok : (P : ℕ → Type 0) (r : Result ℕ AllocError) (x : ℕ) → r ≡ Ok x → IfOk r P → P x
@@ -47,7 +48,7 @@ begun g c =
     begun_by (kept_of c.self.inside) (new_parts g c) _ _ _ _ loaded c.unwrap-pid.result c.len-number.result c.unwrap-table.result (rw (← c.in_ok-space.ensures.same) at c.load-loaded.ensures.loads) c.load-loaded.ensures.ids spaces number
     (process_started _ _ _ _ _ c.start.ensures c.unwrap-pid.ensures) table refl files
     (note_pushed c.or_unreserve.new.log _ note c.push.new.self c.push.result c.unwrap.result (c.or_unreserve.ensures.notes ∙ c.reserve-else-is_err-2.ensures.same) c.push.ensures c.unwrap.ensures)
-    refl
+    refl (c.record_start.ensures (length c.self.inside.spaces.items) (texts c.args.args.now) (search rules))
 
 pub invariant_of-self-2 : goal.invariant_of-self-2
 invariant_of-self-2 g c = (

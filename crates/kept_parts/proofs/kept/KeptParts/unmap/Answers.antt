@@ -1,6 +1,6 @@
 -- Pages are unmapped, and the call has its reply.
 use Rattle.std.proofs.Common.{rules, ◌≡◌, List, [], Option, ◌∷◌, refl, sym, ap, subst, arith, ◌∙◌}
-use Rattle.std.specs.Prelude.{Some, map, slice_get, slice_set, slice_index}
+use Rattle.std.specs.Prelude.{◌==◌, Some, map, slice_get, slice_set, slice_index}
 use Rattle.std.specs.Vec.{with_items}
 use Rattle.call_log.specs.Values.{written_value}
 use Rattle.mmap_rules.specs.Held.{Held}
@@ -12,6 +12,8 @@ use Rattle.kept_parts.specs.Kept.{Kept}
 use Rattle.kept_parts.specs.Inside.{kept_of}
 use Rattle.kept_parts.specs.Calls.{RunsIn, IsCall, ask_in, noted_call, Changed}
 use Rattle.kept_parts.specs.MapsIn.{UnmapsIn}
+use Rattle.kept_parts.specs.Recorded.{event_recorded}
+use Rattle.kept_parts.proofs.Recorded.{room_left}
 use Rattle.kept_parts.proofs.Runs.{value_found, has_space}
 use Rattle.kept_parts.proofs.Settled.{items_set}
 use Rattle.kept_parts.proofs.Stays.{regular_ids}
@@ -35,7 +37,12 @@ new_parts c = record (kept_of c.self.inside) {
   spaces = (with_items c.self.inside.spaces c.unmap_in-unmapped.new.spaces).items;
   procs = c.finish.new.procs;
   notes = c.finish.new.log.notes;
+  recording = c.pass.new.self;
 }
+
+pub finish-requires-clause-room : goal.finish-requires-clause-room
+finish-requires-clause-room c =
+    room_left (kept_of c.self.inside) c.args.self.now c.self.view_is c.args.call.sent.items c.requires.room c.reserve.new.self.notes c.reserve.ensures.same c.new-got.result.items c.new-got.ensures.items
 
 -- what is left of the space
 left : (c : goal.After-finish) (h : Held) → slice_get c.self.inside.spaces.items c.get.result.now.space ≡ Some (Some h) →
@@ -66,7 +73,7 @@ invariant_of-self-2 c =
     let now = with_maps k k.mem c.unmap_in-unmapped.new.regions.regions (new_parts c).spaces in
     let counted = counts c.args.call c.status-value.result [] k.notes c.finish.new.log.notes (noted c) in (
       (
-        regular_ids _ (regular_finished now c.args.call.pid keeps.0 lives c.status-value.result k.mem k.tree k.files c.finish.new.procs c.finish.new.log.notes k.console refl c.finish.ensures.procs (omega (arith, counted))) (new_parts c).starts,
+        regular_ids _ (regular_finished now c.args.call.pid keeps.0 lives c.status-value.result k.mem k.tree k.files c.finish.new.procs c.finish.new.log.notes k.console c.pass.new.self refl c.finish.ensures.procs (omega (arith, counted))) (new_parts c).starts,
         keeps.1 c.finish.new.log.notes (omega (arith, counted)) (call_strays c.args.call c.status-value.result [] k.notes c.finish.new.log.notes (noted c)),
       ),
       search rules,
@@ -85,7 +92,8 @@ returns-clause-changes c = λ a e h.
     let at : UnmapsIn addr len e.value.space h k.spaces (new_parts c).spaces k.regions c.unmap_in-unmapped.new.regions.regions c.unmap_in-unmapped.result =
     subst (λ (t : Task). UnmapsIn addr len t.space h k.spaces (new_parts c).spaces k.regions c.unmap_in-unmapped.new.regions.regions c.unmap_in-unmapped.result) same is in
     changed_ids a k e h call _ _ (changed_unmapped a k e h call runs is_call c.status-value.result (new_parts c).spaces c.unmap_in-unmapped.new.regions.regions c.finish.new.procs c.finish.new.log.notes
-    c.finish.ensures.procs (noted c) addr len c.unmap_in-unmapped.result at c.status-value.ensures) (new_parts c).starts)
+    c.finish.ensures.procs (noted c) c.pass.new.self addr len c.unmap_in-unmapped.result at c.status-value.ensures
+    (c.pass.ensures ∙ ap (λ (t : Task). event_recorded k.recording t.space) same) (ap (λ n. n == 222) c.requires.munmap)) (new_parts c).starts)
 
 pub returns-clause-holds : goal.returns-clause-holds
 returns-clause-holds c = λ holds.
