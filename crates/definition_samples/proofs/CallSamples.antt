@@ -28,7 +28,7 @@ tree =
     ∷ []
 
 abbrev pub rest : Rest
-rest = record { pages = 4; kind = First; programs = []; tree = tree; files = with_table (nothing_open (codes "hello")); console = codes "> " }
+rest = record { pages = 4; kind = First; programs = []; tree = tree; files = with_table (nothing_open (codes "hello")); console = codes "> "; keep = 0 }
 
 abbrev pub ask : Rest → ℕ → List ℕ → List ℕ → Ask
 ask r number args sent = record {

@@ -14,6 +14,7 @@ use Rattle.vfork_exec.specs.declared.family.Ended.{Ended}
 use Rattle.vfork_exec.specs.Keyed.{find, without}
 use Rattle.vfork_exec.specs.Families.{resumed, state_behind, ended_behind}
 use Rattle.machine_world.specs.World.{Process, LiveSpace, World, id_of}
+use Rattle.machine_world.specs.Recordings.{nothing_recorded}
 use Rattle.machine_world.specs.Families.{borrows, spaces_left, all_left_by, all_roused}
 use Rattle.machine_world.specs.Event.{Outcome, went, strays, full, idle, Trace, ended, trapped, settled, at_process, died}
 
@@ -39,9 +40,10 @@ world procs gone = record {
   spaces = space 1 1 ∷ space 0 0 ∷ [];
   loads = 2;
   next_pid = 4;
-  rest = record { pages = 4; kind = First; programs = []; tree = []; files = files; console = [] };
+  rest = record { pages = 4; kind = First; programs = []; tree = []; files = files; console = []; keep = 0 };
   notes = [];
   events = 5;
+  recording = nothing_recorded 0;
 }
 
 abbrev family : World

@@ -15,6 +15,7 @@ use Rattle.flat_loader.specs.Original.{Original}
 use Rattle.flat_loader.specs.Begin.{Loading, begin_space}
 use Rattle.flat_loader.specs.Alone.{Item}
 use Rattle.machine_world.specs.World.{Process, LiveSpace, Rest, World}
+use Rattle.machine_world.specs.Recordings.{nothing_recorded}
 use Rattle.machine_world.specs.Boot.{StartLine}
 
 -- two words at number 64: a7 becomes 93, and the call exits with a0, which is 0
@@ -57,6 +58,7 @@ rest_with files = record {
   tree = tree;
   files = files;
   console = [];
+  keep = 0;
 }
 
 abbrev pub start : StartLine
@@ -82,6 +84,7 @@ running pc a7 events = record {
   rest = rest_with (record (nothing_open []) { tables = Some first_table ∷ [] });
   notes = load ∷ [];
   events = events;
+  recording = nothing_recorded 0;
 }
 
 -- and when it has ended
@@ -95,4 +98,5 @@ over = record {
   rest = rest_with (record (nothing_open []) { tables = None ∷ [] });
   notes = end_note 1 (Exit 0) ∷ call_note exit_entry ∷ load ∷ [];
   events = 2;
+  recording = nothing_recorded 0;
 }

@@ -14,6 +14,7 @@ use Rattle.region_watch.specs.Private.{only}
 use Rattle.fd_tables.specs.Files.{nothing_open}
 use Rattle.vfork_exec.specs.declared.family.State.TheVariants.{Ready}
 use Rattle.machine_world.specs.World.{LiveSpace, id_of}
+use Rattle.machine_world.specs.Recordings.{nothing_recorded}
 use Rattle.kept_parts.specs.Kept.{Kept}
 use Rattle.kept_parts.specs.Stands.{About, private_bytes, live_spaces, world_of}
 
@@ -103,9 +104,10 @@ stands-for :
       spaces = live_spaces mem kept_spaces;
       loads = 3;
       next_pid = 8;
-      rest = record { pages = 4; kind = Best; programs = []; tree = opening; files = nothing_open (codes "in"); console = codes "out" };
+      rest = record { pages = 4; kind = Best; programs = []; tree = opening; files = nothing_open (codes "in"); console = codes "out"; keep = 0 };
       notes = end_note 6 (Exit 1) ∷ [];
       events = 9;
+      recording = nothing_recorded 0;
     }
 unfolding world_of
 stands-for = refl

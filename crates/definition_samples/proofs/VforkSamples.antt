@@ -29,6 +29,7 @@ use Rattle.vfork_exec.specs.declared.family.State.TheVariants.{Ready, Lent}
 use Rattle.vfork_exec.specs.Keyed.{find, change, without}
 use Rattle.vfork_exec.specs.Families.{resumed, state_behind, ended_behind}
 use Rattle.machine_world.specs.World.{Rest, Process, LiveSpace, World}
+use Rattle.machine_world.specs.Recordings.{nothing_recorded}
 use Rattle.machine_world.specs.Families.{is_full, borrows, spaces_left, all_left_by, all_roused, ready_pids}
 use Rattle.machine_world.specs.Event.{ended, stepped, exited, forked, cloned, answer, settled, at_process, event}
 use Rattle.machine_world.specs.Turns.{turn, turns}
@@ -70,6 +71,7 @@ first = record {
   rest = vforking (record (nothing_open []) { tables = Some first_table ∷ [] });
   notes = load ∷ [];
   events = 0;
+  recording = nothing_recorded 0;
 }
 
 -- the two calls of process 1, and that of its child

@@ -23,6 +23,7 @@ use Rattle.vfork_exec.specs.declared.family.State.{State}
 use Rattle.vfork_exec.specs.declared.family.State.TheVariants.{Ready, OnPipe, Lent}
 use Rattle.vfork_exec.specs.Keyed.{find, change}
 use Rattle.machine_world.specs.World.{Process, LiveSpace, World, pid_of}
+use Rattle.machine_world.specs.Recordings.{nothing_recorded}
 use Rattle.machine_world.specs.Families.{sharing, all_roused, IsChain, AreChains}
 use Rattle.machine_world.specs.Transfers.{read_row}
 use Rattle.machine_world.specs.Rows.{row}
@@ -66,9 +67,10 @@ world held events state = record {
   spaces = space ∷ [];
   loads = 1;
   next_pid = 2;
-  rest = record { pages = 4; kind = First; programs = []; tree = []; files = holding held; console = [] };
+  rest = record { pages = 4; kind = First; programs = []; tree = []; files = holding held; console = []; keep = 0 };
   notes = [];
   events = events;
+  recording = nothing_recorded 0;
 }
 
 -- the read comes to a wait on the pipe

@@ -125,7 +125,7 @@ lines_fail a old new s more all e x left =
 
 -- before the first
 first_world : (a : About) (pages : ℕ) (tree : Inodes) (files : OpenFiles) → a.events ≡ 0
-    → world_of a (nothing_yet pages tree files) ≡ empty_world (record { pages = pages; kind = a.kind; programs = a.programs; tree = tree; files = files; console = [] })
+    → world_of a (nothing_yet pages tree files) ≡ empty_world (record { pages = pages; kind = a.kind; programs = a.programs; tree = tree; files = files; console = []; keep = 0 })
 unfolding world_of live_spaces
 first_world a pages tree files none =
     let pages_are : length (nothing_yet pages tree files).regions ≡ pages = length-replicate pages _ in
@@ -171,7 +171,7 @@ boot_is rest starts = refl
 
 -- from the parts before the first program
 pub boots_from : (a : About) (pages : ℕ) (tree : Inodes) (files : OpenFiles) (rest : Rest) (k : Kept) (starts : List StartLine) → k ≡ nothing_yet pages tree files
-    → record { pages = pages; kind = a.kind; programs = a.programs; tree = tree; files = files; console = [] } ≡ rest → a.events ≡ 0 → all_started (world_of a k) starts ≡ boot rest starts
+    → record { pages = pages; kind = a.kind; programs = a.programs; tree = tree; files = files; console = []; keep = 0 } ≡ rest → a.events ≡ 0 → all_started (world_of a k) starts ≡ boot rest starts
 boots_from a pages tree files rest k starts is same none =
     ap (λ (x : Kept). all_started (world_of a x) starts) is ∙ ap (λ (w : World). all_started w starts) (first_world a pages tree files none)
     ∙ ap (λ (r : Rest). all_started (empty_world r) starts) same ∙ boot_is rest starts

@@ -7,7 +7,7 @@ use Rattle.rv32im_step.specs.declared.regs.Regs.{Regs}
 use Rattle.rv32im_step.specs.Meaning.{Meaning, next, call, trap, refused}
 use Rattle.call_log.specs.declared.errno.Errno.{Errno}
 use Rattle.call_log.specs.declared.errno.Errno.TheVariants.{E2big, Eagain, Enomem, Einval, Enametoolong}
-use Rattle.call_log.specs.Notes.{has_room, weight_of}
+use Rattle.call_log.specs.Notes.{weight_of}
 use Rattle.call_log.specs.Sent.{Span, has_zero, sent}
 use Rattle.call_log.specs.Strings.{ProgramStrings, program_strings}
 use Rattle.mmap_rules.specs.Space.{Space}
@@ -31,7 +31,8 @@ use Rattle.machine_world.specs.Asks.{Ask, Reply, Row, replies, waits, arg, gives
 use Rattle.machine_world.specs.PathCalls.{path_of}
 use Rattle.machine_world.specs.FamilyCalls.{who_of, waitid_fault, child_info, no_info, info_at, vfork_flags, runs}
 use Rattle.machine_world.specs.Rows.{row}
-use Rattle.machine_world.specs.Event.{Outcome, went, strays, full, idle, number_of, args_of, replied, ask_of, trapped, served, waited, answered, is_exit, exited, forked, cloned, executed, exec_at, exec_program, exec_strings, exec, told_in, waitid, classed}
+use Rattle.machine_world.specs.Recordings.{room_in}
+use Rattle.machine_world.specs.Event.{Outcome, went, strays, full, idle, number_of, args_of, replied, ask_of, trapped, room_for, served, waited, answered, is_exit, exited, forked, cloned, executed, exec_at, exec_program, exec_strings, exec, told_in, waitid, classed}
 use Rattle.machine_world.proofs.States.{find_has}
 use Rattle.machine_world.proofs.Awake.{may_run_awake}
 use Rattle.machine_world.proofs.Chains.{find_exec_own}
@@ -96,7 +97,7 @@ module _ (w : World) (a : Ask) (lives : find pid_of a.process.pid w.procs ≡ So
   still_served : (r : Reply) (m : Bytes) → StillOf a.process.pid (served w a r m)
   unfolding served
   still_served r m =
-      of_test a.process.pid (has_room w.notes (weight_of a.sent r.got)) (went _ _) full
+      of_test a.process.pid (room_for w a r) (went _ _) full
       (λ room more. still_moved w.procs a.process (replied a.process.regs r.value) lives ready) (λ none. tt)
 
   still_waited : (state : State) → StillOf a.process.pid (waited w a.process state)
@@ -108,11 +109,11 @@ module _ (w : World) (a : Ask) (lives : find pid_of a.process.pid w.procs ≡ So
 
   still_exited : StillOf a.process.pid (exited w a)
   unfolding exited
-  still_exited = of_test a.process.pid (has_room w.notes (weight_of a.sent [])) (went _ _) full (λ room over. absurd cc) (λ none. tt)
+  still_exited = of_test a.process.pid (room_in w (weight_of a.sent [])) (went _ _) full (λ room over. absurd cc) (λ none. tt)
 
   still_forked : StillOf a.process.pid (forked w a)
   unfolding forked
-  still_forked = of_test a.process.pid (has_room w.notes (weight_of a.sent [])) (went _ _) full (λ room over. absurd cc) (λ none. tt)
+  still_forked = of_test a.process.pid (room_in w (weight_of a.sent [])) (went _ _) full (λ room over. absurd cc) (λ none. tt)
 
   still_cloned : StillOf a.process.pid (cloned w a)
   unfolding cloned
@@ -124,7 +125,7 @@ module _ (w : World) (a : Ask) (lives : find pid_of a.process.pid w.procs ≡ So
   still_executed : (index : ℕ) (l : Loading) → StillOf a.process.pid (executed w a index l)
   unfolding executed resumed
   still_executed index l =
-      of_test a.process.pid (has_room w.notes (weight_of a.sent [])) (went _ _) full
+      of_test a.process.pid (room_in w (weight_of a.sent [])) (went _ _) full
       (λ room more. ap (option_map (λ q. q.state)) (find_exec_own w a.process l lives) ∙ ap (λ s. Some (resumed a.process.pid s)) ready) (λ none. tt)
 
   still_strings : (s : Option ProgramStrings) → StillOf a.process.pid (exec_strings w a s)

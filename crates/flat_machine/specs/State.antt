@@ -50,6 +50,7 @@ rest_of pages kind paths programs tree stdin = record {
   tree = tree;
   files = nothing_open stdin;
   console = [];
+  keep = 0;
 }
 
 abbrev pub line_of : StartItem → StartLine

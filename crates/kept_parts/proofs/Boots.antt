@@ -19,6 +19,7 @@ use Rattle.flat_loader.specs.declared.loading.Loaded.{Loaded}
 use Rattle.flat_loader.specs.declared.loading.LoadRefusal.{LoadRefusal}
 use Rattle.flat_loader.specs.declared.loading.LoadRefusal.TheVariants.{E2big, NoRun, Memory}
 use Rattle.machine_world.specs.World.{World}
+use Rattle.machine_world.specs.Recordings.{nothing_recorded}
 use Rattle.machine_world.specs.Boot.{StartLine, BootFault, args_too_big, begun, Found, placed, fitting}
 use Rattle.kept_parts.specs.declared.start.StartRefusal.{StartRefusal}
 use Rattle.kept_parts.specs.declared.start.StartRefusal.TheVariants as refusal
@@ -68,9 +69,11 @@ module _ (k : Kept) (regular : Regular k) (f : Values) (args : List (List ℕ)) 
       tree = k.tree;
       files = with_table k.files;
       console = k.console;
+      keep = 0;
     };
     notes = load_note (record { pid = k.procs.next_pid; program = index; base = page_address page; pages = block_pages (flat_original f) }) ∷ k.notes;
     events = a.events;
+    recording = nothing_recorded 0;
   }
 
 -- ---- which run is taken

@@ -25,7 +25,7 @@ use Rattle.file_calls.specs.declared.call.Call.{Call}
 use Rattle.machine_world.specs.World.{World, id_of}
 use Rattle.machine_world.specs.Families.{borrows, spaces_left}
 use Rattle.machine_world.specs.Asks.{Ask, answers, refuses}
-use Rattle.machine_world.specs.Event.{Trace, Outcome, went, strays, full, idle, counted, noted, entry_of, plain_item, answered, with_exec, load_of, exec_fitting, exec}
+use Rattle.machine_world.specs.Event.{Trace, Outcome, went, strays, full, idle, counted_in, noted, entry_of, plain_item, answered, with_exec, load_of, exec_fitting, exec}
 use Rattle.physical_turns.specs.Physical.{Physical, After, after, or_below, bytes_in, is_free_at, laid_behind, carried, showing}
 use Rattle.physical_turns.proofs.InMemory.{answered_begins}
 use Rattle.kept_parts.specs.declared.task.Task.{Task}
@@ -45,7 +45,7 @@ use Rattle.kept_parts.proofs.MapMemory.{behind_is, changed_goes}
 use Rattle.kept_parts.proofs.Loaded.{Placed, placed_by}
 use Rattle.kept_parts.proofs.BlockBytes.{block_bytes, outside_block, header_beside}
 use Rattle.kept_parts.proofs.Families.{own_pid}
-use Rattle.kept_parts.proofs.Execs.{too_big, no_run, exec_is_at, executed_when, running, old_home, lives_behind, world_behind, room_in}
+use Rattle.kept_parts.proofs.Execs.{too_big, no_run, exec_is_at, executed_when, running, old_home, lives_behind, world_behind, room_there}
 use Rattle.kept_parts.proofs.ExecCalls.{got_map}
 use Rattle.kept_parts.proofs.ExecSteps.{Begun, running_is, task_is, RefusalServes}
 
@@ -62,7 +62,7 @@ module _ (headers : List (List ℕ)) (a : About) (k : Kept) (regular : Regular k
   ask = ask_in a k e h call
 
   abbrev world : World
-  world = noted (load_of (process_of e) index loading) (noted (call_note (entry_of ask 0 [])) (counted (with_exec (world_of a k) (process_of e) loading)))
+  world = noted (load_of (process_of e) index loading) (noted (call_note (entry_of ask 0 [])) (counted_in e.value.space (with_exec (world_of a k) (process_of e) loading)))
 
   abbrev trace : Trace
   trace = record {
@@ -110,7 +110,7 @@ module _ (headers : List (List ℕ)) (a : About) (k : Kept) (regular : Regular k
       ≡ after (physical_of headers (later 1 a) (space_left (running k call e.value f args env page index mem) lent e.value.space h)) false
   exec_carried kind same fits lent fit placed room lends =
       let goes = exec_is_at a k regular kind same ask (record { index = index; original = flat_original f }) (record { args = args; env = env }) fits (Some page) fit placed
-      ∙ executed_when (world_of a k) ask index loading (room_in k regular e h call runs f args env page index mem a is loaded room) in
+      ∙ executed_when (world_of a k) ask index loading (room_there k regular e h call runs f args env page index mem a is loaded room) in
       let stands = world_behind k regular e h call runs f args env page index mem a is loaded lent lends in
       ap (carried (physical_of headers a k) (physical k.mem)) goes
       ∙ ap (λ (p : Physical). after p false)

@@ -21,7 +21,8 @@ use Rattle.machine_world.specs.World.{LiveSpace, World, id_of}
 use Rattle.machine_world.specs.Families.{borrows, spaces_left}
 use Rattle.machine_world.specs.Found.{Found}
 use Rattle.machine_world.specs.Asks.{Ask, refuses}
-use Rattle.machine_world.specs.Event.{Outcome, went, counted, noted, number_of, args_of, entry_of, plain_item, answered, with_exec, load_of, executed, exec_at, exec_fitting}
+use Rattle.machine_world.specs.Recordings.{room_in}
+use Rattle.machine_world.specs.Event.{Outcome, went, counted_in, noted, number_of, args_of, entry_of, plain_item, answered, with_exec, load_of, executed, exec_at, exec_fitting}
 use Rattle.kept_parts.specs.declared.task.Task.{Task}
 use Rattle.kept_parts.specs.declared.served.Served.TheVariants.{Replied}
 use Rattle.kept_parts.specs.Kept.{Kept}
@@ -50,9 +51,9 @@ module _ (a : About) (k : Kept) (regular : Regular k) (kind : Kind) (same : a.ki
     pub no_run : fits ≡ true → block_page kind k.regions (block_pages f.original) ≡ None → exec_fitting (world_of a k) ask f s fits ≡ answered (world_of a k) ask (refuses ask Enomem)
     no_run fit none = exec_is_at None fit none
 
-pub executed_when : (w : World) (ask : Ask) (index : ℕ) (l : Loading) → has_room w.notes (weight_of ask.sent []) ≡ true →
+pub executed_when : (w : World) (ask : Ask) (index : ℕ) (l : Loading) → room_in w (weight_of ask.sent []) ≡ true →
     executed w ask index l
-    ≡ went (noted (load_of ask.process index l) (noted (call_note (entry_of ask 0 [])) (counted (with_exec w ask.process l))))
+    ≡ went (noted (load_of ask.process index l) (noted (call_note (entry_of ask 0 [])) (counted_in ask.process.space (with_exec w ask.process l))))
     (record {
       space = ask.process.space;
       events = 1;
@@ -108,7 +109,7 @@ module _ (k : Kept) (regular : Regular k) (e : Entry Task) (h : Held) (call : Ca
     ask = ask_in a k e h call
 
     abbrev then_world : List LiveSpace → World
-    then_world spaces = record (noted (load_of (process_of e) index loading) (noted (call_note (entry_of ask 0 [])) (counted (with_exec (world_of a k) (process_of e) loading)))) { spaces = spaces }
+    then_world spaces = record (noted (load_of (process_of e) index loading) (noted (call_note (entry_of ask 0 [])) (counted_in e.value.space (with_exec (world_of a k) (process_of e) loading)))) { spaces = spaces }
 
     notes_are : notes_behind k call f page index ≡ load_of (process_of e) index loading ∷ call_note (entry_of ask 0 []) ∷ k.notes
     notes_are =
@@ -141,19 +142,19 @@ module _ (k : Kept) (regular : Regular k) (e : Entry Task) (h : Held) (call : Ca
 
     lent_world : (lent : Bool) → borrows (process_of e) (map process_of k.procs.entries) ≡ lent →
         then_world (begun ∷ (if lent then live_spaces k.mem k.spaces else without id_of e.value.space (live_spaces k.mem k.spaces)))
-        ≡ noted (load_of (process_of e) index loading) (noted (call_note (entry_of ask 0 [])) (counted (with_exec (world_of a k) (process_of e) loading)))
+        ≡ noted (load_of (process_of e) index loading) (noted (call_note (entry_of ask 0 [])) (counted_in e.value.space (with_exec (world_of a k) (process_of e) loading)))
     unfolding world_of spaces_left
     lent_world lent lends =
         ap (λ (b : Bool). then_world (begun ∷ (if b then live_spaces k.mem k.spaces else without id_of e.value.space (live_spaces k.mem k.spaces)))) (sym lends)
 
     pub world_behind : (lent : Bool) → entry_borrows k.procs e.pid ≡ lent → world_of (later 1 a) (space_left (running k call e.value f args env page index mem) lent e.value.space h)
         ≡ noted (load_of (process_of e) index (page_loading f page args env))
-        (noted (call_note (entry_of (ask_in a k e h call) 0 [])) (counted (with_exec (world_of a k) (process_of e) (page_loading f page args env))))
+        (noted (call_note (entry_of (ask_in a k e h call) 0 [])) (counted_in e.value.space (with_exec (world_of a k) (process_of e) (page_loading f page args env))))
     world_behind lent lends = left_world lent ∙ lent_world lent (borrows_is k.procs e ∙ lends)
 
-    pub room_in : has_room k.notes (length call.sent.items) ≡ true → has_room (world_of a k).notes (weight_of call.sent.items []) ≡ true
+    pub room_there : has_room k.notes (length call.sent.items) ≡ true → room_in (world_of a k) (weight_of call.sent.items []) ≡ true
     unfolding world_of
-    room_in room = ap (has_room k.notes) (add-zero (length call.sent.items)) ∙ room
+    room_there room = ap (has_room k.notes) (add-zero (length call.sent.items)) ∙ room
 
     pub exec_serves : (kind : Kind) → a.kind ≡ kind → (fits lent : Bool) → fits ≡ true → block_page kind k.regions (block_pages (flat_original f)) ≡ Some page →
         has_room k.notes (length call.sent.items) ≡ true → entry_borrows k.procs e.pid ≡ lent →
@@ -162,5 +163,5 @@ module _ (k : Kept) (regular : Regular k) (e : Entry Task) (h : Held) (call : Ca
     exec_serves kind same fits lent fit placed room lends =
         let new : Kept = space_left now lent e.value.space h in
         let goes = exec_is_at a k regular kind same ask (record { index = index; original = flat_original f }) (record { args = args; env = env }) fits (Some page) fit placed
-        ∙ executed_when (world_of a k) ask index loading (room_in room) in
+        ∙ executed_when (world_of a k) ask index loading (room_there room) in
         subst (λ (o : Outcome). Answered a o k new call.pid Replied) (sym goes) (sym (world_behind lent lends), (refl, refl, lives_behind lent))

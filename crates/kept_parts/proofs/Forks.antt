@@ -26,7 +26,8 @@ use Rattle.flat_loader.specs.Alone.{child_regs}
 use Rattle.machine_world.specs.Asks.{Ask, replies, arg, refuses}
 use Rattle.machine_world.specs.FamilyCalls.{vfork_flags}
 use Rattle.machine_world.specs.Event as event
-use Rattle.machine_world.specs.Event.{Outcome, went, full, replied, args_of, counted, noted, entry_of, plain_item, answered, cloned, forked}
+use Rattle.machine_world.specs.Recordings.{room_in}
+use Rattle.machine_world.specs.Event.{Outcome, went, full, replied, args_of, counted_in, noted, entry_of, plain_item, answered, cloned, forked}
 use Rattle.machine_world.proofs.Chains.{chains_forked}
 use Rattle.file_calls.specs.declared.call.Call.{Call}
 use Rattle.kept_parts.specs.declared.task.Task.{Task}
@@ -252,13 +253,13 @@ module _ (w : World) (a : Ask) where
   unfolding cloned
   clone_forks flags few = rw (flags, few) refl
 
-  fork_when : has_room w.notes (weight_of a.sent []) ≡ true → event.forked w a
-      ≡ went (noted (call_note (entry_of a w.next_pid [])) (counted (event.with_child w a)))
+  fork_when : room_in w (weight_of a.sent []) ≡ true → event.forked w a
+      ≡ went (noted (call_note (entry_of a w.next_pid [])) (counted_in a.process.space (event.with_child w a)))
       (record { space = a.process.space; events = 1; items = plain_item (entry_of a w.next_pid []) ∷ []; begins = None; over = true })
   unfolding forked
   fork_when room = rw room refl
 
-  fork_full : has_room w.notes (weight_of a.sent []) ≡ false → event.forked w a ≡ full
+  fork_full : room_in w (weight_of a.sent []) ≡ false → event.forked w a ≡ full
   unfolding forked
   fork_full room = rw room refl
 
@@ -298,20 +299,20 @@ module _ (a : About) (k : Kept) (e : Entry Task) (h : Held) (call : Call) (is : 
       forks : event.cloned (world_of a k) ask ≡ event.forked (world_of a k) ask
       forks = clone_forks (world_of a k) ask are_flags (full_is false few)
 
-      room_in : (b : Bool) → has_room k.notes (length call.sent.items) ≡ b → has_room (world_of a k).notes (weight_of call.sent.items []) ≡ b
+      room_there : (b : Bool) → has_room k.notes (length call.sent.items) ≡ b → room_in (world_of a k) (weight_of call.sent.items []) ≡ b
       unfolding world_of
-      room_in b room = ap (has_room k.notes) (add-zero (length call.sent.items)) ∙ room
+      room_there b room = ap (has_room k.notes) (add-zero (length call.sent.items)) ∙ room
 
       by_outcome : (new : Kept) (s : Served) (o : Outcome) → event.forked (world_of a k) ask ≡ o → Answered a o k new call.pid s → Answered a (event.cloned (world_of a k) ask) k new call.pid s
       by_outcome new s o same = subst (λ (x : Outcome). Answered a x k new call.pid s) (sym (forks ∙ same))
 
       pub fork_has_no_room : has_room k.notes (length call.sent.items) ≡ false → Answered a (event.cloned (world_of a k) ask) k k call.pid LogFull
-      fork_has_no_room room = by_outcome k LogFull full (fork_full (world_of a k) ask (room_in false room)) refl
+      fork_has_no_room room = by_outcome k LogFull full (fork_full (world_of a k) ask (room_there false room)) refl
 
       module _ (regular : Regular k) (lives : process k.procs call.pid ≡ Some e) where
-        forked_world : world_of (later 1 a) (after_fork k e call) ≡ noted (call_note (entry_of ask (world_of a k).next_pid [])) (counted (event.with_child (world_of a k) ask))
+        forked_world : world_of (later 1 a) (after_fork k e call) ≡ noted (call_note (entry_of ask (world_of a k).next_pid [])) (counted_in e.value.space (event.with_child (world_of a k) ask))
         unfolding world_of
-        forked_world = λ i. record (counted (event.with_child (world_of a k) ask)) {
+        forked_world = λ i. record (counted_in e.value.space (event.with_child (world_of a k) ask)) {
           procs = procs_forked k e call regular lives a h (args_of e.value.regs) is.args i;
           notes = call_note (record { pid = is.pid i; call = is.number i; args = is.args i; sent = call.sent.items; reply = k.procs.next_pid; got = [] }) ∷ k.notes;
         }
@@ -330,4 +331,4 @@ module _ (a : About) (k : Kept) (e : Entry Task) (h : Held) (call : Call) (is : 
         pub fork_serves : has_room k.notes (length call.sent.items) ≡ true → (new : Kept) → new ≡ after_fork k e call → Answered a (event.cloned (world_of a k) ask) k new call.pid TurnEnds
         fork_serves room new same =
             subst (λ (x : Kept). Answered a (event.cloned (world_of a k) ask) k x call.pid TurnEnds) (sym same)
-            (by_outcome (after_fork k e call) TurnEnds _ (fork_when (world_of a k) ask (room_in true room)) (sym forked_world, (refl, refl, parent_stays)))
+            (by_outcome (after_fork k e call) TurnEnds _ (fork_when (world_of a k) ask (room_there true room)) (sym forked_world, (refl, refl, parent_stays)))

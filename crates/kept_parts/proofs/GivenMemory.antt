@@ -18,7 +18,7 @@ use Rattle.vfork_exec.specs.declared.entry.Entry.{Entry}
 use Rattle.vfork_exec.specs.Procs.{Lives}
 use Rattle.machine_world.specs.World.{LiveSpace, World}
 use Rattle.machine_world.specs.Asks.{Ask, Reply, replies}
-use Rattle.machine_world.specs.Event.{Trace, Outcome, went, full, counted, noted, with_space, entry_of, item_of, replied, put_got, served, answered, trapped, at_process}
+use Rattle.machine_world.specs.Event.{Trace, Outcome, went, full, with_space, entry_of, item_of, replied, put_got, replied_world, served, answered, trapped, at_process}
 use Rattle.file_calls.specs.declared.call.Call.{Call}
 use Rattle.file_calls.specs.declared.outcome.Outcome.{Outcome as Output}
 use Rattle.file_calls.specs.Calls.{after as after_files, written_of}
@@ -117,7 +117,7 @@ module _ (headers : List (List ℕ)) (a : About) (k : Kept) (e : Entry Task) (h 
   trace = record { space = e.value.space; events = 1; items = item_of (entry_of ask o.value (written_of o)) (private_bytes k.mem h) ∷ []; begins = None; over = false }
 
   abbrev now : World
-  now = noted (call_note (entry_of ask o.value (written_of o))) (counted (with_space (record (world_of a k) { rest = gives.rest }) (process_of e) (replied e.value.regs o.value) (private_of k.mem h)))
+  now = replied_world (record (world_of a k) { rest = gives.rest }) ask gives (private_bytes k.mem h)
 
   served_is : has_room k.notes (weight_of call.sent.items (written_of o)) ≡ true → served (world_of a k) ask gives (private_bytes k.mem h) ≡ went now trace
   unfolding served world_of

@@ -8,7 +8,7 @@ use Rattle.std.proofs.lemmas.List.{length-replicate, length-set}
 use Rattle.byte_words.specs.ByteMap.{Bytes, with_bytes}
 use Rattle.byte_words.specs.Patches.{laid}
 use Rattle.byte_words.proofs.ByteArrays.{byte_of-laid}
-use Rattle.call_log.specs.Notes.{Note, call_note, weight_of, has_room}
+use Rattle.call_log.specs.Notes.{Note, call_note, has_room}
 use Rattle.nommu_regions.specs.declared.region.Region.{Region}
 use Rattle.nommu_regions.specs.declared.region.Source.{Source}
 use Rattle.nommu_regions.specs.declared.region.Source.TheVariants.{Own, Copy}
@@ -42,7 +42,7 @@ use Rattle.machine_world.specs.World.{LiveSpace, World, id_of}
 use Rattle.machine_world.specs.Asks.{Ask, Reply, Row, leaves}
 use Rattle.machine_world.specs.MapCalls.{or_own, with_mapping, first_bytes, maps}
 use Rattle.machine_world.specs.MapCalls.{mapped as mapped_row}
-use Rattle.machine_world.specs.Event.{Trace, counted, noted, with_space, entry_of, item_of, replied, served, answered}
+use Rattle.machine_world.specs.Event.{Trace, with_space, entry_of, item_of, replied, replied_world, room_for, served, answered}
 use Rattle.physical_turns.specs.Physical.{Physical, After, after, or_below, shown_space, showing, bytes_in, is_free_at, laid_behind, behind, carried}
 use Rattle.kept_parts.specs.declared.task.Task.{Task}
 use Rattle.kept_parts.specs.Kept.{Kept}
@@ -87,10 +87,10 @@ behind_is headers a old new now t laid shown =
     ∙ ap (λ (w : World). record { world = w; memory = physical new.mem; headers = headers }) shown
 
 -- a call that the log has room for
-served_carried : (p : Physical) (m : Bytes) (w : World) (ask : Ask) (r : Reply) (bytes : Bytes) → has_room w.notes (weight_of ask.sent r.got) ≡ true →
+served_carried : (p : Physical) (m : Bytes) (w : World) (ask : Ask) (r : Reply) (bytes : Bytes) → room_for w ask r ≡ true →
     carried p m (served w ask r bytes)
     ≡ after (behind p m
-    (noted (call_note (entry_of ask r.value r.got)) (counted (with_space (record w { rest = r.rest }) ask.process (replied ask.process.regs r.value) (record r.space { bytes = bytes }))))
+    (replied_world (record w { rest = r.rest }) ask r bytes)
     (record { space = ask.process.space; events = 1; items = item_of (entry_of ask r.value r.got) bytes ∷ []; begins = None; over = r.over })) r.over
 unfolding served
 served_carried p m w ask r bytes room = rw room refl
@@ -127,8 +127,11 @@ module _ (headers : List (List ℕ)) (a : About) (k : Kept) (regular : Regular k
       events = a.events + 1;
     }
 
+    abbrev reply : Reply
+    reply = record { value = value; got = []; rest = ask.rest; space = space; over = false }
+
     abbrev went_world : World
-    went_world = noted (call_note (entry_of ask value [])) (counted (with_space (world_of a k) (process_of e) regs space))
+    went_world = replied_world (world_of a k) ask reply space.bytes
 
     abbrev then_kept : Kept
     then_kept = record (with_task k call.pid e held mem regs) { regions = rs; notes = noted_call call value [] ∷ k.notes }
@@ -161,9 +164,9 @@ module _ (headers : List (List ℕ)) (a : About) (k : Kept) (regular : Regular k
     unfolding laid_behind physical_of only
     laid_then t nothing = rw nothing (λ i at. byte_then at (is_free_at (world_of a k) at) refl i)
 
-    room_in : has_room (world_of a k).notes (weight_of call.sent.items []) ≡ true
+    room_there : room_for (world_of a k) ask reply ≡ true
     unfolding world_of
-    room_in = ap (has_room k.notes) (let n = length call.sent.items in let e : n + 0 ≡ n = omega arith in e) ∙ room
+    room_there = ap (has_room k.notes) (let n = length call.sent.items in let e : n + 0 ≡ n = omega arith in e) ∙ room
 
     kept_is : spaces ≡ slice_set k.spaces e.value.space (Some held) → then_kept ≡ record k { mem = mem; regions = rs; spaces = spaces; procs = procs; notes = notes }
     kept_is moves = λ i. record k {
@@ -178,10 +181,9 @@ module _ (headers : List (List ℕ)) (a : About) (k : Kept) (regular : Regular k
         carried (physical_of headers a k) (physical k.mem) (answered (world_of a k) (ask_in a k e h call) r)
         ≡ after (physical_of headers (later 1 a) (record k { mem = mem; regions = rs; spaces = spaces; procs = procs; notes = notes })) false
     moved_in r rows moves =
-        let reply : Reply = record { value = value; got = []; rest = ask.rest; space = space; over = false } in
         let t : Trace = record { space = e.value.space; events = 1; items = item_of (entry_of ask value []) space.bytes ∷ []; begins = None; over = false } in
         ap (λ (x : Row). carried (physical_of headers a k) (physical k.mem) (answered (world_of a k) ask x)) rows
-        ∙ served_carried (physical_of headers a k) (physical k.mem) (world_of a k) ask reply space.bytes room_in
+        ∙ served_carried (physical_of headers a k) (physical k.mem) (world_of a k) ask reply space.bytes room_there
         ∙ ap (λ (p : Physical). after p false) (behind_is headers a k then_kept went_world t (laid_then t refl) shown_then)
         ∙ ap (λ (n : Kept). after (physical_of headers (later 1 a) n) false) (kept_is moves)
 

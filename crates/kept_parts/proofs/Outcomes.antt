@@ -22,7 +22,8 @@ use Rattle.vfork_exec.specs.Procs.{Lives, value_at}
 use Rattle.machine_world.specs.World.{Process, LiveSpace, World, pid_of, id_of}
 use Rattle.machine_world.specs.Asks.{Ask, Reply, Row, replies, waits}
 use Rattle.machine_world.specs.Rows.{row}
-use Rattle.machine_world.specs.Event.{Trace, Outcome, went, strays, full, with_space, counted, noted, departed, ended, number_of, args_of, entry_of, item_of, call_access, replied, served, put, put_got, waited, answered, exit_code, exited, is_exit, waitid, cloned, exec, classed, answer, asked, trapped, called, settled, at_process, by_process, in_space}
+use Rattle.machine_world.specs.Recordings.{room_in}
+use Rattle.machine_world.specs.Event.{Trace, Outcome, went, strays, full, with_space, counted_in, noted, departed, ended, number_of, args_of, entry_of, item_of, call_access, replied, replied_world, room_for, served, put, put_got, waited, answered, exit_code, exited, is_exit, waitid, cloned, exec, classed, answer, asked, trapped, called, settled, at_process, by_process, in_space}
 use Rattle.kept_parts.specs.declared.task.Task.{Task}
 use Rattle.file_calls.specs.declared.call.Call.{Call}
 use Rattle.file_calls.specs.declared.outcome.Outcome.{Outcome as Output}
@@ -142,31 +143,36 @@ module _ (a : Ask) (pipe : ℕ) (is : WaitsOn (row a) (Some pipe)) where
 
 -- ---- room in the log
 
-served_when : (w : World) (a : Ask) (r : Reply) (bytes : Bytes) → has_room w.notes (weight_of a.sent r.got) ≡ true →
+served_when : (w : World) (a : Ask) (r : Reply) (bytes : Bytes) → room_for w a r ≡ true →
     served w a r bytes
-    ≡ went (noted (call_note (entry_of a r.value r.got)) (counted (with_space (record w { rest = r.rest }) a.process (replied a.process.regs r.value) (record r.space { bytes = bytes }))))
+    ≡ went (replied_world (record w { rest = r.rest }) a r bytes)
     (record { space = a.process.space; events = 1; items = item_of (entry_of a r.value r.got) bytes ∷ []; begins = None; over = r.over })
 unfolding served
 served_when w a r bytes room = rw room refl
 
-served_full : (w : World) (a : Ask) (r : Reply) (bytes : Bytes) → has_room w.notes (weight_of a.sent r.got) ≡ false → served w a r bytes ≡ full
+served_full : (w : World) (a : Ask) (r : Reply) (bytes : Bytes) → room_for w a r ≡ false → served w a r bytes ≡ full
 unfolding served
 served_full w a r bytes room = rw room refl
 
-exited_when : (w : World) (a : Ask) → has_room w.notes (weight_of a.sent []) ≡ true →
+exited_when : (w : World) (a : Ask) → room_in w (weight_of a.sent []) ≡ true →
     exited w a
-    ≡ went (ended (noted (call_note (entry_of a 0 [])) (counted w)) a.process (Exit (exit_code a)))
+    ≡ went (ended (noted (call_note (entry_of a 0 [])) (counted_in a.process.space w)) a.process (Exit (exit_code a)))
     (record { space = a.process.space; events = 1; items = record { entry = entry_of a 0 []; brought = [] } ∷ []; begins = None; over = true })
 unfolding exited
 exited_when w a room = rw room refl
 
-exited_full : (w : World) (a : Ask) → has_room w.notes (weight_of a.sent []) ≡ false → exited w a ≡ full
+exited_full : (w : World) (a : Ask) → room_in w (weight_of a.sent []) ≡ false → exited w a ≡ full
 unfolding exited
 exited_full w a room = rw room refl
 
-room_in : (a : About) (k : Kept) (bytes : List ℕ) (got : List Written) (b : Bool) → has_room k.notes (weight_of bytes got) ≡ b → has_room (world_of a k).notes (weight_of bytes got) ≡ b
+room_there : (a : About) (k : Kept) (bytes : List ℕ) (b : Bool) → has_room k.notes (weight_of bytes []) ≡ b → room_in (world_of a k) (weight_of bytes []) ≡ b
 unfolding world_of
-room_in a k bytes got b room = room
+room_there a k bytes b room = room
+
+-- nothing is recorded of what a reply brings
+reply_room : (a : About) (k : Kept) (e : Entry Task) (h : Held) (call : Call) (r : Reply) (b : Bool) → has_room k.notes (weight_of call.sent.items r.got) ≡ b → room_for (world_of a k) (ask_in a k e h call) r ≡ b
+unfolding world_of
+reply_room a k e h call r b room = room
 
 -- ---- what the parts are after it
 
@@ -231,7 +237,7 @@ module _ (a : About) (k : Kept) (e : Entry Task) (h : Held) (call : Call) (runs 
       abbrev then_kept : Kept
       then_kept = record (after_reply k e h call reply mem) { regions = rs; starts = starts }
 
-      after_world : OthersSame k e.value.space mem → world_of (later 1 a) then_kept ≡ noted (call_note (entry_of ask value got)) (counted (then_state then_space))
+      after_world : OthersSame k e.value.space mem → world_of (later 1 a) then_kept ≡ replied_world (record (world_of a k) { rest = reply.rest }) ask reply then_space.bytes
       unfolding world_of
       after_world others =
           moved_world k call.pid e h runs (replied e.value.regs value) (held_as h space) mem others rs pages starts a 1 (noted_call call value got ∷ k.notes) tree files console
@@ -242,15 +248,15 @@ module _ (a : About) (k : Kept) (e : Entry Task) (h : Held) (call : Call) (runs 
           Answered a (answered (world_of a k) ask (replies reply)) k then_kept call.pid s
       reply_serves others room s goes =
           let t : Trace = record { space = e.value.space; events = 1; items = item_of (entry_of ask value got) then_space.bytes ∷ []; begins = None; over = over } in
-          it_went a (answered (world_of a k) ask (replies reply)) (noted (call_note (entry_of ask value got)) (counted (then_state then_space))) t k then_kept call.pid s
-          (answered_is (Ok then_space.bytes) puts ∙ served_when (world_of a k) ask reply then_space.bytes (room_in a k call.sent.items got true room))
+          it_went a (answered (world_of a k) ask (replies reply)) (replied_world (record (world_of a k) { rest = reply.rest }) ask reply then_space.bytes) t k then_kept call.pid s
+          (answered_is (Ok then_space.bytes) puts ∙ served_when (world_of a k) ask reply then_space.bytes (reply_room a k e h call reply true room))
           (after_world others)
           (goes t then_kept refl refl (moved_lives k call.pid e h runs (replied e.value.regs value) h k.mem))
 
     pub reply_full : (bytes : Bytes) → put_got space.bytes (writable_in space.maps) got ≡ Ok bytes → has_room k.notes (weight_of call.sent.items got) ≡ false →
         Answered a (answered (world_of a k) ask (replies reply)) k k call.pid LogFull
     reply_full bytes puts room = subst (λ (o : Outcome). Answered a o k k call.pid LogFull)
-        (sym (answered_is (Ok bytes) puts ∙ served_full (world_of a k) ask reply bytes (room_in a k call.sent.items got false room))) refl
+        (sym (answered_is (Ok bytes) puts ∙ served_full (world_of a k) ask reply bytes (reply_room a k e h call reply false room))) refl
 
     pub reply_strays : (span : Span) → put_got space.bytes (writable_in space.maps) got ≡ Err span →
         Answered a (answered (world_of a k) ask (replies reply)) k k call.pid (Stray (access_at e.value.regs.pc span))
@@ -319,7 +325,7 @@ module _ (a : About) (k : Kept) (e : Entry Task) (h : Held) (call : Call) (runs 
           is_full : (r : Reply) → r.got ≡ [] → answered (world_of a k) ask (replies r) ≡ full
           is_full r got =
               ap (λ (gots : List Written). put (world_of a k) ask r (put_got r.space.bytes (writable_in r.space.maps) gots)) got
-              ∙ served_full (world_of a k) ask r r.space.bytes (ap (λ (gots : List Written). has_room (world_of a k).notes (weight_of call.sent.items gots)) got ∙ room_in a k call.sent.items [] false (weighs call.sent.items false room))
+              ∙ served_full (world_of a k) ask r r.space.bytes (reply_room a k e h call r false (ap (λ (gots : List Written). has_room k.notes (weight_of call.sent.items gots)) got ∙ weighs call.sent.items false room))
       by_row (waits who) quiet = absurd quiet
 
   -- ---- by an output
@@ -377,7 +383,7 @@ module _ (a : About) (k : Kept) (e : Entry Task) (h : Held) (call : Call) (runs 
   exit_how_is = ap (λ (xs : List ℕ). Exit (slice_index xs 0 % 256)) is.args
 
   after_exit_world : world_of (later 1 a) (after_exit k e h call)
-      ≡ ended (noted (call_note (entry_of (ask_in a k e h call) 0 [])) (counted (world_of a k))) (process_of e) (Exit (exit_code (ask_in a k e h call)))
+      ≡ ended (noted (call_note (entry_of (ask_in a k e h call) 0 [])) (counted_in e.value.space (world_of a k))) (process_of e) (Exit (exit_code (ask_in a k e h call)))
   unfolding world_of ended
   after_exit_world =
       gone_world k call.pid e h runs exit_how a 1 (end_note call.pid exit_how ∷ noted_call call 0 [] ∷ k.notes)
@@ -390,12 +396,12 @@ module _ (a : About) (k : Kept) (e : Entry Task) (h : Held) (call : Call) (runs 
       it_went a (exited (world_of a k) (ask_in a k e h call)) _
       (record { space = e.value.space; events = 1; items = record { entry = entry_of (ask_in a k e h call) 0 []; brought = [] } ∷ []; begins = None; over = true })
       k (after_exit k e h call) call.pid Ended
-      (exited_when (world_of a k) (ask_in a k e h call) (room_in a k call.sent.items [] true (weighs call.sent.items true room)))
+      (exited_when (world_of a k) (ask_in a k e h call) (room_there a k call.sent.items true (weighs call.sent.items true room)))
       after_exit_world
       (refl, refl, gone_dead k call.pid e h runs exit_how)
 
   pub exit_full : has_room k.notes (length call.sent.items) ≡ false → Answered a (exited (world_of a k) (ask_in a k e h call)) k k call.pid LogFull
-  exit_full room = subst (λ (o : Outcome). Answered a o k k call.pid LogFull) (sym (exited_full (world_of a k) (ask_in a k e h call) (room_in a k call.sent.items [] false (weighs call.sent.items false room)))) refl
+  exit_full room = subst (λ (o : Outcome). Answered a o k k call.pid LogFull) (sym (exited_full (world_of a k) (ask_in a k e h call) (room_there a k call.sent.items false (weighs call.sent.items false room)))) refl
 
   -- ---- either
 
@@ -464,13 +470,13 @@ module _ (a : About) (k : Kept) (pid : ℕ) (e : Entry Task) (h : Held) (runs : 
   abbrev after_end : Kept
   after_end = record (gone k e h (Signal signal)) { notes = end_note pid (Signal signal) ∷ k.notes }
 
-  after_end_world : world_of (later 1 a) after_end ≡ counted (ended (world_of a k) (process_of e) (Signal signal))
+  after_end_world : world_of (later 1 a) after_end ≡ counted_in e.value.space (ended (world_of a k) (process_of e) (Signal signal))
   unfolding world_of ended
   after_end_world =
       gone_world k pid e h runs (Signal signal) a 1 (end_note pid (Signal signal) ∷ k.notes)
       ∙ ap (λ (n : ℕ). record (departed (world_of a k) (process_of e) (Signal signal)) { notes = end_note n (Signal signal) ∷ k.notes; events = a.events + 1 }) (pid_found k.procs pid e runs.lives)
 
-  trapped_is : trapped (world_of a k) (process_of e) signal ≡ went (counted (ended (world_of a k) (process_of e) (Signal signal))) (record { space = e.value.space; events = 1; items = []; begins = None; over = true })
+  trapped_is : trapped (world_of a k) (process_of e) signal ≡ went (counted_in e.value.space (ended (world_of a k) (process_of e) (Signal signal))) (record { space = e.value.space; events = 1; items = []; begins = None; over = true })
   unfolding trapped
   trapped_is = refl
 

@@ -3,7 +3,7 @@ use Rattle.std.proofs.Common.{◌≡◌, ℕ, Bool, true, false, List, [], map, 
 use Rattle.std.specs.Prelude.{if◌then◌else◌}
 use Rattle.std.specs.declared.alloc.AllocError.{AllocError}
 use Rattle.region_watch.specs.Private.{physical}
-use Rattle.call_log.specs.Notes.{Written, Note, has_room, weight_of}
+use Rattle.call_log.specs.Notes.{Written, Note, weight_of}
 use Rattle.byte_words.specs.ByteMap.{Bytes}
 use Rattle.flat_loader.specs.Alone.{put_got}
 use Rattle.mmap_rules.specs.Space.{writable_in}
@@ -15,7 +15,8 @@ use Rattle.vfork_exec.specs.Keyed.{find}
 use Rattle.vfork_exec.specs.declared.family.State.{State}
 use Rattle.machine_world.specs.World.{Process, LiveSpace, World, pid_of, id_of}
 use Rattle.machine_world.specs.Asks.{Ask, Reply, Row, replies, waits, refuses}
-use Rattle.machine_world.specs.Event.{Trace, Outcome, went, strays, full, idle, trapped, served, put, waited, answered, exited, forked, cloned, in_space, by_process, at_process}
+use Rattle.machine_world.specs.Recordings.{room_in}
+use Rattle.machine_world.specs.Event.{Trace, Outcome, went, strays, full, idle, trapped, room_for, served, put, waited, answered, exited, forked, cloned, in_space, by_process, at_process}
 use Rattle.machine_world.specs.Families.{is_full}
 use Rattle.physical_turns.specs.Physical as all
 use Rattle.physical_turns.specs.Physical.{Physical, After, after, no_room, nobody, shown_space, behind, in_memory, carried, settled_in, killed, put_in, answered_in, died_in}
@@ -48,7 +49,7 @@ never_if false x y first second = second
 
 served_never : (w : World) (a : Ask) (r : Reply) (bytes : Bytes) → NeverStrays (served w a r bytes)
 unfolding served
-served_never w a r bytes = never_if (has_room w.notes (weight_of a.sent r.got)) (went _ _) full tt tt
+served_never w a r bytes = never_if (room_for w a r) (went _ _) full tt tt
 
 pub waited_never : (w : World) (p : Process) (state : State) → NeverStrays (waited w p state)
 unfolding waited
@@ -62,11 +63,11 @@ answered_never w a (waits state) mute = waited_never w a.process state
 
 pub exited_never : (w : World) (a : Ask) → NeverStrays (exited w a)
 unfolding exited
-exited_never w a = never_if (has_room w.notes (weight_of a.sent [])) (went _ _) full tt tt
+exited_never w a = never_if (room_in w (weight_of a.sent [])) (went _ _) full tt tt
 
 forked_never : (w : World) (a : Ask) → NeverStrays (forked w a)
 unfolding forked
-forked_never w a = never_if (has_room w.notes (weight_of a.sent [])) (went _ _) full tt tt
+forked_never w a = never_if (room_in w (weight_of a.sent [])) (went _ _) full tt tt
 
 pub cloned_never : (w : World) (a : Ask) → NeverStrays (cloned w a)
 unfolding cloned

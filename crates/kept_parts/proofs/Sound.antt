@@ -42,7 +42,7 @@ plain_ask k call = record {
   process = record { pid = call.pid; parent = call.parent; regs = record { pc = 0; x = [] }; space = 0; table = call.table; state = Ready };
   space = record { maps = []; brk = 0; brk_low = 0; brk_high = 0; bytes = λ at. None };
   spaces = [];
-  rest = record { pages = 0; kind = First; programs = []; tree = k.tree; files = k.files; console = k.console };
+  rest = record { pages = 0; kind = First; programs = []; tree = k.tree; files = k.files; console = k.console; keep = 0 };
   number = call.number;
   args = call.args;
   sent = call.sent.items;

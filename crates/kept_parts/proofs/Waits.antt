@@ -8,7 +8,6 @@ use Rattle.byte_words.specs.ByteMap.{Bytes}
 use Rattle.rv32im_step.specs.declared.access.Access.{Access}
 use Rattle.call_log.specs.declared.errno.Errno.{Errno}
 use Rattle.call_log.specs.Errno.{refusal}
-use Rattle.call_log.specs.Notes.{weight_of, has_room}
 use Rattle.call_log.specs.Sent.{Span}
 use Rattle.mmap_rules.specs.Held.{Held}
 use Rattle.vfork_exec.specs.declared.family.Who.{Who}
@@ -28,7 +27,7 @@ use Rattle.machine_world.specs.World.{Process, World, pid_of}
 use Rattle.machine_world.specs.Families.{has_child, is_lent, AreChains}
 use Rattle.machine_world.specs.Asks.{Ask, Reply, replies, arg, gives, refuses}
 use Rattle.machine_world.specs.FamilyCalls.{who_of, may_wait, waitid_fault, child_info, info_at}
-use Rattle.machine_world.specs.Event.{Trace, Outcome, went, strays, full, replied, put_got, call_access, put, served, answered, waited, reaped, told_in, waitid_behind, waitid}
+use Rattle.machine_world.specs.Event.{Trace, Outcome, went, strays, full, replied, put_got, call_access, put, room_for, served, answered, waited, reaped, told_in, waitid_behind, waitid}
 use Rattle.machine_world.proofs.Chains.{chains_stopped}
 use Rattle.file_calls.specs.declared.call.Call.{Call}
 use Rattle.file_calls.specs.declared.outcome.Outcome.{Outcome as Output}
@@ -212,7 +211,7 @@ module _ (w : World) (a : Ask) (ended : List Ended) (r : Reply) where
     put_beside : (there : Result Bytes Span) → P (put w a r there) (put (record w { ended = ended }) a r there)
     unfolding served
     put_beside (Err span) = strayed (call_access a.process span)
-    put_beside (Ok bytes) = by_room (has_room w.notes (weight_of a.sent r.got)) _ _ (goes _ _ refl (refl, refl))
+    put_beside (Ok bytes) = by_room (room_for w a r) _ _ (goes _ _ refl (refl, refl))
       where
         by_room : (b : Bool) (x y : Outcome) → P x y → P (if b then x else full) (if b then y else full)
         by_room true x y both = both

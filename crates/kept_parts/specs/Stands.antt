@@ -7,6 +7,7 @@ use Rattle.mmap_rules.specs.Held.{Held}
 use Rattle.region_watch.specs.Private.{only, physical}
 use Rattle.vfork_exec.specs.declared.entry.Entry.{Entry}
 use Rattle.machine_world.specs.World.{Program, Process, LiveSpace, World}
+use Rattle.machine_world.specs.Recordings.{nothing_recorded}
 use Rattle.kept_parts.specs.declared.task.Task.{Task}
 use Rattle.kept_parts.specs.Kept.{Kept}
 
@@ -54,7 +55,8 @@ world_of a k = record {
   spaces = live_spaces k.mem k.spaces;
   loads = length k.spaces;
   next_pid = k.procs.next_pid;
-  rest = record { pages = length k.regions; kind = a.kind; programs = a.programs; tree = k.tree; files = k.files; console = k.console };
+  rest = record { pages = length k.regions; kind = a.kind; programs = a.programs; tree = k.tree; files = k.files; console = k.console; keep = 0 };
   notes = k.notes;
   events = a.events;
+  recording = nothing_recorded 0;
 }

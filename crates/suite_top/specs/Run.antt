@@ -42,6 +42,7 @@ opening kind m b = record {
   tree = b.tree;
   files = nothing_open b.stdin;
   console = [];
+  keep = 0;
 }
 
 -- why a start line is refused
