@@ -70,7 +70,7 @@ impl Notes {
     }
 
     /// What was noted first at each address. Notes at one address keep their order.
-    pub fn firsts(self, alloc: Global) -> Result<Firsts, AllocError>
+    pub fn firsts(self) -> Result<Firsts, AllocError>
         ensures { IfOk result (λ firsts. (q : ℕ) → noted firsts q ≡ noted self q) }
     {
         let Notes { mut notes, ascend } = self;

@@ -182,8 +182,8 @@ impl Pairs {
             noted.note_entry(elf, section, &target, entry)?;
         }
         Ok(Pairs {
-            high: noted.high.firsts(alloc)?,
-            low: noted.low.firsts(alloc)?,
+            high: noted.high.firsts()?,
+            low: noted.low.firsts()?,
             sums: noted.sums,
         })
     }
