@@ -55,33 +55,7 @@ pub(crate) struct BrokenFiles {
     names: Option<Names>,
 }
 
-/// An error at the open of a folder, or where others may open a new file, if that is the broken step.
-fn check_opened(broken: Step, how: &OpenOptions, file: &File) -> io::Result<()> {
-    if file.metadata()?.is_dir() {
-        try_step(broken, Step::Folder)?;
-    }
-    if how.asks_create_new() {
-        return check_private(broken, file);
-    }
-    Ok(())
-}
-
 impl BrokenFiles {
-    fn open_real(&self, how: &OpenOptions, path: &str) -> io::Result<File> {
-        match &self.names {
-            Some(names) => names.open(&self.real, how, path),
-            None => how.open(&self.real, path),
-        }
-    }
-
-    /// An error where two files have other access bits, if that is looked for.
-    fn check_bits(&self, from: &str, to: &str) -> io::Result<()> {
-        if self.broken == Step::Leak && bits_of(&self.real, from)? != bits_of(&self.real, to)? {
-            return refused();
-        }
-        Ok(())
-    }
-
     pub(crate) fn new(real: HostRuntime, broken: Step) -> BrokenFiles {
         BrokenFiles {
             real,
@@ -144,16 +118,6 @@ fn try_step(broken: Step, step: Step) -> io::Result<()> {
         return refused();
     }
     Ok(())
-}
-
-/// An error, if the flush of a folder, or of another file, is the broken step.
-fn try_flush(broken: Step, is_folder: bool) -> io::Result<()> {
-    match broken {
-        Step::FolderSync if is_folder => refused(),
-        Step::NoFolderSync if is_folder => Err(io::Error::from(ErrorKind::InvalidInput)),
-        Step::Sync if !is_folder => refused(),
-        _ => Ok(()),
-    }
 }
 
 /// An error where others may open a file, if that is what is looked for.
@@ -224,7 +188,14 @@ impl OpenFile for BrokenFile {
     }
 
     fn sync_all(&self) -> io::Result<()> {
-        try_flush(self.broken, self.real.metadata()?.is_dir())?;
+        if self.real.metadata()?.is_dir() {
+            try_step(self.broken, Step::FolderSync)?;
+            if self.broken == Step::NoFolderSync {
+                return Err(io::Error::from(ErrorKind::InvalidInput));
+            }
+        } else {
+            try_step(self.broken, Step::Sync)?;
+        }
         self.real.sync_all()
     }
 
@@ -250,8 +221,16 @@ impl Files for BrokenFiles {
     type Dir = File;
 
     fn open_file(&self, how: &OpenOptions, path: &str) -> io::Result<BrokenFile> {
-        let real = self.open_real(how, path)?;
-        check_opened(self.broken, how, &real)?;
+        let real = match &self.names {
+            Some(names) => names.open(&self.real, how, path)?,
+            None => how.open(&self.real, path)?,
+        };
+        if real.metadata()?.is_dir() {
+            try_step(self.broken, Step::Folder)?;
+        }
+        if how.asks_create_new() {
+            check_private(self.broken, &real)?;
+        }
         Ok(BrokenFile {
             real,
             broken: self.broken,
@@ -288,7 +267,9 @@ impl Files for BrokenFiles {
         if let Some(names) = &self.names {
             return names.rename(from, to);
         }
-        self.check_bits(from, to)?;
+        if self.broken == Step::Leak && bits_of(&self.real, from)? != bits_of(&self.real, to)? {
+            return refused();
+        }
         fs::rename(&self.real, from, to)
     }
 

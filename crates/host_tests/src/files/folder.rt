@@ -4,7 +4,7 @@ use super::broken_files::{Step, bits_of, broken_host};
 use super::{
     has_file, make_folder, path_in, put_file, real_host, remove_files, remove_folder, store_in,
 };
-use crate::loads::{Load, are_loaded, is_loaded};
+use crate::loads::{Load, are_loaded};
 use host_io::{Host, HostError, Loaded};
 use std::alloc::{AllocError, Global};
 use std::os::unix::fs::{PermissionsExt, symlink};
@@ -40,7 +40,8 @@ static SLOW_LOADS: [(Step, Load); 4] = [
 fn loads_slowly(rt: &HostRuntime, folder: &str) -> Result<bool, Fail> {
     put_file(rt, folder, "a.elf", b"slowly")?;
     for (step, load) in &SLOW_LOADS {
-        if !is_loaded(rt, &mut broken_host(rt, *step)?, folder, b"slowly", load)? {
+        let mut host = broken_host(rt, *step)?;
+        if !are_loaded(rt, &mut host, folder, b"slowly", &[*load])? {
             return Ok(false);
         }
     }
@@ -63,26 +64,21 @@ fn long_content(alloc: Global) -> Result<Vec<u8>, AllocError> {
     Ok(bytes)
 }
 
-fn loads_content(rt: &HostRuntime, folder: &str, content: &[u8]) -> Result<bool, Fail> {
+fn loads_long(rt: &HostRuntime, folder: &str, content: &[u8]) -> Result<bool, Fail> {
     put_file(rt, folder, "long", content)?;
     let loads = are_loaded(rt, &mut real_host(rt)?, folder, content, &LONG_LOADS)?;
     remove_files(rt, folder, &["long"])?;
     Ok(loads)
 }
 
-fn loads_long(rt: &HostRuntime, folder: &str) -> Result<bool, Fail> {
-    let content = long_content(rt.alloc())?;
-    loads_content(rt, folder, &content)
-}
-
-fn loads_all(rt: &HostRuntime, folder: &str) -> Result<bool, Fail> {
-    Ok(loads(rt, folder)? && loads_slowly(rt, folder)? && loads_long(rt, folder)?)
-}
-
 #[test]
 fn folder_host_loads(rt: HostRuntime) -> Result<(), Fail> {
     let folder = make_folder(&rt, "loads")?;
-    assert!(rt; loads_all(&rt, &folder)?);
+    let content = long_content(rt.alloc())?;
+    let plain = loads(&rt, &folder)?;
+    let slowly = loads_slowly(&rt, &folder)?;
+    let long = loads_long(&rt, &folder, &content)?;
+    assert!(rt; plain && slowly && long, "{plain} {slowly} {long}");
     remove_folder(&rt, &folder)
 }
 
@@ -107,7 +103,8 @@ fn put_link(rt: &HostRuntime, folder: &str, target: &str, name: &str) -> Result<
 /// Makes a file, a link to it, and a link to none.
 fn put_links(rt: &HostRuntime, folder: &str) -> Result<(), Fail> {
     put_file(rt, folder, "a.flt", b"old, and longer")?;
-    put_link(rt, folder, "a.flt", "link")?;
+    let file = path_in(rt, folder, "a.flt")?;
+    put_link(rt, folder, &file, "link")?;
     put_link(rt, folder, "none", "dangling")
 }
 
@@ -141,12 +138,6 @@ fn stores(rt: &HostRuntime, folder: &str) -> Result<bool, Fail> {
 /// A file's access bits before a store, and behind it.
 type Bits = (u32, u32);
 
-/// Gives a file these access bits, and says whether it has them.
-fn set_bits(rt: &HostRuntime, file: &str, bits: u32) -> io::Result<bool> {
-    fs::set_permissions(rt, file, fs::Permissions::from_mode(bits))?;
-    Ok(bits_of(rt, file)? == bits)
-}
-
 /// Stores bytes over a file with access bits, in turn: whether it has those behind each that it has to.
 fn keeps_bits<H: Host>(
     rt: &HostRuntime,
@@ -156,7 +147,8 @@ fn keeps_bits<H: Host>(
     rows: &[Bits],
 ) -> io::Result<bool> {
     for (before, after) in rows {
-        let are_set = set_bits(rt, file, *before)?;
+        fs::set_permissions(rt, file, fs::Permissions::from_mode(*before))?;
+        let are_set = bits_of(rt, file)? == *before;
         let answer = host.store(rt.alloc(), file, bytes);
         if !are_set || answer != Ok(()) || bits_of(rt, file)? != *after {
             return Ok(false);
@@ -177,34 +169,23 @@ static PRIVATE_BITS: [Bits; 4] = [
     (0o755, 0o755),
 ];
 
-fn keeps_real_bits(rt: &HostRuntime, file: &str) -> Result<bool, Fail> {
-    Ok(keeps_bits(rt, &mut real_host(rt)?, file, b"", &BITS)?)
-}
-
-fn keeps_private_bits(rt: &HostRuntime, file: &str) -> Result<bool, Fail> {
-    let mut host = broken_host(rt, Step::Leak)?;
-    Ok(keeps_bits(rt, &mut host, file, b"newer", &PRIVATE_BITS)?)
-}
-
 fn keeps_all_bits(rt: &HostRuntime, folder: &str) -> Result<bool, Fail> {
     put_file(rt, folder, "a.flt", b"old")?;
     let file = path_in(rt, folder, "a.flt")?;
-    let holds = keeps_real_bits(rt, &file)? && keeps_private_bits(rt, &file)?;
+    let real = keeps_bits(rt, &mut real_host(rt)?, &file, b"", &BITS)?;
+    let mut host = broken_host(rt, Step::Leak)?;
+    let private = keeps_bits(rt, &mut host, &file, b"newer", &PRIVATE_BITS)?;
     remove_files(rt, folder, &["a.flt"])?;
-    Ok(holds)
-}
-
-fn bits_in(rt: &HostRuntime, folder: &str, name: &str) -> Result<u32, Fail> {
-    let path = path_in(rt, folder, name)?;
-    Ok(bits_of(rt, &path)?)
+    Ok(real && private)
 }
 
 /// Whether a new file has the bits of any.
 fn gives_bits(rt: &HostRuntime, folder: &str) -> Result<bool, Fail> {
     put_file(rt, folder, "other", b"x")?;
-    let answer = store_in(rt, &mut real_host(rt)?, folder, "new.flt", b"x")?;
-    let holds = answer == Ok(())
-        && bits_in(rt, folder, "new.flt")? == bits_in(rt, folder, "other")?;
+    let other = path_in(rt, folder, "other")?;
+    let new = path_in(rt, folder, "new.flt")?;
+    let answer = real_host(rt)?.store(rt.alloc(), new.as_str(), b"x");
+    let holds = answer == Ok(()) && bits_of(rt, &new)? == bits_of(rt, &other)?;
     remove_files(rt, folder, &["new.flt", "other"])?;
     Ok(holds)
 }
@@ -226,49 +207,37 @@ fn leave_files(rt: &HostRuntime, folder: &str) -> io::Result<()> {
     Ok(())
 }
 
-/// Removes such a file, and says whether it was as it had been left.
-fn take_file(rt: &HostRuntime, left: &str) -> io::Result<bool> {
-    let is_left = fs::read(rt, left)?.as_slice() == b"left".as_slice();
-    fs::remove_file(rt, left)?;
-    Ok(is_left)
-}
-
-/// The same of all these files.
+/// Removes these files, and says whether they were as they had been left.
 fn take_left(rt: &HostRuntime, folder: &str) -> io::Result<bool> {
     let mut are_left = true;
     for number in FIRST_LEFT..END_LEFT {
         let left = left_name(rt, folder, number)?;
-        are_left = take_file(rt, left.as_str())? && are_left;
+        are_left = are_left && fs::read(rt, left.as_str())?.as_slice() == b"left".as_slice();
+        fs::remove_file(rt, left.as_str())?;
     }
     Ok(are_left)
-}
-
-fn stores_new(rt: &HostRuntime, folder: &str) -> Result<bool, Fail> {
-    let answer = store_in(rt, &mut real_host(rt)?, folder, "a.flt", b"new")?;
-    Ok(answer == Ok(()) && has_file(rt, folder, "a.flt", b"new")?)
 }
 
 /// Whether a store takes a number that no other run left, and leaves what those left.
 fn leaves_others(rt: &HostRuntime, folder: &str) -> Result<bool, Fail> {
     leave_files(rt, folder)?;
-    let is_new = stores_new(rt, folder)?;
+    let answer = store_in(rt, &mut real_host(rt)?, folder, "a.flt", b"new")?;
+    let is_new = has_file(rt, folder, "a.flt", b"new")?;
     let are_left = take_left(rt, folder)?;
     remove_files(rt, folder, &["a.flt"])?;
-    Ok(is_new && are_left)
-}
-
-fn stores_all(rt: &HostRuntime, folder: &str) -> Result<bool, Fail> {
-    Ok(
-        stores(rt, folder)?
-            && keeps_all_bits(rt, folder)?
-            && gives_bits(rt, folder)?
-            && leaves_others(rt, folder)?,
-    )
+    Ok(answer == Ok(()) && is_new && are_left)
 }
 
 #[test]
 fn folder_host_stores(rt: HostRuntime) -> Result<(), Fail> {
     let folder = make_folder(&rt, "stores")?;
-    assert!(rt; stores_all(&rt, &folder)?);
+    let stores = stores(&rt, &folder)?;
+    let keeps = keeps_all_bits(&rt, &folder)?;
+    let gives = gives_bits(&rt, &folder)?;
+    let leaves = leaves_others(&rt, &folder)?;
+    assert!(rt;
+        stores && keeps && gives && leaves,
+        "{stores} {keeps} {gives} {leaves}"
+    );
     remove_folder(&rt, &folder)
 }
