@@ -63,7 +63,7 @@ fn head_at(alloc: Global, text: &[u8]) -> Result<Option<(CallHead, &[u8])>, Allo
         return Ok(None);
     };
     let line = call_head(alloc, head.pid, head.call, &head.args, head.reply)?;
-    let Some(rest) = behind(line.as_bytes(), text) else {
+    let Some(rest) = behind(&line, text) else {
         return Ok(None);
     };
     Ok(Some((head, rest)))
@@ -174,7 +174,7 @@ fn range_of(alloc: Global, word: &[u8]) -> Result<Option<Got>, AllocError>
         return Ok(None);
     };
     let front = addr_text(alloc, addr)?;
-    let Some(digits) = behind(front.as_bytes(), word) else {
+    let Some(digits) = behind(&front, word) else {
         return Ok(None);
     };
     let Some(bytes) = hex_of(alloc, digits)? else {

@@ -88,7 +88,7 @@ fn space_at(alloc: Global, text: &[u8]) -> Result<Option<(SpaceHead, &[u8])>, Al
         return Ok(None);
     };
     let line = space_line(alloc, head.stack, head.base, head.pid, head.events)?;
-    let Some(rest) = behind(line.as_bytes(), text) else {
+    let Some(rest) = behind(&line, text) else {
         return Ok(None);
     };
     if !is_base(head.base) {
