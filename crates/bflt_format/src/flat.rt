@@ -11,7 +11,7 @@ use byte_words::big_word;
 use std::marker::Model;
 
 /// What a flat file of version 4 says, with none of its faults.
-#[derive(Debug, Drop)]
+#[derive(Drop)]
 pub struct Flat {
     pub(crate) entry: u32,
     pub(crate) text: u32,

@@ -3,6 +3,7 @@
 //! No memory of a machine, no process list and no rule of any call.
 #![tactic(auto)]
 
+mod digits;
 mod errno;
 mod flags;
 mod how;
@@ -11,10 +12,11 @@ mod lines;
 mod log;
 mod note;
 
+pub use digits::{push_bytes, push_decimal, push_word};
 pub use errno::Errno;
 pub use flags::has_flag;
 pub use how::{How, Seen, SeenKind};
 pub use laws::refusals_are_words;
-pub use lines::line;
+pub use lines::{line, push_call_head, push_got, push_line, push_sent};
 pub use log::{Log, LogFault};
 pub use note::{Entry, Got, Note};

@@ -1,154 +1,205 @@
 //! The line that a note is written as.
 
-ghost use Rattle.std.specs.Prelude.{◌≡◌, ◌++◌, map, length, IfOk, string_bytes};
+ghost use Rattle.std.specs.Prelude.{◌≡◌, [], ◌∷◌, ◌++◌, map, length, codes, decimal, IfOk};
 ghost use Rattle.call_log.specs.Values.{written_value, entry_value, note_value};
 ghost use Rattle.std.specs.List.{flat_map};
-ghost use Rattle.call_log.specs.Lines.{word_digits, arg_text, sent_text, item_text, got_text, call_line, load_line, how_text, end_line, kind_text, stray_line, line};
+ghost use Rattle.call_log.specs.Lines.{joined, word_digits, arg_text, sent_text, item_text, got_text, call_line, load_line, end_line, kind_text, stray_line, line};
 ghost use Rattle.call_log.specs.Programs.{IsProgramBelow, paths_of};
 
+use crate::digits::{push_bytes, push_decimal, push_word};
 use crate::how::{How, Seen, SeenKind};
 use crate::note::{Entry, Got, Note};
 use std::alloc::{AllocError, Global};
+
+/// The most bytes of a call's line, but for those that were sent and got.
+const CALL_ROOM: usize = 105;
 
 /// The line of a note, with its newline. `paths` are those of the programs, in their order.
 pub fn line(alloc: Global, note: &Note, paths: &[Vec<u8>]) -> Result<Vec<u8>, AllocError>
     requires { IsProgramBelow (length paths.now) (note_value note.now) }
     ensures { IfOk result (λ text. text.items ≡ line (paths_of paths.now) (note_value note.now)) }
 {
+    let mut text = Vec::new(alloc);
+    push_line(&mut text, note, paths)?;
+    Ok(text)
+}
+
+/// The same behind a text.
+pub fn push_line(text: &mut Vec<u8>, note: &Note, paths: &[Vec<u8>]) -> Result<(), AllocError>
+    requires { IsProgramBelow (length paths.now) (note_value note.now) }
+    ensures { IfOk result (λ _. text.new.items ≡ text.old.items ++ line (paths_of paths.now) (note_value note.now)) }
+{
     match note {
-        Note::Call(entry) => Ok(call_line(alloc, entry)?.into_bytes()),
+        Note::Call(entry) => push_call(text, entry),
         Note::Load {
             pid,
             program,
             base,
             pages,
-        } => load_line(alloc, *pid, &paths[*program as usize], *base, *pages),
-        Note::End { pid, how } => Ok(end_line(alloc, *pid, *how)?.into_bytes()),
-        Note::Stray { pid, access } => Ok(stray_line(alloc, *pid, *access)?.into_bytes()),
+        } => push_load(text, *pid, &paths[*program as usize], *base, *pages),
+        Note::End { pid, how } => push_end(text, *pid, *how),
+        Note::Stray { pid, access } => push_stray(text, *pid, *access),
     }
 }
 
 /// `load PID PATH base 0xBLOCK pages N`
-fn load_line(
-    alloc: Global,
+fn push_load(
+    text: &mut Vec<u8>,
     pid: u32,
     path: &[u8],
     base: u32,
     pages: u32,
-) -> Result<Vec<u8>, AllocError>
-    ensures { IfOk result (λ text. text.items ≡ load_line path.now (record { pid = pid; program = 0; base = base; pages = pages })) }
+) -> Result<(), AllocError>
+    ensures { IfOk result (λ _. text.new.items ≡ text.old.items ++ load_line path.now (record { pid = pid; program = 0; base = base; pages = pages })) }
 {
-    let mut text = format!(in alloc; "load {pid} ")?.into_bytes();
-    let block = word_digits(alloc, base)?;
-    let tail = format!(in alloc; " base 0x{block} pages {pages}\n")?;
+    push_number(text, b"load ", pid)?;
+    text.push(b' ')?;
     text.extend_from_slice(path)?;
-    text.extend_from_slice(tail.as_bytes())?;
-    Ok(text)
+    push_hex(text, b" base 0x", base)?;
+    push_number(text, b" pages ", pages)?;
+    text.push(b'\n')?;
+    Ok(())
 }
 
 /// `call PID NUMBER A0 A1 A2 A3 A4 A5 = REPLY sent HEX got ITEMS`
-fn call_line(alloc: Global, entry: &Entry) -> Result<String, AllocError>
-    ensures { IfOk result (λ text. string_bytes text ≡ call_line (entry_value entry.now)) }
+fn push_call(text: &mut Vec<u8>, entry: &Entry) -> Result<(), AllocError>
+    ensures { IfOk result (λ _. text.new.items ≡ text.old.items ++ call_line (entry_value entry.now)) }
 {
-    let pid = entry.pid;
-    let call = entry.call;
-    let args = args_text(alloc, &entry.args)?;
-    let reply = word_digits(alloc, entry.reply)?;
-    let sent = sent_text(alloc, &entry.sent)?;
-    let got = got_text(alloc, &entry.got)?;
-    format!(in alloc; "call {pid} {call}{args} = {reply} sent {sent} got{got}\n")
+    text.reserve(CALL_ROOM.saturating_add(2 * entry.sent.len()))?;
+    push_call_head(text, entry.pid, entry.call, &entry.args, entry.reply)?;
+    push_sent(text, &entry.sent)?;
+    text.extend_from_slice(b" got")?;
+    push_got(text, &entry.got)?;
+    text.push(b'\n')?;
+    Ok(())
 }
 
-fn args_text(alloc: Global, args: &[u32]) -> Result<String, AllocError>
-    ensures { IfOk result (λ text. string_bytes text ≡ flat_map arg_text args.now) }
+/// `call PID NUMBER A0 A1 A2 A3 A4 A5 = REPLY sent `
+pub fn push_call_head(
+    text: &mut Vec<u8>,
+    pid: u32,
+    call: u32,
+    args: &[u32],
+    reply: u32,
+) -> Result<(), AllocError>
+    ensures { IfOk result (λ _. text.new.items ≡ text.old.items ++ joined
+        (codes "call " ∷ decimal pid ∷ codes " " ∷ decimal call ∷ flat_map arg_text args.now ∷ codes " = " ∷ word_digits reply
+        ∷ codes " sent " ∷ [])) }
 {
-    let mut text = String::new(alloc);
+    push_number(text, b"call ", pid)?;
+    push_number(text, b" ", call)?;
+    push_args(text, args)?;
+    push_hex(text, b" = ", reply)?;
+    text.extend_from_slice(b" sent ")
+}
+
+/// Eight digits behind a space, for each of them.
+fn push_args(text: &mut Vec<u8>, args: &[u32]) -> Result<(), AllocError>
+    ensures { IfOk result (λ _. text.new.items ≡ text.old.items ++ flat_map arg_text args.now) }
+{
     for arg in args {
-        push_arg(&mut text, *arg)?;
+        push_arg(text, *arg)?;
     }
-    Ok(text)
+    Ok(())
 }
 
-/// Eight hexadecimal digits behind a space.
-fn push_arg(text: &mut String, arg: u32) -> Result<(), AllocError>
-    ensures { IfOk result (λ _. string_bytes text.new ≡ string_bytes text.old ++ arg_text arg) }
+fn push_arg(text: &mut Vec<u8>, arg: u32) -> Result<(), AllocError>
+    ensures { IfOk result (λ _. text.new.items ≡ text.old.items ++ arg_text arg) }
 {
-    write!(text, " {arg:08x}")
+    text.push(b' ')?;
+    push_word(text, arg)
 }
 
 /// Two digits a byte, or `-`.
-fn sent_text(alloc: Global, bytes: &[u8]) -> Result<String, AllocError>
-    ensures { IfOk result (λ text. string_bytes text ≡ sent_text bytes.now) }
+pub fn push_sent(text: &mut Vec<u8>, bytes: &[u8]) -> Result<(), AllocError>
+    ensures { IfOk result (λ _. text.new.items ≡ text.old.items ++ sent_text bytes.now) }
 {
     if bytes.is_empty() {
-        return String::from_str(alloc, "-");
+        text.push(b'-')?;
+        return Ok(());
     }
-    hex::encode(alloc, bytes)
+    push_bytes(text, bytes)
 }
 
-/// Each range that was written, or `-`.
-fn got_text(alloc: Global, items: &[Got]) -> Result<String, AllocError>
-    ensures { IfOk result (λ text. string_bytes text ≡ got_text (map written_value items.now)) }
+/// Each range that was written, or `-`, behind a space each.
+pub fn push_got(text: &mut Vec<u8>, got: &[Got]) -> Result<(), AllocError>
+    ensures { IfOk result (λ _. text.new.items ≡ text.old.items ++ got_text (map written_value got.now)) }
 {
-    if items.is_empty() {
-        return String::from_str(alloc, " -");
+    if got.is_empty() {
+        return text.extend_from_slice(b" -");
     }
-    items_text(alloc, items)
+    push_items(text, got)
 }
 
-fn items_text(alloc: Global, items: &[Got]) -> Result<String, AllocError>
-    ensures { IfOk result (λ text. string_bytes text ≡ flat_map item_text (map written_value items.now)) }
+fn push_items(text: &mut Vec<u8>, got: &[Got]) -> Result<(), AllocError>
+    ensures { IfOk result (λ _. text.new.items ≡ text.old.items ++ flat_map item_text (map written_value got.now)) }
 {
-    let mut text = String::new(alloc);
-    for item in items {
-        push_item(alloc, &mut text, item)?;
+    for item in got {
+        push_item(text, item)?;
     }
-    Ok(text)
+    Ok(())
 }
 
 /// `ADDR:HEX` behind a space.
-fn push_item(alloc: Global, text: &mut String, item: &Got) -> Result<(), AllocError>
-    ensures { IfOk result (λ _. string_bytes text.new ≡ string_bytes text.old ++ item_text (written_value item.now)) }
+fn push_item(text: &mut Vec<u8>, item: &Got) -> Result<(), AllocError>
+    ensures { IfOk result (λ _. text.new.items ≡ text.old.items ++ item_text (written_value item.now)) }
 {
     push_arg(text, item.addr)?;
-    let digits = hex::encode(alloc, &item.bytes)?;
-    write!(text, ":{digits}")
+    text.push(b':')?;
+    push_bytes(text, &item.bytes)
 }
 
 /// `end PID exit CODE` or `end PID signal NUMBER`
-fn end_line(alloc: Global, pid: u32, how: How) -> Result<String, AllocError>
-    ensures { IfOk result (λ text. string_bytes text ≡ end_line pid how) }
+fn push_end(text: &mut Vec<u8>, pid: u32, how: How) -> Result<(), AllocError>
+    ensures { IfOk result (λ _. text.new.items ≡ text.old.items ++ end_line pid how) }
 {
-    match how {
-        How::Exit(code) => format!(in alloc; "end {pid} exit {code}\n"),
-        How::Signal(number) => format!(in alloc; "end {pid} signal {number}\n"),
-    }
+    let (word, number) = match how {
+        How::Exit(code) => (" exit ", code),
+        How::Signal(number) => (" signal ", number),
+    };
+    push_number(text, b"end ", pid)?;
+    push_number(text, word.as_bytes(), u32::from(number))?;
+    text.push(b'\n')?;
+    Ok(())
 }
 
 /// `stray PID pc 0xPC addr 0xADDR len LEN KIND`
-fn stray_line(alloc: Global, pid: u32, access: Seen) -> Result<String, AllocError>
-    ensures { IfOk result (λ text. string_bytes text ≡ stray_line pid access) }
+fn push_stray(text: &mut Vec<u8>, pid: u32, access: Seen) -> Result<(), AllocError>
+    ensures { IfOk result (λ _. text.new.items ≡ text.old.items ++ stray_line pid access) }
 {
-    let pc = word_digits(alloc, access.pc)?;
-    let addr = word_digits(alloc, access.addr)?;
-    let len = access.len;
-    let kind = kind_text(access.kind);
-    format!(in alloc; "stray {pid} pc 0x{pc} addr 0x{addr} len {len} {kind}\n")
+    push_number(text, b"stray ", pid)?;
+    push_hex(text, b" pc 0x", access.pc)?;
+    push_hex(text, b" addr 0x", access.addr)?;
+    push_number(text, b" len ", access.len)?;
+    text.push(b' ')?;
+    text.extend_from_slice(kind_text(access.kind))?;
+    text.push(b'\n')?;
+    Ok(())
 }
 
-fn kind_text(kind: SeenKind) -> &'static str
+/// A number, decimal, behind this front.
+fn push_number(text: &mut Vec<u8>, front: &[u8], number: u32) -> Result<(), AllocError>
+    ensures { IfOk result (λ _. text.new.items ≡ text.old.items ++ front.now ++ decimal number) }
+{
+    text.extend_from_slice(front)?;
+    push_decimal(text, u64::from(number))
+}
+
+/// A word with eight digits behind this front.
+fn push_hex(text: &mut Vec<u8>, front: &[u8], word: u32) -> Result<(), AllocError>
+    ensures { IfOk result (λ _. text.new.items ≡ text.old.items ++ front.now ++ word_digits word) }
+{
+    text.extend_from_slice(front)?;
+    push_word(text, word)
+}
+
+fn kind_text(kind: SeenKind) -> &'static [u8]
     ensures { result.now ≡ kind_text kind }
 {
     match kind {
-        SeenKind::Fetch => "fetch",
-        SeenKind::Load => "load",
-        SeenKind::Store => "store",
-        SeenKind::Call => "call",
+        SeenKind::Fetch => b"fetch",
+        SeenKind::Load => b"load",
+        SeenKind::Store => b"store",
+        SeenKind::Call => b"call",
     }
-}
-
-fn word_digits(alloc: Global, word: u32) -> Result<String, AllocError>
-    ensures { IfOk result (λ text. string_bytes text ≡ word_digits word) }
-{
-    format!(in alloc; "{word:08x}")
 }

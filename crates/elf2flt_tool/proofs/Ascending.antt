@@ -1,5 +1,5 @@
 -- The records: the places of the recorded words, ascending; and the words that stand there.
-use Rattle.std.proofs.Common.{◌≡◌, ℕ, ◌+◌, ◌≤◌, inl, inr, Bool, true, false, ◌&&◌, ◌||◌, nat_eq, nat_lt, List, [], ◌∷◌, ◌++◌, length, map, flat_map, filter, count_by, slice_index, All, refl, sym, ap, ◌∙◌, arith}
+use Rattle.std.proofs.Common.{◌≡◌, ℕ, zero, suc, ◌+◌, ◌-◌, ◌≤◌, inl, inr, Bool, true, false, ◌&&◌, ◌||◌, nat_eq, nat_lt, List, [], ◌∷◌, ◌++◌, length, map, flat_map, filter, count_by, slice_index, All, refl, sym, ap, ◌∙◌, arith, add-zero, append-nil}
 use Rattle.std.specs.List.{list_any, range_with_len, AllByRecursion as Each}
 use Rattle.std.proofs.lemmas.Bool.{cases_Bool, eqb-true}
 use Rattle.std.proofs.lemmas.List.Elements.{All-from_recursion, filter-append}
@@ -29,6 +29,7 @@ use Rattle.elf2flt_tool.proofs.Apart.{places_of_spans}
 use Rattle.elf2flt_tool.proofs.Listed.{target_at, places_of, places_are, pointed, words_are, numbers_are, are_words, place_inside}
 use Rattle.elf2flt_tool.proofs.Meeting.{any_count, some_two}
 use Rattle.elf2flt_tool.proofs.Walked.{range-more}
+use Rattle.elf2flt_tool.proofs.Stills.{filter_drop}
 
 -- ---- the records are the places of the words
 
@@ -95,22 +96,40 @@ counted_begins e f q is =
     ap (λ n. nat_lt 0 n) (is.cover.words q) ∙ some_two (count_by (begins l q) all) ∙ sym (any_count (begins l q) all)
     ∙ begins_all l q (spans_of e) ∙ ap (λ ps. has ps q) (sym (places_of_spans e l)) ∙ sym (begins_has e q)
 
+-- one number more
+pub filter_next : (test : ℕ → Bool) (n : ℕ) → filter test (range_with_len 0 (n + 1)) ≡ filter test (range_with_len 0 n) ++ filter test (n ∷ [])
+filter_next test n = ap (filter test) (range-more n) ∙ filter-append test (range_with_len 0 n) (n ∷ [])
+
+-- numbers from m on that don't pass add none
+filter_reach : (test : ℕ → Bool) (m k : ℕ) → ((q : ℕ) → m ≤ q → test q ≡ false) → filter test (range_with_len 0 m) ≡ filter test (range_with_len 0 (m + k))
+filter_reach test m zero fails = rw add-zero refl
+filter_reach test m (suc k) fails =
+    filter_reach test m k fails ∙ sym (append-nil (filter test (range_with_len 0 (m + k))))
+    ∙ ap (λ ns. filter test (range_with_len 0 (m + k)) ++ ns) (sym (filter_drop test (m + k) [] (fails (m + k) (omega arith))))
+    ∙ sym (filter_next test (m + k)) ∙ ap (λ n. filter test (range_with_len 0 n)) (omega arith)
+
+index_past : (xs : List ℕ) (i : ℕ) → length xs ≤ i → slice_index xs i ≡ 0
+index_past [] i past = refl
+index_past (x ∷ xs) zero past = absurd (omega arith)
+index_past (x ∷ xs) (suc i) past = index_past xs i (omega arith)
+
 places_counted : (e : List ℕ) (f : Found) → IsFoundIn e (spans_of e) f
     → filter (λ q. nat_lt 0 (slice_index f.cover.words.items q)) (range_with_len 0 (length f.cover.words.items)) ≡ records e
 unfolding records
 places_counted e f is =
     let tests : (λ q. nat_lt 0 (slice_index f.cover.words.items q)) ≡ begins_at (words e) = λ i q. counted_begins e f q is i in
-    ap (λ test. filter test (range_with_len 0 (length f.cover.words.items))) tests ∙ ap (λ n. filter (begins_at (words e)) (range_with_len 0 n)) is.cover.words_len
+    let size = (layout e).text + (layout e).data_len in
+    let reached = length f.cover.words.items in
+    let none : (q : ℕ) → reached ≤ q → begins_at (words e) q ≡ false = λ q past. sym (counted_begins e f q is) ∙ ap (λ n. nat_lt 0 n) (index_past f.cover.words.items q past) in
+    let all : reached + (size - reached) ≡ size = omega (arith, is.cover.room.words, is.cover.len) in
+    ap (λ test. filter test (range_with_len 0 reached)) tests ∙ filter_reach (begins_at (words e)) reached (size - reached) none
+    ∙ ap (λ n. filter (begins_at (words e)) (range_with_len 0 n)) all
 
 -- the counted places, as the code has them
 pub counted_records : (e : List ℕ) (f : Found) (counts ps : List ℕ) → IsFoundIn e (spans_of e) f → counts ≡ f.cover.words.items
     → ps ≡ filter (λ q. nat_lt 0 (slice_index counts q)) (range_with_len 0 (length counts)) → ps ≡ records e
 counted_records e f counts ps is same are =
     are ∙ ap (λ counts. filter (λ q. nat_lt 0 (slice_index counts q)) (range_with_len 0 (length counts))) same ∙ places_counted e f is
-
--- one number more
-pub filter_next : (test : ℕ → Bool) (n : ℕ) → filter test (range_with_len 0 (n + 1)) ≡ filter test (range_with_len 0 n) ++ filter test (n ∷ [])
-filter_next test n = ap (filter test) (range-more n) ∙ filter-append test (range_with_len 0 n) (n ∷ [])
 
 -- ---- the words that stand there
 

@@ -1,6 +1,5 @@
 -- The parts that the conversion makes are those of the definition.
 use Rattle.std.proofs.Common.{◌≡◌, ℕ, ◌+◌, ◌*◌, ◌/◌, ◌≤◌, List, All, length, map, flat_map, filter, slice_index, None, refl, sym, ap, ◌∙◌}
-use Rattle.std.proofs.lemmas.List.Elements.{All-from_recursion}
 use Rattle.byte_words.specs.Numbers.{IsBytes}
 use Rattle.byte_words.specs.Patches.{painted, bytes_below}
 use Rattle.byte_words.proofs.Painting.{length-bytes_below}
@@ -22,8 +21,8 @@ use Rattle.elf2flt_tool.proofs.Recorded.{is_clear, is_linked}
 use Rattle.elf2flt_tool.proofs.Ascending.{body-painted, words_inside}
 use Rattle.elf2flt_tool.proofs.Lowest.{has-mapped, lowest_same}
 use Rattle.elf2flt_tool.proofs.Meeting.{met_words_covered}
-use Rattle.elf2flt_tool.proofs.Kept.{kept_met, kept_each}
-use Rattle.elf2flt_tool.proofs.Shapes.{all_plain, all_entries, all_recorded}
+use Rattle.elf2flt_tool.proofs.Kept.{kept_met}
+use Rattle.elf2flt_tool.proofs.Shapes.{all_plain, all_entries}
 
 -- the test of the kept words is that of all
 pub overlap-tested : (e : List ℕ) (f : Found) → layout_fault e ≡ None → relocs_fault e ≡ None → IsFoundIn e (spans_of e) f
@@ -35,13 +34,6 @@ overlap-tested e f laid none is =
     lowest_same (map (λ r. r.place) (filter (is_met f.cover) f.words.items)) (map (λ r. r.place) (filter (is_met f.cover) rs))
     (λ q. has-mapped (λ r. r.place) (is_met f.cover) f.words.items q ∙ kept_met f.cover _ _ rs f.words.items is.cover.still is.words q ∙ sym (has-mapped (λ r. r.place) (is_met f.cover) rs q))
     ∙ ap lowest (sym (met_words_covered (layout e) ((layout e).text + (layout e).data_len) (spans_of e) f.cover (all_entries (layout e) _ (spans_of e) plain) is.cover))
-
-pub words-inside : (e : List ℕ) (f : Found) (n : ℕ) → layout_fault e ≡ None → relocs_fault e ≡ None → IsFoundIn e (spans_of e) f → n ≡ (layout e).text + (layout e).data_len
-    → All (λ r. r.place + 4 ≤ n) f.words.items
-words-inside e f n laid none is size =
-    let all = is_laid e laid in
-    rw (size, all.stored) (All-from_recursion (λ r. r.place + 4 ≤ _) f.words.items
-    (kept_each _ (flat_map (recorded_of (layout e)) (spans_of e)) f.words.items is.words.some (all_recorded (layout e) _ (spans_of e) (all_plain e all none))))
 
 -- the words of an accepted file stand in text and data
 pub words-below : (e : List ℕ) (l : Layout) (image : List ℕ) (ws : List Word) → IsBytes e → fault e ≡ None → l ≡ layout e → image ≡ bytes_below (l.text + l.data_len) (bare e) → ws ≡ map (word_at l image) (records e)

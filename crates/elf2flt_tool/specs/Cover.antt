@@ -29,12 +29,17 @@ covers l b s = not s.recorded && nat_le (off l s.place) b && nat_lt b (off l s.p
 abbrev pub begins : Layout → ℕ → Span → Bool
 begins l q s = s.recorded && off l s.place == q
 
+-- no counts are kept of other bytes than text and data
+pub record HasRoom (c : Cover) : Type 0 where
+  pub still : length c.still.items ≤ c.len
+  pub words : length c.words.items ≤ c.len
+
 -- of each of the image's first n bytes: how many of the spans cover it, and how many recorded words begin there, each up to two
 pub record IsCover (l : Layout) (n : ℕ) (ss : List Span) (c : Cover) : Type 0 where
   pub still : (b : ℕ) → slice_index c.still.items b ≡ min 2 (count_by (covers l b) ss)
   pub words : (q : ℕ) → slice_index c.words.items q ≡ min 2 (count_by (begins l q) ss)
-  pub still_len : length c.still.items ≡ n
-  pub words_len : length c.words.items ≡ n
+  pub len : c.len ≡ n
+  pub room : HasRoom c
 
 -- how often an entry's own instruction covers byte b
 abbrev pub own_cover : Option ℕ → ℕ → ℕ

@@ -87,7 +87,7 @@ pub fn find_all(alloc: Global, elf: &Elf<'_>, layout: &Layout) -> Result<Found, 
         (λ found. (relocs_fault elf.now ≡ None) × IsFound elf.now (count_of elf.now) 0 found)
         (λ refusal. (refusal ≡ Refusal.Memory) ⊎ (relocs_fault elf.now ≡ Some refusal)) }
 {
-    let mut found = Found::new(alloc, (layout.text + layout.data_len) as usize)?;
+    let mut found = Found::new(alloc, (layout.text + layout.data_len) as usize);
     let stored = StoredSections::of(alloc, elf)?;
     for section in 0..elf.sections() {
         if elf.kept(section) {

@@ -1,9 +1,9 @@
 //! What a walk over the kept relocations finds.
 
-ghost use Rattle.std.specs.Prelude.{◌≡◌, ℕ, ◌<◌, nat_lt, List, [], ◌++◌, length, filter, slice_index, IfOk, OnOk};
+ghost use Rattle.std.specs.Prelude.{◌≡◌, ℕ, ◌<◌, nat_lt, List, [], ◌++◌, filter, slice_index, OnOk};
 ghost use Rattle.std.specs.List.{AllByRecursion};
 ghost use Rattle.std.specs.Option.{option_to_list};
-ghost use Rattle.elf2flt_tool.specs.Cover.{listed, IsInside, IsWord, IsCover, recorded_of, is_needed};
+ghost use Rattle.elf2flt_tool.specs.Cover.{listed, IsInside, IsWord, IsCover, HasRoom, recorded_of, is_needed};
 
 use crate::cover::Cover;
 use crate::overlap::{Recorded, count_at};
@@ -57,42 +57,42 @@ fn note_word(
 }
 
 /// Takes in the bytes of a relocation.
-fn note_spans(cover: &mut Cover, layout: &Layout, spans: &Spans)
-    requires inside { AllByRecursion (IsInside layout.now (length cover.old.still.items)) (listed spans.now) }
+fn note_spans(cover: &mut Cover, layout: &Layout, spans: &Spans) -> Result<(), AllocError>
+    requires inside { AllByRecursion (IsInside layout.now cover.old.len) (listed spans.now) }
     requires words { AllByRecursion IsWord (listed spans.now) }
-    requires len { length cover.old.words.items ≡ length cover.old.still.items }
-    ensures { (n : ℕ) (ss : List Span) → IsCover layout.now n ss cover.old → IsCover layout.now n (ss ++ listed spans.now) cover.new }
+    requires room { HasRoom cover.old }
+    ensures { OnOk result ((n : ℕ) (ss : List Span) → IsCover layout.now n ss cover.old → IsCover layout.now n (ss ++ listed spans.now) cover.new) }
 {
-    cover.add(layout, &spans.own);
+    cover.add(layout, &spans.own)?;
     if let Some(slot) = spans.slot {
-        cover.add(layout, &slot);
+        cover.add(layout, &slot)?;
     }
+    Ok(())
 }
 
 impl Found {
     /// Nothing, in an image with `len` bytes of text and data.
-    pub fn new(alloc: Global, len: usize) -> Result<Found, AllocError>
-        ensures words { IfOk result (λ found. found.words.items ≡ []) }
-        ensures cover { IfOk result (λ found. (l : Layout) → IsCover l len [] found.cover) }
+    pub fn new(alloc: Global, len: usize) -> Found
+        ensures words { result.words.items ≡ [] }
+        ensures cover { (l : Layout) → IsCover l len [] result.cover }
     {
-        Ok(Found {
+        Found {
             words: Vec::new(alloc),
-            cover: Cover::new(alloc, len)?,
-        })
+            cover: Cover::new(alloc, len),
+        }
     }
 
     /// Takes in a relocation, by its bytes.
     pub fn note(&mut self, layout: &Layout, spans: &Spans) -> Result<(), AllocError>
-        requires inside { AllByRecursion (IsInside layout.now (length self.old.cover.still.items)) (listed spans.now) }
+        requires inside { AllByRecursion (IsInside layout.now self.old.cover.len) (listed spans.now) }
         requires words { AllByRecursion IsWord (listed spans.now) }
-        requires len { length self.old.cover.words.items ≡ length self.old.cover.still.items }
+        requires room { HasRoom self.old.cover }
         ensures words { OnOk result (self.new.words.items
             ≡ self.old.words.items ++ filter (is_needed self.old.cover.words.items) (recorded_of layout.now (listed spans.now))) }
         ensures cover { OnOk result ((n : ℕ) (ss : List Span) →
             IsCover layout.now n ss self.old.cover → IsCover layout.now n (ss ++ listed spans.now) self.new.cover) }
     {
         note_word(&mut self.words, &self.cover.words, layout, spans)?;
-        note_spans(&mut self.cover, layout, spans);
-        Ok(())
+        note_spans(&mut self.cover, layout, spans)
     }
 }

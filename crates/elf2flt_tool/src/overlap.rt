@@ -1,6 +1,6 @@
 //! The test whether recorded words meet the bytes of other relocations.
 
-ghost use Rattle.std.specs.Prelude.{◌≡◌, ◌+◌, ◌<◌, ◌≤◌, ◌^◌, All, length, map, filter, slice_index};
+ghost use Rattle.std.specs.Prelude.{◌≡◌, ◌+◌, ◌<◌, ◌^◌, map, filter, slice_index};
 ghost use Rattle.std.specs.List.{list_any, range_with_len};
 ghost use Rattle.elf2flt_tool.specs.Word.{lower, lowest};
 ghost use Rattle.elf2flt_tool.specs.Cover.{own_cover, is_shared, begins_near, is_met};
@@ -26,12 +26,12 @@ pub fn lower(number: u32, least: Option<u32>) -> u32
     }
 }
 
-/// How many recorded words were counted at a number; none past the end.
-pub fn count_at(words: &[u8], number: usize) -> u8
-    ensures { result ≡ slice_index words.now number }
+/// What was counted at a number; none past the end.
+pub fn count_at(counts: &[u8], number: usize) -> u8
+    ensures { result ≡ slice_index counts.now number }
 {
-    if number < words.len() {
-        words[number]
+    if number < counts.len() {
+        counts[number]
     } else {
         0
     }
@@ -49,15 +49,13 @@ fn own_cover(instruction: Option<u32>, byte: usize) -> u8
 
 /// Whether a byte belongs to another relocation whose bytes stay as they are.
 fn is_shared(still: &[u8], word: &Recorded, byte: usize) -> bool
-    requires { byte < length still.now }
     ensures { result ≡ is_shared still.now word.now byte }
 {
-    own_cover(word.instruction, byte) < still[byte]
+    own_cover(word.instruction, byte) < count_at(still, byte)
 }
 
 /// Whether another relocation whose bytes stay as they are has a byte of the word.
 fn meets_still(still: &[u8], word: &Recorded) -> bool
-    requires { word.now.place + 4 ≤ length still.now }
     ensures { result ≡ list_any (λ b. is_shared still.now word.now (word.now.place + b)) (range_with_len 0 4) }
 {
     (0..4).any(|offset| is_shared(still, word, word.place as usize + offset))
@@ -82,7 +80,6 @@ fn meets_word(words: &[u8], number: u32) -> bool
 /// Whether a recorded word has a byte in common with the bytes of another entry.
 #[tactic(auto, unfolding(crate::specs::Cover::is_met))]
 fn is_met(cover: &Cover, word: &Recorded) -> bool
-    requires { word.now.place + 4 ≤ length cover.now.still.items }
     ensures { result ≡ is_met cover.now word.now }
 {
     meets_still(&cover.still, word) || meets_word(&cover.words, word.place)
@@ -90,7 +87,6 @@ fn is_met(cover: &Cover, word: &Recorded) -> bool
 
 /// The least number of a recorded word that meets the bytes of another entry.
 pub fn lowest_met(cover: &Cover, words: &[Recorded]) -> Option<u32>
-    requires { All (λ r. r.place + 4 ≤ length cover.now.still.items) words.now }
     ensures { result ≡ lowest (map (λ r. r.place) (filter (is_met cover.now) words.now)) }
 {
     let mut least = None;

@@ -1,7 +1,7 @@
 //! An open file, and the descriptors that share it.
 
 /// What an open file is of.
-#[derive(Clone, Copy, PartialEq, Eq)]
+#[derive(Clone, Copy)]
 pub enum Object {
     /// The node of this number.
     File(u32),
@@ -10,7 +10,7 @@ pub enum Object {
 }
 
 /// An open file: POSIX calls it an open file description.
-#[derive(Clone, Copy, PartialEq, Eq)]
+#[derive(Clone, Copy)]
 pub struct OpenFile {
     pub object: Object,
     pub read: bool,
@@ -24,7 +24,7 @@ pub struct OpenFile {
 }
 
 /// What a descriptor stands for.
-#[derive(Clone, Copy, PartialEq, Eq)]
+#[derive(Clone, Copy)]
 pub enum Handle {
     /// The console's input.
     Input,
@@ -35,7 +35,7 @@ pub enum Handle {
 }
 
 /// A descriptor.
-#[derive(Clone, Copy, PartialEq, Eq)]
+#[derive(Clone, Copy)]
 pub struct Descriptor {
     pub handle: Handle,
     /// It closes at an execve.

@@ -1,7 +1,7 @@
 //! What a pipe shows.
 
 /// How much a pipe holds, and which of its ends are open.
-#[derive(Clone, Copy, PartialEq, Eq)]
+#[derive(Clone, Copy)]
 pub struct PipeView {
     /// In bytes, at most 65,536.
     pub held: u32,

@@ -1,7 +1,7 @@
 //! What a descriptor shows.
 
 /// What a descriptor leads to.
-#[derive(Clone, Copy, PartialEq, Eq)]
+#[derive(Clone, Copy)]
 pub enum Target {
     /// The console.
     Console,
@@ -12,7 +12,7 @@ pub enum Target {
 }
 
 /// What may be done through a descriptor.
-#[derive(Clone, Copy, PartialEq, Eq)]
+#[derive(Clone, Copy)]
 pub struct Way {
     pub read: bool,
     pub write: bool,
@@ -23,7 +23,7 @@ pub struct Way {
 }
 
 /// A descriptor that is open.
-#[derive(Clone, Copy, PartialEq, Eq)]
+#[derive(Clone, Copy)]
 pub struct View {
     pub target: Target,
     pub way: Way,

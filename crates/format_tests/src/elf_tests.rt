@@ -6,7 +6,6 @@ ghost use Rattle.elf32_reader.specs.Symbols.{is_symtab};
 use crate::sample::ONE_WORD_ELF;
 use elf32_reader::*;
 use std::alloc::{AllocError, Global};
-use std::process::Abort;
 use std::test::*;
 
 /// The offset of the size of the table of names, in its section header.
@@ -106,12 +105,23 @@ static SECTIONS: [(u32, Option<Seen<'static>>); 7] = [
     (6, None),
 ];
 
-#[test]
-fn reads_sections(rt: HostRuntime) {
-    let elf = Elf::read(&ONE_WORD_ELF).expect(&rt, "it is read");
-    assert_eq!(rt; (elf.entry(), elf.sections()), (0x10000, 6));
+/// The first section that is another one.
+fn other_section(elf: &Elf<'_>) -> Option<u32> {
     for &(index, want) in &SECTIONS {
-        assert_eq!(rt; section_in(&elf, index), want, "section {index}");
+        if section_in(elf, index) != want {
+            return Some(index);
+        }
+    }
+    None
+}
+
+/// Whether a file has that entry and these sections.
+fn has_sections(file: &[u8]) -> bool {
+    match Elf::read(file) {
+        Ok(elf) => {
+            elf.entry() == 0x10000 && elf.sections() == 6 && other_section(&elf).is_none()
+        }
+        Err(_) => false,
     }
 }
 
@@ -180,22 +190,30 @@ static CUT: [Row; 4] = [
     ((4, 0, None), (6, 0, None)),
 ];
 
-fn expect_rows(rt: &impl Abort, file: &[u8], rows: &[Row]) {
-    let elf = Elf::read(file).expect(rt, "it is read");
+/// The first symbol in whose row something is otherwise.
+fn other_row(elf: &Elf<'_>, rows: &[Row]) -> Option<u32> {
     for ((table, symbol, named), (section, index, entry)) in rows {
-        let found = (
-            symbol_in(&elf, *table, *symbol),
-            rela_in(&elf, *section, *index),
-        );
-        assert_eq!(rt; found, (*named, *entry), "{symbol} {index}");
+        let is_so = symbol_in(elf, *table, *symbol) == *named
+            && rela_in(elf, *section, *index) == *entry;
+        if !is_so {
+            return Some(*symbol);
+        }
+    }
+    None
+}
+
+fn has_rows(file: &[u8], rows: &[Row]) -> bool {
+    match Elf::read(file) {
+        Ok(elf) => other_row(&elf, rows).is_none(),
+        Err(_) => false,
     }
 }
 
 #[test]
-fn reads_symbols_and_relocations(rt: HostRuntime) -> Result<(), Fail> {
-    expect_rows(&rt, &ONE_WORD_ELF, &WHOLE);
+fn reads_the_example(rt: HostRuntime) -> Result<(), Fail> {
     let cut = edited(rt.alloc(), &CUT_EDITS)?;
-    expect_rows(&rt, &cut, &CUT);
+    let whole = has_sections(&ONE_WORD_ELF) && has_rows(&ONE_WORD_ELF, &WHOLE);
+    assert!(rt; whole && has_rows(&cut, &CUT));
     Ok(())
 }
 

@@ -21,6 +21,6 @@ fn numbers(rt: HostRuntime) {
         entry: 64,
     };
     for &(address, want) in &NUMBERS {
-        assert!(rt; layout.off(address) == want, "{address:#x}");
+        assert!(rt; layout.off(address) == want);
     }
 }

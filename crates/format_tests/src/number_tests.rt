@@ -12,16 +12,22 @@ static NUMBERS: [(usize, (u8, u16, u32, u32)); 3] = [
     (2, (0x34, 0x5634, 0x8078_5634, 0x3456_7880)),
 ];
 
+/// The first offset at which one of them is another.
+fn other_numbers() -> Option<usize> {
+    for &(at, (first, half_word, low, big)) in &NUMBERS {
+        let is_so = at <= 2
+            && byte(&BYTES, at) == first
+            && half(&BYTES, at) == half_word
+            && word(&BYTES, at) == low
+            && big_word(&BYTES, at) == big;
+        if !is_so {
+            return Some(at);
+        }
+    }
+    None
+}
+
 #[test]
 fn numbers(rt: HostRuntime) {
-    for &(at, want) in &NUMBERS {
-        assert!(rt; at <= 2);
-        let found = (
-            byte(&BYTES, at),
-            half(&BYTES, at),
-            word(&BYTES, at),
-            big_word(&BYTES, at),
-        );
-        assert_eq!(rt; found, want, "at {at}");
-    }
+    assert!(rt; other_numbers().is_none());
 }

@@ -260,15 +260,15 @@ fn are_judged(
     Ok(true)
 }
 
+fn holds(alloc: Global, case: &Case) -> Result<bool, Fail> {
+    let file = file_of(alloc, case)?;
+    are_judged(alloc, &file, case.answers)
+}
+
 #[test]
 fn entries_and_bytes(rt: HostRuntime) -> Result<(), Fail> {
     for case in &CASES {
-        let file = file_of(rt.alloc(), case)?;
-        assert!(rt;
-            are_judged(rt.alloc(), &file, case.answers)?,
-            "{}",
-            case.data
-        );
+        assert!(rt; holds(rt.alloc(), case)?);
     }
     Ok(())
 }

@@ -6,7 +6,6 @@ ghost use Rattle.host_io.specs.declared.host.Loaded.{Loaded};
 ghost use Rattle.host_io.specs.declared.host.HostError.TheVariants as answer;
 
 use std::alloc::{AllocError, Global};
-use thiserror::Error;
 
 /// What a load gave.
 #[derive(Clone, Copy, PartialEq, Eq)]
@@ -18,13 +17,11 @@ pub enum Loaded {
 }
 
 /// Why a load or a store gave nothing.
-#[derive(Clone, Copy, Debug, PartialEq, Eq, Error)]
+#[derive(Clone, Copy, PartialEq, Eq)]
 pub enum HostError {
     /// The outside refused or broke off. The count of faults rose.
-    #[error("the host failed")]
     Failed,
     /// Out of memory.
-    #[error("out of memory")]
     Memory,
 }
 

@@ -106,8 +106,16 @@ fn is_unnamed_pipe<R: Files>(
         return Ok(false);
     }
     match files.canonicalize(alloc, name) {
-        Err(error) if error.kind() == ErrorKind::NotFound => Ok(true),
-        Err(error) if error.kind() == ErrorKind::OutOfMemory => Err(HostError::Memory),
-        Ok(_) | Err(_) => Ok(false),
+        Ok(_) => Ok(false),
+        Err(error) => leads_nowhere(error.kind()),
+    }
+}
+
+/// Whether a name has no path behind it, by why none was found.
+fn leads_nowhere(kind: ErrorKind) -> Result<bool, HostError> {
+    match kind {
+        ErrorKind::NotFound => Ok(true),
+        ErrorKind::OutOfMemory => Err(HostError::Memory),
+        _ => Ok(false),
     }
 }

@@ -5,16 +5,13 @@ ghost use Rattle.host_io.specs.Sink.{Takes, TakesPrefix, bytes_taken, HasWriteCa
 ghost use Rattle.host_io.specs.declared.sink.SinkError.TheVariants as answer;
 
 use std::alloc::Global;
-use thiserror::Error;
 
 /// Why a sink took nothing.
-#[derive(Clone, Copy, Debug, PartialEq, Eq, Error)]
+#[derive(Clone, Copy, PartialEq, Eq)]
 pub enum SinkError {
     /// The outside refused. The count of faults rose.
-    #[error("the sink failed")]
     Failed,
     /// The sink was out of memory. The count of shortages rose.
-    #[error("out of memory")]
     Memory,
 }
 

@@ -63,7 +63,7 @@ fn head_at(alloc: Global, text: &[u8]) -> Result<Option<(CallHead, &[u8])>, Allo
         return Ok(None);
     };
     let line = call_head(alloc, head.pid, head.call, &head.args, head.reply)?;
-    let Some(rest) = behind(line.as_bytes(), text) else {
+    let Some(rest) = behind(&line, text) else {
         return Ok(None);
     };
     Ok(Some((head, rest)))
@@ -74,21 +74,44 @@ fn head_at(alloc: Global, text: &[u8]) -> Result<Option<(CallHead, &[u8])>, Allo
 fn call_numbers(text: &[u8]) -> Option<CallHead>
     ensures { Finds (λ head. head) result (call_numbers text.now) }
 {
-    let (_, rest) = cut_at(b' ', text)?;
-    let (pid, rest) = word_at(10, b' ', rest)?;
-    let (call, rest) = word_at(10, b' ', rest)?;
-    let (a0, rest) = word_at(16, b' ', rest)?;
-    let (a1, rest) = word_at(16, b' ', rest)?;
-    let (a2, rest) = word_at(16, b' ', rest)?;
-    let (a3, rest) = word_at(16, b' ', rest)?;
-    let (a4, rest) = word_at(16, b' ', rest)?;
-    let (a5, rest) = word_at(16, b' ', rest)?;
-    let (_, rest) = cut_at(b' ', rest)?;
-    let (reply, _) = word_at(16, b' ', rest)?;
+    let Some((_, rest)) = cut_at(b' ', text) else {
+        return None;
+    };
+    let Some((pid, rest)) = word_at(10, b' ', rest) else {
+        return None;
+    };
+    let Some((call, rest)) = word_at(10, b' ', rest) else {
+        return None;
+    };
+    let Some((a0, rest)) = word_at(16, b' ', rest) else {
+        return None;
+    };
+    let Some((a1, rest)) = word_at(16, b' ', rest) else {
+        return None;
+    };
+    let Some((a2, rest)) = word_at(16, b' ', rest) else {
+        return None;
+    };
+    let Some((a3, rest)) = word_at(16, b' ', rest) else {
+        return None;
+    };
+    let Some((a4, rest)) = word_at(16, b' ', rest) else {
+        return None;
+    };
+    let Some((a5, rest)) = word_at(16, b' ', rest) else {
+        return None;
+    };
+    let Some((_, rest)) = cut_at(b' ', rest) else {
+        return None;
+    };
+    let Some((reply, _)) = word_at(16, b' ', rest) else {
+        return None;
+    };
+    let args = [a0, a1, a2, a3, a4, a5];
     Some(CallHead {
         pid,
         call,
-        args: [a0, a1, a2, a3, a4, a5],
+        args,
         reply,
     })
 }
@@ -151,7 +174,7 @@ fn range_of(alloc: Global, word: &[u8]) -> Result<Option<Got>, AllocError>
         return Ok(None);
     };
     let front = addr_text(alloc, addr)?;
-    let Some(digits) = behind(front.as_bytes(), word) else {
+    let Some(digits) = behind(&front, word) else {
         return Ok(None);
     };
     let Some(bytes) = hex_of(alloc, digits)? else {

@@ -88,7 +88,7 @@ fn space_at(alloc: Global, text: &[u8]) -> Result<Option<(SpaceHead, &[u8])>, Al
         return Ok(None);
     };
     let line = space_line(alloc, head.stack, head.base, head.pid, head.events)?;
-    let Some(rest) = behind(line.as_bytes(), text) else {
+    let Some(rest) = behind(&line, text) else {
         return Ok(None);
     };
     if !is_base(head.base) {
@@ -102,15 +102,33 @@ fn space_at(alloc: Global, text: &[u8]) -> Result<Option<(SpaceHead, &[u8])>, Al
 fn space_numbers(text: &[u8]) -> Option<SpaceHead>
     ensures { Finds (λ head. head) result (space_numbers text.now) }
 {
-    let (_, rest) = cut_at(b' ', text)?;
-    let (_, rest) = cut_at(b' ', rest)?;
-    let (stack, rest) = word_at(10, b' ', rest)?;
-    let (_, rest) = cut_at(b'x', rest)?;
-    let (base, rest) = word_at(16, b' ', rest)?;
-    let (_, rest) = cut_at(b' ', rest)?;
-    let (pid, rest) = word_at(10, b' ', rest)?;
-    let (_, rest) = cut_at(b' ', rest)?;
-    let (events, _) = count_at(10, b'\n', rest)?;
+    let Some((_, rest)) = cut_at(b' ', text) else {
+        return None;
+    };
+    let Some((_, rest)) = cut_at(b' ', rest) else {
+        return None;
+    };
+    let Some((stack, rest)) = word_at(10, b' ', rest) else {
+        return None;
+    };
+    let Some((_, rest)) = cut_at(b'x', rest) else {
+        return None;
+    };
+    let Some((base, rest)) = word_at(16, b' ', rest) else {
+        return None;
+    };
+    let Some((_, rest)) = cut_at(b' ', rest) else {
+        return None;
+    };
+    let Some((pid, rest)) = word_at(10, b' ', rest) else {
+        return None;
+    };
+    let Some((_, rest)) = cut_at(b' ', rest) else {
+        return None;
+    };
+    let Some((events, _)) = count_at(10, b'\n', rest) else {
+        return None;
+    };
     Some(SpaceHead {
         stack,
         base,

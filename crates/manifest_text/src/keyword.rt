@@ -1,6 +1,6 @@
 //! The words that a line may begin with.
 
-ghost use Rattle.std.specs.Prelude.{◌≡◌};
+ghost use Rattle.std.specs.Prelude.{◌≡◌, bytes_eq};
 ghost use Rattle.manifest_text.specs.Lines.{keyword_of};
 
 /// What a line is about.
@@ -20,33 +20,39 @@ pub(crate) enum Keyword {
     Watch,
 }
 
+fn is(word: &[u8], keyword: &[u8]) -> bool
+    ensures { result ≡ bytes_eq word.now keyword.now }
+{
+    word == keyword
+}
+
 #[tactic(auto, unfolding(crate::specs::Lines::keyword_of))]
 pub fn keyword_of(word: &[u8]) -> Option<Keyword>
     ensures { result ≡ keyword_of word.now }
 {
-    if word == b"memory".as_slice() {
+    if is(word, b"memory") {
         Some(Keyword::Memory)
-    } else if word == b"elf".as_slice() {
+    } else if is(word, b"elf") {
         Some(Keyword::Elf)
-    } else if word == b"flat".as_slice() {
+    } else if is(word, b"flat") {
         Some(Keyword::Flat)
-    } else if word == b"file".as_slice() {
+    } else if is(word, b"file") {
         Some(Keyword::File)
-    } else if word == b"dir".as_slice() {
+    } else if is(word, b"dir") {
         Some(Keyword::Dir)
-    } else if word == b"stdin".as_slice() {
+    } else if is(word, b"stdin") {
         Some(Keyword::Stdin)
-    } else if word == b"root".as_slice() {
+    } else if is(word, b"root") {
         Some(Keyword::Root)
-    } else if word == b"start".as_slice() {
+    } else if is(word, b"start") {
         Some(Keyword::Start)
-    } else if word == b"quanta".as_slice() {
+    } else if is(word, b"quanta") {
         Some(Keyword::Quanta)
-    } else if word == b"repeat".as_slice() {
+    } else if is(word, b"repeat") {
         Some(Keyword::Repeat)
-    } else if word == b"dump".as_slice() {
+    } else if is(word, b"dump") {
         Some(Keyword::Dump)
-    } else if word == b"watch".as_slice() {
+    } else if is(word, b"watch") {
         Some(Keyword::Watch)
     } else {
         None

@@ -3,7 +3,7 @@
 use nommu_regions::Source;
 
 /// Addresses that a process may use. A range that is anonymous can be cut.
-#[derive(Clone, Copy, PartialEq, Eq)]
+#[derive(Clone, Copy)]
 pub struct Range {
     /// The first address.
     pub from: u32,
@@ -14,7 +14,7 @@ pub struct Range {
 }
 
 /// A run of whole pages that is held, and the range of it that is the process's own.
-#[derive(Clone, Copy, PartialEq, Eq)]
+#[derive(Clone, Copy)]
 pub struct Mapping {
     /// The first page of the run; page 0 is the first one of memory.
     pub first: u32,

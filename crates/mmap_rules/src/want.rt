@@ -20,7 +20,7 @@ const WRITE: u32 = 1;
 const PAGE: u64 = 4096;
 
 /// What a descriptor of mmap2 leads to.
-#[derive(Clone, Copy, PartialEq, Eq)]
+#[derive(Clone, Copy)]
 pub enum FileSide {
     /// It isn't open.
     Closed,
@@ -33,7 +33,7 @@ pub enum FileSide {
 }
 
 /// A mapping that mmap2 asks for.
-#[derive(Clone, Copy, PartialEq, Eq)]
+#[derive(Clone, Copy)]
 pub enum Want {
     /// So many pages of zeros.
     Anon {

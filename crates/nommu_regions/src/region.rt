@@ -4,7 +4,7 @@ ghost use Rattle.std.specs.Prelude.{◌≡◌, ◌+◌, ◌≤◌};
 ghost use Rattle.nommu_regions.specs.Regions.{covers, before, behind};
 
 /// Where the bytes of a region come from.
-#[derive(Clone, Copy, PartialEq, Eq, Drop)]
+#[derive(Clone, Copy, Drop)]
 pub enum Source {
     /// They are the region's own, and may be written.
     Own,
@@ -14,7 +14,7 @@ pub enum Source {
 }
 
 /// `pages` pages from page `first` on, held as often as `uses` says. Page 0 is the first page of memory.
-#[derive(Clone, Copy, PartialEq, Eq, Drop)]
+#[derive(Clone, Copy, Drop)]
 pub struct Region {
     pub first: u32,
     pub pages: u32,

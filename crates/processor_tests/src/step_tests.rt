@@ -69,19 +69,18 @@ static SETS: [(u32, u32, u32, u32); 39] = [
     (0xffff_f197, 0, 0, 0x7fff_f000), // auipc x3,0xfffff
 ];
 
-#[test]
-fn sets(rt: HostRuntime) {
+/// The first word that does something else.
+fn other_set() -> Option<u32> {
     for &(word, x1, x2, x3) in &SETS {
         let mut want = regs_of(x1, x2);
         want.pc = BASE + 4;
         want.x[3] = x3;
         let (stop, regs, _) = run(word, x1, x2);
-        assert_eq!(rt;
-            (stop, regs),
-            (Stop::Next, want),
-            "{word:#x} {x1:#x} {x2:#x}"
-        );
+        if stop != Stop::Next || regs != want {
+            return Some(word);
+        }
     }
+    None
 }
 
 /// Words that go on elsewhere, or behind themselves: the word, x1, x2, and pc then.
@@ -100,16 +99,14 @@ static GOES: [(u32, u32, u32, u32); 12] = [
     (0x0000_100f, 0, 0, BASE + 4), // fence.i
 ];
 
-#[test]
-fn goes(rt: HostRuntime) {
+fn other_way() -> Option<u32> {
     for &(word, x1, x2, pc) in &GOES {
         let (stop, regs, _) = run(word, x1, x2);
-        assert_eq!(rt;
-            (stop, regs.pc),
-            (Stop::Next, pc),
-            "{word:#x} {x1:#x} {x2:#x}"
-        );
+        if stop != Stop::Next || regs.pc != pc {
+            return Some(word);
+        }
     }
+    None
 }
 
 /// x0 stays 0, and a jump by x1 reads it before x1 is written: the word, x1, and pc, x0 and x1 then.
@@ -118,15 +115,23 @@ static WRITES: [(u32, u32, u32, u32, u32); 2] = [
     (0x0000_80e7, 0x2000, 0x2000, 0, BASE + 4), // jalr x1,0(x1)
 ];
 
-#[test]
-fn writes(rt: HostRuntime) {
+fn other_write() -> Option<u32> {
     for &(word, x1, pc, x0, link) in &WRITES {
         let mut want = regs_of(link, 0);
         want.pc = pc;
         want.x[0] = x0;
         let (stop, regs, _) = run(word, x1, 0);
-        assert_eq!(rt; (stop, regs), (Stop::Next, want), "{word:#x}");
+        if stop != Stop::Next || regs != want {
+            return Some(word);
+        }
     }
+    None
+}
+
+#[test]
+fn registers(rt: HostRuntime) {
+    assert!(rt; other_set().is_none());
+    assert!(rt; other_way().is_none() && other_write().is_none());
 }
 
 /// Words that stop, and change neither registers nor memory: the word, x1, and how it stops. x2 is 0x55.
@@ -171,15 +176,19 @@ const STORE_OVER_THE_START: Stop = Stop::Refused(Access {
     kind: AccessKind::Store,
 });
 
+fn other_stop() -> Option<u32> {
+    for &(word, x1, want) in &STOPS {
+        let (stop, regs, left) = run(word, x1, 0x55);
+        if stop != want || regs != regs_of(x1, 0x55) || left != word {
+            return Some(word);
+        }
+    }
+    None
+}
+
 #[test]
 fn stops(rt: HostRuntime) {
-    for &(word, x1, stop) in &STOPS {
-        assert_eq!(rt;
-            run(word, x1, 0x55),
-            (stop, regs_of(x1, 0x55), word),
-            "{word:#x} {x1:#x}"
-        );
-    }
+    assert!(rt; other_stop().is_none());
 }
 
 /// What x3 is after the word loaded from index 7 of these bytes.
@@ -199,11 +208,14 @@ static LOADS: [(u32, u32); 5] = [
     (0x0050_d183, 0x8382), // lhu x3,5(x1)
 ];
 
-#[test]
-fn loads_at_an_odd_address(rt: HostRuntime) {
-    for &(word, x3) in &LOADS {
-        assert_eq!(rt; loaded(word), (Stop::Next, x3), "{word:#x}");
+fn other_load() -> Option<u32> {
+    for &(word, want) in &LOADS {
+        let (stop, x3) = loaded(word);
+        if stop != Stop::Next || x3 != want {
+            return Some(word);
+        }
     }
+    None
 }
 
 /// The bytes after the word stored x2 at index 7, of which the last eight were 0xff.
@@ -238,11 +250,19 @@ static STORES: [(u32, [u8; 12]); 3] = [
     ), // sw x2,9(x1)
 ];
 
-#[test]
-fn stores_at_an_odd_address(rt: HostRuntime) {
+fn other_store() -> Option<u32> {
     for &(word, want) in &STORES {
-        assert_eq!(rt; stored(word), (Stop::Next, want), "{word:#x}");
+        let (stop, memory) = stored(word);
+        if stop != Stop::Next || memory != want {
+            return Some(word);
+        }
     }
+    None
+}
+
+#[test]
+fn at_odd_addresses(rt: HostRuntime) {
+    assert!(rt; other_load().is_none() && other_store().is_none());
 }
 
 /// A fetch of bytes that stand up to 2^32 and past it, over a bus that is made here.
@@ -261,7 +281,7 @@ fn refuses_a_fetch_past_the_end(rt: HostRuntime) {
         len: 4,
         kind: AccessKind::Fetch,
     });
-    assert_eq!(rt; step(&mut regs, &mut bus), want);
+    assert!(rt; step(&mut regs, &mut bus) == want);
 }
 
 #[test]
@@ -269,12 +289,6 @@ fn stores_over_the_end_of_its_word(rt: HostRuntime) {
     let mut memory = [0xa3, 0x94, 0x20, 0x00, 0xff, 0xff, 0xff, 0xff]; // sh x2,9(x1)
     let mut regs = regs_of(BASE - 5, 0x1122_3344);
     let stop = step_in(&mut regs, BASE, &mut memory);
-    assert_eq!(rt;
-        (stop, regs.pc, memory),
-        (
-            Stop::Next,
-            BASE + 4,
-            [0xa3, 0x94, 0x20, 0x00, 0x44, 0x33, 0xff, 0xff]
-        )
-    );
+    let is_stored = memory == [0xa3, 0x94, 0x20, 0x00, 0x44, 0x33, 0xff, 0xff];
+    assert!(rt; stop == Stop::Next && regs.pc == BASE + 4 && is_stored);
 }

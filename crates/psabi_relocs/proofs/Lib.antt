@@ -1,5 +1,6 @@
 -- StoredWord     where a word stands in a section's content
 -- IndexSearches  laws of first_below
+-- FirstNotes     laws of what was noted first
 -- IndexEntries   what an index says of the first entries
 -- GroupCounts    bounds of a group's counts
 -- StoredSlots    the section of a slot, by the first addresses of the sections
@@ -10,6 +11,7 @@
 -- Samples      two groups, computed
 pub mod StoredWord
 pub mod IndexSearches
+pub mod FirstNotes
 pub mod IndexEntries
 pub mod GroupCounts
 pub mod StoredSlots

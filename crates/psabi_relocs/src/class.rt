@@ -64,6 +64,7 @@ fn is_loaded(elf: &Elf<'_>, index: u16) -> bool
 
 /// The class of a symbol, given by the section index of its table and its own.
 #[tactic(auto, unfolding(crate::specs::Class::class))]
+#[inline(always)]
 pub fn class_of(elf: &Elf<'_>, table: u32, symbol: u32) -> Class
     requires table { is_symtab elf.now table ≡ true }
     requires symbol { symbol < symbol_count elf.now table }

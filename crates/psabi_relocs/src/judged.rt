@@ -39,7 +39,7 @@ impl<'a, 'b> KeptSection<'a, 'b> {
         ensures { result ≡ own_high self.now.file self.now.section reloc.now }
     {
         match reloc.row {
-            Row::Low(_) => self.pairs.high.get(&reloc.value).copied(),
+            Row::Low(_) => self.pairs.high.get(reloc.value),
             _ => None,
         }
     }

@@ -9,6 +9,7 @@ mod class;
 mod effect;
 mod fault;
 mod field;
+mod firsts;
 mod group;
 mod judged;
 mod judgement;

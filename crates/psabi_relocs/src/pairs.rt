@@ -13,44 +13,35 @@ ghost use Rattle.psabi_relocs.specs.Bytes.{holds};
 ghost use Rattle.psabi_relocs.specs.Pair.{is_high_at, names};
 ghost use Rattle.psabi_relocs.specs.Group.{entry_step};
 ghost use Rattle.psabi_relocs.specs.Sums.{sums_or_none, sum_of, CanStep};
+ghost use Rattle.psabi_relocs.specs.Noted.{noted};
 ghost use Rattle.psabi_relocs.specs.Index.{IsPairs};
 
 use crate::bytes::holds;
+use crate::firsts::{Firsts, Notes};
 use crate::group::Sums;
 use crate::reloc::{Reloc, reloc_at};
 use crate::row::{Row, Shape};
 use elf32_reader::{Elf, Section};
 use std::alloc::{AllocError, Global};
 use std::collections::BTreeMap;
-use std::collections::btree_map::Entry;
 
 /// A kept section's entries by address.
 #[derive(Drop)]
 pub struct Pairs {
     /// By place, the first entry with a high part.
-    pub(crate) high: BTreeMap<u32, u32>,
+    pub(crate) high: Firsts,
     /// By the address that it names, the first low part.
-    pub(crate) low: BTreeMap<u32, u32>,
+    pub(crate) low: Firsts,
     /// By place, the sums of the groups.
     pub(crate) sums: BTreeMap<u32, Sums>,
 }
 
-/// Gives `address` the index, unless it has one.
-pub fn note_first(
-    firsts: &mut BTreeMap<u32, u32>,
-    address: u32,
-    index: u32,
-) -> Result<(), AllocError>
-    ensures { OnOk result ((q : ℕ) →
-        tree.get nat_cmp firsts.new q ≡ option_or (tree.get nat_cmp firsts.old q) (if address == q then Some index else None)) }
-{
-    match firsts.entry(address)? {
-        Entry::Occupied(_) => {}
-        Entry::Vacant(free) => {
-            free.insert(index);
-        }
-    }
-    Ok(())
+/// What the walk over the entries has noted for `Pairs`.
+#[derive(Drop)]
+struct Noted {
+    high: Notes,
+    low: Notes,
+    sums: BTreeMap<u32, Sums>,
 }
 
 /// Whether entries of a row pair with others, or are steps of a group.
@@ -82,29 +73,24 @@ fn names_address(target: &Section, reloc: &Reloc) -> bool
 
 /// Takes in an entry's high part, if it has one.
 #[tactic(auto, unfolding(crate::specs::Pair::is_high_at))]
-fn note_high(high: &mut BTreeMap<u32, u32>, reloc: &Reloc, entry: u32) -> Result<(), AllocError>
+fn note_high(high: &mut Notes, reloc: &Reloc, entry: u32) -> Result<(), AllocError>
     ensures { OnOk result ((q : ℕ) →
-        tree.get nat_cmp high.new q ≡ option_or (tree.get nat_cmp high.old q) (if is_high_at q reloc.now then Some entry else None)) }
+        noted high.new q ≡ option_or (noted high.old q) (if is_high_at q reloc.now then Some entry else None)) }
 {
     if has_high(reloc) {
-        note_first(high, reloc.place, entry)?;
+        high.note(reloc.place, entry)?;
     }
     Ok(())
 }
 
 /// Takes in the address that an entry names as a low part in `target`, if it does.
 #[tactic(auto, unfolding(crate::specs::Pair::names))]
-fn note_low(
-    low: &mut BTreeMap<u32, u32>,
-    target: &Section,
-    reloc: &Reloc,
-    entry: u32,
-) -> Result<(), AllocError>
+fn note_low(low: &mut Notes, target: &Section, reloc: &Reloc, entry: u32) -> Result<(), AllocError>
     ensures { OnOk result ((q : ℕ) →
-        tree.get nat_cmp low.new q ≡ option_or (tree.get nat_cmp low.old q) (if names target.now q reloc.now then Some entry else None)) }
+        noted low.new q ≡ option_or (noted low.old q) (if names target.now q reloc.now then Some entry else None)) }
 {
     if names_address(target, reloc) {
-        note_first(low, reloc.value, entry)?;
+        low.note(reloc.value, entry)?;
     }
     Ok(())
 }
@@ -135,14 +121,14 @@ fn note_step(sums: &mut BTreeMap<u32, Sums>, reloc: &Reloc) -> Result<(), AllocE
     Ok(())
 }
 
-impl Pairs {
+impl Noted {
     /// Takes in an entry. `target` is the section that it applies to.
     fn note(&mut self, target: &Section, reloc: &Reloc, entry: u32) -> Result<(), AllocError>
         requires room { (width : Width) → CanStep (sum_of width (sums_or_none (tree.get nat_cmp self.old.sums reloc.now.place))) }
         ensures high { OnOk result ((q : ℕ) →
-            tree.get nat_cmp self.new.high q ≡ option_or (tree.get nat_cmp self.old.high q) (if is_high_at q reloc.now then Some entry else None)) }
+            noted self.new.high q ≡ option_or (noted self.old.high q) (if is_high_at q reloc.now then Some entry else None)) }
         ensures low { OnOk result ((q : ℕ) →
-            tree.get nat_cmp self.new.low q ≡ option_or (tree.get nat_cmp self.old.low q) (if names target.now q reloc.now then Some entry else None)) }
+            noted self.new.low q ≡ option_or (noted self.old.low q) (if names target.now q reloc.now then Some entry else None)) }
         ensures sums { OnOk result ((q : ℕ) (width : Width) →
             sum_of width (sums_or_none (tree.get nat_cmp self.new.sums q)) ≡ entry_step q width reloc.now (sum_of width (sums_or_none (tree.get nat_cmp self.old.sums q)))) }
     {
@@ -164,9 +150,9 @@ impl Pairs {
         requires entry { entry < rela_count elf.now section }
         requires room { (width : Width) → CanStep (sum_of width (sums_or_none (tree.get nat_cmp self.old.sums (reloc elf.now section entry).place))) }
         ensures high { OnOk result ((q : ℕ) →
-            tree.get nat_cmp self.new.high q ≡ option_or (tree.get nat_cmp self.old.high q) (if is_high_at q (reloc elf.now section entry) then Some entry else None)) }
+            noted self.new.high q ≡ option_or (noted self.old.high q) (if is_high_at q (reloc elf.now section entry) then Some entry else None)) }
         ensures low { OnOk result ((q : ℕ) →
-            tree.get nat_cmp self.new.low q ≡ option_or (tree.get nat_cmp self.old.low q) (if names target.now q (reloc elf.now section entry) then Some entry else None)) }
+            noted self.new.low q ≡ option_or (noted self.old.low q) (if names target.now q (reloc elf.now section entry) then Some entry else None)) }
         ensures sums { OnOk result ((q : ℕ) (width : Width) →
             sum_of width (sums_or_none (tree.get nat_cmp self.new.sums q)) ≡ entry_step q width (reloc elf.now section entry) (sum_of width (sums_or_none (tree.get nat_cmp self.old.sums q)))) }
     {
@@ -175,23 +161,30 @@ impl Pairs {
         }
         self.note(target, &reloc_at(elf, section, entry), entry)
     }
+}
 
-    /// The index of the kept section `section`. It takes memory for the entries that pair or group alone: one
-    /// node for all that stand at one place or name one address. The time is n log n in the entries. Only out of
-    /// memory is an `Err`.
+impl Pairs {
+    /// The index of the kept section `section`. It takes memory for the entries that pair or group alone: eight bytes for
+    /// each that pairs, as much again while they are sorted, and one node for all steps of groups at one place. Where the
+    /// addresses ascend in the order of the entries, nothing is sorted; else the time is n log n in the entries. Only out
+    /// of memory is an `Err`.
     pub fn of(alloc: Global, elf: &Elf<'_>, section: u32) -> Result<Pairs, AllocError>
         requires kept { is_kept elf.now section ≡ true }
         ensures { IfOk result (λ pairs. IsPairs elf.now section pairs) }
     {
         let target = elf.section(elf.section(section).info);
-        let mut pairs = Pairs {
-            high: BTreeMap::new(alloc),
-            low: BTreeMap::new(alloc),
+        let mut noted = Noted {
+            high: Notes::new(alloc),
+            low: Notes::new(alloc),
             sums: BTreeMap::new(alloc),
         };
         for entry in 0..elf.relas(section) {
-            pairs.note_entry(elf, section, &target, entry)?;
+            noted.note_entry(elf, section, &target, entry)?;
         }
-        Ok(pairs)
+        Ok(Pairs {
+            high: noted.high.firsts()?,
+            low: noted.low.firsts()?,
+            sums: noted.sums,
+        })
     }
 }

@@ -26,6 +26,7 @@ pub struct Reloc {
 
 /// Entry `entry` of the kept section `section`.
 #[tactic(auto, using(elf32_reader::proofs::Places::is_kept_below), unfolding(crate::specs::Reloc::reloc))]
+#[inline(always)]
 pub fn reloc_at(elf: &Elf<'_>, section: u32, entry: u32) -> Reloc
     requires kept { is_kept elf.now section ≡ true }
     requires entry { entry < rela_count elf.now section }

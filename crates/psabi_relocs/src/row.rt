@@ -68,6 +68,7 @@ pub enum Row {
 impl Row {
     /// The row of a relocation type's number.
     #[tactic(auto, unfolding(crate::specs::Row::row_of))]
+    #[inline(always)]
     pub fn of(kind: u8) -> Row
         ensures { result ≡ row_of kind }
     {

@@ -39,7 +39,7 @@ impl KeptSection<'_, '_> {
         if !self.holds(place, WORD_LEN) {
             return None;
         }
-        let low = self.reloc(*self.pairs.low.get(&place)?);
+        let low = self.reloc(self.pairs.low.get(place)?);
         let high = imm_u(self.word(place));
         let low = low_immediate(low.row, self.word(low.place));
         Some(place.wrapping_add(high).wrapping_add(low))

@@ -13,17 +13,31 @@ ghost use Rattle.psabi_relocs.specs.Slot.{holds_slot, slot_section};
 ghost use Rattle.psabi_relocs.specs.Index.{AreStored};
 
 use crate::bytes::{WORD_LEN, holds};
-use crate::pairs::note_first;
 use elf32_reader::{Elf, Section};
 use flat_layout::has_bytes;
 use std::alloc::{AllocError, Global};
 use std::collections::BTreeMap;
+use std::collections::btree_map::Entry;
 
 /// The sections of the image with bytes in the file, by address.
 #[derive(Drop)]
 pub struct StoredSections {
     /// By first address, the index of the section.
     pub(crate) firsts: BTreeMap<u32, u32>,
+}
+
+/// Gives `address` the index, unless it has one.
+fn note_first(firsts: &mut BTreeMap<u32, u32>, address: u32, index: u32) -> Result<(), AllocError>
+    ensures { OnOk result ((q : ℕ) →
+        tree.get nat_cmp firsts.new q ≡ option_or (tree.get nat_cmp firsts.old q) (if address == q then Some index else None)) }
+{
+    match firsts.entry(address)? {
+        Entry::Occupied(_) => {}
+        Entry::Vacant(free) => {
+            free.insert(index);
+        }
+    }
+    Ok(())
 }
 
 /// Takes in a section of the image with bytes in the file.

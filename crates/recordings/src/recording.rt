@@ -1,7 +1,8 @@
 //! The recording of one space.
 
-ghost use Rattle.std.specs.Prelude.{◌≡◌, ◌≤◌, ◌<◌, ◌^◌, ◌++◌, ◌∷◌, ℕ, [], List, Some, OnOk, OnErr, length, min};
+ghost use Rattle.std.specs.Prelude.{◌≡◌, ◌≤◌, ◌<◌, ◌^◌, ◌++◌, ◌∷◌, ℕ, [], List, Some, OnOk, OnErr, length, min, option_map};
 ghost use Rattle.call_log.specs.Notes.{has_room};
+ghost use Rattle.flat_loader.specs.Frame.{texts};
 ghost use Rattle.machine_world.specs.Recordings.{nothing_recorded, is_recorded, raised_in, with_brought};
 ghost use Rattle.recordings.specs.Inside.{launch_value};
 
@@ -60,6 +61,34 @@ impl Recording {
             brought: Vec::new(alloc),
             weight: 0,
         }
+    }
+
+    /// The number of the load note whose space is recorded, or 0 for none.
+    pub fn kept(&self) -> u32
+        ensures { result ≡ self.now.keep }
+    {
+        self.keep
+    }
+
+    /// The program that was loaded into the space, if it was.
+    pub fn program(&self) -> Option<&Launch>
+        ensures { option_map (λ launch. launch_value launch.now) result ≡ self.now.launch }
+    {
+        self.launch.as_ref()
+    }
+
+    /// How many events were made in the space, other than waits; at most as many as fit.
+    pub fn events(&self) -> u64
+        ensures { result ≡ self.now.events }
+    {
+        self.events
+    }
+
+    /// What each mapping of a file brought, one by one.
+    pub fn brought(&self) -> &[Vec<u8>]
+        ensures { texts result.now ≡ self.now.brought }
+    {
+        &self.brought
     }
 
     /// Whether this is the space that is recorded.

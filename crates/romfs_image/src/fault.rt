@@ -8,7 +8,7 @@ use std::alloc::{AllocError, AllocFailed};
 
 /// Why bytes are no romfs image. The first five are looked for in this order, then the next six at each
 /// header in the order of the walk, and `Link` behind all of them.
-#[derive(Clone, Copy, Debug, PartialEq, Eq)]
+#[derive(Clone, Copy, PartialEq, Eq)]
 pub enum RomFault {
     /// Fewer than 32 bytes.
     Short,
@@ -55,7 +55,7 @@ impl<T: Drop> From<AllocFailed<T>> for RomFault {
 }
 
 /// Why nodes have no image.
-#[derive(Clone, Copy, Debug, PartialEq, Eq)]
+#[derive(Clone, Copy, PartialEq, Eq)]
 pub enum MakeFault {
     /// It would have more than 67,108,864 bytes.
     TooLarge,

@@ -1,7 +1,7 @@
 //! What an image says.
 
 /// A node's kind.
-#[derive(Clone, Copy, Debug, PartialEq, Eq)]
+#[derive(Clone, Copy, PartialEq, Eq)]
 pub enum RomKind {
     Dir,
     File,

@@ -11,7 +11,7 @@ use romfs_image::RomFault;
 use std::alloc::{AllocError, AllocFailed};
 
 /// Why a line of a manifest is refused.
-#[derive(Debug, Drop)]
+#[derive(Drop)]
 pub enum LineFault {
     /// Its file is longer than the limit of its load.
     TooLong,
@@ -34,7 +34,7 @@ pub enum LineFault {
 }
 
 /// A fault of the line with this number.
-#[derive(Debug, Drop)]
+#[derive(Drop)]
 pub struct FaultAt {
     pub line: u32,
     pub fault: LineFault,

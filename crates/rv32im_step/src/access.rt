@@ -1,7 +1,7 @@
 //! Accesses to memory.
 
 /// An access to `len` bytes from `addr` on, by the instruction at `pc`.
-#[derive(Clone, Copy, Debug, PartialEq, Eq)]
+#[derive(Clone, Copy, PartialEq, Eq)]
 pub struct Access {
     pub pc: u32,
     pub addr: u32,
@@ -10,7 +10,7 @@ pub struct Access {
 }
 
 /// What an access is for. `Call` is one of a system call, which no step makes.
-#[derive(Clone, Copy, Debug, PartialEq, Eq)]
+#[derive(Clone, Copy, PartialEq, Eq)]
 pub enum AccessKind {
     Fetch,
     Load,

@@ -6,7 +6,7 @@ use crate::stop::Stop;
 
 /// The registers: RISC-V unprivileged ISA, "Programmers' Model for Base Integer ISA". `x[0]` stands
 /// for x0, which reads 0 whatever it holds, and which no step writes.
-#[derive(Clone, Copy, Debug, PartialEq, Eq)]
+#[derive(Clone, Copy, PartialEq, Eq)]
 pub struct Regs {
     pub pc: u32,
     pub x: [u32; 32],

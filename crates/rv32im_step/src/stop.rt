@@ -3,7 +3,7 @@
 use crate::access::Access;
 
 /// How one step ended. Only after `Next` have registers or memory changed.
-#[derive(Clone, Copy, Debug, PartialEq, Eq)]
+#[derive(Clone, Copy, PartialEq, Eq)]
 pub enum Stop {
     /// The instruction was carried out.
     Next,

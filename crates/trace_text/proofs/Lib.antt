@@ -1,4 +1,4 @@
--- Digits      what a hole of two hexadecimal digits writes
+-- Digits      the two digits of a byte
 -- Arguments   the texts of a call's arguments, one more at a time
 -- Shown       the notes that a trace shows, one more at a time
 -- CountSteps  the counts of calls, and what one more call makes of them

@@ -1,6 +1,6 @@
 //! How often each call was made.
 
-ghost use Rattle.std.specs.Prelude.{◌≡◌, ◌++◌, List, [], map, option_map, OnOk, IfOk, string_bytes};
+ghost use Rattle.std.specs.Prelude.{◌≡◌, ◌++◌, List, [], map, option_map, OnOk, IfOk};
 ghost use Rattle.std.specs.Option.{unwrap_or, option_to_list};
 ghost use Rattle.std.specs.Ordering.{nat_cmp};
 ghost use Rattle.std.specs.BTreeMap.{get, insert_entry, values};
@@ -9,7 +9,7 @@ ghost use Rattle.call_log.specs.Values.{entry_value, note_value};
 ghost use Rattle.trace_text.specs.Counts.{kept, got_len, shown_call, shown_calls, count_of, count_with, tally, counts_of, count_line};
 
 use crate::error::is_error;
-use crate::lines::name_text;
+use crate::lines::{push_name, push_number};
 use call_log::{Entry, Note};
 use std::alloc::{AllocError, Global};
 use std::collections::BTreeMap;
@@ -132,9 +132,14 @@ pub fn count_line(alloc: Global, count: &Count) -> Result<Vec<u8>, AllocError>
         sent,
         got,
     } = *count;
-    let name = name_text(alloc, number)?;
-    let text = format!(in alloc;
-        "count {number} {name} calls {calls} errors {errors} sent {sent} got {got}\n"
-    )?;
-    Ok(text.into_bytes())
+    let mut text = Vec::new(alloc);
+    push_number(&mut text, b"count ", u64::from(number))?;
+    text.push(b' ')?;
+    push_name(&mut text, number)?;
+    push_number(&mut text, b" calls ", calls)?;
+    push_number(&mut text, b" errors ", errors)?;
+    push_number(&mut text, b" sent ", sent)?;
+    push_number(&mut text, b" got ", got)?;
+    text.push(b'\n')?;
+    Ok(text)
 }

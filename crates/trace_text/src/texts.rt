@@ -7,7 +7,7 @@ ghost use Rattle.call_log.specs.Programs.{IsProgramBelow, paths_of};
 ghost use Rattle.trace_text.specs.Texts.{shown_text, counts_text, trace_texts, AreProgramsBelow};
 
 use crate::counting::{count_line, counts, shown_call};
-use crate::lines::line;
+use crate::lines::push_line;
 use call_log::Note;
 use std::alloc::{AllocError, Global};
 
@@ -26,7 +26,7 @@ pub fn trace_texts(
 {
     let mut text = Vec::new(alloc);
     for note in notes {
-        push_note(alloc, &mut text, note, paths, pid)?;
+        push_note(&mut text, note, paths, pid)?;
     }
     if counted {
         push_counts(alloc, &mut text, notes, pid)?;
@@ -35,7 +35,6 @@ pub fn trace_texts(
 }
 
 fn push_note(
-    alloc: Global,
     text: &mut Vec<u8>,
     note: &Note,
     paths: &[Vec<u8>],
@@ -44,14 +43,13 @@ fn push_note(
     requires { IsProgramBelow (length paths.now) (note_value note.now) }
     ensures { IfOk result (λ _. text.new.items ≡ text.old.items ++ shown_text pid (paths_of paths.now) (note_value note.now)) }
 {
-    let line = match note {
+    match note {
         Note::Call(_) => match shown_call(note, pid) {
-            Some(entry) => line(alloc, entry)?,
-            None => return Ok(()),
+            Some(entry) => push_line(text, entry),
+            None => Ok(()),
         },
-        _ => call_log::line(alloc, note, paths)?,
-    };
-    text.extend_from_slice(&line)
+        _ => call_log::push_line(text, note, paths),
+    }
 }
 
 fn push_counts(

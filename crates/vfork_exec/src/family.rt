@@ -6,7 +6,7 @@ ghost use Rattle.vfork_exec.specs.Families.{is_child, is_ready, is_lent_to, resu
 use call_log::How;
 
 /// Which of its children a process waits for.
-#[derive(Clone, Copy, PartialEq, Eq)]
+#[derive(Clone, Copy)]
 pub enum Who {
     All,
     /// The child with this pid.
@@ -27,7 +27,7 @@ impl Who {
 }
 
 /// How it stands with a process that lives.
-#[derive(Clone, Copy, PartialEq, Eq)]
+#[derive(Clone, Copy)]
 pub enum State {
     /// It may run.
     Ready,
@@ -96,7 +96,7 @@ impl State {
 }
 
 /// A process that has ended, and that its parent hasn't waited for.
-#[derive(Clone, Copy, PartialEq, Eq)]
+#[derive(Clone, Copy)]
 pub struct Ended {
     pub pid: u32,
     pub parent: u32,
@@ -104,7 +104,7 @@ pub struct Ended {
 }
 
 /// What a process is told that asks for its children.
-#[derive(Clone, Copy, PartialEq, Eq)]
+#[derive(Clone, Copy)]
 pub enum Waited {
     /// Of those that have ended, the one that ended first.
     Child { pid: u32, how: How },

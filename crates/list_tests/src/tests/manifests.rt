@@ -148,14 +148,19 @@ static FAULTS: [(&str, u32, ManifestFault); 40] = [
     ("", 0, ManifestFault::NoStart),
 ];
 
+/// The first text that has another fault.
+fn other_fault(alloc: Global) -> Option<&'static str> {
+    for &(text, line, fault) in &FAULTS {
+        if !has_fault(alloc, text.as_bytes(), Some((line, fault))) {
+            return Some(text);
+        }
+    }
+    None
+}
+
 #[test]
 fn each_fault_has_its_line(rt: HostRuntime) {
-    for &(text, line, fault) in &FAULTS {
-        assert!(rt;
-            has_fault(rt.alloc(), text.as_bytes(), Some((line, fault))),
-            "{text}"
-        );
-    }
+    assert!(rt; other_fault(rt.alloc()).is_none());
 }
 
 /// A front, how often a part stands behind it, and a back; the line of the fault and the fault, if there is one.
@@ -219,11 +224,19 @@ static LIMITS: [(&str, u32, &str, &str, Option<(u32, ManifestFault)>); 15] = [
     ),
 ];
 
+/// The first row of which that isn't so.
+fn other_limit(alloc: Global) -> Result<Option<u32>, AllocError> {
+    for &(front, count, part, back, want) in &LIMITS {
+        let text = many(alloc, front, count, part, back)?;
+        if !has_fault(alloc, text.as_bytes(), want) {
+            return Ok(Some(count));
+        }
+    }
+    Ok(None)
+}
+
 #[test]
 fn limits_are_exact(rt: HostRuntime) -> Result<(), Fail> {
-    for &(front, count, part, back, want) in &LIMITS {
-        let text = many(rt.alloc(), front, count, part, back)?;
-        assert!(rt; has_fault(rt.alloc(), text.as_bytes(), want), "{count}");
-    }
+    assert!(rt; other_limit(rt.alloc())?.is_none());
     Ok(())
 }

@@ -8,7 +8,7 @@ use Rattle.elf2flt_tool.proofs.collect.add_entry.Goals as goal
 pub note-requires-clause-inside : goal.note-requires-clause-inside
 note-requires-clause-inside c =
     let spans = c.in-Ok.checked.spans in
-    entry_inside c.args.elf.now c.args.section c.args.entry c.args.layout.now _ (spans.own ∷ option_to_list spans.slot) c.requires.layout c.requires.found.cover.still_len (sym c.in-Ok.ensures.2)
+    entry_inside c.args.elf.now c.args.section c.args.entry c.args.layout.now _ (spans.own ∷ option_to_list spans.slot) c.requires.layout c.requires.found.cover.len (sym c.in-Ok.ensures.2)
     c.requires.no_fault c.requires.kept c.in-Ok.ensures.0
 
 pub note-requires-clause-words : goal.note-requires-clause-words

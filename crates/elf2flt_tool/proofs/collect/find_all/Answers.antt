@@ -20,7 +20,7 @@ pub loop-section-init : goal.loop-section-init
 loop-section-init c = record {
   none = first_zero _;
   found =
-      none_found c.args.elf.now c.in_ok-found.found c.in_ok-found.ensures.words (rw c.requires.layout at (c.in_ok-found.ensures.cover (layout c.args.elf.now)));
+      none_found c.args.elf.now c.new-found.result c.new-found.ensures.words (rw c.requires.layout at (c.new-found.ensures.cover (layout c.args.elf.now)));
 }
 
 pub returns-in_err-add_section : goal.returns-in_err-add_section

@@ -1,12 +1,11 @@
-use Rattle.std.proofs.Common.{◌+◌, length, map, filter, ◌≡◌, ◌∙◌, ap, arith}
+use Rattle.std.proofs.Common.{length, map, filter, ◌∙◌, ap, arith}
 use Rattle.std.proofs.lemmas.Result.{err_from_is_err_and}
-use Rattle.flat_layout.specs.Layout.{layout}
 use Rattle.flat_layout.proofs.Facts.{size_le}
 use Rattle.elf2flt_tool.specs.Word.{lowest}
 use Rattle.elf2flt_tool.specs.Cover.{is_met}
 use Rattle.elf2flt_tool.proofs.Walked.{all_found}
 use Rattle.elf2flt_tool.proofs.Ascending.{counted_records}
-use Rattle.elf2flt_tool.proofs.Assembled.{overlap-tested, words-inside}
+use Rattle.elf2flt_tool.proofs.Assembled.{overlap-tested}
 use Rattle.elf2flt_tool.proofs.conversion.find_places.Goals as goal
 
 pub returns-in_err-found : goal.returns-in_err-found
@@ -19,14 +18,8 @@ places_of-requires c =
     let e = c.args.elf.now in
     let whole = all_found e c.in_ok-found.found c.in_ok-found.ensures.1 in
     let small = size_le e c.requires.no_fault in
-    let len : length c.deref-2.result.now ≡ (layout e).text + (layout e).data_len = ap length c.deref-2.ensures.value ∙ whole.cover.words_len in
-    omega arith
-
-pub lowest_met-met-requires : goal.lowest_met-met-requires
-lowest_met-met-requires c =
-    let e = c.args.elf.now in
-    let whole = all_found e c.in_ok-found.found c.in_ok-found.ensures.1 in
-    rw c.deref.ensures.value (words-inside e c.in_ok-found.found _ c.requires.no_fault c.in_ok-found.ensures.0 whole whole.cover.still_len)
+    let len = ap length c.deref-2.ensures.value in
+    omega (arith, whole.cover.room.words, whole.cover.len)
 
 pub returns : goal.returns
 returns c =

@@ -1,8 +1,7 @@
--- The hole writes the digits with zeros in front.
-use Rattle.std.proofs.Common.{false}
-use Rattle.std.specs.Fmt.{digits}
-use Rattle.trace_text.proofs.Digits.{padded_byte}
+-- The digits of the byte behind the two signs.
+use Rattle.std.proofs.lemmas.List.{append_assoc}
+use Rattle.trace_text.proofs.Digits.{byte_text}
 use Rattle.trace_text.proofs.lines.push_escape.Goals as goal
 
 pub returns : goal.returns
-returns c = let h = rw c.laid_out.ensures at c.write.ensures.bytes in let k = rw c.in_radix.ensures at h in rw (padded_byte (digits 16 false c.args.byte)) at k
+returns c = rw (c.in_ok-push_bytes.ensures, c.in_ok-extend_from_slice.ensures.items, byte_text c.args.byte c.ranges.byte.fits) (simp append_assoc)

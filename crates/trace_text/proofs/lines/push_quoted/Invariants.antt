@@ -1,8 +1,8 @@
 -- The bytes so far.
-use Rattle.std.proofs.Common.{◌≡◌, ◌++◌, take, string_bytes}
+use Rattle.std.proofs.Common.{◌≡◌, ◌++◌, take}
 use Rattle.std.specs.List.{flat_map}
 use Rattle.trace_text.specs.Lines.{quoted_byte}
 use Rattle.trace_text.proofs.lines.push_quoted.Given as goal
 
 abbrev pub invariant-loop-byte : goal.invariant-loop-byte
-invariant-loop-byte l = string_bytes l.text ≡ string_bytes l.initial.text ++ flat_map quoted_byte (take l.byte-index l.bytes)
+invariant-loop-byte l = l.text.items ≡ l.initial.text.items ++ flat_map quoted_byte (take l.byte-index l.bytes)

@@ -15,8 +15,8 @@ section-target-requires c = rw c.section.ensures (is_kept_info _ _ c.requires.ke
 
 pub loop-entry-init : goal.loop-entry-init
 loop-entry-init c = record {
-  high = λ q. rw (c.new.ensures.empty, first_below_zero) refl;
-  low = λ q. rw (c.new-2.ensures.empty, first_below_zero) refl;
+  high = λ q. rw (c.new.ensures, first_below_zero) refl;
+  low = λ q. rw (c.new-2.ensures, first_below_zero) refl;
   sums = λ q width. rw c.new-3.ensures.empty (sum_below_zero _ _ q width);
 }
 
@@ -33,11 +33,11 @@ note_entry-requires c =
 pub loop-entry-preserved : goal.loop-entry-preserved
 loop-entry-preserved c =
     let step = rw (c.section-target.ensures, c.section.ensures) at c.in_ok-note_entry.ensures in
-    one_more c.args.elf.now c.args.section c.loop-entry.entry c.loop-entry.pairs c.note_entry.new.self c.loop-entry.invariant (
+    one_more c.args.elf.now c.args.section c.loop-entry.entry c.loop-entry.noted c.note_entry.new.self c.loop-entry.invariant (
     record { high = step.high; low = step.low; sums = step.sums })
 
 pub returns : goal.returns
 returns c =
     let all : c.loop-entry.entry ≡ rela_count c.args.elf.now c.args.section = omega (arith, c.relas-entry-end.ensures.count) in
-    all_entries c.args.elf.now c.args.section c.loop-entry.pairs (
-    subst (λ n. HasEntries c.args.elf.now c.args.section n c.loop-entry.pairs) all c.loop-entry.invariant)
+    let entries = subst (λ n. HasEntries c.args.elf.now c.args.section n c.loop-entry.noted) all c.loop-entry.invariant in
+    all_entries c.args.elf.now c.args.section c.loop-entry.noted _ entries c.in_ok-firsts.ensures c.in_ok-firsts-2.ensures refl

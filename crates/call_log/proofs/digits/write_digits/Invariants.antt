@@ -1,0 +1,7 @@
+-- The digits of the bytes so far.
+use Rattle.std.proofs.Common.{◌≡◌, ◌*◌, ◌++◌, take, drop}
+use Rattle.hex.specs.Hex.{encode_lower}
+use Rattle.call_log.proofs.digits.write_digits.Given as goal
+
+abbrev pub invariant-loop-place : goal.invariant-loop-place
+invariant-loop-place l = take (2 * l.place) l.digits ++ encode_lower (drop l.place l.bytes) ≡ encode_lower l.bytes

@@ -1,9 +1,0 @@
--- The items so far.
-use Rattle.std.proofs.Common.{◌≡◌, take, map, string_bytes}
-use Rattle.std.specs.List.{flat_map}
-use Rattle.call_log.specs.Values.{written_value}
-use Rattle.call_log.specs.Lines.{item_text}
-use Rattle.call_log.proofs.lines.items_text.Given as goal
-
-abbrev pub invariant-loop-item : goal.invariant-loop-item
-invariant-loop-item l = string_bytes l.text ≡ flat_map item_text (map written_value (take l.item-index l.items))

@@ -1,0 +1,13 @@
+//! The items of the space that a run records: its program by the recording, its calls by the notes, and what its mappings of files
+//! brought by the recording again.
+//!
+//! What may stand here: who is in a space after some notes, and copies of what the notes hold. What may not: any code that runs a
+//! program or writes a text.
+#![tactic(auto)]
+
+mod copies;
+mod follower;
+mod members;
+mod recorded;
+
+pub use recorded::recorded_items;
