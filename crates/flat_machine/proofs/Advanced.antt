@@ -1,6 +1,6 @@
 -- The parts after instructions of one process.
 use Rattle.std.proofs.Common.{get_or, ◌<◌, ◌≡◌, ℕ, ◌≤◌, true, not, List, length, map, Option, Some, None, refl, sym, ap, subst, ◌∙◌, arith}
-use Rattle.std.specs.Prelude.{slice_get, option_map}
+use Rattle.std.specs.Prelude.{slice_get, slice_set, option_map}
 use Rattle.rv32im_step.specs.declared.regs.Regs.{Regs}
 use Rattle.rv32im_step.specs.declared.stop.Stop.{Stop}
 use Rattle.rv32im_step.specs.declared.stop.Stop.TheVariants.{Next, Call, Trap, Refused}
@@ -33,6 +33,7 @@ use Rattle.kept_parts.proofs.Worlds.{find_space, change_space, find_process, cha
 use Rattle.kept_parts.proofs.Apart.{others_keep}
 use Rattle.kept_parts.proofs.Stays.{regular_stays, set_kept}
 use Rattle.kept_parts.proofs.CopiesKept.{copies_frozen}
+use Rattle.kept_parts.proofs.Recorded.{regular_recorded}
 
 -- a process with what is kept of it
 pub record Entered (s : Listed Task) (pid : ℕ) (task : Task) : Type 0 where
@@ -69,7 +70,12 @@ module _ (k : Kept) (pid count : ℕ) (e : Entry Task) (h : Held) (table : List 
   pub after_regular : Regular (after k pid e.value regs now done)
   after_regular =
       let P : List (Option Held) → Type 0 = λ spaces. Regular (record (after k pid e.value regs now done) { spaces = spaces }) in
-      subst P (set_kept k.spaces e.value.space (Some h) r.home) (regular_stays k pid e h r.regular r.lives r.home regs h.brk now r.length k.notes (omega arith) k.tree k.files k.console)
+      let there = regular_stays k pid e h r.regular r.lives r.home regs h.brk now r.length k.notes (omega arith) k.tree k.files k.console in
+      subst P (set_kept k.spaces e.value.space (Some h) r.home) (regular_recorded (record k {
+        mem = now;
+        procs = with_value_at k.procs pid (record e.value { regs = regs });
+        spaces = slice_set k.spaces e.value.space (Some (record h { brk = h.brk }));
+      }) there (record k.recording { events = raised_in k.recording e.value.space done }))
 
   -- it has the state that it had
   pub after_ready : CanRun k.procs pid → CanRun (after k pid e.value regs now done).procs pid

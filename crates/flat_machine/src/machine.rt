@@ -1,22 +1,27 @@
 //! The machine, and what can be read of it.
 
-ghost use Rattle.std.specs.Prelude.{◌≡◌, false, length, map, reverse};
+ghost use Rattle.std.specs.Prelude.{◌≡◌, false, length, map, option_map, reverse, IfOk};
 ghost use Rattle.call_log.specs.Values.{note_value};
 ghost use Rattle.call_log.specs.Programs.{paths_of};
+ghost use Rattle.items_text.specs.Values.{items_value};
 ghost use Rattle.nommu_regions.specs.Regions.{free_of};
 ghost use Rattle.machine_world.specs.World.{program_path};
 ghost use Rattle.machine_world.specs.Free.{free};
 ghost use Rattle.machine_world.specs.Programs.{AreLoaded};
 ghost use Rattle.physical_turns.specs.Physical.{has_stray};
 ghost use Rattle.waits_laws.specs.Laws.{IsOrdered};
+ghost use Rattle.recorded_items.specs.Recorded.{recorded};
 ghost use Rattle.kept_parts.specs.Copies.{KnowsFiles};
 ghost use Rattle.kept_parts.specs.Regular.{Regular};
 ghost use Rattle.flat_machine.specs.State.{world};
 
 use crate::turn::tell_copies;
 use call_log::Note;
+use items_text::Items;
 use kept_parts::{KeptParts, free_runs_law};
 use page_runs::Kind;
+use recorded_items::recorded_items;
+use std::alloc::{AllocError, Global};
 use std::marker::Model;
 use syscall_layer::Parts;
 
@@ -96,6 +101,15 @@ impl Machine {
         ensures notes { (world self.now).notes ≡ reverse (map note_value result.now) }
     {
         self.parts.kept.log.notes()
+    }
+
+    /// The items of the space that was recorded, as they were made up to here; none where its program wasn't loaded.
+    #[tactic(auto, unfolding(kept_parts::specs::Stands::world_of))]
+    pub fn items(&self, alloc: Global) -> Result<Option<Items>, AllocError>
+        ensures { IfOk result (λ items. option_map items_value items ≡ recorded (world self.now).recording (world self.now).notes) }
+    {
+        let parts = &self.parts.kept;
+        recorded_items(alloc, &parts.recording, parts.log.notes())
     }
 
     /// The paths of the programs, in their order.

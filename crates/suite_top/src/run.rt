@@ -173,6 +173,7 @@ where
         starts: manifest.starts,
         stdin: files.stdin,
         mode,
+        keep: 0,
     };
     let course = Course {
         quanta: manifest.quanta,

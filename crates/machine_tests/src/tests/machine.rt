@@ -50,6 +50,7 @@ fn booted(rt: HostRuntime, manifest: Manifest, file: &[u8]) -> Result<Machine, F
         starts: manifest.starts,
         stdin: brought.stdin,
         mode: Mode::Halt,
+        keep: 0,
     };
     match Machine::boot(rt.alloc(), setup, &chooser) {
         Ok(machine) => Ok(machine),
