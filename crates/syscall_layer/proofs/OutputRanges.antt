@@ -224,7 +224,7 @@ asked_of call tree files = record {
   process = record { pid = call.pid; parent = call.parent; regs = record { pc = 0; x = [] }; space = 0; table = call.table; state = Ready };
   space = record { maps = []; brk = 0; brk_low = 0; brk_high = 0; bytes = λ at. None };
   spaces = [];
-  rest = record { pages = 0; kind = First; programs = []; tree = tree; files = files; console = [] };
+  rest = record { pages = 0; kind = First; programs = []; tree = tree; files = files; console = []; keep = 0 };
   number = call.number;
   args = call.args;
   sent = call.sent.items;

@@ -6,7 +6,7 @@ use Rattle.byte_words.specs.ByteMap.{Bytes}
 use Rattle.call_log.specs.declared.errno.Errno.{Errno}
 use Rattle.call_log.specs.Errno.{refusal}
 use Rattle.call_log.specs.declared.how.How.TheVariants.{Signal}
-use Rattle.call_log.specs.Notes.{end_note, weight_of, has_room}
+use Rattle.call_log.specs.Notes.{end_note}
 use Rattle.call_log.specs.Sent.{Span}
 use Rattle.mmap_rules.specs.Held.{Held}
 use Rattle.vfork_exec.specs.declared.family.Who.{Who}
@@ -22,7 +22,7 @@ use Rattle.vfork_exec.proofs.Families.{without_first_head}
 use Rattle.machine_world.specs.World.{Process, World}
 use Rattle.machine_world.specs.Asks.{Ask, Reply, Row, replies, waits, arg, gives, refuses}
 use Rattle.machine_world.specs.FamilyCalls.{who_of, may_wait, waitid_fault, info_at}
-use Rattle.machine_world.specs.Event.{Trace, Outcome, went, strays, full, idle, counted, noted, departed, ended, served, trapped, answered, waited}
+use Rattle.machine_world.specs.Event.{Trace, Outcome, went, strays, full, idle, counted_in, noted, departed, ended, room_for, served, trapped, answered, waited}
 use Rattle.file_calls.specs.declared.call.Call.{Call}
 use Rattle.file_calls.specs.declared.outcome.Outcome.{Outcome as Output}
 use Rattle.file_calls.specs.declared.outcome.Then.TheVariants.{Nothing}
@@ -105,7 +105,7 @@ module _ (p : Physical) (a : Ask) (left : List Ended) (r : Reply) where
   unfolding trapped ended laid_behind
   killed_beside q signal same = ap (λ (es : List Ended).
       carried p p.memory
-      (went (counted (noted (end_note q.pid (Signal signal)) (record (departed p.world q (Signal signal)) { ended = es })))
+      (went (counted_in q.space (noted (end_note q.pid (Signal signal)) (record (departed p.world q (Signal signal)) { ended = es })))
       (record { space = q.space; events = 1; items = []; begins = None; over = true }))) same
 
   killed_over : (q : Process) (signal : ℕ) → (x : Physical) × (killed p q signal ≡ after x true)
@@ -121,7 +121,7 @@ module _ (p : Physical) (a : Ask) (left : List Ended) (r : Reply) where
         let x = killed_over a.process outside in
         subst (λ (y : After). R (killed p a.process outside) (full_at p y)) (sym (killed_beside a.process outside same))
         (subst (λ (y : After). R y (full_at p y)) (sym x.1) (dies x.0))
-    put_beside_in (Ok memory) = by_room (has_room p.world.notes (weight_of a.sent r.got)) _ _ _ (goes _ (refl, refl))
+    put_beside_in (Ok memory) = by_room (room_for p.world a r) _ _ _ (goes _ (refl, refl))
       where
         by_room : (b : Bool) (now : World) (next : World) (t : Trace) → R (carried p memory (went now t)) (carried beside memory (went next t)) →
             R (carried p memory (if b then went now t else full)) (full_at p (carried beside memory (if b then went next t else full)))
