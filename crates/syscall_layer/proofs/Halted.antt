@@ -1,5 +1,5 @@
 -- Where a run has ended that ends at its first stray access.
-use Rattle.std.proofs.Common.{◌≡◌, true, false, List, reverse, Option, Some, None, refl, sym, ap, ◌∙◌}
+use Rattle.std.proofs.Common.{◌≡◌, false, List, reverse, Option, Some, None, refl, sym, ap, ◌∙◌}
 use Rattle.std.specs.Prelude.{is_some, option_map}
 use Rattle.rv32im_step.specs.declared.access.Access.{Access}
 use Rattle.call_log.specs.declared.how.Seen.{Seen}

@@ -23,6 +23,7 @@ use Rattle.machine_world.specs.MapCalls.{side_of_content, side_of_node, side_of_
 use Rattle.file_calls.specs.declared.call.Call.{Call}
 use Rattle.file_calls.specs.Calls.{MadeBy}
 use Rattle.mmap_rules.specs.Copies.{IsKnown}
+use Rattle.kept_parts.specs.MapsIn.{IsAsked}
 use Rattle.kept_parts.proofs.QuietRows.{Quiet}
 
 module _ (call : Call) (a : Ask) (made : MadeBy call a) where
@@ -121,6 +122,53 @@ pub known_found : (nodes : Inodes) (v : Option View) (addr len prot flags first 
     found ≡ wanted addr len prot flags first s → IfOk found (IsKnown nodes)
 known_found nodes v addr len prot flags first s side (Ok w) is = known_want nodes v addr len prot flags first w (is ∙ ap (wanted addr len prot flags first) side)
 known_found nodes v addr len prot flags first s side (Err errno) is = tt
+
+-- ---- it is what the call asks for
+
+abbrev Asked : Call → Result Want Errno → Type 0
+Asked call (Ok want) = IsAsked call want
+Asked call (Err errno) = Unit {0}
+
+module _ (call : Call) (number : call.number ≡ 222) where
+  abbrev flags : ℕ
+  flags = slice_index call.args 3
+
+  abbrev pages : ℕ
+  pages = pages_for (slice_index call.args 1)
+
+  asked_if : (b : Bool) (x y : Result Want Errno) → Asked call x → Asked call y → Asked call (if b then x else y)
+  asked_if true x y asked other = asked
+  asked_if false x y other asked = asked
+
+  asked_side : has_flag (slice_index call.args 3) map_anonymous ≡ false → (first : ℕ) (write : Bool) (s : FileSide) → Asked call (of_side pages first write s)
+  asked_side none first write side.Closed = tt
+  asked_side none first write side.NotFile = tt
+  asked_side none first write side.NoRead = tt
+  asked_side none first write (side.File id change) = (number, none, refl)
+
+  asked_shared : (s : FileSide) → Asked call (shared_side s)
+  asked_shared side.Closed = tt
+  asked_shared side.NotFile = tt
+  asked_shared side.NoRead = tt
+  asked_shared (side.File id change) = tt
+
+  asked_by_flag : (prot first : ℕ) (s : FileSide) (b : Bool) → has_flag (slice_index call.args 3) map_anonymous ≡ b → Asked call (if b then Ok (Anon pages) else wanted_file pages prot flags first s)
+  asked_by_flag prot first s true is = is
+  asked_by_flag prot first s false none =
+      asked_if (nat_lt (2 ^ 32) (first + pages)) (Err Eoverflow) _ tt
+      (asked_if (has_flag flags map_shared) (shared_side s) _ (asked_shared s) (asked_side none first (has_flag prot prot_write) s))
+
+  asked : (addr prot first : ℕ) (s : FileSide) → Asked call (wanted addr (slice_index call.args 1) prot (slice_index call.args 3) first s)
+  unfolding wanted
+  asked addr prot first s =
+      asked_if (slice_index call.args 1 == 0) (Err Einval) _ tt
+      (asked_if (has_flag flags map_fixed || not (addr == 0)) (Err Einval) _ tt
+      (asked_if (not (just_one (has_flag flags map_shared) (has_flag flags map_private))) (Err Einval) _ tt
+      (asked_by_flag prot first s (has_flag flags map_anonymous) refl)))
+
+  pub asked_want : (s : FileSide) (want : Want) →
+      Ok want ≡ wanted (slice_index call.args 0) (slice_index call.args 1) (slice_index call.args 2) (slice_index call.args 3) (slice_index call.args 5) s → IsAsked call want
+  asked_want s want is = subst (Asked call) (sym is) (asked (slice_index call.args 0) (slice_index call.args 2) (slice_index call.args 5) s)
 
 -- ---- no bytes are given
 

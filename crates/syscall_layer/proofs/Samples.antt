@@ -120,7 +120,7 @@ copy = record { first = 1; pages = 1; source = Copy 2 0 0; uses = 1 }
 -- the parts with the copy, which has these three bytes and zeros behind them
 abbrev with_copy : List ℕ → ℕ → List Note → Kept
 with_copy bytes times notes =
-    record (nothing_yet 2 (None ∷ Some (new_inode (folder root (record { name = codes "f"; id = 2 } ∷ [])) None) ∷ Some (changed times) ∷ []) (nothing_open [])) {
+    record (nothing_yet 2 (None ∷ Some (new_inode (folder root (record { name = codes "f"; id = 2 } ∷ [])) None) ∷ Some (changed times) ∷ []) (nothing_open []) 0) {
       mem = replicate 4096 7 ++ bytes ++ replicate 4093 0;
       regions = record { first = 0; pages = 0; source = Own; uses = 0 } ∷ copy ∷ [];
       notes = notes;

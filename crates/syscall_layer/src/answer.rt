@@ -1,18 +1,21 @@
 //! A system call.
 
-ghost use Rattle.std.specs.Prelude.{◌≡◌, ◌≢◌, ℕ, ◌<◌, ◌^◌, All, IfOk, false, true, List, [], length, slice_index, map, option_map, Some, Ok, OnErr};
+ghost use Rattle.std.specs.Prelude.{◌≡◌, ◌==◌, ◌≢◌, ℕ, ◌<◌, ◌^◌, All, IfOk, false, true, List, [], length, slice_index, map, is_some, option_map, Some, Ok, OnErr};
 ghost use Rattle.rv32im_step.specs.declared.access.Access.{Access};
-ghost use Rattle.call_log.specs.Notes.{has_room, weight_of};
+ghost use Rattle.call_log.specs.Notes.{weight_of};
 ghost use Rattle.call_log.specs.Values.{written_value};
 ghost use Rattle.page_runs.specs.Choosers.{IsChooser, kind_of};
 ghost use Rattle.mmap_rules.specs.Held.{Held};
 ghost use Rattle.vfork_exec.specs.declared.entry.Entry.{Entry};
 ghost use Rattle.vfork_exec.specs.Procs.{CanRun, Lives};
 ghost use Rattle.mmap_rules.specs.Want.{AsksPages};
-ghost use Rattle.machine_world.specs.Asks.{replies};
+ghost use Rattle.mmap_rules.specs.Sides.{sides, file_in};
+ghost use Rattle.mmap_rules.specs.Sides.{mapped as mapped_in};
+ghost use Rattle.mem_files.specs.Inodes.{bytes_of};
+ghost use Rattle.machine_world.specs.Asks.{Reply, replies};
 ghost use Rattle.machine_world.specs.MapCalls.{mapped};
 ghost use Rattle.machine_world.specs.Rows.{row};
-ghost use Rattle.machine_world.specs.Event.{called, classed, answered, exited, waited, settled, stray_in};
+ghost use Rattle.machine_world.specs.Event.{room_for, called, classed, answered, exited, waited, settled, stray_in};
 ghost use Rattle.vfork_exec.specs.declared.family.State.TheVariants.{OnPipe};
 ghost use Rattle.file_calls.specs.Calls.{IsChange, IsOutput, Replies, written_of};
 ghost use Rattle.file_calls.specs.Outcomes.{GivesRow, CanTake, HasEnds};
@@ -29,7 +32,11 @@ ghost use Rattle.kept_parts.specs.Reach.{writable, whole_table};
 ghost use Rattle.kept_parts.specs.Serves.{Answered, Serves, Tells, WaitsAt, went_by};
 ghost use Rattle.mmap_rules.specs.Copies.{IsKnown};
 ghost use Rattle.call_bytes.specs.Puts.{first_stray, access_at, IsRange};
-ghost use Rattle.kept_parts.specs.Calls.{RunsIn, IsCall, ask_in, reply_of, given, served_by};
+ghost use Rattle.kept_parts.specs.Regular.{Regular};
+ghost use Rattle.kept_parts.specs.Recorded.{room_beside};
+ghost use Rattle.kept_parts.specs.MapsIn.{IsAsked};
+ghost use Rattle.kept_parts.specs.Brings.{recorded_bytes};
+ghost use Rattle.kept_parts.specs.Calls.{RunsIn, IsCall, maps_by, ask_in, reply_of, given, served_by};
 ghost use Rattle.kept_parts.specs.Flats.{AreFlats};
 
 use crate::call::call_of;
@@ -40,11 +47,12 @@ use crate::parts::Parts;
 use crate::want::want_of;
 use bflt_format::Flat;
 use call_bytes::{Unread, got_len, stray_put};
-use call_log::{Got, Log};
+use call_log::Got;
 use file_calls::{Call, Outcome, output, wait_of};
 use kept_parts::{Effect, KeptParts, Reach, Served, table_of};
-use mmap_rules::{Owners, Want};
+use mmap_rules::{Owners, Want, fits};
 use page_runs::{Chooser, Run};
+use phys_mem::PAGE;
 use region_watch::Mode;
 use rv32im_step::{Access, AccessKind};
 use std::alloc::AllocError;
@@ -62,18 +70,51 @@ fn served_by(effect: Effect) -> Served
     }
 }
 
-/// Whether the log has room for a call that gets no bytes.
-pub(crate) fn has_room(log: &Log, call: &Call) -> bool
-    ensures { result ≡ has_room log.now.notes (length call.now.sent.items) }
+/// Whether the log has room for a call that gets no bytes, beside all that is recorded.
+pub(crate) fn has_room(parts: &KeptParts, call: &Call) -> bool
+    ensures room { result ≡ room_beside parts.now (length call.now.sent.items) }
+    ensures regular { Regular parts.now }
 {
-    log.room(call.sent.len() as u64)
+    parts.recording.room(&parts.log, call.sent.len() as u64)
 }
 
 /// Whether it has room for a call that gets these.
-fn has_room_with(log: &Log, call: &Call, got: &[Got]) -> bool
-    ensures { result ≡ has_room log.now.notes (weight_of call.now.sent.items (map written_value got.now)) }
+fn has_room_with(parts: &KeptParts, call: &Call, got: &[Got]) -> bool
+    ensures room { result ≡ room_beside parts.now (weight_of call.now.sent.items (map written_value got.now)) }
+    ensures regular { Regular parts.now }
 {
-    log.room(got_len(got).saturating_add(call.sent.len() as u64))
+    let bytes = got_len(got).saturating_add(call.sent.len() as u64);
+    parts.recording.room(&parts.log, bytes)
+}
+
+/// The bytes that a mapping would bring into the space that is recorded, if it comes about.
+fn recorded_len(parts: &KeptParts, pid: u32, want: Want) -> u64
+    requires lives { Lives parts.now.procs pid }
+    requires pages { AsksPages want }
+    ensures { (a : About) → (e : Entry Task) → (h : Held) → RunsIn parts.now pid e h →
+        result ≡ recorded_bytes parts.now e.value.space want (is_some (mapped_in (sides h parts.now.regions parts.now.mem) a.kind (bytes_of parts.now.tree (file_in want)) want)) }
+{
+    let Want::File { pages, .. } = want else {
+        return 0;
+    };
+    if !parts.recording.has(parts.procs.get(pid).space) || !fits(&parts.regions, want) {
+        return 0;
+    }
+    u64::from(PAGE) * u64::from(pages)
+}
+
+/// Whether it has room for an mmap2 with what it would bring.
+fn has_room_to_map(parts: &KeptParts, call: &Call, want: Want) -> bool
+    requires lives { Lives parts.now.procs call.now.pid }
+    requires known { IsKnown parts.now.tree want }
+    requires pages { AsksPages want }
+    requires asked { IsAsked call.now want }
+    ensures room { (a : About) → (e : Entry Task) → (h : Held) → RunsIn parts.now call.now.pid e h → IsCall e call.now →
+        (reply : Reply) → mapped (ask_in a parts.now e h call.now) want ≡ replies reply → result ≡ room_for (world_of a parts.now) (ask_in a parts.now e h call.now) reply }
+    ensures alone { result ≡ true → room_beside parts.now (length call.now.sent.items) ≡ true }
+{
+    let bytes = recorded_len(parts, call.pid, want).saturating_add(call.sent.len() as u64);
+    parts.recording.room(&parts.log, bytes)
 }
 
 /// Carries out an exit, where the log has room for it.
@@ -85,27 +126,28 @@ fn answer_exit(parts: &mut KeptParts, call: Call) -> Result<Served, AllocError>
     ensures holds { HoldsFiles parts.old → HoldsFiles parts.new }
     ensures leaves { IfOk result (Tells parts.old parts.new call.pid) }
 {
-    if !has_room(&parts.log, &call) {
+    if !has_room(parts, &call) {
         return Ok(Served::LogFull);
     }
     parts.exit(call)?;
     Ok(Served::Ended)
 }
 
-/// Carries out a call with this effect, where the log has room for it.
+/// Carries out a call with this effect, which maps no file, where the log has room for it.
 pub(crate) fn answer_effect(
     parts: &mut KeptParts,
     call: Call,
     effect: Effect,
 ) -> Result<Served, AllocError>
-    requires { Lives parts.old.procs call.pid }
+    requires lives { Lives parts.old.procs call.pid }
+    requires plain { maps_by call effect ≡ false }
     ensures serves { (a : About) → (e : Entry Task) → (h : Held) → RunsIn parts.old call.pid e h → IsCall e call →
         Serves a (answered (world_of a parts.old) (ask_in a parts.old e h call) (replies (reply_of (ask_in a parts.old e h call) effect))) parts.old parts.new call.pid result }
     ensures memory { parts.new.mem ≡ parts.old.mem }
     ensures holds { HoldsFiles parts.old → HoldsFiles parts.new }
     ensures leaves { CanRun parts.old.procs call.pid → IfOk result (Tells parts.old parts.new call.pid) }
 {
-    if !has_room(&parts.log, &call) {
+    if !has_room(parts, &call) {
         return Ok(Served::LogFull);
     }
     parts.reply(call, effect)?;
@@ -123,7 +165,7 @@ fn answer_change(parts: &mut KeptParts, call: Call) -> Result<Served, AllocError
     ensures holds { HoldsFiles parts.old → HoldsFiles parts.new }
     ensures leaves { IfOk result (Tells parts.old parts.new call.pid) }
 {
-    if !has_room(&parts.log, &call) {
+    if !has_room(parts, &call) {
         return Ok(Served::LogFull);
     }
     parts.change(call)?;
@@ -200,6 +242,7 @@ pub(crate) fn answer_given(
     requires fits { CanTake parts.old.files outcome.then }
     requires ends { HasEnds parts.old.files call.table outcome.then }
     requires ranges { All IsRange (written_of outcome) }
+    requires plain { (call.number == 222) ≡ false }
     ensures serves { reach ≡ Own → (a : About) → (e : Entry Task) → (h : Held) → RunsIn parts.old call.pid e h → IsCall e call →
         Serves a (answered (world_of a parts.old) (ask_in a parts.old e h call) (replies (given (ask_in a parts.old e h call) outcome))) parts.old parts.new call.pid result }
     ensures memory { (headers : List (List ℕ)) → (a : About) → (e : Entry Task) → (h : Held) → RunsIn parts.old call.pid e h → IsCall e call →
@@ -211,7 +254,7 @@ pub(crate) fn answer_given(
     if let Some(access) = stray_of(parts, call.pid, &outcome.got, reach, whole) {
         return beyond_reach(parts, call.pid, access, reach);
     }
-    if !has_room_with(&parts.log, &call, &outcome.got) {
+    if !has_room_with(parts, &call, &outcome.got) {
         return Ok(Served::LogFull);
     }
     parts.give(call, outcome)?;
@@ -242,7 +285,7 @@ fn answer_output(
     answer_given(parts, call, outcome, reach, whole)
 }
 
-/// Maps what an mmap2 asks for, where the log has room for the call.
+/// Maps what an mmap2 asks for, where the log has room for the call, and for what it would bring where that is recorded.
 fn answer_want<F: Fn(&[Run], u32) -> Option<usize>>(
     parts: &mut KeptParts,
     call: Call,
@@ -253,6 +296,7 @@ fn answer_want<F: Fn(&[Run], u32) -> Option<usize>>(
     requires lives { Lives parts.old.procs call.pid }
     requires known { IsKnown parts.old.tree want }
     requires pages { AsksPages want }
+    requires asked { IsAsked call want }
     ensures serves { (a : About) → a.kind ≡ kind_of chooser.now → StillHolds parts.old → (e : Entry Task) → (h : Held) → RunsIn parts.old call.pid e h → IsCall e call →
         Serves a (answered (world_of a parts.old) (ask_in a parts.old e h call) (mapped (ask_in a parts.old e h call) want)) parts.old parts.new call.pid result }
     ensures memory { (headers : List (List ℕ)) → (a : About) → a.kind ≡ kind_of chooser.now → (e : Entry Task) → (h : Held) → RunsIn parts.old call.pid e h → IsCall e call →
@@ -260,7 +304,7 @@ fn answer_want<F: Fn(&[Run], u32) -> Option<usize>>(
     ensures holds { HoldsFiles parts.old → HoldsFiles parts.new }
     ensures leaves { IfOk result (Tells parts.old parts.new call.pid) }
 {
-    if !has_room(&parts.log, &call) {
+    if !has_room_to_map(parts, &call, want) {
         return Ok(Served::LogFull);
     }
     parts.map(call, want, chooser)?;
@@ -299,7 +343,7 @@ fn answer_unmap(parts: &mut KeptParts, call: Call) -> Result<Served, AllocError>
     ensures holds { HoldsFiles parts.old → HoldsFiles parts.new }
     ensures leaves { IfOk result (Tells parts.old parts.new call.pid) }
 {
-    if !has_room(&parts.log, &call) {
+    if !has_room(parts, &call) {
         return Ok(Served::LogFull);
     }
     parts.unmap(call)?;

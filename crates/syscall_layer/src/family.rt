@@ -136,6 +136,7 @@ fn answer_told(
     requires whole { whole.now ≡ whole_table (length parts.old.regions) }
     requires strayed { reach ≡ Whole → has_stray parts.old.notes ≡ true }
     requires told { looked parts.old.procs call.pid who false ≡ Ok told }
+    requires waitid { call.number ≡ 95 }
     ensures serves { reach ≡ Own → (a : About) → (e : Entry Task) → (h : Held) → RunsIn parts.old call.pid e h → IsCall e call →
         Serves a (reaped (world_of a parts.old) (ask_in a parts.old e h call) who (Ok told)) parts.old parts.new call.pid result }
     ensures memory { (headers : List (List ℕ)) → (a : About) → (e : Entry Task) → (h : Held) → RunsIn parts.old call.pid e h → IsCall e call →
@@ -163,6 +164,7 @@ pub(crate) fn answer_waitid(
     requires ready { CanRun parts.old.procs call.pid }
     requires whole { whole.now ≡ whole_table (length parts.old.regions) }
     requires strayed { reach ≡ Whole → has_stray parts.old.notes ≡ true }
+    requires waitid { call.number ≡ 95 }
     ensures serves { reach ≡ Own → (a : About) → (e : Entry Task) → (h : Held) → RunsIn parts.old call.pid e h → IsCall e call →
         Serves a (waitid (world_of a parts.old) (ask_in a parts.old e h call)) parts.old parts.new call.pid result }
     ensures memory { (headers : List (List ℕ)) → (a : About) → (e : Entry Task) → (h : Held) → RunsIn parts.old call.pid e h → IsCall e call →
@@ -201,7 +203,7 @@ pub(crate) fn answer_clone(parts: &mut KeptParts, call: Call) -> Result<Served, 
     if parts.procs.full() {
         return answer_effect(parts, call, Effect::Answer(Errno::Eagain.refusal()));
     }
-    if !has_room(&parts.log, &call) {
+    if !has_room(parts, &call) {
         return Ok(Served::LogFull);
     }
     parts.fork(call)?;
@@ -252,8 +254,8 @@ pub(crate) fn answer_exec<F: Fn(&[Run], u32) -> Option<usize>>(
     let Some(flat) = programs.get(index as usize) else {
         return answer_effect(parts, call, Effect::Answer(Errno::Eacces.refusal()));
     };
-    if !has_room(&parts.log, &call) {
+    if !has_room(parts, &call) {
         return Ok(Served::LogFull);
     }
-    parts.exec(call, index, flat, &strings, chooser)
+    parts.exec(call, index, flat, strings, chooser)
 }

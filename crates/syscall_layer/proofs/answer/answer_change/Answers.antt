@@ -1,12 +1,10 @@
 -- A change, or a log without room.
-use Rattle.std.proofs.Common.{true, false, length, refl, sym, ap, ◌∙◌}
+use Rattle.std.proofs.Common.{refl, sym, ap, ◌∙◌}
 use Rattle.std.proofs.lemmas.Result.{err_from_is_err_and}
 use Rattle.file_calls.specs.Calls.{is_change}
-use Rattle.kept_parts.specs.Inside.{kept_of}
 use Rattle.kept_parts.specs.Calls.{ask_in}
-use Rattle.kept_parts.proofs.Settled.{room_is}
 use Rattle.kept_parts.proofs.QuietRows.{quiet_row}
-use Rattle.kept_parts.proofs.Outcomes.{made_by, files_in, change_serves, quiet_full}
+use Rattle.kept_parts.proofs.Outcomes.{made_by, files_in, maps_none_changed, change_serves, room_for_row, quiet_full}
 use Rattle.syscall_layer.proofs.answer.answer_change.Goals as goal
 
 pub returns-then-not-has_room-clause-serves : goal.returns-then-not-has_room-clause-serves
@@ -15,7 +13,7 @@ returns-then-not-has_room-clause-serves c = λ a e h runs is.
     let call = c.args.call in
     quiet_full a k e h call runs is _ (quiet_row (ask_in a k e h call) (ap is_change (sym is.number) ∙ c.requires.change)
     (c.requires.replies (ask_in a k e h call) (made_by a k e h call runs is) (files_in a k e h call refl)))
-    (room_is (kept_of c.parts.inside) k c.parts.view_is (length call.sent.items) c.has_room.result false c.has_room.ensures c.if-not-has_room.true)
+    (sym c.has_room.ensures.room ∙ c.if-not-has_room.true)
 
 pub returns-in_err-change-clause-serves : goal.returns-in_err-change-clause-serves
 returns-in_err-change-clause-serves c = λ a e h runs is.
@@ -26,5 +24,7 @@ pub returns-clause-serves : goal.returns-clause-serves
 returns-clause-serves c = λ a e h runs is.
     let k = c.args.parts.now in
     let call = c.args.call in
-    let room = room_is (kept_of c.parts.inside) k c.parts.view_is (length call.sent.items) c.has_room.result true c.has_room.ensures c.if-not-has_room.false in
-    change_serves a k e h call runs is _ c.change.new.self (c.in_ok-change.ensures.changes a e h runs is) room
+    let room = sym c.has_room.ensures.room ∙ c.if-not-has_room.false in
+    let quiet = quiet_row (ask_in a k e h call) (ap is_change (sym is.number) ∙ c.requires.change)
+    (c.requires.replies (ask_in a k e h call) (made_by a k e h call runs is) (files_in a k e h call refl)) in
+    change_serves a k e h call runs is _ c.change.new.self (c.in_ok-change.ensures.changes a e h runs is) (room_for_row a k e h call runs is _ quiet (maps_none_changed call c.requires.change) room)

@@ -1,16 +1,13 @@
 -- A reply, or a log without room.
-use Rattle.std.proofs.Common.{true, false, length, sym, subst}
+use Rattle.std.proofs.Common.{sym, subst, ◌∙◌}
 use Rattle.std.proofs.lemmas.Result.{err_from_is_err_and}
 use Rattle.machine_world.specs.Asks.{replies}
 use Rattle.machine_world.specs.Event.{answered}
 use Rattle.kept_parts.specs.declared.served.Served.{Served}
 use Rattle.kept_parts.specs.Kept.{Kept}
-use Rattle.kept_parts.specs.Inside.{kept_of}
 use Rattle.kept_parts.specs.Stands.{world_of}
-use Rattle.kept_parts.specs.Regular.{IsRegular}
 use Rattle.kept_parts.specs.Serves.{Answered, Tells}
 use Rattle.kept_parts.specs.Calls.{ask_in, reply_of, served_by}
-use Rattle.kept_parts.proofs.Settled.{room_is}
 use Rattle.kept_parts.proofs.Outcomes.{effect_serves, effect_full}
 use Rattle.kept_parts.proofs.Runs.{runs_in}
 use Rattle.syscall_layer.proofs.Leaves.{effect_leaves}
@@ -20,7 +17,7 @@ pub returns-then-not-has_room-clause-serves : goal.returns-then-not-has_room-cla
 returns-then-not-has_room-clause-serves c = λ a e h runs is.
     let k = c.args.parts.now in
     let call = c.args.call in
-    effect_full a k e h call runs is c.args.effect (room_is (kept_of c.parts.inside) k c.parts.view_is (length call.sent.items) c.has_room.result false c.has_room.ensures c.if-not-has_room.true)
+    effect_full a k e h call runs is c.args.effect (sym c.has_room.ensures.room ∙ c.if-not-has_room.true)
 
 pub returns-in_err-reply-clause-serves : goal.returns-in_err-reply-clause-serves
 returns-in_err-reply-clause-serves c = λ a e h runs is.
@@ -32,8 +29,8 @@ returns-clause-serves c = λ a e h runs is.
     let k = c.args.parts.now in
     let call = c.args.call in
     let f = c.args.effect in
-    let room = room_is (kept_of c.parts.inside) k c.parts.view_is (length call.sent.items) c.has_room.result true c.has_room.ensures c.if-not-has_room.false in
-    let done = effect_serves a k e h call runs is f room in
+    let room = sym c.has_room.ensures.room ∙ c.if-not-has_room.false in
+    let done = effect_serves a k e h call runs is f room c.requires.plain in
     let outcome = answered (world_of a k) (ask_in a k e h call) (replies (reply_of (ask_in a k e h call) f)) in
     subst (λ (served : Served). Answered a outcome k c.reply.new.self call.pid served) (sym c.served_by.ensures)
     (subst (λ (new : Kept). Answered a outcome k new call.pid (served_by f)) (sym (c.in_ok-reply.ensures.replies a e h runs)) done)
@@ -42,6 +39,6 @@ pub returns-clause-leaves : goal.returns-clause-leaves
 returns-clause-leaves c = λ ready.
     let k = c.args.parts.now in
     let call = c.args.call in
-    let r = runs_in k call.pid (subst IsRegular c.parts.view_is c.parts.invariant.0).0 c.requires in
+    let r = runs_in k call.pid c.has_room.ensures.regular c.requires.lives in
     subst (λ (served : Served). Tells k c.reply.new.self call.pid served) (sym c.served_by.ensures)
     (effect_leaves k r.0 r.1.0 call r.1.1.lives ready c.args.effect c.reply.new.self (λ a. c.in_ok-reply.ensures.replies a r.0 r.1.0 r.1.1))

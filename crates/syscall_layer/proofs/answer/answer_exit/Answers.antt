@@ -1,13 +1,11 @@
 -- An exit, or a log without room.
-use Rattle.std.proofs.Common.{true, false, length, sym, subst}
+use Rattle.std.proofs.Common.{sym, subst, ◌∙◌}
 use Rattle.machine_world.specs.Event.{exited}
 use Rattle.kept_parts.specs.declared.served.Served.TheVariants.{Ended}
 use Rattle.kept_parts.specs.Kept.{Kept}
-use Rattle.kept_parts.specs.Inside.{kept_of}
 use Rattle.kept_parts.specs.Stands.{world_of}
 use Rattle.kept_parts.specs.Serves.{Answered}
 use Rattle.kept_parts.specs.Calls.{ask_in}
-use Rattle.kept_parts.proofs.Settled.{room_is}
 use Rattle.kept_parts.proofs.Outcomes.{exit_serves, exit_full}
 use Rattle.syscall_layer.proofs.answer.answer_exit.Goals as goal
 
@@ -15,11 +13,11 @@ pub returns-then-not-has_room-clause-serves : goal.returns-then-not-has_room-cla
 returns-then-not-has_room-clause-serves c = λ a e h runs is.
     let k = c.args.parts.now in
     let call = c.args.call in
-    exit_full a k e h call runs is (room_is (kept_of c.parts.inside) k c.parts.view_is (length call.sent.items) c.has_room.result false c.has_room.ensures c.if-not-has_room.true)
+    exit_full a k e h call runs is (sym c.has_room.ensures.room ∙ c.if-not-has_room.true)
 
 pub returns-clause-serves : goal.returns-clause-serves
 returns-clause-serves c = λ a e h runs is.
     let k = c.args.parts.now in
     let call = c.args.call in
-    let room = room_is (kept_of c.parts.inside) k c.parts.view_is (length call.sent.items) c.has_room.result true c.has_room.ensures c.if-not-has_room.false in
+    let room = sym c.has_room.ensures.room ∙ c.if-not-has_room.false in
     subst (λ (new : Kept). Answered a (exited (world_of a k) (ask_in a k e h call)) k new call.pid Ended) (sym (c.in_ok-exit.ensures.exits e h runs)) (exit_serves a k e h call runs is room)

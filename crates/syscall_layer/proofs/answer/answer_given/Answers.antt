@@ -1,5 +1,5 @@
 -- The bytes are beyond reach, find no room, or are given.
-use Rattle.std.proofs.Common.{◌≡◌, Some, None, true, false, sym, subst, ◌∙◌}
+use Rattle.std.proofs.Common.{◌≡◌, refl, Some, None, true, false, sym, subst, ◌∙◌}
 use Rattle.std.specs.Prelude.{option_map, length, Ok, Err}
 use Rattle.std.proofs.lemmas.Result.{err_from_is_err_and}
 use Rattle.file_calls.specs.Calls.{written_of}
@@ -8,9 +8,7 @@ use Rattle.physical_turns.specs.Physical.{After, answered_in}
 use Rattle.kept_parts.specs.declared.reach.Reach.{Reach}
 use Rattle.kept_parts.specs.declared.reach.Reach.TheVariants.{Own}
 use Rattle.kept_parts.specs.declared.served.Served.TheVariants.{Replied, LogFull}
-use Rattle.kept_parts.specs.Regular.{Regular}
 use Rattle.kept_parts.specs.Copies.{HoldsFiles}
-use Rattle.kept_parts.specs.Inside.{kept_of}
 use Rattle.kept_parts.specs.Reach.{writable}
 use Rattle.call_bytes.specs.Puts.{first_stray, access_at}
 use Rattle.kept_parts.specs.InMemory.{physical_of, ServesIn}
@@ -46,22 +44,22 @@ returns-then-not-has_room_with-clause-serves c = λ own a e h runs is.
     let k = c.args.parts.now in
     let o = c.args.outcome in
     let fits = subst (λ (r : Reach). first_stray (writable r (length k.regions) h) (written_of o) ≡ None) own (none_beyond o _ c.deref.ensures.value c.args.reach k c.args.call.pid c.stray_of.result c.stray_of.ensures e h runs c.in_default.is) in
-    output_full a k e h c.args.call runs is o fits (room_by o _ c.deref-2.ensures.value (kept_of c.parts.inside) k c.parts.view_is c.args.call.sent.items c.has_room_with.result false c.has_room_with.ensures c.if-not-has_room_with.true)
+    output_full a k e h c.args.call runs is o fits (room_by o _ c.deref-2.ensures.value k k refl c.args.call.sent.items c.has_room_with.result false c.has_room_with.ensures.room c.if-not-has_room_with.true)
 
 pub returns-then-not-has_room_with-clause-memory : goal.returns-then-not-has_room_with-clause-memory
 returns-then-not-has_room_with-clause-memory c = λ headers a e h runs is.
     let k = c.args.parts.now in
-    let regular = subst Regular c.parts.view_is c.parts.invariant.0.0 in
+    let regular = c.has_room_with.ensures.regular in
     let o = c.args.outcome in
     let fits = reach_inside k regular e.value.space h runs.home c.args.reach (written_of o) (none_beyond o _ c.deref.ensures.value c.args.reach k c.args.call.pid c.stray_of.result c.stray_of.ensures e h runs c.in_default.is) in
     in_reach headers a (answered_in (physical_of headers a k) (ask_in a k e h c.args.call) (replies (given (ask_in a k e h c.args.call) o))) k k c.args.call.pid c.args.reach (Ok LogFull)
-    (given_full_in headers a k e h c.args.call runs is o fits (room_by o _ c.deref-2.ensures.value (kept_of c.parts.inside) k c.parts.view_is c.args.call.sent.items c.has_room_with.result false c.has_room_with.ensures c.if-not-has_room_with.true))
+    (given_full_in headers a k e h c.args.call runs is o fits (room_by o _ c.deref-2.ensures.value k k refl c.args.call.sent.items c.has_room_with.result false c.has_room_with.ensures.room c.if-not-has_room_with.true))
 
 pub give-requires-clause-inside : goal.give-requires-clause-inside
 give-requires-clause-inside c =
     let k = c.args.parts.now in
     let o = c.args.outcome in
-    let regular = subst Regular c.parts.view_is c.parts.invariant.0.0 in
+    let regular = c.has_room_with.ensures.regular in
     let r = runs_in k c.args.call.pid regular (can_run_lives k.procs c.args.call.pid c.requires.ready) in
     reach_inside k regular r.0.value.space r.1.0 r.1.1.home c.args.reach (written_of c.args.outcome) (none_beyond o _ c.deref.ensures.value c.args.reach k c.args.call.pid c.stray_of.result c.stray_of.ensures r.0 r.1.0 r.1.1 c.in_default.is)
 
@@ -92,15 +90,15 @@ returns-clause-serves c = λ own a e h runs is.
     let k = c.args.parts.now in
     let o = c.args.outcome in
     let fits = subst (λ (r : Reach). first_stray (writable r (length k.regions) h) (written_of o) ≡ None) own (none_beyond o _ c.deref.ensures.value c.args.reach k c.args.call.pid c.stray_of.result c.stray_of.ensures e h runs c.in_default.is) in
-    output_serves a k e h c.args.call runs is o c.give.new.self (c.in_ok-give.ensures.gives a e h runs is fits) (room_by o _ c.deref-2.ensures.value (kept_of c.parts.inside) k c.parts.view_is c.args.call.sent.items c.has_room_with.result true c.has_room_with.ensures c.if-not-has_room_with.false)
+    output_serves a k e h c.args.call runs is o c.give.new.self (c.in_ok-give.ensures.gives a e h runs is fits) c.requires.plain (room_by o _ c.deref-2.ensures.value k k refl c.args.call.sent.items c.has_room_with.result true c.has_room_with.ensures.room c.if-not-has_room_with.false)
 
 pub returns-clause-memory : goal.returns-clause-memory
 returns-clause-memory c = λ headers a e h runs is.
     let k = c.args.parts.now in
-    let regular = subst Regular c.parts.view_is c.parts.invariant.0.0 in
+    let regular = c.has_room_with.ensures.regular in
     let o = c.args.outcome in
     in_reach headers a (answered_in (physical_of headers a k) (ask_in a k e h c.args.call) (replies (given (ask_in a k e h c.args.call) o))) k c.give.new.self c.args.call.pid c.args.reach (Ok Replied)
-    (given_serves_in headers a k e h c.args.call runs is o regular c.give.new.self (c.in_ok-give.ensures.memory a e h runs is) (room_by o _ c.deref-2.ensures.value (kept_of c.parts.inside) k c.parts.view_is c.args.call.sent.items c.has_room_with.result true c.has_room_with.ensures c.if-not-has_room_with.false) c.in_ok-give.ensures.lives)
+    (given_serves_in headers a k e h c.args.call runs is o regular c.give.new.self (c.in_ok-give.ensures.memory a e h runs is) c.requires.plain (room_by o _ c.deref-2.ensures.value k k refl c.args.call.sent.items c.has_room_with.result true c.has_room_with.ensures.room c.if-not-has_room_with.false) c.in_ok-give.ensures.lives)
 
 -- ---- copies hold their file
 
@@ -108,7 +106,7 @@ holds_given : (c : After-give) → c.args.reach ≡ Own → HoldsFiles c.args.pa
 holds_given c own =
     let k = c.args.parts.now in
     let o = c.args.outcome in
-    let r = runs_in k c.args.call.pid (subst Regular c.parts.view_is c.parts.invariant.0.0) (can_run_lives k.procs c.args.call.pid c.requires.ready) in
+    let r = runs_in k c.args.call.pid (c.has_room_with.ensures.regular) (can_run_lives k.procs c.args.call.pid c.requires.ready) in
     c.give.ensures.holds r.0 r.1.0 r.1.1
     (subst (λ (reach : Reach). first_stray (writable reach (length k.regions) r.1.0) (written_of o) ≡ None) own (none_beyond o _ c.deref.ensures.value c.args.reach k c.args.call.pid c.stray_of.result c.stray_of.ensures r.0 r.1.0 r.1.1 c.in_default.is))
 

@@ -18,7 +18,8 @@ use Rattle.kept_parts.specs.Stands.{About, world_of}
 use Rattle.kept_parts.specs.Serves.{Serves}
 use Rattle.kept_parts.specs.InMemory.{physical_of, ServesIn}
 use Rattle.kept_parts.specs.Calls.{RunsIn, IsCall, ask_in}
-use Rattle.syscall_layer.proofs.MapRows.{row_mmap2}
+use Rattle.kept_parts.proofs.Recorded.{refusal_plain}
+use Rattle.syscall_layer.proofs.MapRows.{row_mmap2, asked_want}
 use Rattle.kept_parts.proofs.Outcomes.{made_by, tree_in, files_in}
 use Rattle.kept_parts.proofs.PlainMemory.{answered_never, plain_in}
 use Rattle.syscall_layer.proofs.answer.answer_map.Given.{Over}
@@ -79,3 +80,9 @@ returns-in-Ok-clause-leaves g c = λ ready. c.answer_want.ensures.leaves
 
 pub returns-in-Err-clause-leaves : goal.returns-in-Err-clause-leaves
 returns-in-Err-clause-leaves g c = c.answer_effect.ensures.leaves
+
+pub answer_want-requires-clause-asked : goal.answer_want-requires-clause-asked
+answer_want-requires-clause-asked g c = asked_want c.args.call c.requires.mmap2 _ c.in-Ok.want (sym c.in-Ok.is ∙ c.want_of.ensures.wanted)
+
+pub answer_effect-requires-clause-plain : goal.answer_effect-requires-clause-plain
+answer_effect-requires-clause-plain g c = refusal_plain c.args.call c.in-Err.errno c.refusal.result c.refusal.ensures

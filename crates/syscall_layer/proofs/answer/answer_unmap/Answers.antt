@@ -1,19 +1,17 @@
 -- What is unmapped, or a log without room.
-use Rattle.std.proofs.Common.{true, false, length, sym, subst}
-use Rattle.std.specs.Prelude.{slice_index}
+use Rattle.std.proofs.Common.{sym, subst, ap, ◌∙◌}
+use Rattle.std.specs.Prelude.{◌==◌, slice_index}
 use Rattle.std.proofs.lemmas.Result.{err_from_is_err_and}
 use Rattle.mmap_rules.specs.Mappings.{hit}
 use Rattle.machine_world.specs.Asks.{Row}
 use Rattle.machine_world.specs.Event.{answered}
 use Rattle.kept_parts.specs.declared.served.Served.TheVariants.{Replied}
-use Rattle.kept_parts.specs.Inside.{kept_of}
 use Rattle.kept_parts.specs.Stands.{world_of}
 use Rattle.kept_parts.specs.Serves.{Answered}
 use Rattle.kept_parts.specs.Calls.{ask_in}
-use Rattle.kept_parts.proofs.Settled.{room_is}
 use Rattle.kept_parts.proofs.QuietRows.{Quiet}
 use Rattle.syscall_layer.proofs.MapRows.{row_munmap, quiet_unmaps}
-use Rattle.kept_parts.proofs.Outcomes.{made_by, change_serves, quiet_full}
+use Rattle.kept_parts.proofs.Outcomes.{made_by, change_serves, room_for_row, quiet_full}
 use Rattle.syscall_layer.proofs.answer.answer_unmap.Goals as goal
 
 pub returns-then-not-has_room-clause-serves : goal.returns-then-not-has_room-clause-serves
@@ -23,7 +21,7 @@ returns-then-not-has_room-clause-serves c = λ a e h runs is.
     let rows = row_munmap call (ask_in a k e h call) (made_by a k e h call runs is) c.requires.munmap in
     quiet_full a k e h call runs is _
     (subst Quiet (sym rows) (quiet_unmaps (ask_in a k e h call) (hit h.maps (slice_index call.args 0) (slice_index call.args 1))))
-    (room_is (kept_of c.parts.inside) k c.parts.view_is (length call.sent.items) c.has_room.result false c.has_room.ensures c.if-not-has_room.true)
+    (sym c.has_room.ensures.room ∙ c.if-not-has_room.true)
 
 pub returns-in_err-unmap-clause-serves : goal.returns-in_err-unmap-clause-serves
 returns-in_err-unmap-clause-serves c = λ a e h runs is.
@@ -34,7 +32,8 @@ pub returns-clause-serves : goal.returns-clause-serves
 returns-clause-serves c = λ a e h runs is.
     let k = c.args.parts.now in
     let call = c.args.call in
-    let room = room_is (kept_of c.parts.inside) k c.parts.view_is (length call.sent.items) c.has_room.result true c.has_room.ensures c.if-not-has_room.false in
+    let room = sym c.has_room.ensures.room ∙ c.if-not-has_room.false in
     let rows = row_munmap call (ask_in a k e h call) (made_by a k e h call runs is) c.requires.munmap in
     subst (λ (r : Row). Answered a (answered (world_of a k) (ask_in a k e h call) r) k c.unmap.new.self call.pid Replied) (sym rows)
-    (change_serves a k e h call runs is _ c.unmap.new.self (c.in_ok-unmap.ensures.changes a e h runs is) room)
+    (change_serves a k e h call runs is _ c.unmap.new.self (c.in_ok-unmap.ensures.changes a e h runs is)
+    (room_for_row a k e h call runs is _ (quiet_unmaps (ask_in a k e h call) (hit h.maps (slice_index call.args 0) (slice_index call.args 1))) (ap (λ n. n == 222) c.requires.munmap) room))

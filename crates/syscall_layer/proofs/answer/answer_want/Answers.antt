@@ -1,39 +1,43 @@
 -- What is mapped, or a log without room.
-use Rattle.std.proofs.Common.{true, false, length, refl}
+use Rattle.std.proofs.Common.{refl, sym, ◌∙◌}
 use Rattle.std.proofs.lemmas.Result.{err_from_is_err_and}
 use Rattle.machine_world.specs.MapCalls.{mapped}
 use Rattle.machine_world.specs.Event.{answered}
 use Rattle.physical_turns.proofs.InMemory.{answered_begins}
 use Rattle.kept_parts.specs.declared.served.Served.TheVariants.{LogFull}
-use Rattle.kept_parts.specs.Inside.{kept_of}
 use Rattle.kept_parts.specs.Stands.{world_of}
 use Rattle.kept_parts.specs.Calls.{ask_in}
-use Rattle.kept_parts.proofs.Settled.{room_is}
 use Rattle.kept_parts.proofs.QuietRows.{quiet_mute}
 use Rattle.syscall_layer.proofs.MapRows.{quiet_mapped}
 use Rattle.kept_parts.proofs.MapMemory.{changed_goes}
-use Rattle.kept_parts.proofs.Outcomes.{change_serves, quiet_full}
+use Rattle.kept_parts.proofs.Outcomes.{change_serves, brings_full}
 use Rattle.kept_parts.proofs.PlainMemory.{answered_never, plain_goes}
 use Rattle.syscall_layer.proofs.answer.answer_want.Goals as goal
 
-pub returns-then-not-has_room-clause-serves : goal.returns-then-not-has_room-clause-serves
-returns-then-not-has_room-clause-serves g c = λ a kind holding e h runs is.
+pub returns-then-not-has_room_to_map-clause-serves : goal.returns-then-not-has_room_to_map-clause-serves
+returns-then-not-has_room_to_map-clause-serves g c = λ a kind holding e h runs is.
     let k = c.args.parts.now in
     let call = c.args.call in
-    quiet_full a k e h call runs is _ (quiet_mapped (ask_in a k e h call) c.args.want)
-    (room_is (kept_of c.parts.inside) k c.parts.view_is (length call.sent.items) c.has_room.result false c.has_room.ensures c.if-not-has_room.true)
+    brings_full a k e h call runs is _ (quiet_mapped (ask_in a k e h call) c.args.want)
+    (λ r rows. sym (c.has_room_to_map.ensures.room a e h runs is r rows) ∙ c.if-not-has_room_to_map.true)
 
-pub returns-then-not-has_room-clause-memory : goal.returns-then-not-has_room-clause-memory
-returns-then-not-has_room-clause-memory g c = λ headers a kind e h runs is.
+pub returns-then-not-has_room_to_map-clause-memory : goal.returns-then-not-has_room_to_map-clause-memory
+returns-then-not-has_room_to_map-clause-memory g c = λ headers a kind e h runs is.
     let k = c.args.parts.now in
     let call = c.args.call in
     let ask = ask_in a k e h call in
     let rows = mapped ask c.args.want in
     let quiet = quiet_mapped ask c.args.want in
     plain_goes headers a k k refl call.pid (answered (world_of a k) ask rows) LogFull
-    (quiet_full a k e h call runs is rows quiet
-    (room_is (kept_of c.parts.inside) k c.parts.view_is (length call.sent.items) c.has_room.result false c.has_room.ensures c.if-not-has_room.true))
+    (brings_full a k e h call runs is rows quiet
+    (λ r same. sym (c.has_room_to_map.ensures.room a e h runs is r same) ∙ c.if-not-has_room_to_map.true))
     (answered_begins (world_of a k) ask rows) (answered_never (world_of a k) ask rows (quiet_mute rows quiet))
+
+pub map-requires-clause-room : goal.map-requires-clause-room
+map-requires-clause-room g c = c.has_room_to_map.ensures.alone c.if-not-has_room_to_map.false
+
+pub map-requires-clause-brings : goal.map-requires-clause-brings
+map-requires-clause-brings g c = λ a kind e h runs is r rows. sym (c.has_room_to_map.ensures.room a e h runs is r rows) ∙ c.if-not-has_room_to_map.false
 
 pub returns-in_err-map-clause-serves : goal.returns-in_err-map-clause-serves
 returns-in_err-map-clause-serves g c = λ a kind holding e h runs is.
@@ -49,8 +53,8 @@ pub returns-clause-serves : goal.returns-clause-serves
 returns-clause-serves g c = λ a kind holding e h runs is.
     let k = c.args.parts.now in
     let call = c.args.call in
-    let room = room_is (kept_of c.parts.inside) k c.parts.view_is (length call.sent.items) c.has_room.result true c.has_room.ensures c.if-not-has_room.false in
-    change_serves a k e h call runs is _ c.map.new.self (c.in_ok-map.ensures.changes a kind holding e h runs is) room
+    change_serves a k e h call runs is _ c.map.new.self (c.in_ok-map.ensures.changes a kind holding e h runs is)
+    (λ r rows. sym (c.has_room_to_map.ensures.room a e h runs is r rows) ∙ c.if-not-has_room_to_map.false)
 
 pub returns-clause-memory : goal.returns-clause-memory
 returns-clause-memory g c = λ headers a kind e h runs is.

@@ -1,14 +1,14 @@
 -- A child more, or why there is none.
-use Rattle.std.proofs.Common.{true, false, length, sym, ap, subst, ◌∙◌}
+use Rattle.std.proofs.Common.{sym, ap, subst, ◌∙◌}
 use Rattle.vfork_exec.specs.Procs.{most_entries, count}
 use Rattle.std.specs.Prelude.{nat_le}
 use Rattle.kept_parts.specs.Kept.{Kept}
-use Rattle.kept_parts.specs.Inside.{kept_of}
 use Rattle.kept_parts.specs.Regular.{IsRegular}
-use Rattle.kept_parts.proofs.Settled.{room_is}
 use Rattle.kept_parts.proofs.Forks.{flags_serve, full_serves, fork_has_no_room, fork_serves}
 use Rattle.kept_parts.proofs.Runs.{runs_in}
 use Rattle.kept_parts.proofs.Families.{can_run_lives}
+use Rattle.call_log.specs.declared.errno.Errno.TheVariants.{Eagain, Einval}
+use Rattle.kept_parts.proofs.Recorded.{refusal_plain}
 use Rattle.syscall_layer.proofs.Leaves.{fork_leaves}
 use Rattle.syscall_layer.proofs.family.answer_clone.Goals as goal
 
@@ -29,14 +29,14 @@ returns-then-not-has_room-clause-serves c = λ a e h runs is.
     let call = c.args.call in
     let few = ap (λ (x : Kept). nat_le most_entries (count x.procs)) (sym c.parts.view_is) ∙ sym c.full.ensures.full ∙ c.if-full.false in
     fork_has_no_room a k e h call is c.if-call-ne-VFORK_FLAGS.false few
-    (room_is (kept_of c.parts.inside) k c.parts.view_is (length call.sent.items) c.has_room.result false c.has_room.ensures c.if-not-has_room.true)
+    (sym c.has_room.ensures.room ∙ c.if-not-has_room.true)
 
 pub returns-clause-serves : goal.returns-clause-serves
 returns-clause-serves c = λ a e h runs is.
     let k = c.args.parts.now in
     let call = c.args.call in
     let few = ap (λ (x : Kept). nat_le most_entries (count x.procs)) (sym c.parts.view_is) ∙ sym c.full.ensures.full ∙ c.if-full.false in
-    let room = room_is (kept_of c.parts.inside) k c.parts.view_is (length call.sent.items) c.has_room.result true c.has_room.ensures c.if-not-has_room.false in
+    let room = sym c.has_room.ensures.room ∙ c.if-not-has_room.false in
     fork_serves a k e h call is c.if-call-ne-VFORK_FLAGS.false few (subst IsRegular c.parts.view_is c.parts.invariant.0).0 runs.lives room c.fork.new.self (c.in_ok-fork.ensures.forks e h runs)
 
 pub returns-clause-leaves : goal.returns-clause-leaves
@@ -52,3 +52,11 @@ returns-then-call-ne-VFORK_FLAGS-clause-leaves c = c.answer_effect.ensures.leave
 
 pub returns-then-full-clause-leaves : goal.returns-then-full-clause-leaves
 returns-then-full-clause-leaves c = c.answer_effect-then-full.ensures.leaves c.requires
+
+-- ---- a refusal maps no file
+
+pub answer_effect-requires-clause-plain : goal.answer_effect-requires-clause-plain
+answer_effect-requires-clause-plain c = refusal_plain c.args.call Einval c.refusal.result c.refusal.ensures
+
+pub answer_effect-requires-then-full-clause-plain : goal.answer_effect-requires-then-full-clause-plain
+answer_effect-requires-then-full-clause-plain c = refusal_plain c.args.call Eagain c.refusal-then-full.result c.refusal-then-full.ensures

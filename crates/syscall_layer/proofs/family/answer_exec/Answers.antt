@@ -11,13 +11,12 @@ use Rattle.call_log.specs.Strings.{ProgramStrings, before_zero, program_strings}
 use Rattle.flat_loader.specs.Frame.{texts}
 use Rattle.kept_parts.specs.declared.served.Served.{Served}
 use Rattle.kept_parts.specs.Kept.{Kept}
-use Rattle.kept_parts.specs.Inside.{kept_of}
 use Rattle.kept_parts.specs.Serves.{Tells}
 use Rattle.kept_parts.specs.Families.{mark_at}
 use Rattle.kept_parts.specs.InMemory.{headers_of}
-use Rattle.kept_parts.proofs.Settled.{room_is}
 use Rattle.kept_parts.proofs.ExecCalls.{no_path, no_strings, no_program, no_flat, runs_flat, by_outcome, by_refusal, exec_full}
 use Rattle.kept_parts.proofs.ExecMemory.{full_in, header_listed, by_outcome_in, by_refusal_in}
+use Rattle.kept_parts.proofs.Recorded.{refusal_plain}
 use Rattle.syscall_layer.proofs.family.answer_exec.Given.{Over}
 use Rattle.syscall_layer.proofs.family.answer_exec.Goals.{After-program_strings, After-program_at}
 use Rattle.syscall_layer.proofs.family.answer_exec.Goals as goal
@@ -79,7 +78,7 @@ pub returns-then-not-has_room-clause-serves : goal.returns-then-not-has_room-cla
 returns-then-not-has_room-clause-serves g c = λ a kind flats e h runs is.
     let k = c.args.parts.now in
     let call = c.args.call in
-    exec_full a k e h call is runs (room_is (kept_of c.parts.inside) k c.parts.view_is (length call.sent.items) c.has_room.result false c.has_room.ensures c.if-not-has_room.true)
+    exec_full a k e h call is runs (sym c.has_room.ensures.room ∙ c.if-not-has_room.true)
 
 pub returns-clause-serves : goal.returns-clause-serves
 returns-clause-serves g c = λ a kind flats e h runs is.
@@ -135,7 +134,7 @@ returns-then-not-has_room-clause-memory g c = λ a kind flats e h runs is.
     let k = c.args.parts.now in
     let call = c.args.call in
     full_in (headers_of c.args.programs.now) a k call.pid _
-    (exec_full a k e h call is runs (room_is (kept_of c.parts.inside) k c.parts.view_is (length call.sent.items) c.has_room.result false c.has_room.ensures c.if-not-has_room.true))
+    (exec_full a k e h call is runs (sym c.has_room.ensures.room ∙ c.if-not-has_room.true))
 
 pub returns-clause-memory : goal.returns-clause-memory
 returns-clause-memory g c = λ a kind flats e h runs is.
@@ -169,3 +168,17 @@ returns-in_default-get-clause-leaves g c = c.answer_effect-in_default-get.ensure
 pub returns-clause-leaves : goal.returns-clause-leaves
 returns-clause-leaves g c =
     IfOk-weaker c.exec.result _ _ (λ (served : Served) is. subst (λ (s : Served). Tells c.args.parts.now c.exec.new.self c.args.call.pid s) (sym is) tt) c.exec.ensures.replied
+
+-- ---- a refusal maps no file
+
+pub answer_effect-requires-clause-plain : goal.answer_effect-requires-clause-plain
+answer_effect-requires-clause-plain g c = refusal_plain c.args.call Enametoolong c.refusal.result c.refusal.ensures
+
+pub answer_effect-requires-in_default-2-clause-plain : goal.answer_effect-requires-in_default-2-clause-plain
+answer_effect-requires-in_default-2-clause-plain g c = refusal_plain c.args.call E2big c.refusal-in_default-2.result c.refusal-in_default-2.ensures
+
+pub answer_effect-requires-in-Err-clause-plain : goal.answer_effect-requires-in-Err-clause-plain
+answer_effect-requires-in-Err-clause-plain g c = refusal_plain c.args.call c.in-Err.errno c.refusal-in-Err.result c.refusal-in-Err.ensures
+
+pub answer_effect-requires-in_default-get-clause-plain : goal.answer_effect-requires-in_default-get-clause-plain
+answer_effect-requires-in_default-get-clause-plain g c = refusal_plain c.args.call Eacces c.refusal-in_default-get.result c.refusal-in_default-get.ensures
