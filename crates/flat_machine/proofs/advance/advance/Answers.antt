@@ -24,11 +24,11 @@ pub invariant_of-parts : goal.invariant_of-parts
 invariant_of-parts g c =
     let ready = subst (λ (k : Kept). CanRun k.procs c.args.pid) (sym c.parts.view_is) c.requires.ready in
     let strayed = rw (← c.parts.view_is) at c.requires.strayed in (
-      (advances c.args.reach (kept_of c.parts.inside) c.args.pid c.args.count c.get_mut-task.result.now c.index.result.now c.in-Some.space c.with_window-watch.result.mode c.owners.result.now
-          c.with_window-watch.result.owners.now c.with_window-watch.result.mem.now c.run_watched.new.watch.mem.now c.run_watched.new.regs c.run_watched.result.done c.run_watched.result.stop
+      rw (c.pass.ensures) ((advances c.args.reach (kept_of c.parts.inside) c.args.pid c.args.count c.get_mut-task.result.now c.index.result.now c.in-Some.space c.with_window-watch.result.mode c.owners.result.now
+          c.with_window-watch.result.owners.now c.with_window-watch.result.mem.now c.run_watched-progress.new.watch.mem.now c.run_watched-progress.new.regs c.run_watched-progress.result.done c.run_watched-progress.result.stop
           c.parts.invariant.0 ready strayed c.get_mut-task.ensures.value c.index.ensures c.in-Some.is
           c.owners.ensures.own c.owners.ensures.writable c.owners.ensures.pages (c.with_window-watch.ensures.mode ∙ c.mode_within.ensures) c.with_window-watch.ensures.owners c.with_window-watch.ensures.mem
-          c.run_watched.ensures.leaves c.run_watched.ensures.frozen c.run_watched.ensures.length).regular,
+          c.run_watched-progress.ensures.leaves c.run_watched-progress.ensures.frozen c.run_watched-progress.ensures.length).regular),
       c.parts.invariant.1,
     )
 
@@ -37,70 +37,70 @@ returns-in-Some-clause-ready g c =
     let ready = subst (λ (k : Kept). CanRun k.procs c.args.pid) (sym c.parts.view_is) c.requires.ready in
     let strayed = rw (← c.parts.view_is) at c.requires.strayed in
     (advances c.args.reach (kept_of c.parts.inside) c.args.pid c.args.count c.get_mut-task.result.now c.index.result.now c.in-Some.space c.with_window-watch.result.mode c.owners.result.now
-    c.with_window-watch.result.owners.now c.with_window-watch.result.mem.now c.run_watched.new.watch.mem.now c.run_watched.new.regs c.run_watched.result.done c.run_watched.result.stop
+    c.with_window-watch.result.owners.now c.with_window-watch.result.mem.now c.run_watched-progress.new.watch.mem.now c.run_watched-progress.new.regs c.run_watched-progress.result.done c.run_watched-progress.result.stop
     c.parts.invariant.0 ready strayed c.get_mut-task.ensures.value c.index.ensures c.in-Some.is
     c.owners.ensures.own c.owners.ensures.writable c.owners.ensures.pages (c.with_window-watch.ensures.mode ∙ c.mode_within.ensures) c.with_window-watch.ensures.owners c.with_window-watch.ensures.mem
-    c.run_watched.ensures.leaves c.run_watched.ensures.frozen c.run_watched.ensures.length).ready
+    c.run_watched-progress.ensures.leaves c.run_watched-progress.ensures.frozen c.run_watched-progress.ensures.length).ready
 
 pub returns-in-Some-clause-within : goal.returns-in-Some-clause-within
 returns-in-Some-clause-within g c =
     let ready = subst (λ (k : Kept). CanRun k.procs c.args.pid) (sym c.parts.view_is) c.requires.ready in
     let strayed = rw (← c.parts.view_is) at c.requires.strayed in
     (advances c.args.reach (kept_of c.parts.inside) c.args.pid c.args.count c.get_mut-task.result.now c.index.result.now c.in-Some.space c.with_window-watch.result.mode c.owners.result.now
-    c.with_window-watch.result.owners.now c.with_window-watch.result.mem.now c.run_watched.new.watch.mem.now c.run_watched.new.regs c.run_watched.result.done c.run_watched.result.stop
+    c.with_window-watch.result.owners.now c.with_window-watch.result.mem.now c.run_watched-progress.new.watch.mem.now c.run_watched-progress.new.regs c.run_watched-progress.result.done c.run_watched-progress.result.stop
     c.parts.invariant.0 ready strayed c.get_mut-task.ensures.value c.index.ensures c.in-Some.is
     c.owners.ensures.own c.owners.ensures.writable c.owners.ensures.pages (c.with_window-watch.ensures.mode ∙ c.mode_within.ensures) c.with_window-watch.ensures.owners c.with_window-watch.ensures.mem
-    c.run_watched.ensures.leaves c.run_watched.ensures.frozen c.run_watched.ensures.length).within
+    c.run_watched-progress.ensures.leaves c.run_watched-progress.ensures.frozen c.run_watched-progress.ensures.length).within
 
 pub returns-in-Some-clause-still : goal.returns-in-Some-clause-still
 returns-in-Some-clause-still g c none =
     let v = c.parts.view_is in
-    rw (← v) (none_done c.args.reach (kept_of c.parts.inside) c.args.pid c.args.count c.get_mut-task.result.now c.in-Some.space c.with_window-watch.result.mode c.owners.result.now
-    c.with_window-watch.result.owners.now c.with_window-watch.result.mem.now c.run_watched.new.watch.mem.now c.run_watched.new.regs c.run_watched.result.done c.run_watched.result.stop
+    rw (← v, c.pass.ensures) (none_done c.args.reach (kept_of c.parts.inside) c.args.pid c.args.count c.get_mut-task.result.now c.in-Some.space c.with_window-watch.result.mode c.owners.result.now
+    c.with_window-watch.result.owners.now c.with_window-watch.result.mem.now c.run_watched-progress.new.watch.mem.now c.run_watched-progress.new.regs c.run_watched-progress.result.done c.run_watched-progress.result.stop
     c.get_mut-task.ensures.value c.owners.ensures.own c.owners.ensures.writable (c.with_window-watch.ensures.mode ∙ c.mode_within.ensures) c.with_window-watch.ensures.owners c.with_window-watch.ensures.mem
-    c.run_watched.ensures.leaves c.run_watched.ensures.frozen none)
+    c.run_watched-progress.ensures.leaves c.run_watched-progress.ensures.frozen none)
 
 pub returns-in-Some-clause-leads : goal.returns-in-Some-clause-leads
 returns-in-Some-clause-leads g c =
     let v = c.parts.view_is in
     let ready = subst (λ (k : Kept). CanRun k.procs c.args.pid) (sym c.parts.view_is) c.requires.ready in
     let strayed = rw (← c.parts.view_is) at c.requires.strayed in
-    rw (← v) (advances c.args.reach (kept_of c.parts.inside) c.args.pid c.args.count c.get_mut-task.result.now c.index.result.now c.in-Some.space c.with_window-watch.result.mode c.owners.result.now
-    c.with_window-watch.result.owners.now c.with_window-watch.result.mem.now c.run_watched.new.watch.mem.now c.run_watched.new.regs c.run_watched.result.done c.run_watched.result.stop
+    rw (← v, c.pass.ensures) (advances c.args.reach (kept_of c.parts.inside) c.args.pid c.args.count c.get_mut-task.result.now c.index.result.now c.in-Some.space c.with_window-watch.result.mode c.owners.result.now
+    c.with_window-watch.result.owners.now c.with_window-watch.result.mem.now c.run_watched-progress.new.watch.mem.now c.run_watched-progress.new.regs c.run_watched-progress.result.done c.run_watched-progress.result.stop
     c.parts.invariant.0 ready strayed c.get_mut-task.ensures.value c.index.ensures c.in-Some.is
     c.owners.ensures.own c.owners.ensures.writable c.owners.ensures.pages (c.with_window-watch.ensures.mode ∙ c.mode_within.ensures) c.with_window-watch.ensures.owners c.with_window-watch.ensures.mem
-    c.run_watched.ensures.leaves c.run_watched.ensures.frozen c.run_watched.ensures.length).leads
+    c.run_watched-progress.ensures.leaves c.run_watched-progress.ensures.frozen c.run_watched-progress.ensures.length).leads
 
 pub returns-in-Some-clause-halts : goal.returns-in-Some-clause-halts
 returns-in-Some-clause-halts g c =
     let ready = subst (λ (k : Kept). CanRun k.procs c.args.pid) (sym c.parts.view_is) c.requires.ready in
     let strayed = rw (← c.parts.view_is) at c.requires.strayed in
-    (advances c.args.reach (kept_of c.parts.inside) c.args.pid c.args.count c.get_mut-task.result.now c.index.result.now c.in-Some.space c.with_window-watch.result.mode c.owners.result.now
-    c.with_window-watch.result.owners.now c.with_window-watch.result.mem.now c.run_watched.new.watch.mem.now c.run_watched.new.regs c.run_watched.result.done c.run_watched.result.stop
+    rw (c.pass.ensures) ((advances c.args.reach (kept_of c.parts.inside) c.args.pid c.args.count c.get_mut-task.result.now c.index.result.now c.in-Some.space c.with_window-watch.result.mode c.owners.result.now
+    c.with_window-watch.result.owners.now c.with_window-watch.result.mem.now c.run_watched-progress.new.watch.mem.now c.run_watched-progress.new.regs c.run_watched-progress.result.done c.run_watched-progress.result.stop
     c.parts.invariant.0 ready strayed c.get_mut-task.ensures.value c.index.ensures c.in-Some.is
     c.owners.ensures.own c.owners.ensures.writable c.owners.ensures.pages (c.with_window-watch.ensures.mode ∙ c.mode_within.ensures) c.with_window-watch.ensures.owners c.with_window-watch.ensures.mem
-    c.run_watched.ensures.leaves c.run_watched.ensures.frozen c.run_watched.ensures.length).halts
+    c.run_watched-progress.ensures.leaves c.run_watched-progress.ensures.frozen c.run_watched-progress.ensures.length).halts)
 
 pub returns-in-Some-clause-leads_in : goal.returns-in-Some-clause-leads_in
 returns-in-Some-clause-leads_in g c =
     let v = c.parts.view_is in
     let ready = subst (λ (k : Kept). CanRun k.procs c.args.pid) (sym c.parts.view_is) c.requires.ready in
     let strayed = rw (← c.parts.view_is) at c.requires.strayed in
-    rw (← v) (advances c.args.reach (kept_of c.parts.inside) c.args.pid c.args.count c.get_mut-task.result.now c.index.result.now c.in-Some.space c.with_window-watch.result.mode c.owners.result.now
-    c.with_window-watch.result.owners.now c.with_window-watch.result.mem.now c.run_watched.new.watch.mem.now c.run_watched.new.regs c.run_watched.result.done c.run_watched.result.stop
+    rw (← v, c.pass.ensures) (advances c.args.reach (kept_of c.parts.inside) c.args.pid c.args.count c.get_mut-task.result.now c.index.result.now c.in-Some.space c.with_window-watch.result.mode c.owners.result.now
+    c.with_window-watch.result.owners.now c.with_window-watch.result.mem.now c.run_watched-progress.new.watch.mem.now c.run_watched-progress.new.regs c.run_watched-progress.result.done c.run_watched-progress.result.stop
     c.parts.invariant.0 ready strayed c.get_mut-task.ensures.value c.index.ensures c.in-Some.is
     c.owners.ensures.own c.owners.ensures.writable c.owners.ensures.pages (c.with_window-watch.ensures.mode ∙ c.mode_within.ensures) c.with_window-watch.ensures.owners c.with_window-watch.ensures.mem
-    c.run_watched.ensures.leaves c.run_watched.ensures.frozen c.run_watched.ensures.length).leads_in
+    c.run_watched-progress.ensures.leaves c.run_watched-progress.ensures.frozen c.run_watched-progress.ensures.length).leads_in
 
 pub returns-in-Some-clause-halts_in : goal.returns-in-Some-clause-halts_in
 returns-in-Some-clause-halts_in g c =
     let ready = subst (λ (k : Kept). CanRun k.procs c.args.pid) (sym c.parts.view_is) c.requires.ready in
     let strayed = rw (← c.parts.view_is) at c.requires.strayed in
-    (advances c.args.reach (kept_of c.parts.inside) c.args.pid c.args.count c.get_mut-task.result.now c.index.result.now c.in-Some.space c.with_window-watch.result.mode c.owners.result.now
-    c.with_window-watch.result.owners.now c.with_window-watch.result.mem.now c.run_watched.new.watch.mem.now c.run_watched.new.regs c.run_watched.result.done c.run_watched.result.stop
+    rw (c.pass.ensures) ((advances c.args.reach (kept_of c.parts.inside) c.args.pid c.args.count c.get_mut-task.result.now c.index.result.now c.in-Some.space c.with_window-watch.result.mode c.owners.result.now
+    c.with_window-watch.result.owners.now c.with_window-watch.result.mem.now c.run_watched-progress.new.watch.mem.now c.run_watched-progress.new.regs c.run_watched-progress.result.done c.run_watched-progress.result.stop
     c.parts.invariant.0 ready strayed c.get_mut-task.ensures.value c.index.ensures c.in-Some.is
     c.owners.ensures.own c.owners.ensures.writable c.owners.ensures.pages (c.with_window-watch.ensures.mode ∙ c.mode_within.ensures) c.with_window-watch.ensures.owners c.with_window-watch.ensures.mem
-    c.run_watched.ensures.leaves c.run_watched.ensures.frozen c.run_watched.ensures.length).halts_in
+    c.run_watched-progress.ensures.leaves c.run_watched-progress.ensures.frozen c.run_watched-progress.ensures.length).halts_in)
 
 pub invariant_of-parts-in-None : goal.invariant_of-parts-in-None
 invariant_of-parts-in-None g c = absurd (never_none c.parts.inside.spaces.items c.get_mut-task.result.now.space c.index.result.now
@@ -137,16 +137,16 @@ returns-in-Some-clause-hits g c =
     let strayed = rw (← c.parts.view_is) at c.requires.strayed in
     let advanced =
     (advances c.args.reach (kept_of c.parts.inside) c.args.pid c.args.count c.get_mut-task.result.now c.index.result.now c.in-Some.space c.with_window-watch.result.mode c.owners.result.now
-    c.with_window-watch.result.owners.now c.with_window-watch.result.mem.now c.run_watched.new.watch.mem.now c.run_watched.new.regs c.run_watched.result.done c.run_watched.result.stop
+    c.with_window-watch.result.owners.now c.with_window-watch.result.mem.now c.run_watched-progress.new.watch.mem.now c.run_watched-progress.new.regs c.run_watched-progress.result.done c.run_watched-progress.result.stop
     c.parts.invariant.0 ready strayed c.get_mut-task.ensures.value c.index.ensures c.in-Some.is
     c.owners.ensures.own c.owners.ensures.writable c.owners.ensures.pages (c.with_window-watch.ensures.mode ∙ c.mode_within.ensures) c.with_window-watch.ensures.owners c.with_window-watch.ensures.mem
-    c.run_watched.ensures.leaves c.run_watched.ensures.frozen c.run_watched.ensures.length) in
-    rw (← v) (advance_hits (kind_of_point c.args.watcher.now.point.now) c.args.watcher.now.spans.now c.args.hits.now c.run_watched.new.hits c.args.reach (kept_of c.parts.inside) c.args.pid c.args.count
+    c.run_watched-progress.ensures.leaves c.run_watched-progress.ensures.frozen c.run_watched-progress.ensures.length) in
+    rw (← v, c.pass.ensures) (advance_hits (kind_of_point c.args.watcher.now.point.now) c.args.watcher.now.spans.now c.args.hits.now c.run_watched-progress.new.hits c.args.reach (kept_of c.parts.inside) c.args.pid c.args.count
     c.get_mut-task.result.now c.index.result.now c.in-Some.space c.with_window-watch.result.mode c.owners.result.now
-    c.with_window-watch.result.owners.now c.with_window-watch.result.mem.now c.run_watched.new.watch.mem.now c.run_watched.new.regs c.run_watched.result.done c.run_watched.result.stop
-    c.run_watched.ensures.hits advanced c.parts.invariant.0 strayed c.get_mut-task.ensures.value c.index.ensures c.in-Some.is
+    c.with_window-watch.result.owners.now c.with_window-watch.result.mem.now c.run_watched-progress.new.watch.mem.now c.run_watched-progress.new.regs c.run_watched-progress.result.done c.run_watched-progress.result.stop
+    c.run_watched-progress.ensures.hits advanced c.parts.invariant.0 strayed c.get_mut-task.ensures.value c.index.ensures c.in-Some.is
     c.owners.ensures.own c.owners.ensures.writable c.owners.ensures.pages (c.with_window-watch.ensures.mode ∙ c.mode_within.ensures) c.with_window-watch.ensures.owners c.with_window-watch.ensures.mem
-    c.run_watched.ensures.leaves c.run_watched.ensures.frozen c.run_watched.ensures.length).own
+    c.run_watched-progress.ensures.leaves c.run_watched-progress.ensures.frozen c.run_watched-progress.ensures.length).own
 
 pub returns-in-Some-clause-hits_in : goal.returns-in-Some-clause-hits_in
 returns-in-Some-clause-hits_in g c =
@@ -155,16 +155,16 @@ returns-in-Some-clause-hits_in g c =
     let strayed = rw (← c.parts.view_is) at c.requires.strayed in
     let advanced =
     (advances c.args.reach (kept_of c.parts.inside) c.args.pid c.args.count c.get_mut-task.result.now c.index.result.now c.in-Some.space c.with_window-watch.result.mode c.owners.result.now
-    c.with_window-watch.result.owners.now c.with_window-watch.result.mem.now c.run_watched.new.watch.mem.now c.run_watched.new.regs c.run_watched.result.done c.run_watched.result.stop
+    c.with_window-watch.result.owners.now c.with_window-watch.result.mem.now c.run_watched-progress.new.watch.mem.now c.run_watched-progress.new.regs c.run_watched-progress.result.done c.run_watched-progress.result.stop
     c.parts.invariant.0 ready strayed c.get_mut-task.ensures.value c.index.ensures c.in-Some.is
     c.owners.ensures.own c.owners.ensures.writable c.owners.ensures.pages (c.with_window-watch.ensures.mode ∙ c.mode_within.ensures) c.with_window-watch.ensures.owners c.with_window-watch.ensures.mem
-    c.run_watched.ensures.leaves c.run_watched.ensures.frozen c.run_watched.ensures.length) in
-    rw (← v) (advance_hits (kind_of_point c.args.watcher.now.point.now) c.args.watcher.now.spans.now c.args.hits.now c.run_watched.new.hits c.args.reach (kept_of c.parts.inside) c.args.pid c.args.count
+    c.run_watched-progress.ensures.leaves c.run_watched-progress.ensures.frozen c.run_watched-progress.ensures.length) in
+    rw (← v, c.pass.ensures) (advance_hits (kind_of_point c.args.watcher.now.point.now) c.args.watcher.now.spans.now c.args.hits.now c.run_watched-progress.new.hits c.args.reach (kept_of c.parts.inside) c.args.pid c.args.count
     c.get_mut-task.result.now c.index.result.now c.in-Some.space c.with_window-watch.result.mode c.owners.result.now
-    c.with_window-watch.result.owners.now c.with_window-watch.result.mem.now c.run_watched.new.watch.mem.now c.run_watched.new.regs c.run_watched.result.done c.run_watched.result.stop
-    c.run_watched.ensures.hits advanced c.parts.invariant.0 strayed c.get_mut-task.ensures.value c.index.ensures c.in-Some.is
+    c.with_window-watch.result.owners.now c.with_window-watch.result.mem.now c.run_watched-progress.new.watch.mem.now c.run_watched-progress.new.regs c.run_watched-progress.result.done c.run_watched-progress.result.stop
+    c.run_watched-progress.ensures.hits advanced c.parts.invariant.0 strayed c.get_mut-task.ensures.value c.index.ensures c.in-Some.is
     c.owners.ensures.own c.owners.ensures.writable c.owners.ensures.pages (c.with_window-watch.ensures.mode ∙ c.mode_within.ensures) c.with_window-watch.ensures.owners c.with_window-watch.ensures.mem
-    c.run_watched.ensures.leaves c.run_watched.ensures.frozen c.run_watched.ensures.length).memory
+    c.run_watched-progress.ensures.leaves c.run_watched-progress.ensures.frozen c.run_watched-progress.ensures.length).memory
 
 pub returns-in-None-clause-hits : goal.returns-in-None-clause-hits
 returns-in-None-clause-hits g c = absurd (never_none c.parts.inside.spaces.items c.get_mut-task.result.now.space c.index.result.now
