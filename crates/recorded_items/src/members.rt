@@ -5,9 +5,10 @@ ghost use Rattle.call_log.specs.Notes.{Note as NoteValue};
 ghost use Rattle.call_log.specs.Values.{entry_value, note_value};
 ghost use Rattle.flat_loader.specs.Alone.{is_errno};
 ghost use Rattle.recording_laws.specs.Homes.{forks};
-ghost use Rattle.recorded_items.specs.Members.{AreMembers, is_member, with_member};
+ghost use Rattle.recorded_items.specs.Members.{AreMembers, is_member, Puts};
 
 use call_log::{Entry, Note};
+use indexmap::IndexSet;
 use std::alloc::{AllocError, Global};
 
 /// The call that makes a process, clone.
@@ -23,7 +24,8 @@ pub(crate) struct Members {
     space: u32,
     /// How many load notes there were.
     loads: u64,
-    pids: Vec<u32>,
+    /// A set, since each call looks its process up and a run may make very many. Those that have ended stay in it.
+    pids: IndexSet<u32>,
 }
 
 impl Members {
@@ -34,15 +36,15 @@ impl Members {
         Members {
             space,
             loads: 0,
-            pids: Vec::new(alloc),
+            pids: IndexSet::new(alloc),
         }
     }
 
     /// Whether a process is in the space.
     pub(crate) fn has(&self, pid: u32) -> bool
-        ensures { result ≡ is_member pid self.now.pids.items }
+        ensures { result ≡ is_member pid self.now.pids }
     {
-        self.pids.iter().any(|member| *member == pid)
+        self.pids.contains(&pid)
     }
 
     /// One note more: a program that is loaded is in a new space, and a child is where its parent is.
@@ -69,12 +71,13 @@ impl Members {
 }
 
 /// From now on a process is a member, or isn't.
-fn put(pids: &mut Vec<u32>, pid: u32, inside: bool) -> Result<(), AllocError>
-    ensures { OnOk result (pids.new.items ≡ with_member pid inside pids.old.items) }
+fn put(pids: &mut IndexSet<u32>, pid: u32, inside: bool) -> Result<(), AllocError>
+    ensures { OnOk result (Puts pid inside pids.old pids.new) }
 {
-    pids.retain(|member| *member != pid);
     if inside {
-        pids.push(pid)?;
+        pids.insert(pid)?;
+    } else {
+        pids.swap_remove(&pid);
     }
     Ok(())
 }
