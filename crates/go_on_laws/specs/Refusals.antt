@@ -43,7 +43,7 @@ RefusalsLeaveMemory =
     (p : Physical) (pid : ℕ) (c : CallIn p pid) (e : Errno) → IsShown p → p.world.rest.files.changed ≡ [] → IsRefusedIn p pid c e →
     carried_out p pid ≡ over_memory p (refused_outcome p.world c.process (ask_in p pid c) e)
 
--- so an event whose call is refused changes the caller's a0 and pc, the notes and the count of events, and nothing else; its notes may have
+-- so an event whose call is refused changes the caller's a0 and pc, the notes and the counts of events, and nothing else; its notes may have
 -- the run's first stray access
 abbrev pub RefusedEventsLeaveMemory : Type 0
 RefusedEventsLeaveMemory =

@@ -18,7 +18,7 @@ pub fn go_on_law()
     ensures never { RunsNeverStray }
 {}
 
-/// A system call that is refused in the one memory changes its caller's a0 and pc, the notes and the count of events, and nothing else: no
+/// A system call that is refused in the one memory changes its caller's a0 and pc, the notes and the counts of events, and nothing else: no
 /// byte of memory, no other process, no file. Its event may note the run's first stray access beside it.
 pub fn refused_in_memory_law()
     ensures calls { RefusalsLeaveMemory }

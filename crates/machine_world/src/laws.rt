@@ -19,7 +19,7 @@ pub fn programs_law()
     ensures runs { RunsLoadPrograms }
 {}
 
-/// A system call that is refused changes nothing but the reply, the next instruction, the notes and the count of events.
+/// A system call that is refused changes nothing but the reply, the next instruction, the notes and the counts of events.
 pub fn refused_calls_law()
     ensures { RefusalsChangeNothingElse }
 {}

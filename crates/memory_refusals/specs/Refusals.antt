@@ -23,7 +23,7 @@ pub record NotesCall (p : Physical) (pid : ℕ) (e : CallEntry) : Type 0 where
 abbrev pub noted_in : Physical → ℕ → Physical
 noted_in p pid = with_stray pid (first_stray p pid) p
 
--- the call is refused, and the note is that of this refusal: the event changes the caller's a0 and pc, the notes and the count of events,
+-- the call is refused, and the note is that of this refusal: the event changes the caller's a0 and pc, the notes and the counts of events,
 -- and nothing else
 pub record IsRefusedCall (p : Physical) (pid : ℕ) (e : CallEntry) : Type 0 where
   pub call : CallIn (noted_in p pid) pid

@@ -15,7 +15,7 @@ pub fn regular_in_memory_law()
 {}
 
 /// Over such a memory each call that an event notes with an errno as its reply, whatever call it is, is refused: the event changes its
-/// caller's a0 and pc, the notes and the count of events, and nothing else. It may note the run's first stray access beside the call.
+/// caller's a0 and pc, the notes and the counts of events, and nothing else. It may note the run's first stray access beside the call.
 pub fn refusals_in_memory_law()
     ensures { ErrnosAreRefusedIn }
 {}

@@ -47,7 +47,7 @@ pub record Replies (w : World) (pid value : ℕ) : Type 0 where
   pub made : trace.items ≡ item ∷ []
   pub reply : item.entry.reply ≡ value
 
--- a call is refused: that changes its caller's a0 and pc, the notes and the count of events, and nothing else
+-- a call is refused: that changes its caller's a0 and pc, the notes and the counts of events, and nothing else
 pub record IsRefused (w : World) (pid value : ℕ) : Type 0 where
   pub call : Call w pid
   pub errno : Errno

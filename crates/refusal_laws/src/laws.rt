@@ -12,7 +12,7 @@ pub fn regular_law()
 {}
 
 /// In such a world each call of which the reply is an errno, whatever call it is, is refused: it changes its caller's a0 and pc, the
-/// notes and the count of events, and nothing else.
+/// notes and the counts of events, and nothing else.
 pub fn refusals_law()
     ensures { ErrnosAreRefusals }
 {}
