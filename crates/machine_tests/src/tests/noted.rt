@@ -98,7 +98,7 @@ fn begun(rt: HostRuntime) -> Result<Option<KeptParts>, Fail> {
     });
     let tree = Tree::new(rt.alloc())?;
     let files = Files::new(rt.alloc(), Vec::new(rt.alloc()))?;
-    let mut parts = KeptParts::new(rt.alloc(), 2, tree, files)?;
+    let mut parts = KeptParts::new(rt.alloc(), 2, tree, files, 0)?;
     let is_begun = parts.start(0, &flat, &args, &chooser).is_ok()
         && parts.note_stray(1, STRAY).is_ok();
     Ok(is_begun.then_some(parts))
