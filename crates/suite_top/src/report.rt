@@ -7,7 +7,7 @@ ghost use Rattle.machine_world.specs.Programs.{AreLoaded};
 ghost use Rattle.flat_machine.specs.State.{world};
 ghost use Rattle.suite_top.specs.Report.{is_told, note_text, bytes_text, dump_line, shown_of, dumps_of, stop_line, IsStopWord, IsReportOf, IsReport, IsTraceReport, IsStatus};
 
-use call_log::{Note, line};
+use call_log::{Note, push_line};
 use file_commands::Status;
 use file_commands::texts::address_words;
 use flat_machine::{End, Machine};
@@ -85,7 +85,6 @@ fn is_told(log: bool, note: &Note) -> bool
 }
 
 fn push_note(
-    alloc: Global,
     text: &mut Vec<u8>,
     log: bool,
     note: &Note,
@@ -95,8 +94,7 @@ fn push_note(
     ensures { IfOk result (λ _. text.new.items ≡ text.old.items ++ note_text log (paths_of paths.now) (note_value note.now)) }
 {
     if is_told(log, note) {
-        let line = line(alloc, note, paths)?;
-        text.extend_from_slice(&line)?;
+        push_line(text, note, paths)?;
     }
     Ok(())
 }
@@ -112,7 +110,7 @@ fn notes_text(
 {
     let mut text = Vec::new(alloc);
     for note in notes {
-        push_note(alloc, &mut text, log, note, paths)?;
+        push_note(&mut text, log, note, paths)?;
     }
     Ok(text)
 }
