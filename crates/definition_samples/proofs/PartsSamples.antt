@@ -13,8 +13,7 @@ use Rattle.mem_files.specs.Inodes.{opening}
 use Rattle.region_watch.specs.Private.{only}
 use Rattle.fd_tables.specs.Files.{nothing_open}
 use Rattle.vfork_exec.specs.declared.family.State.TheVariants.{Ready}
-use Rattle.machine_world.specs.World.{LiveSpace, id_of}
-use Rattle.machine_world.specs.Recordings.{nothing_recorded}
+use Rattle.machine_world.specs.World.{LiveSpace, Recording, id_of}
 use Rattle.kept_parts.specs.Kept.{Kept}
 use Rattle.kept_parts.specs.Stands.{About, private_bytes, live_spaces, world_of}
 
@@ -75,6 +74,10 @@ regs = record { pc = 0x8000_0080; x = replicate 32 5 }
 abbrev region : Region
 region = record { first = 0; pages = 0; source = Own; uses = 0 }
 
+-- of the third load note's space
+abbrev pub recording : Recording
+recording = record { keep = 3; launch = None; events = 5; brought = (1 ∷ 2 ∷ []) ∷ [] }
+
 abbrev pub kept : Kept
 kept = record {
   mem = mem;
@@ -90,6 +93,7 @@ kept = record {
   };
   notes = end_note 6 (Exit 1) ∷ [];
   console = codes "out";
+  recording = recording;
 }
 
 abbrev pub about : About
@@ -104,10 +108,10 @@ stands-for :
       spaces = live_spaces mem kept_spaces;
       loads = 3;
       next_pid = 8;
-      rest = record { pages = 4; kind = Best; programs = []; tree = opening; files = nothing_open (codes "in"); console = codes "out"; keep = 0 };
+      rest = record { pages = 4; kind = Best; programs = []; tree = opening; files = nothing_open (codes "in"); console = codes "out"; keep = 3 };
       notes = end_note 6 (Exit 1) ∷ [];
       events = 9;
-      recording = nothing_recorded 0;
+      recording = recording;
     }
 unfolding world_of
 stands-for = refl
