@@ -79,10 +79,10 @@ abbrev pub byte_in : List ℕ → ℕ
 byte_in bytes = slice_index bytes 0
 
 -- what follows a byte
-abbrev behind_byte : ℕ → Bytes → (at now : ℕ) → (ℕ → Result (List ℕ) Span) → ℕ → Result (List ℕ) Span
+abbrev pub behind_byte : ℕ → Bytes → (at now : ℕ) → (ℕ → Result (List ℕ) Span) → ℕ → Result (List ℕ) Span
 behind_byte n m at now more byte = if now == 0 then Ok [] else if byte == 0 then more (now - 1) else string_from n m at (now - 1) more
 
-string_next : (n : ℕ) (m : Bytes) (at now : ℕ) (more : ℕ → Result (List ℕ) Span) →
+pub string_next : (n : ℕ) (m : Bytes) (at now : ℕ) (more : ℕ → Result (List ℕ) Span) →
     string_from (suc n) m at now more ≡ followed (read_span m (byte_span at)) (λ bytes. behind_byte n m (at + 1) now more (byte_in bytes))
 unfolding string_from
 string_next n m at now more = refl
@@ -151,18 +151,18 @@ abbrev pub word_in : List ℕ → ℕ
 word_in bytes = number_at low_first 4 bytes 0
 
 -- what follows a pointer
-abbrev behind_pointer : ℕ → Bytes → (at now : ℕ) → (ℕ → Result (List ℕ) Span) → ℕ → Result (List ℕ) Span
+abbrev pub behind_pointer : ℕ → Bytes → (at now : ℕ) → (ℕ → Result (List ℕ) Span) → ℕ → Result (List ℕ) Span
 behind_pointer n m at now more pointer =
     if pointer == 0 then more now
     else if nat_lt now 4 then Ok []
     else string_from 1048577 m pointer (now - 4) (λ left. strings_from n m at left more)
 
-list_next : (n : ℕ) (m : Bytes) (at now : ℕ) (more : ℕ → Result (List ℕ) Span) →
+pub list_next : (n : ℕ) (m : Bytes) (at now : ℕ) (more : ℕ → Result (List ℕ) Span) →
     strings_from (suc n) m at now more ≡ followed (read_span m (word_span at)) (λ bytes. behind_pointer n m (at + 4) now more (word_in bytes))
 unfolding strings_from
 list_next n m at now more = refl
 
-list_none : (m : Bytes) (at now : ℕ) (more : ℕ → Result (List ℕ) Span) → strings_from 0 m at now more ≡ Ok []
+pub list_none : (m : Bytes) (at now : ℕ) (more : ℕ → Result (List ℕ) Span) → strings_from 0 m at now more ≡ Ok []
 unfolding strings_from
 list_none m at now more = refl
 
@@ -269,7 +269,7 @@ module _ (m : Bytes) (path args env : ℕ) (bytes : List ℕ) (is : path_sent m 
   path_too_long none = exec_path ∙ nothing_behind bytes (behind_path m args env (has_zero bytes)) (ap (behind_path m args env) none)
 
   module _ (whole : has_zero bytes ≡ true) where
-    exec_strings : exec_sent m path args env ≡ appended bytes (strings_sent m args env)
+    pub exec_strings : exec_sent m path args env ≡ appended bytes (strings_sent m args env)
     exec_strings = exec_path ∙ ap (λ (b : Bool). appended bytes (behind_path m args env b)) whole
 
     pub args_stray : (stray : Span) → ((more : ℕ → Result (List ℕ) Span) → list_sent m args 1048576 more ≡ Err stray) → exec_sent m path args env ≡ Err stray

@@ -68,7 +68,7 @@ pub record ListSoFar (bytes rest : List ℕ) (front : List (List ℕ)) : Type 0 
   pub whole : strings_before front (strings_in most rest) ≡ strings_in (length bytes) bytes
 
 -- it ends before its zero
-short : (most : ℕ) (rest : List ℕ) → length rest < 4 → strings_in most rest ≡ None
+pub short : (most : ℕ) (rest : List ℕ) → length rest < 4 → strings_in most rest ≡ None
 unfolding strings_in
 short zero rest less = refl
 short (suc most) rest less = rw (lt-ltb (length rest) 4 less) refl
@@ -80,12 +80,12 @@ last zero rest four fits is = absurd (omega arith)
 last (suc most) rest four fits is = rw (le-ltb (length rest) 4 four, is) refl
 
 -- or in a string
-cut : (most : ℕ) (rest : List ℕ) → 4 ≤ length rest → number_at low_first 4 rest 0 ≢ 0 → has_zero (drop 4 rest) ≡ false → strings_in most rest ≡ None
+pub cut : (most : ℕ) (rest : List ℕ) → 4 ≤ length rest → number_at low_first 4 rest 0 ≢ 0 → has_zero (drop 4 rest) ≡ false → strings_in most rest ≡ None
 unfolding strings_in
 cut zero rest four other none = refl
 cut (suc most) rest four other none = rw (le-ltb (length rest) 4 four, eqb_other (number_at low_first 4 rest 0) 0 other, none) refl
 
-next : (most : ℕ) (rest : List ℕ) → 4 ≤ length rest → number_at low_first 4 rest 0 ≢ 0 → has_zero (drop 4 rest) ≡ true
+pub next : (most : ℕ) (rest : List ℕ) → 4 ≤ length rest → number_at low_first 4 rest 0 ≢ 0 → has_zero (drop 4 rest) ≡ true
     → strings_in (suc most) rest ≡ string_more (before_zero (drop 4 rest)) (strings_in most (behind_zero (drop 4 rest)))
 unfolding strings_in
 next most rest four other some = rw (le-ltb (length rest) 4 four, eqb_other (number_at low_first 4 rest 0) 0 other, some) refl

@@ -4,10 +4,12 @@
 //! the call does.
 #![tactic(auto)]
 
+mod laws;
 mod output;
 mod reading;
 mod strings;
 
+pub use laws::strings_law;
 pub use output::{got_len, put, stray_put};
 pub use reading::{Unread, read_range, read_sent};
 pub use strings::{ProgramStrings, at_zero, program_strings};

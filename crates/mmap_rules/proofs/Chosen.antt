@@ -14,7 +14,7 @@ use Rattle.mmap_rules.specs.declared.want.Want.{Want}
 use Rattle.mmap_rules.specs.declared.want.Want.TheVariants.{Anon, File}
 use Rattle.mmap_rules.specs.declared.maps.Part.{Part}
 use Rattle.mmap_rules.specs.Mappings.{copied_from, filled, file_pages, CopyHas}
-use Rattle.mmap_rules.specs.Chosen.{part_at, part_for, new_run, first_bytes}
+use Rattle.mmap_rules.specs.Chosen.{part_at, part_for, new_run, bytes_copied}
 use Rattle.mmap_rules.specs.Sides.{Sides, in_fresh_run, in_copy, in_copy_or_new, mapped}
 
 pub mapped_part : (s : Sides) (kind : Kind) (bytes : List ℕ) (want : Want) (p : Part) → part_for s.regions want ≡ Some p →
@@ -38,7 +38,7 @@ part_is rs want pages first write id change copy lowest is reads =
 
 pub mapped_new : (s : Sides) (kind : Kind) (bytes : List ℕ) (want : Want) → part_for s.regions want ≡ None →
     mapped s kind bytes want ≡ in_fresh_run s kind (new_run want).pages (new_run want).writes (new_run want).anonymous (new_run want).source
-    (filled (4096 * (new_run want).pages) (first_bytes bytes want))
+    (filled (4096 * (new_run want).pages) (bytes_copied bytes want))
 unfolding mapped file_pages
 mapped_new s kind bytes (Anon pages) is =
     ap (λ (n : ℕ). in_fresh_run s kind pages true true Own (replicate n 0)) (let whole : 4096 * pages ≡ 4096 * pages - 0 = omega arith in whole)

@@ -29,6 +29,7 @@
 -- Change     what `map` changes
 -- CopiesHold copies hold their file where `map` maps pages
 -- Keeps      what `map` keeps, as its next call needs it
+-- Released   the uses of regions behind a release
 -- Samples    the definitions, computed on worked examples
 pub mod Ranges
 pub mod Tables
@@ -61,4 +62,5 @@ pub mod FilePages
 pub mod Change
 pub mod CopiesHold
 pub mod Keeps
+pub mod Released
 pub mod Samples

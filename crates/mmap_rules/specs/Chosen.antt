@@ -32,6 +32,6 @@ new_run (File pages first write id change) =
     record { pages = pages; writes = write; anonymous = false; source = file_source write id change first }
 
 -- the bytes with which the run begins, where the file has these
-abbrev pub first_bytes : List ℕ → Want → List ℕ
-first_bytes bytes (Anon pages) = []
-first_bytes bytes (File pages first write id change) = take (page_size * pages) (drop (page_size * first) bytes)
+abbrev pub bytes_copied : List ℕ → Want → List ℕ
+bytes_copied bytes (Anon pages) = []
+bytes_copied bytes (File pages first write id change) = take (page_size * pages) (drop (page_size * first) bytes)

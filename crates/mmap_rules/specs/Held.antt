@@ -1,5 +1,5 @@
 -- What is kept of a private space beside its bytes, and how it changes.
-use Rattle.std.specs.Prelude.{ℕ, ◌≡◌, ◌+◌, ◌-◌, ◌*◌, ◌/◌, ◌%◌, ◌≤◌, true, false, ◌&&◌, nat_le, if◌then◌else◌, List, [], ◌∷◌, Some, slice_get}
+use Rattle.std.specs.Prelude.{ℕ, ◌≡◌, ◌+◌, ◌-◌, ◌*◌, ◌/◌, ◌%◌, ◌==◌, ◌≤◌, true, false, ◌&&◌, nat_le, if◌then◌else◌, List, [], ◌∷◌, count_by, Some, slice_get}
 use Rattle.nommu_regions.specs.declared.region.Region.{Region}
 use Rattle.nommu_regions.specs.declared.region.Source.TheVariants.{Own}
 use Rattle.nommu_regions.specs.Regions.{IsLive, with_uses, is_copy}
@@ -77,3 +77,8 @@ CanRelease rs (m ∷ ms) = IsLive rs m.first × CanRelease (with_uses rs m.first
 abbrev pub released : List Region → List Mapping → List Region
 released rs [] = rs
 released rs (m ∷ ms) = released (with_uses rs m.first (λ uses. uses - 1)) ms
+
+-- each region has as many uses less as mappings of the list name it, and is else as before
+abbrev pub LoseUses : List Region → List Mapping → List Region → Type 0
+LoseUses old maps new =
+    (first : ℕ) (r : Region) → slice_get old first ≡ Some r → slice_get new first ≡ Some (record r { uses = r.uses - count_by (λ m. m.first == first) maps })

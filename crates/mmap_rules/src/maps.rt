@@ -15,7 +15,7 @@ ghost use Rattle.page_runs.specs.declared.place.Kind.{Kind};
 ghost use Rattle.mmap_rules.specs.Want.{AsksPages};
 ghost use Rattle.mmap_rules.specs.Copies.{AllHold, IsKnown, pages_at, pages_of, wanted_bytes};
 ghost use Rattle.mmap_rules.specs.Mappings.{run_mapping, part_mapping, copied_from, filled, page_at, IsNewRun, CopyHas, CanAdd};
-ghost use Rattle.mmap_rules.specs.Chosen.{part_at, part_for, new_run, first_bytes, file_source};
+ghost use Rattle.mmap_rules.specs.Chosen.{part_at, part_for, new_run, bytes_copied, file_source};
 ghost use Rattle.mmap_rules.specs.Sides.{Sides, sides, mapped, in_fresh_run, in_copy, file_in, Maps, NameRegions, AreFew};
 
 use crate::mapping::{Mapping, Range};
@@ -108,7 +108,7 @@ pub fn fits(regions: &Regions, want: Want) -> bool
 fn new_run(tree: &Tree, want: Want) -> (NewRun, &[u8])
     requires { AsksPages want }
     ensures run { result.0 ≡ new_run want }
-    ensures bytes { result.1.now ≡ first_bytes (bytes_of tree.now (file_in want)) want }
+    ensures bytes { result.1.now ≡ bytes_copied (bytes_of tree.now (file_in want)) want }
     ensures new { IsNewRun result.0.pages result.0.writes result.0.anonymous result.0.source }
     ensures fits { length result.1.now ≤ 4096 * result.0.pages }
 {

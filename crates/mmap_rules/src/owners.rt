@@ -6,15 +6,13 @@ ghost use Rattle.mmap_rules.specs.Owners.{owns, owns_at, free_page, touched, IsS
 
 use crate::mapping::Range;
 use crate::steps::Steps;
+use phys_mem::BASE;
 use std::alloc::{AllocError, Global};
 use std::marker::{Brand, Model};
 use std::sync::ledger::{Blank, Ledger};
 
-/// The first address of memory.
-const BASE: u32 = 0x8000_0000;
-
 /// The bytes of a page.
-const PAGE: u64 = 4096;
+const PAGE: u64 = phys_mem::PAGE as u64;
 
 /// What a space owns of one page.
 #[derive(Clone, Copy, PartialEq, Eq)]

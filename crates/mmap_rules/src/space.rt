@@ -5,19 +5,14 @@ ghost use Rattle.nommu_regions.specs.declared.region.Source.TheVariants.{Own};
 ghost use Rattle.nommu_regions.specs.Ids.{Lives, region_of};
 ghost use Rattle.mmap_rules.specs.Space.{own_in, writable_in, may_use};
 ghost use Rattle.mmap_rules.specs.Owners.{owns, IsShaped, IsTable};
-ghost use Rattle.mmap_rules.specs.Held.{AreMappings, FitsBlock, block_mapping, held_block, next_brk, CanRelease, released};
+ghost use Rattle.mmap_rules.specs.Held.{AreMappings, FitsBlock, block_mapping, held_block, next_brk, CanRelease, LoseUses, released};
 
 use crate::mapping::{Mapping, Range};
 use crate::owners::Owners;
 use nommu_regions::{Regions, Source};
+use phys_mem::{BASE, PAGE};
 use std::alloc::{AllocError, Global};
 use std::marker::Model;
-
-/// The bytes of a page.
-const PAGE: u32 = 4096;
-
-/// The first address of memory.
-const BASE: u32 = 0x8000_0000;
 
 /// The bytes at a block's start that belong to nobody.
 const HEADER: u32 = 64;
@@ -165,6 +160,7 @@ impl Space {
     pub fn release(self, regions: &mut Regions)
         requires { CanRelease regions.old.regions self.maps }
         ensures released { regions.new.regions ≡ released regions.old.regions self.maps }
+        ensures uses { LoseUses regions.old.regions self.maps regions.new.regions }
         ensures ids { regions.new.starts ≡ regions.old.starts }
     {
         let Space { maps, .. } = self;

@@ -17,7 +17,7 @@ const ANONYMOUS: u32 = 5;
 const WRITE: u32 = 1;
 
 /// The bytes of a page.
-const PAGE: u64 = 4096;
+const PAGE: u64 = phys_mem::PAGE as u64;
 
 /// What a descriptor of mmap2 leads to.
 #[derive(Clone, Copy)]

@@ -7,7 +7,7 @@ use Rattle.std.proofs.lemmas.Option.{same_Some, slice_get_within, slice_get-get_
 use Rattle.page_runs.specs.Free.{Free, with_free}
 use Rattle.page_runs.specs.Pages.{in_run}
 use Rattle.nommu_regions.specs.declared.region.Region.{Region}
-use Rattle.nommu_regions.specs.Regions.{holds, is_held, AreRegions, AreFree, IsLive, CanCut, free_of, before, behind, is_left, with_behind, with_cut, Kept}
+use Rattle.nommu_regions.specs.Regions.{holds, is_held, AreRegions, AreFree, IsLive, CanCut, free_of, before, behind, is_left, with_behind, with_cut, HaveFreeRuns}
 use Rattle.nommu_regions.proofs.Held.{is_held-set, is_held-part, held_by, not_held, was_gone, regions_fresh, regions_part}
 use Rattle.nommu_regions.proofs.FreeRuns.{free_with}
 use Rattle.nommu_regions.proofs.Kept.{get_set, get_other}
@@ -76,8 +76,8 @@ regions_front rs id x from count regions cut =
     regions_part rs id x (before x from) regions cut.there (omega (arith, cut.one)) refl (omega (arith, cut.last))
     (λ live. grind (arith, nat_tests, live, cut.first))
 
-pub kept_front : (rs : List Region) (free new : Free) (id : ℕ) (x : Region) (from count : ℕ) → Kept rs free → IsCut rs id x from count →
-    new ≡ with_free free from count → from + count ≡ x.first + x.pages → Kept (slice_set rs id (before x from)) new
+pub kept_front : (rs : List Region) (free new : Free) (id : ℕ) (x : Region) (from count : ℕ) → HaveFreeRuns rs free → IsCut rs id x from count →
+    new ≡ with_free free from count → from + count ≡ x.first + x.pages → HaveFreeRuns (slice_set rs id (before x from)) new
 kept_front rs free new id x from count kept cut given ends =
     let len = length-set rs id (before x from) in (
       regions_front rs id x from count kept.0 cut,
@@ -89,9 +89,9 @@ kept_front rs free new id x from count kept cut given ends =
     held : (p : ℕ) → is_held (slice_set rs id (before x from)) p ≡ (is_held rs p && not (in_run from count p))
     held p = held_front rs id x from count p kept.0 cut ∙ grind (arith, nat_tests, held_by rs id x p cut.there, cut.one, cut.first, cut.some)
 
-pub kept_back : (rs : List Region) (free new : Free) (id : ℕ) (x : Region) (from count : ℕ) → Kept rs free → IsCut rs id x from count →
+pub kept_back : (rs : List Region) (free new : Free) (id : ℕ) (x : Region) (from count : ℕ) → HaveFreeRuns rs free → IsCut rs id x from count →
     new ≡ with_free free from count → from + count < x.first + x.pages →
-    Kept (slice_set (slice_set rs id (before x from)) (from + count) (behind x (from + count))) new
+    HaveFreeRuns (slice_set (slice_set rs id (before x from)) (from + count) (behind x (from + count))) new
 kept_back rs free new id x from count kept cut given more = by_place (slice_get-get_or front (from + count) back (omega (arith, are.inside, more)))
   where
     front : List Region
@@ -106,7 +106,7 @@ kept_back rs free new id x from count kept cut given more = by_place (slice_get-
     front_held : (p : ℕ) → is_held front p ≡ (is_held rs p && (not (holds x p) || holds (before x from) p))
     front_held p = held_front rs id x from count p kept.0 cut
 
-    by_place : slice_get front (from + count) ≡ Some (get_or front (from + count) back) → Kept (slice_set front (from + count) back) new
+    by_place : slice_get front (from + count) ≡ Some (get_or front (from + count) back) → HaveFreeRuns (slice_set front (from + count) back) new
     by_place there =
         let regions : AreRegions front = regions_front rs id x from count kept.0 cut in
         let one : length front ≡ length rs = length-set rs id (before x from) in
@@ -134,11 +134,11 @@ put_behind : (rs : List Region) (x : Region) (from : ℕ) → is_left x from ≡
 put_behind rs x from some = rw some refl
 
 -- the places lie in memory
-pub cut_inside : (rs : List Region) (free : Free) (id : ℕ) (x : Region) (from count : ℕ) → Kept rs free → IsCut rs id x from count →
+pub cut_inside : (rs : List Region) (free : Free) (id : ℕ) (x : Region) (from count : ℕ) → HaveFreeRuns rs free → IsCut rs id x from count →
     x.first + x.pages ≤ length rs
 cut_inside rs free id x from count kept cut = kept.0.inside id x cut.there (omega (arith, cut.one))
 
-pub begins_at : (rs : List Region) (free : Free) (id : ℕ) (x : Region) (from count : ℕ) → Kept rs free → IsCut rs id x from count → x.first ≡ id
+pub begins_at : (rs : List Region) (free : Free) (id : ℕ) (x : Region) (from count : ℕ) → HaveFreeRuns rs free → IsCut rs id x from count → x.first ≡ id
 begins_at rs free id x from count kept cut = kept.0.begins id x cut.there (omega (arith, cut.one))
 
 pub is_front : (rs : List Region) (id : ℕ) (x : Region) (from count : ℕ) → IsCut rs id x from count → from + count ≡ x.first + x.pages →
@@ -158,7 +158,7 @@ is_front_and_back rs id x from count cut more =
     rw there (sym (put_behind (slice_set rs id (before x from)) x (from + count) some))
 
 -- the free runs are those before the cut, with its pages
-pub freed : (rs new : List Region) (free given : Free) (from count : ℕ) → Kept rs free → Kept new given → given ≡ with_free free from count →
+pub freed : (rs new : List Region) (free given : Free) (from count : ℕ) → HaveFreeRuns rs free → HaveFreeRuns new given → given ≡ with_free free from count →
     free_of new ≡ with_free (free_of rs) from count
 freed rs new free given from count kept after is = sym after.1 ∙ (is ∙ ap (λ (f : Free). with_free f from count) kept.1)
 

@@ -8,12 +8,12 @@ use Rattle.page_runs.specs.Free.{Free, free_runs, is_free, with_free, without}
 use Rattle.page_runs.specs.Pages.{in_run}
 use Rattle.page_runs.proofs.Maximal.{has_page-free_runs, is_free_runs}
 use Rattle.nommu_regions.specs.declared.region.Region.{Region}
-use Rattle.nommu_regions.specs.Regions.{holds, is_held, AreFree, IsLive, Kept}
+use Rattle.nommu_regions.specs.Regions.{holds, is_held, AreFree, IsLive, HaveFreeRuns}
 use Rattle.nommu_regions.proofs.Held.{is_held-set, is_held-same, is_held-gone, held_by, was_gone, regions_fresh, regions_part}
 use Rattle.nommu_regions.proofs.FreeRuns.{free_with, free_without, free_same, are_free}
 
-pub kept_used : (rs : List Region) (free : Free) (id : ℕ) (r v : Region) → Kept rs free → slice_get rs id ≡ Some r → 0 < r.uses →
-    v.first ≡ r.first → v.pages ≡ r.pages → 0 < v.uses → Kept (slice_set rs id v) free
+pub kept_used : (rs : List Region) (free : Free) (id : ℕ) (r v : Region) → HaveFreeRuns rs free → slice_get rs id ≡ Some r → 0 < r.uses →
+    v.first ≡ r.first → v.pages ≡ r.pages → 0 < v.uses → HaveFreeRuns (slice_set rs id v) free
 kept_used rs free id r v kept there live first pages v_live =
     let len = length-set rs id v in (
       regions_part rs id r v kept.0 there live first (omega arith) (λ _. omega (arith, kept.0.some id r there live)),
@@ -22,8 +22,8 @@ kept_used rs free id r v kept there live first pages v_live =
       omega (arith, kept.3),
     )
 
-pub kept_gone : (rs : List Region) (free new : Free) (id : ℕ) (r v : Region) → Kept rs free → slice_get rs id ≡ Some r → 0 < r.uses →
-    v.first ≡ r.first → v.pages ≡ r.pages → v.uses ≡ 0 → new ≡ with_free free r.first r.pages → Kept (slice_set rs id v) new
+pub kept_gone : (rs : List Region) (free new : Free) (id : ℕ) (r v : Region) → HaveFreeRuns rs free → slice_get rs id ≡ Some r → 0 < r.uses →
+    v.first ≡ r.first → v.pages ≡ r.pages → v.uses ≡ 0 → new ≡ with_free free r.first r.pages → HaveFreeRuns (slice_set rs id v) new
 kept_gone rs free new id r v kept there live first pages gone given =
     let len = length-set rs id v in (
       regions_part rs id r v kept.0 there live first (omega arith) (λ _. omega (arith, kept.0.some id r there live)),
@@ -33,8 +33,8 @@ kept_gone rs free new id r v kept there live first pages gone given =
       omega (arith, kept.3),
     )
 
-pub kept_fresh : (rs : List Region) (free new : Free) (v : Region) → Kept rs free → AreFree rs v.first v.pages → 0 < v.pages → v.uses ≡ 1 →
-    new ≡ without free v.first v.pages → Kept (slice_set rs v.first v) new
+pub kept_fresh : (rs : List Region) (free new : Free) (v : Region) → HaveFreeRuns rs free → AreFree rs v.first v.pages → 0 < v.pages → v.uses ≡ 1 →
+    new ≡ without free v.first v.pages → HaveFreeRuns (slice_set rs v.first v) new
 kept_fresh rs free new v kept are some one taken =
     let len = length-set rs v.first v in
     let there = slice_get-get_or rs v.first v (omega (arith, are.inside)) in (
@@ -62,7 +62,7 @@ no_page : (n i : ℕ) (v r : Region) (p : ℕ) → v.uses ≡ 0 → slice_get (r
 no_page n i v r p gone is has = let uses = ap (λ (q : Region). q.uses) (get-replicate n i v r is) in grind (arith, nat_tests, uses)
 
 pub kept_new : (n : ℕ) (v : Region) → 1 ≤ n → n ≤ 16384 → v.uses ≡ 0 →
-    Kept (replicate n v) (record { pages = n; runs = record { first = 0; count = n } ∷ [] })
+    HaveFreeRuns (replicate n v) (record { pages = n; runs = record { first = 0; count = n } ∷ [] })
 kept_new n v some most gone =
     let runs : record { first = 0; count = n } ∷ [] ≡ free_runs n (λ p. not (is_held (replicate n v) p)) =
     is_free_runs n _ (record { first = 0; count = n } ∷ []) (omega arith, (omega arith, omega arith))
@@ -81,13 +81,13 @@ kept_new n v some most gone =
 
 -- ---- pages that are free, or aren't
 
-pub taken_by : (rs : List Region) (free : Free) (id : ℕ) (x : Region) → Kept rs free → slice_get rs id ≡ Some x → 0 < x.uses →
+pub taken_by : (rs : List Region) (free : Free) (id : ℕ) (x : Region) → HaveFreeRuns rs free → slice_get rs id ≡ Some x → 0 < x.uses →
     (p : ℕ) → in_run x.first x.pages p ≡ true → is_free free p ≡ false
 taken_by rs free id x kept there live p inside =
     let held = held_by rs id x p there (grind (arith, nat_tests)) in
     rw kept.1 (has_page-free_runs (length rs) (λ q. not (is_held rs q)) p ∙ grind (arith, nat_tests, held))
 
-pub are_free_now : (rs now : List Region) (free : Free) (first count : ℕ) → rs ≡ now → Kept rs free → 0 < count →
+pub are_free_now : (rs now : List Region) (free : Free) (first count : ℕ) → rs ≡ now → HaveFreeRuns rs free → 0 < count →
     ((p : ℕ) → in_run first count p ≡ true → is_free free p ≡ true) → AreFree now first count
 are_free_now rs now free first count same kept some free_is = rw (← same) (are_free rs first count some (rw kept.1 at free_is))
 

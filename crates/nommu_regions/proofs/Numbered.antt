@@ -9,7 +9,7 @@ use Rattle.std.proofs.lemmas.List.Edits.{swapped_from_swap}
 use Rattle.std.proofs.lemmas.Option.{same_Some, slice_get_within, slice_get_read, get_or_from_slice_get}
 use Rattle.page_runs.specs.Free.{Free, with_free}
 use Rattle.nommu_regions.specs.declared.region.Region.{Region}
-use Rattle.nommu_regions.specs.Regions.{holds, AreRegions, AreFree, IsLive, CanCut, Kept, free_behind, free_of, with_uses, before, behind, with_cut}
+use Rattle.nommu_regions.specs.Regions.{holds, AreRegions, AreFree, IsLive, CanCut, HaveFreeRuns, free_behind, free_of, with_uses, before, behind, with_cut}
 use Rattle.nommu_regions.specs.Ids.{Numbered, AreInverse, IdsBehind, Lives, OthersStay, UpperPart, has_both, has_upper, kept_part, region_of, start_of}
 use Rattle.nommu_regions.proofs.Held.{held_by}
 use Rattle.nommu_regions.proofs.Kept.{get_set, get_other, live_set}
@@ -242,12 +242,12 @@ ids_swapped rs new ids starts st now id f x from count upper at inverse up insid
 
 -- ---- the free runs behind one use less
 
-pub free_last : (rs new : List Region) (starts : List ℕ) (now : Numbered) (id f : ℕ) (x : Region) (free given : Free) → At rs starts now id f x → Kept rs free → Kept new given →
+pub free_last : (rs new : List Region) (starts : List ℕ) (now : Numbered) (id f : ℕ) (x : Region) (free given : Free) → At rs starts now id f x → HaveFreeRuns rs free → HaveFreeRuns new given →
     given ≡ with_free free x.first x.pages → x.uses ≡ 1 → (r : Region) → region_of now id ≡ Some r → free_of new ≡ free_behind r (free_of now.regions)
 free_last rs new starts now id f x free given at kept after is one r named =
     rw (← same_region rs starts now id f x r at named, ← at.same, one) (freed rs new free given x.first x.pages kept after is)
 
-pub free_used : (rs new : List Region) (starts : List ℕ) (now : Numbered) (id f : ℕ) (x : Region) (free : Free) → At rs starts now id f x → Kept rs free → Kept new free →
+pub free_used : (rs new : List Region) (starts : List ℕ) (now : Numbered) (id f : ℕ) (x : Region) (free : Free) → At rs starts now id f x → HaveFreeRuns rs free → HaveFreeRuns new free →
     x.uses ≢ 1 → (r : Region) → region_of now id ≡ Some r → free_of new ≡ free_behind r (free_of now.regions)
 free_used rs new starts now id f x free at kept after more r named =
     rw (← same_region rs starts now id f x r at named, ← at.same, ne_eqb x.uses 1 more) (sym after.1 ∙ kept.1)

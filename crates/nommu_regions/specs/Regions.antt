@@ -35,8 +35,8 @@ abbrev pub free_of : List Region → Free
 free_of rs = record { pages = length rs; runs = free_runs (length rs) (λ p. not (is_held rs p)) }
 
 -- for private functions: what is known of the regions and of the free runs beside them
-abbrev pub Kept : List Region → Free → Type 0
-Kept rs free = AreRegions rs × (free ≡ free_of rs) × (1 ≤ length rs) × (length rs ≤ 16384)
+abbrev pub HaveFreeRuns : List Region → Free → Type 0
+HaveFreeRuns rs free = AreRegions rs × (free ≡ free_of rs) × (1 ≤ length rs) × (length rs ≤ 16384)
 
 -- none of the `count` pages from `first` on is held, and they lie in memory
 pub record AreFree (rs : List Region) (first count : ℕ) : Type 0 where

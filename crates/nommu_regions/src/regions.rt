@@ -6,8 +6,8 @@ ghost use Rattle.byte_words.specs.Patches.{laid};
 ghost use Rattle.page_runs.specs.declared.place.Kind.{Kind};
 ghost use Rattle.page_runs.specs.Choosers.{IsChooser, kind_of};
 ghost use Rattle.page_runs.specs.Free.{with_free, without};
-ghost use Rattle.page_runs.specs.Place.{Gets, Placed, place, first_of};
-ghost use Rattle.nommu_regions.specs.Regions.{AreRegions, AreFree, IsLive, Kept, CanCut, copy_of, covers, free_behind, free_of, with_cut, with_uses, uses_of};
+ghost use Rattle.page_runs.specs.Place.{Gets, place, first_of};
+ghost use Rattle.nommu_regions.specs.Regions.{AreRegions, AreFree, IsLive, HaveFreeRuns, CanCut, copy_of, covers, free_behind, free_of, with_cut, with_uses, uses_of};
 ghost use Rattle.nommu_regions.specs.Ids.{AreIds, AreInverse, IdsBehind, Lives, OthersStay, UpperPart, kept_part, region_of, start_of};
 
 use crate::region::{Region, Source};
@@ -30,14 +30,14 @@ pub struct Regions {
 
 impl Model for Regions {
     ghost use Rattle.std.specs.Prelude.{◌≡◌, length};
-    ghost use Rattle.nommu_regions.specs.Regions.{Kept};
+    ghost use Rattle.nommu_regions.specs.Regions.{HaveFreeRuns};
     ghost use Rattle.nommu_regions.specs.Ids.{Numbered, AreInverse};
 
     ghost Value = { Numbered };
 
     ghost view = { λ s. record { regions = s.regions.items; starts = s.starts.items } };
 
-    ghost invariant = { λ s. Kept s.regions.items s.free × AreInverse s.ids.items s.starts.items (length s.regions.items) };
+    ghost invariant = { λ s. HaveFreeRuns s.regions.items s.free × AreInverse s.ids.items s.starts.items (length s.regions.items) };
 }
 
 impl Regions {
@@ -123,7 +123,6 @@ impl Regions {
         requires pages { 0 < pages }
         requires memory { length mem.old ≡ 4096 * length self.old.regions }
         ensures placed { option_map (start_of self.old) result ≡ first_of (free_of self.old.regions).runs (place (kind_of chooser.now) (free_of self.old.regions).runs pages) }
-        ensures rule { Placed (kind_of chooser.now) (free_of self.old.regions).runs pages (place (kind_of chooser.now) (free_of self.old.regions).runs pages) }
         ensures gets { Gets (kind_of chooser.now) (free_of self.old.regions).runs pages (option_map (start_of self.old) result) }
         ensures front { IfSome result (λ id. free_of self.new.regions ≡ without (free_of self.old.regions) (start_of self.old id) pages) }
         ensures free { IfSome result (λ id. AreFree self.old.regions (start_of self.old id) pages) }
@@ -227,9 +226,9 @@ fn numbers(alloc: Global, count: u32) -> Result<Vec<u32>, AllocError>
 
 /// Frees pages of the region that begins at page `first`.
 fn cut_pages(regions: &mut [Region], free: &mut Runs, first: u32, from: u32, count: u32)
-    requires kept { Kept regions.old free.old }
+    requires kept { HaveFreeRuns regions.old free.old }
     requires can { CanCut regions.old first from count }
-    ensures kept { Kept regions.new free.new }
+    ensures kept { HaveFreeRuns regions.new free.new }
     ensures len { length regions.new ≡ length regions.old }
     ensures regions { regions.new ≡ with_cut regions.old first from count }
     ensures free { free_of regions.new ≡ with_free (free_of regions.old) from count }

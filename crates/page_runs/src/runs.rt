@@ -4,7 +4,7 @@ ghost use Rattle.std.specs.Prelude.{◌≡◌, ◌+◌, ◌*◌, ◌<◌, ◌≤
 ghost use Rattle.page_runs.specs.Choosers.{IsChooser, kind_of};
 ghost use Rattle.page_runs.specs.Free.{IsFree, is_free, without, with_free};
 ghost use Rattle.page_runs.specs.Pages.{in_run};
-ghost use Rattle.page_runs.specs.Place.{Placed, Gets, place, first_of};
+ghost use Rattle.page_runs.specs.Place.{Gets, place, first_of};
 
 use crate::chooser::Chooser;
 use crate::edits::{cut_front, index_of, meets_above, meets_below, replace};
@@ -63,7 +63,7 @@ impl Runs {
         requires chooser { IsChooser F.pre F.post chooser.now }
         requires need { 0 < need }
         ensures placed { result ≡ first_of self.old.runs (place (kind_of chooser.now) self.old.runs need) }
-        ensures rule { Placed (kind_of chooser.now) self.old.runs need (place (kind_of chooser.now) self.old.runs need) }
+        ensures gets { Gets (kind_of chooser.now) self.old.runs need result }
         ensures pages { MatchOption result (self.new ≡ self.old) (λ first. self.new ≡ without self.old first need) }
         ensures free { IfSome result (λ first. (p : ℕ) → in_run first need p ≡ true → is_free self.old p ≡ true) }
     {

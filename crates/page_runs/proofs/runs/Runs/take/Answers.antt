@@ -1,4 +1,4 @@
-use Rattle.std.proofs.Common.{◌≡◌, arith}
+use Rattle.std.proofs.Common.{◌≡◌, arith, sym}
 use Rattle.std.proofs.lemmas.Option.{slice_get_within}
 use Rattle.page_runs.proofs.Changes.{all_spaced, are_runs, left_by_cut, without_is, first_is, front_is_free}
 use Rattle.page_runs.proofs.runs.Runs.take.Goals as goal
@@ -32,3 +32,9 @@ returns-clause-free g c =
     let place = rw c.deref.ensures.value at c.in_ok-i.ensures.rule in
     let begins : c.cut_front.result ≡ place.run.first = first_is c.self.inside.runs.items c.in_ok-i.i c.cut_front.result place.run place.there c.cut_front.ensures.first in
     front_is_free (record { pages = c.self.inside.pages; runs = c.self.inside.runs.items }) c.args.self.now c.in_ok-i.i c.cut_front.result c.args.need place.run c.self.view_is place.there begins place.fits
+
+pub returns-clause-gets : goal.returns-clause-gets
+returns-clause-gets g c =
+    let place = rw c.deref.ensures.value at c.in_ok-i.ensures.rule in
+    let begins : c.cut_front.result ≡ place.run.first = first_is c.self.inside.runs.items c.in_ok-i.i c.cut_front.result place.run place.there c.cut_front.ensures.first in
+    rw (← c.self.view_is) (record { i = c.in_ok-i.i; place = place; begins = sym begins })
