@@ -7,6 +7,8 @@ use Rattle.rv32im_step.specs.Meaning.{Meaning, next, call, trap, refused, meanin
 use Rattle.mmap_rules.specs.Space.{Space, writable_in}
 use Rattle.call_log.specs.Notes.{CallEntry}
 use Rattle.call_log.specs.Sent.{Span, most_pieces, piece_spans, data_spans, read_spans, followed, sent}
+use Rattle.vfork_exec.specs.declared.family.State.{State}
+use Rattle.vfork_exec.specs.declared.family.Ended.{Ended}
 use Rattle.vfork_exec.specs.Keyed.{find}
 use Rattle.flat_loader.specs.Alone.{number_of, args_of, put_got}
 use Rattle.machine_world.specs.World.{Process, LiveSpace, World, pid_of, id_of}
@@ -46,7 +48,7 @@ with_none : (w : World) (console : List ℕ) (bytes : List ℕ) → bytes ≡ []
 with_none w console bytes none same = same ∙ sym (append-nil w.rest.console) ∙ ap (λ bs. w.rest.console ++ bs) (sym none)
 
 module _ (w : World) (a : Ask) (same : a.rest.console ≡ w.rest.console) (isnt : is_write a.number ≡ false) where
-  quiet_answered : Answered (λ now t. Prints w t now) (λ rest. rest.console ≡ a.rest.console) w a
+  pub quiet_answered : Answered (λ now t. Prints w t now) (λ rest. rest.console ≡ a.rest.console) w a
   unfolding kept_calls_of ended
   quiet_answered = record {
     reply = λ ended r m quiet room. record {
@@ -72,17 +74,44 @@ module _ (w : World) (a : Ask) (same : a.rest.console ≡ w.rest.console) (isnt 
     };
   }
 
-  quiet_classed : PrintsIn w (classed w a)
+  -- a reply, where some have ended
+  pub quiet_served : (gone : List Ended) (r : Reply) (m : Bytes) → r.rest.console ≡ a.rest.console → PrintsIn w (served (record w { ended = gone }) a r m)
+  unfolding served kept_calls_of
+  quiet_served gone r m quiet =
+      if_room w (room_for (record w { ended = gone }) a r) (went _ _)
+      (record {
+        notes = refl;
+        console = with_none w r.rest.console (printed w (entry_of a r.value r.got ∷ [])) (silent w (entry_of a r.value r.got) isnt) (quiet ∙ same);
+        whole = silent_whole w (entry_of a r.value r.got) isnt;
+      })
+
+  pub quiet_classed : PrintsIn w (classed w a)
   quiet_classed = by_classed (λ now t. Prints w t now) (λ rest. rest.console ≡ a.rest.console) w a quiet_answered refl (quiet_rows a isnt)
+
+pub quiet_waited : (w : World) (p : Process) (state : State) → PrintsIn w (waited w p state)
+unfolding waited
+quiet_waited w p state = record { notes = sym (append-nil (kept_calls_of w.notes)); console = sym (append-nil w.rest.console); whole = tt }
+
+pub quiet_trapped : (w : World) (gone : List Ended) (p : Process) (signal : ℕ) → PrintsIn w (trapped (record w { ended = gone }) p signal)
+unfolding trapped ended kept_calls_of
+quiet_trapped w gone p signal = record { notes = sym (append-nil (kept_calls_of w.notes)); console = sym (append-nil w.rest.console); whole = tt }
 
 -- ---- write and writev
 
+pub data_64 : (e : CallEntry) → e.call ≡ 64 → data_of e ≡ e.sent
+data_64 e number = ap (λ n. if n == 64 then e.sent else drop (8 * slice_index e.args 2) e.sent) number
+
+pub data_66 : (e : CallEntry) (args bytes : List ℕ) → e.call ≡ 66 → e.args ≡ args → e.sent ≡ bytes → data_of e ≡ drop (8 * slice_index args 2) bytes
+data_66 e args bytes number args_are sent_is =
+    ap (λ n. if n == 64 then e.sent else drop (8 * slice_index e.args 2) e.sent) number
+    ∙ ap (λ xs. drop (8 * slice_index xs 2) e.sent) args_are ∙ ap (drop (8 * slice_index args 2)) sent_is
+
 module _ (w : World) (p : Process) (s : Space) (lives : find pid_of p.pid w.procs ≡ Some p) (bytes : List ℕ) where
   -- the call with this number
-  abbrev ask : ℕ → Ask
+  abbrev pub ask : ℕ → Ask
   ask n = record (ask_of w p s bytes) { number = n }
 
-  abbrev takes : Bool
+  abbrev pub takes : Bool
   takes = takes_output (view_of (ask_of w p s bytes) (arg (ask_of w p s bytes) 0))
 
   module _ (n : ℕ) (writes : is_write n ≡ true) (text : List ℕ) (is_data : (e : CallEntry) → e.call ≡ n → e.args ≡ args_of p.regs → e.sent ≡ bytes → data_of e ≡ text) where
@@ -103,7 +132,7 @@ module _ (w : World) (p : Process) (s : Space) (lives : find pid_of p.pid w.proc
         ∙ ap (λ b. if b then data_of (entry r) else []) (takes_is r)
         ∙ ap (λ d. if takes then d else []) (data_is r)
 
-    adds_served : (r : Reply) (m : Bytes) → Adds (ask n) takes text r → PrintsIn w (served w (ask n) r m)
+    pub adds_served : (r : Reply) (m : Bytes) → Adds (ask n) takes text r → PrintsIn w (served w (ask n) r m)
     unfolding served kept_calls_of
     adds_served r m adds =
         if_room w (room_for w (ask n) r) (went _ _)
@@ -118,32 +147,23 @@ module _ (w : World) (p : Process) (s : Space) (lives : find pid_of p.pid w.proc
     adds_put r (Err span) adds = tt
 
     adds_answered : (r : Row) → AddsIn (ask n) takes text r → PrintsIn w (answered w (ask n) r)
-    unfolding waited
     adds_answered (replies r) adds = adds_put r (put_got r.space.bytes (writable_in r.space.maps) r.got) adds
-    adds_answered (waits state) adds = record { notes = sym (append-nil (kept_calls_of w.notes)); console = sym (append-nil w.rest.console); whole = tt }
+    adds_answered (waits state) adds = quiet_waited w p state
 
   prints_64 : PrintsIn w (classed w (ask 64))
   unfolding row
   prints_64 =
       adds_answered 64 refl bytes (λ e number args sent. data_64 e number ∙ sent) (write_row (ask 64) bytes) (adds_write (ask 64) bytes)
-    where
-      data_64 : (e : CallEntry) → e.call ≡ 64 → data_of e ≡ e.sent
-      data_64 e number = ap (λ n. if n == 64 then e.sent else drop (8 * slice_index e.args 2) e.sent) number
 
   -- no pieces are read where there are too many
   prints_66 : (nat_lt most_pieces (slice_index (args_of p.regs) 2) ≡ true → bytes ≡ []) → PrintsIn w (classed w (ask 66))
   unfolding row
   prints_66 unread =
-      adds_answered 66 refl (drop (8 * slice_index (args_of p.regs) 2) bytes) (λ e number args sent. data_66 e number ∙ parts e args sent) (writev_row (ask 66)) (adds_writev (ask 66) unread)
-    where
-      data_66 : (e : CallEntry) → e.call ≡ 66 → data_of e ≡ drop (8 * slice_index e.args 2) e.sent
-      data_66 e number = ap (λ n. if n == 64 then e.sent else drop (8 * slice_index e.args 2) e.sent) number
-      parts : (e : CallEntry) → e.args ≡ args_of p.regs → e.sent ≡ bytes → drop (8 * slice_index e.args 2) e.sent ≡ drop (8 * slice_index (args_of p.regs) 2) bytes
-      parts e args sent = ap (λ xs. drop (8 * slice_index xs 2) e.sent) args ∙ ap (drop (8 * slice_index (args_of p.regs) 2)) sent
+      adds_answered 66 refl (drop (8 * slice_index (args_of p.regs) 2) bytes) (λ e number args sent. data_66 e (args_of p.regs) bytes number args sent) (writev_row (ask 66)) (adds_writev (ask 66) unread)
 
 -- ---- a call
 
-unread_pieces : (args : List ℕ) (m : Bytes) (bytes : List ℕ) → sent 66 args m ≡ Ok bytes → nat_lt most_pieces (slice_index args 2) ≡ true → bytes ≡ []
+pub unread_pieces : (args : List ℕ) (m : Bytes) (bytes : List ℕ) → sent 66 args m ≡ Ok bytes → nat_lt most_pieces (slice_index args 2) ≡ true → bytes ≡ []
 unfolding sent
 unread_pieces args m bytes is many =
     let none : Ok [] ≡ Ok bytes =
@@ -173,10 +193,9 @@ module _ (w : World) (p : Process) (s : Space) (lives : find pid_of p.pid w.proc
 
   -- neither an instruction nor a trap makes a call
   prints_effect : (m : Meaning) → PrintsIn w (effect w p s m)
-  unfolding stepped trapped ended answer kept_calls_of
+  unfolding stepped answer
   prints_effect (next regs bytes) = record { notes = sym (append-nil (kept_calls_of w.notes)); console = sym (append-nil w.rest.console); whole = tt }
-  prints_effect (trap signal) =
-      prints_settled (trapped w p signal) (record { notes = sym (append-nil (kept_calls_of w.notes)); console = sym (append-nil w.rest.console); whole = tt })
+  prints_effect (trap signal) = prints_settled (trapped w p signal) (quiet_trapped w w.ended p signal)
   prints_effect (refused access) = tt
   prints_effect call = prints_settled (answer w p s) (prints_asked (sent (number_of p.regs) (args_of p.regs) s.bytes) refl)
 

@@ -5,6 +5,7 @@
 -- ConsoleRows    what a row leaves of the console
 -- ConsoleEvents  behind an event the console has what its calls write to it
 -- ConsoleRuns    and so along turns and runs
+-- ConsoleMemory  and so over one memory
 -- ConsoleSamples what calls print, computed on a worked example
 pub mod NewNotes
 pub mod Ends
@@ -13,4 +14,5 @@ pub mod EndRuns
 pub mod ConsoleRows
 pub mod ConsoleEvents
 pub mod ConsoleRuns
+pub mod ConsoleMemory
 mod ConsoleSamples

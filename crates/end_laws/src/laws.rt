@@ -1,6 +1,7 @@
 //! Laws over the definitions. They hold for all worlds, and no code runs.
 
 ghost use Rattle.end_laws.specs.Console.{BootsPrintNone, EventsPrint, TurnsPrint, RunsPrint};
+ghost use Rattle.end_laws.specs.ConsoleIn.{EventsPrintIn, TurnsPrintIn, RunsPrintIn};
 ghost use Rattle.end_laws.specs.Laws.{BootsEndNone, EventsEndAsAlone, TurnsEndAsAlone, RunsEndAsAlone};
 
 /// The note of an end tells how its process's program ends there alone: it is the process that made the event; and where the stays
@@ -21,4 +22,11 @@ pub fn console_law()
     ensures events { EventsPrint }
     ensures turns { TurnsPrint }
     ensures runs { RunsPrint }
+{}
+
+/// So it is over the one memory of a run that goes on, up to its first stray access and behind it.
+pub fn console_in_memory_law()
+    ensures events { EventsPrintIn }
+    ensures turns { TurnsPrintIn }
+    ensures runs { RunsPrintIn }
 {}

@@ -5,4 +5,4 @@
 
 mod laws;
 
-pub use laws::{console_law, end_law};
+pub use laws::{console_in_memory_law, console_law, end_law};
