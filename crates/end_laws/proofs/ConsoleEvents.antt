@@ -167,7 +167,7 @@ pub unread_pieces : (args : List ℕ) (m : Bytes) (bytes : List ℕ) → sent 66
 unfolding sent
 unread_pieces args m bytes is many =
     let none : Ok [] ≡ Ok bytes =
-        sym (if_yes (nat_lt most_pieces (slice_index args 2)) (Ok []) (followed (read_spans m (piece_spans (slice_index args 1) (slice_index args 2))) (λ pieces. read_spans m (data_spans (slice_index args 2) pieces))) many) ∙ is in
+    sym (if_yes (nat_lt most_pieces (slice_index args 2)) (Ok []) (followed (read_spans m (piece_spans (slice_index args 1) (slice_index args 2))) (λ pieces. read_spans m (data_spans (slice_index args 2) pieces))) many) ∙ is in
     cc
 
 module _ (w : World) (p : Process) (s : Space) (lives : find pid_of p.pid w.procs ≡ Some p) where

@@ -1,7 +1,7 @@
 -- The console over one memory: behind an event the notes have its calls, and the console has what these write to it.
 use Rattle.std.proofs.Common.{◌≡◌, ℕ, zero, suc, ◌*◌, Bool, true, false, List, [], ◌∷◌, ◌++◌, length, drop, Option, Some, None, Result, Ok, Err, refl, sym, ap, subst, ◌∙◌, append_assoc}
 use Rattle.std.proofs.lemmas.List.{append-nil}
-use Rattle.std.specs.Prelude.{◌==◌, ◌||◌, ◌&&◌, nat_lt, slice_index, if◌then◌else◌}
+use Rattle.std.specs.Prelude.{◌==◌, ◌||◌, nat_lt, slice_index, if◌then◌else◌}
 use Rattle.byte_words.specs.ByteMap.{Bytes}
 use Rattle.rv32im_step.specs.Meaning.{Meaning, next, call, trap, refused}
 use Rattle.rv32im_step.specs.declared.access.Access.{Access}
@@ -10,10 +10,8 @@ use Rattle.call_log.specs.declared.errno.Errno.{Errno}
 use Rattle.call_log.specs.Errno.{refusal}
 use Rattle.call_log.specs.Notes.{Written, CallEntry, Note, stray_note}
 use Rattle.call_log.specs.Sent.{Span, most_pieces, sent}
-use Rattle.quantum_sched.specs.declared.Quantum.{Quantum}
 use Rattle.quantum_sched.specs.Picked.{picked}
 use Rattle.vfork_exec.specs.declared.family.Who.{Who}
-use Rattle.vfork_exec.specs.declared.family.State.{State}
 use Rattle.vfork_exec.specs.declared.family.State.TheVariants.{Waiting}
 use Rattle.vfork_exec.specs.declared.family.Ended.{Ended}
 use Rattle.vfork_exec.specs.declared.family.Waited.{Waited}
@@ -23,17 +21,17 @@ use Rattle.vfork_exec.specs.Families.{without_first}
 use Rattle.flat_loader.specs.Alone.{number_of, args_of, put_got}
 use Rattle.machine_world.specs.World.{Process, LiveSpace, World, pid_of, id_of}
 use Rattle.machine_world.specs.Families.{ready_pids}
-use Rattle.machine_world.specs.Asks.{Ask, Reply, Row, replies, waits, arg, gives, refuses, view_of}
+use Rattle.machine_world.specs.Asks.{Ask, Reply, Row, replies, waits, arg, gives}
 use Rattle.machine_world.specs.FamilyCalls.{who_of, waitid_fault, child_info, no_info, info_at}
 use Rattle.machine_world.specs.Transfers.{write_row, writev_row}
 use Rattle.machine_world.specs.Rows.{row}
-use Rattle.machine_world.specs.Event.{Outcome, went, strays, full, idle, trapped, ended, ask_of, room_for, served, waited, told_in, classed}
+use Rattle.machine_world.specs.Event.{Outcome, went, strays, full, idle, served, told_in, classed}
 use Rattle.machine_world.specs.Turns.{End, seen_of}
 use Rattle.machine_world.proofs.States.{find_has}
 use Rattle.stays_laws.specs.Stays.{kept_calls_of}
 use Rattle.stays_laws.proofs.Lists.{eqb_is}
 use Rattle.physical_turns.specs.Physical.{Physical, After, after, no_room, nobody, behind, carried, settled_in, outside, killed, put_in, answered_in, full_at, reaped_in, waitid_behind_in, waitid_in, writes_nothing, classed_in, asked_in, answer_in, effect_in, in_space, by_process, at_process, in_memory, next_meaning, carried_out, first_stray, with_stray, physical_event, Walk, stays_at, turned, physical_turn, going_on, quantum_turn, physical_turns}
-use Rattle.end_laws.specs.Console.{is_write, data_of, prints, printed, AreWhole, calls_of, Prints}
+use Rattle.end_laws.specs.Console.{is_write, data_of, prints, printed, AreWhole, calls_of}
 use Rattle.end_laws.specs.ConsoleIn.{calls_since, PrintsIn, EventsPrintIn, MomentIn, moments_behind_in, turn_moments_in, moments_on_in, quantum_moments_in, moments_in, all_calls_in, all_printed_in, AllWholeIn, PrintsAlongIn, TurnsPrintIn, RunsPrintIn}
 use Rattle.end_laws.proofs.ConsoleRows.{IsQuiet, quiet_rows, AddsIn, adds_write, adds_writev}
 use Rattle.end_laws.proofs.ConsoleEvents.{PrintsIn as Goes, quiet_served, quiet_waited, quiet_trapped, quiet_classed, ask, takes, adds_served, data_64, data_66, unread_pieces}
@@ -265,9 +263,9 @@ all_whole_in-append (m ∷ ms) ns h k = (h.0, all_whole_in-append ms ns h.1 k)
 along_both : (p mid last : Physical) (ms ns : List MomentIn) → PrintsAlongIn p ms mid → PrintsAlongIn mid ns last → PrintsAlongIn p (ms ++ ns) last
 along_both p mid last ms ns h on = record {
   notes = on.notes ∙ ap (λ calls. calls ++ all_calls_in ns) h.notes ∙ append_assoc (kept_calls_of p.world.notes) (all_calls_in ms) (all_calls_in ns)
-    ∙ ap (λ calls. kept_calls_of p.world.notes ++ calls) (sym (all_calls_in-append ms ns));
+      ∙ ap (λ calls. kept_calls_of p.world.notes ++ calls) (sym (all_calls_in-append ms ns));
   console = on.console ∙ ap (λ bytes. bytes ++ all_printed_in ns) h.console ∙ append_assoc p.world.rest.console (all_printed_in ms) (all_printed_in ns)
-    ∙ ap (λ bytes. p.world.rest.console ++ bytes) (sym (all_printed_in-append ms ns));
+      ∙ ap (λ bytes. p.world.rest.console ++ bytes) (sym (all_printed_in-append ms ns));
   whole = all_whole_in-append ms ns h.whole on.whole;
 }
 

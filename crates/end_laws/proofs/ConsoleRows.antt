@@ -268,6 +268,7 @@ module _ (a : Ask) where
       left : (takes : Bool) (text : List ℕ) → text ≡ [] → a.rest.console ≡ a.rest.console ++ (if takes then text else [])
       left true text none = sym (append-nil a.rest.console) ∙ ap (λ bytes. a.rest.console ++ bytes) (sym none)
       left false text none = sym (append-nil a.rest.console)
+
       refused : {b : Bool} → b ≡ true → b ≡ false → ⊥
       refused is isnt = absurd cc
 
@@ -278,6 +279,7 @@ module _ (a : Ask) where
     where
       drops_none : (n : ℕ) (bytes : List ℕ) → bytes ≡ [] → drop n bytes ≡ []
       drops_none n bytes none = ap (drop n) none ∙ drop_all n [] (omega arith)
+
       by_count : (many : Bool) → nat_lt most_pieces (arg a 2) ≡ many
           → AddsIn (takes_output (view_of a (arg a 0))) (drop (8 * arg a 2) a.sent) (if many then refuses a Einval else write_row a (drop (8 * arg a 2) a.sent))
       by_count true is = adds_refused (takes_output (view_of a (arg a 0))) (drop (8 * arg a 2) a.sent) (drops_none (8 * arg a 2) a.sent (unread is)) Einval

@@ -58,9 +58,9 @@ along_both : (w : World) (ms ns : List Moment) (walk more : Walk) → PrintsAlon
 along_both w ms ns walk more h on = record {
   traces = traces-append ms ns ∙ ap (λ ts. ts ++ map trace_of ns) h.traces ∙ ap (λ ts. walk.traces ++ ts) on.traces;
   notes = on.notes ∙ ap (λ calls. calls ++ all_calls ns) h.notes ∙ append_assoc (kept_calls_of w.notes) (all_calls ms) (all_calls ns)
-    ∙ ap (λ calls. kept_calls_of w.notes ++ calls) (sym (all_calls-append ms ns));
+      ∙ ap (λ calls. kept_calls_of w.notes ++ calls) (sym (all_calls-append ms ns));
   console = on.console ∙ ap (λ bytes. bytes ++ all_printed ns) h.console ∙ append_assoc w.rest.console (all_printed ms) (all_printed ns)
-    ∙ ap (λ bytes. w.rest.console ++ bytes) (sym (all_printed-append ms ns));
+      ∙ ap (λ bytes. w.rest.console ++ bytes) (sym (all_printed-append ms ns));
   whole = all_whole-append ms ns h.whole on.whole;
 }
 
@@ -139,6 +139,7 @@ silent_all (s ∷ ss) w = on (silent_all ss) (started w s) (silent_started w s)
         → (r : Result World BootFault) → Silent now r → Silent w r
     behind now h (Ok last) k = (k.0 ∙ h.0, k.1 ∙ h.1)
     behind now h (Err fault) k = tt
+
     on : ((v : World) → Silent v (all_started v ss)) → (r : Result World BootFault) → Silent w r → Silent w (then_started r (λ now. all_started now ss))
     on more (Ok now) h = behind now h (all_started now ss) (more now)
     on more (Err fault) h = tt

@@ -6,7 +6,7 @@ use Rattle.quantum_sched.specs.Picked.{picked}
 use Rattle.machine_world.specs.World.{World}
 use Rattle.machine_world.specs.Families.{ready_pids}
 use Rattle.machine_world.specs.Turns.{End}
-use Rattle.physical_turns.specs.Physical.{Physical, After, after, no_room, nobody, physical_event, Walk, physical_turn, physical_turns}
+use Rattle.physical_turns.specs.Physical.{Physical, After, after, no_room, nobody, physical_event, physical_turn, physical_turns}
 use Rattle.stays_laws.specs.Stays.{kept_calls_of}
 use Rattle.end_laws.specs.Console.{printed, AreWhole}
 
