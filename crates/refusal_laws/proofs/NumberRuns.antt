@@ -84,6 +84,7 @@ begun_all (s ∷ ss) w = on (begun_all ss) (started w s) (begun_started w s)
     behind : (now : World) → Begun w now → (r : Result World BootFault) → BegunIn now r → BegunIn w r
     behind now h (Ok last) k = record { tree = k.tree ∙ h.tree; pipe = k.pipe ∙ h.pipe; calls = k.calls ∙ h.calls }
     behind now h (Err fault) k = tt
+
     on : ((v : World) → BegunIn v (all_started v ss)) → (r : Result World BootFault) → BegunIn w r → BegunIn w (then_started r (λ now. all_started now ss))
     on more (Ok now) h = behind now h (all_started now ss) (more now)
     on more (Err fault) h = tt
