@@ -1,5 +1,7 @@
-//! A law over the definitions. It holds for all worlds, and no code runs.
+//! Laws over the definitions. They hold for all worlds, and no code runs.
 
+ghost use Rattle.end_laws.specs.Console.{BootsPrintNone, EventsPrint, TurnsPrint, RunsPrint};
+ghost use Rattle.end_laws.specs.ConsoleIn.{EventsPrintIn, TurnsPrintIn, RunsPrintIn};
 ghost use Rattle.end_laws.specs.Laws.{BootsEndNone, EventsEndAsAlone, TurnsEndAsAlone, RunsEndAsAlone};
 
 /// The note of an end tells how its process's program ends there alone: it is the process that made the event; and where the stays
@@ -11,4 +13,20 @@ pub fn end_law()
     ensures events { EventsEndAsAlone }
     ensures turns { TurnsEndAsAlone }
     ensures runs { RunsEndAsAlone }
+{}
+
+/// The console is the joined data of the writes that were noted and whose descriptor was the console, in the order of their notes,
+/// each whole: so for an event, and along every turn and run. Nothing else comes there.
+pub fn console_law()
+    ensures boots { BootsPrintNone }
+    ensures events { EventsPrint }
+    ensures turns { TurnsPrint }
+    ensures runs { RunsPrint }
+{}
+
+/// So it is over the one memory of a run that goes on, up to its first stray access and behind it.
+pub fn console_in_memory_law()
+    ensures events { EventsPrintIn }
+    ensures turns { TurnsPrintIn }
+    ensures runs { RunsPrintIn }
 {}

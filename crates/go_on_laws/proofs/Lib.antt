@@ -13,6 +13,7 @@
 -- Refused what a refused call leaves of memory
 -- Marked  no mark is left
 -- NeverStrays  no run ends at a stray access
+-- OwnBytes  the bytes of a space are there exactly in its own ranges
 pub mod Pages
 pub mod Behind
 pub mod Writes
@@ -28,3 +29,4 @@ pub mod Boots
 pub mod Refused
 pub mod Marked
 pub mod NeverStrays
+pub mod OwnBytes

@@ -1,6 +1,7 @@
 //! Laws over the definitions. They hold for all worlds, and no code runs.
 
 ghost use Rattle.go_on_laws.specs.Marks.{OpeningsHaveNoMark, EventsHaveNoMark, TurnsHaveNoMark, RunsHaveNoMark};
+ghost use Rattle.go_on_laws.specs.OwnBytes.{ShownBytesAreThere, RunsHaveOwnBytes};
 ghost use Rattle.go_on_laws.specs.Refusals.{RefusalsLeaveMemory, RefusedEventsLeaveMemory};
 ghost use Rattle.go_on_laws.specs.Laws.{BootsGoOn, BootsNoteNoStray, EventsGoOn, FullEventsGoOn, TurnsGoOn, RunsGoOn, RunsNeverStray};
 
@@ -32,4 +33,11 @@ pub fn marks_in_memory_law()
     ensures events { EventsHaveNoMark }
     ensures turns { TurnsHaveNoMark }
     ensures runs { RunsHaveNoMark }
+{}
+
+/// In every world of a run, which ends at its first stray access, the bytes of a space are there exactly in its own ranges: each address of its
+/// own has a byte, and no other one has. So it is of every world for which the one memory stands.
+pub fn own_bytes_law()
+    ensures stands { ShownBytesAreThere }
+    ensures runs { RunsHaveOwnBytes }
 {}

@@ -6,4 +6,4 @@
 
 mod laws;
 
-pub use laws::{go_on_law, marks_in_memory_law, refused_in_memory_law};
+pub use laws::{go_on_law, marks_in_memory_law, own_bytes_law, refused_in_memory_law};

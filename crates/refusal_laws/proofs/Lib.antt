@@ -8,6 +8,8 @@
 -- Starts    a start line finds no run exactly where it lacks one
 -- Bounds    each process stays younger than its parent, and each break and each copy in memory
 -- Runs      a regular world stays one
+-- Numbers   each event gives one number of a node, and one of a pipe, at most, and only with a noted call
+-- NumberRuns  and so along turns and runs
 -- Samples   calls that are refused, computed in a world of one page
 pub mod Errnos
 pub mod EachRow
@@ -19,4 +21,6 @@ pub mod Refusals
 pub mod Starts
 pub mod Bounds
 pub mod Runs
+pub mod Numbers
+pub mod NumberRuns
 pub mod Samples

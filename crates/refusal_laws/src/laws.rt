@@ -1,6 +1,7 @@
 //! Laws over the definitions. They hold for all worlds, and no code runs.
 
 ghost use Rattle.refusal_laws.specs.Laws.{BootsAreRegular, EventsKeepRegular, TurnsKeepRegular, RunsKeepRegular, ErrnosAreRefusals, EnomemIsExact, NoRunIsExact, BootsWithoutRunAreExact};
+ghost use Rattle.refusal_laws.specs.Numbers.{EventsGiveNumbers, TurnsGiveNumbers, RunsGiveNumbers, RunsGiveFewNumbers};
 
 /// Of every world of a run: it is sound, what is open is counted exactly, no pipe is marked, each process is younger than its parent,
 /// and no break lies behind memory. It is so at boot, and every event, turn and run keeps it.
@@ -29,4 +30,13 @@ pub fn enomem_law()
 pub fn no_run_law()
     ensures starts { NoRunIsExact }
     ensures boots { BootsWithoutRunAreExact }
+{}
+
+/// A number of a node, and one of a pipe, is given only by a call that is noted, one a call at most. So a run from a boot gives no more
+/// of them, beside those of its tree, than the log keeps calls, and no more tables beside those at boot: numbers of 32 bits don't run out.
+pub fn numbers_law()
+    ensures events { EventsGiveNumbers }
+    ensures turns { TurnsGiveNumbers }
+    ensures runs { RunsGiveNumbers }
+    ensures few { RunsGiveFewNumbers }
 {}

@@ -6,4 +6,4 @@
 
 mod laws;
 
-pub use laws::{enomem_law, no_run_law, refusals_law, regular_law};
+pub use laws::{enomem_law, no_run_law, numbers_law, refusals_law, regular_law};
