@@ -7,7 +7,9 @@
 
 mod copies;
 mod follower;
+mod laws;
 mod members;
 mod recorded;
 
+pub use laws::kept_items_law;
 pub use recorded::recorded_items;
