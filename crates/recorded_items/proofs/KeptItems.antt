@@ -106,7 +106,7 @@ spelled_with y r notes is all = record {
   list = spelled_items (calls_of (kept_space r.keep) notes) r.brought (answered_of (kept_space r.keep) notes all);
 }
 
-has_loaded : (ys : List Stay) (i : ℕ) (y : Stay) → AllByRecursion HasLoaded ys → slice_get ys i ≡ Some y → HasLoaded y
+pub has_loaded : (ys : List Stay) (i : ℕ) (y : Stay) → AllByRecursion HasLoaded ys → slice_get ys i ≡ Some y → HasLoaded y
 has_loaded [] i y all there = absurd cc
 has_loaded (x ∷ xs) zero y all there = subst HasLoaded (same_Some x y there) all.0
 has_loaded (x ∷ xs) (suc i) y all there = has_loaded xs i y all.1 there
