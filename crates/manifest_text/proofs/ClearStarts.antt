@@ -1,5 +1,5 @@
 -- No argument of a manifest's start line has a zero byte.
-use Rattle.std.proofs.Common.{◌≡◌, ℕ, zero, suc, ◌+◌, ◌-◌, ◌^◌, ◌<◌, ◌≤◌, Bool, true, false, cond, List, [], ◌∷◌, map, length, Option, Some, None, Result, Ok, Err, refl, sym, subst, arith}
+use Rattle.std.proofs.Common.{◌≡◌, ℕ, ◌+◌, ◌-◌, ◌^◌, ◌<◌, Bool, true, false, cond, List, [], ◌∷◌, map, length, Option, Some, None, Result, Ok, Err, refl, subst, arith}
 use Rattle.std.specs.Prelude.{not, ◌&&◌, ◌||◌, ◌==◌, nat_le, nat_lt, slice_index}
 use Rattle.std.specs.List.{AllByRecursion, filter, filter_map, list_all, list_any}
 use Rattle.std.proofs.lemmas.Bool.Decides.{nat_tests}
@@ -13,7 +13,7 @@ use Rattle.manifest_text.specs.Pieces.{Text, in_front, pieces, space, is_empty, 
 use Rattle.manifest_text.specs.Numbers.{decimal_value, is_number_in, number_in, address, is_quantum, quantum_value}
 use Rattle.manifest_text.specs.Paths.{is_path}
 use Rattle.manifest_text.specs.Values.{Start, Manifest}
-use Rattle.manifest_text.specs.Lines.{Line, Said, nothing, memory, item, start, quanta, repeat, dump, watch, is_bad_byte, judged, item_said, stacked_said, memory_said, elf_said, flat_said, file_said, dir_said, named_said, start_said, quanta_said, repeat_said, dump_of, dump_said, watch_of, watch_said, keyword_said, keyword_of, hash, words_said, line_said}
+use Rattle.manifest_text.specs.Lines.{Line, Said, nothing, memory, item, start, quanta, repeat, dump, watch, is_bad_byte, judged, stacked_said, memory_said, elf_said, flat_said, file_said, dir_said, named_said, start_said, quanta_said, repeat_said, dump_of, dump_said, watch_of, watch_said, keyword_said, keyword_of, hash, words_said, line_said}
 use Rattle.manifest_text.specs.Manifest.{Fault, Draft, start_in, draft_of, ok_said, all_said, first_fault, manifest_by, whole, judged_lines, lines_of, manifest_of}
 use Rattle.manifest_text.specs.Laws.{IsClear, HasClearArguments, StartsAreClear}
 
