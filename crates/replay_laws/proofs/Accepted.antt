@@ -1,20 +1,16 @@
 -- A replay says yes to the items of each stay of a run.
-use Rattle.std.proofs.Common.{◌≡◌, ℕ, ◌+◌, ◌*◌, ◌/◌, ◌<◌, ◌≤◌, Bool, true, false, List, [], ◌∷◌, map, Option, Some, None, Result, Ok, Err, refl, sym, ap, subst, ◌∙◌, arith}
-use Rattle.std.specs.Prelude.{◌||◌, nat_lt, if◌then◌else◌, slice_get}
+use Rattle.std.proofs.Common.{◌≡◌, ℕ, ◌+◌, ◌≤◌, false, List, [], ◌∷◌, map, Option, Some, None, Ok, Err, refl, ap, subst, ◌∙◌, arith}
+use Rattle.std.specs.Prelude.{◌||◌, nat_lt}
 use Rattle.std.proofs.lemmas.Bool.Decides.{nat_tests}
 use Rattle.elf2flt_tool.specs.declared.refusal.Refusal.{Refusal}
-use Rattle.elf2flt_tool.specs.Fault.{fault}
 use Rattle.vfork_exec.specs.Keyed.{find}
-use Rattle.flat_loader.specs.Original.{Original, flat_original, block_len}
+use Rattle.flat_loader.specs.Original.{Original, block_len}
 use Rattle.flat_loader.specs.Frame.{frame_fits}
-use Rattle.flat_loader.specs.Begin.{Loading}
-use Rattle.flat_loader.specs.Alone.{Item, Solo, alone}
+use Rattle.flat_loader.specs.Alone.{Item, Solo}
 use Rattle.originals.specs.Originals.{elf_original}
-use Rattle.items_text.specs.Items.{ItemsValue}
-use Rattle.machine_world.specs.World.{LiveSpace, Process, World, id_of}
-use Rattle.stays_laws.specs.Stays.{Stay, AreRight, Agrees, alone_end}
+use Rattle.machine_world.specs.World.{LiveSpace, Process, id_of}
+use Rattle.stays_laws.specs.Stays.{Stay, Agrees, alone_end}
 use Rattle.stays_laws.proofs.Lists.{if_yes, if_no}
-use Rattle.replay_check.specs.declared.fault.ReplayFault.{ReplayFault}
 use Rattle.replay_check.specs.declared.fault.ReplayFault.TheVariants as why
 use Rattle.replay_check.specs.declared.verdict.Verdict.{Verdict}
 use Rattle.replay_check.specs.declared.verdict.Verdict.TheVariants.{Yes, No}
@@ -23,7 +19,7 @@ use Rattle.replay_check.specs.Replays.{OriginalFile, elf_file, flat_file, loadin
 use Rattle.replay_check.specs.Verdicts.{verdict, Judges}
 use Rattle.replay_check.proofs.Judged.{all_judged}
 use Rattle.recorded_items.specs.Recorded.{told_item}
-use Rattle.recorded_items.specs.Spelled.{IsLoaded, AreReadable}
+use Rattle.recorded_items.specs.Spelled.{IsLoaded}
 use Rattle.recorded_items.specs.Laws.{items_of_stay}
 use Rattle.recorded_items.proofs.KeptItems.{has_loaded}
 use Rattle.replay_laws.specs.Files.{IsElfOf, IsFileOf}

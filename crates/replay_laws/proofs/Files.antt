@@ -1,5 +1,5 @@
 -- Each program of a manifest has its file among those of the item lines.
-use Rattle.std.proofs.Common.{◌≡◌, ℕ, ◌+◌, ◌*◌, ◌/◌, ◌≤◌, ◌⊎◌, Bool, true, false, inl, inr, List, [], ◌∷◌, ◌++◌, length, Option, Some, None, Result, Ok, Err, refl, sym, ap, subst, ◌∙◌, arith}
+use Rattle.std.proofs.Common.{◌≡◌, ℕ, ◌+◌, ◌*◌, ◌/◌, ◌≤◌, Bool, true, false, inl, inr, List, [], ◌∷◌, length, Option, Some, None, Result, Ok, Err, refl, ap, subst, arith}
 use Rattle.std.specs.List.{AllByRecursion}
 use Rattle.bflt_format.specs.declared.fault.FlatFault.{FlatFault}
 use Rattle.bflt_format.specs.Header.{flat_values}
@@ -24,9 +24,9 @@ use Rattle.manifest_text.specs.Values.{Item}
 use Rattle.manifest_text.specs.Laws.{IsItem, HasStack}
 use Rattle.replay_check.specs.Replays.{OriginalFile, elf_file, flat_file}
 use Rattle.run_setup.specs.declared.fault.LineFault.{LineFault}
-use Rattle.run_setup.specs.Brought.{Brought, Made, elf_made, elf_made_of, flat_made, flat_made_of, or_errno, program_brought, with_program, with_tree, file_brought, folder_brought, rom_file_brought, node_brought, then_more, nodes_brought, image_brought, brought_by, FaultAt, nothing_brought, then_brought, all_brought}
+use Rattle.run_setup.specs.Brought.{Brought, Made, elf_made, elf_made_of, flat_made, flat_made_of, or_errno, program_brought, with_tree, file_brought, folder_brought, rom_file_brought, node_brought, then_more, nodes_brought, image_brought, brought_by, FaultAt, nothing_brought, then_brought, all_brought}
 use Rattle.recorded_items.proofs.Readable.{all_append}
-use Rattle.replay_laws.specs.Files.{IsElfOf, IsFileOf, IsInImage, IsOfLine, IsOfLines, HasFile}
+use Rattle.replay_laws.specs.Files.{IsFileOf, IsInImage, IsOfLine, IsOfLines, HasFile}
 use Rattle.replay_laws.specs.Laws.{LinesHaveFiles}
 
 abbrev one_done : Brought → Result Brought LineFault

@@ -17,7 +17,7 @@ use Rattle.fd_tables.specs.declared.open_file.Handle.TheVariants.{Input, Output,
 use Rattle.fd_tables.specs.Files.{OpenFiles, Table, nothing_open}
 use Rattle.fd_tables.specs.Changes.{first_table, console_descriptor, new_file}
 use Rattle.vfork_exec.specs.declared.family.State.TheVariants.{Ready}
-use Rattle.flat_loader.specs.Original.{Original, flat_original}
+use Rattle.flat_loader.specs.Original.{flat_original}
 use Rattle.flat_loader.specs.Begin.{Loading, begin_space}
 use Rattle.flat_loader.specs.Alone.{Item}
 use Rattle.machine_world.specs.World.{Launch, Process, Recording, Rest, World}

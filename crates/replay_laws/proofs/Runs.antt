@@ -1,16 +1,14 @@
 -- A replay says yes to the items that a run records.
-use Rattle.std.proofs.Common.{◌≡◌, ℕ, zero, suc, ◌≤◌, List, map, length, Option, Some, None, Ok, refl, sym, ap, subst, ◌∙◌}
+use Rattle.std.proofs.Common.{◌≡◌, ℕ, zero, suc, ◌≤◌, List, length, Option, Some, None, Ok, refl, sym, ap, subst, ◌∙◌}
 use Rattle.std.specs.Prelude.{option_map, slice_get}
 use Rattle.std.proofs.lemmas.Option.{same_Some, slice_get-map}
 use Rattle.call_log.specs.Notes.{LoadEntry}
-use Rattle.flat_loader.specs.Original.{Original}
 use Rattle.items_text.specs.Items.{ItemsValue}
 use Rattle.machine_world.specs.World.{Process, Program, Rest, World}
 use Rattle.mmap_rules.specs.Space.{Space}
 use Rattle.quantum_sched.specs.declared.Quantum.{Quantum}
 use Rattle.machine_world.specs.Asks.{Ask}
 use Rattle.machine_world.specs.Event.{ended, ask_of, event}
-use Rattle.machine_world.specs.Recordings.{most_count}
 use Rattle.machine_world.specs.Turns.{turns}
 use Rattle.machine_world.specs.Boot.{StartLine, empty_world, boot}
 use Rattle.machine_world.proofs.Kept.{kept_outside}
@@ -22,8 +20,6 @@ use Rattle.stays_laws.specs.Stays.{Stay, AreRight, first_stays, loads_of, head_o
 use Rattle.stays_laws.proofs.StaysRuns.{boots_begin_stays, runs_keep_stays}
 use Rattle.replay_check.specs.declared.verdict.Verdict.TheVariants.{Yes}
 use Rattle.replay_check.specs.Replays.{OriginalFile, replayed}
-use Rattle.recorded_items.specs.Recorded.{recorded}
-use Rattle.recorded_items.specs.Spelled.{AreReadable}
 use Rattle.recorded_items.specs.Laws.{items_of_stay, stay_of, stays_behind, AreStrings}
 use Rattle.recorded_items.proofs.ByBoots.{by_boots}
 use Rattle.recorded_items.proofs.KeptItems.{items_are_of_the_stay, sound, readable}

@@ -1,7 +1,7 @@
 -- What a run records of a space, from the boot to its end, computed from the definitions; and that what is told by it is judged Yes.
-use Rattle.std.proofs.Common.{◌≡◌, ℕ, ◌+◌, true, false, List, [], ◌∷◌, ◌++◌, map, length, Option, Some, None, Ok, Result, refl, sym, ap, ◌∙◌}
-use Rattle.std.specs.Prelude.{if◌then◌else◌, replicate, codes, unwrap_or}
-use Rattle.byte_words.specs.ByteMap.{Bytes, with_bytes}
+use Rattle.std.proofs.Common.{◌≡◌, ℕ, ◌+◌, true, false, List, [], ◌∷◌, ◌++◌, map, length, Option, Some, None, Ok, refl, sym, ap, ◌∙◌}
+use Rattle.std.specs.Prelude.{if◌then◌else◌, codes, unwrap_or}
+use Rattle.byte_words.specs.ByteMap.{with_bytes}
 use Rattle.byte_words.specs.Numbers.{number_at, byte_at}
 use Rattle.byte_words.specs.Patches.{from_base}
 use Rattle.byte_words.specs.Pieces.{pieces}
@@ -14,7 +14,7 @@ use Rattle.rv32im_step.specs.Registers.{register, with_register}
 use Rattle.page_runs.specs.Free.{free_runs}
 use Rattle.page_runs.specs.Place.{place}
 use Rattle.bflt_format.specs.Image.{flat_image}
-use Rattle.call_log.specs.Notes.{Note, call_note, has_room, weight_of}
+use Rattle.call_log.specs.Notes.{Note, has_room}
 use Rattle.call_log.specs.Sent.{sent, read_span, bytes_from}
 use Rattle.call_log.specs.Strings.{program_strings, strings_in}
 use Rattle.mmap_rules.specs.Space.{writable_in}
@@ -28,7 +28,7 @@ use Rattle.fd_tables.specs.Changes.{opened, closed, exec_closed, with_table, wit
 use Rattle.flat_loader.specs.Original.{block_pages}
 use Rattle.flat_loader.specs.Frame.{frame_len, frame, frame_start, frame_fits}
 use Rattle.flat_loader.specs.Begin.{begin_space, begin_regs}
-use Rattle.flat_loader.specs.Alone.{Item, own_of, writable_of, is_errno, is_call, may_lie, may_map, with_range, solo_step, solo_run, alone}
+use Rattle.flat_loader.specs.Alone.{Item, own_of, writable_of, is_errno, is_call, may_lie, may_map, with_range, solo_step}
 use Rattle.quantum_sched.specs.declared.Quantum.{Quantum}
 use Rattle.quantum_sched.specs.Picked.{picked}
 use Rattle.vfork_exec.specs.Keyed.{find, change, without}
@@ -41,11 +41,11 @@ use Rattle.machine_world.specs.PathCalls.{path_of, openat_row}
 use Rattle.machine_world.specs.MapCalls.{with_mapping, mmap2_row}
 use Rattle.machine_world.specs.Rows.{row}
 use Rattle.machine_world.specs.Recordings.{nothing_recorded, is_recorded, raised_in, room_in}
-use Rattle.machine_world.specs.Event.{Trace, Outcome, went, full, ask_of, entry_of, maps_file, brought, served, stepped, exited, ended, forked, cloned, executed, exec, answer, settled, at_process, event}
+use Rattle.machine_world.specs.Event.{Trace, Outcome, went, full, ask_of, maps_file, brought, served, stepped, exited, ended, forked, cloned, executed, exec, answer, settled, at_process, event}
 use Rattle.machine_world.specs.Turns.{Walk, End, out_of_quanta, walked as walked_on, going_on, turned, turn, turns}
-use Rattle.machine_world.specs.Boot.{empty_world, started, all_started, boot}
-use Rattle.items_text.specs.Items.{ItemValue, ItemsValue}
-use Rattle.stays_laws.specs.Stays.{Stay, change_at, collect_all, stays, first_stays}
+use Rattle.machine_world.specs.Boot.{started, all_started, boot}
+use Rattle.items_text.specs.Items.{ItemsValue}
+use Rattle.stays_laws.specs.Stays.{change_at, collect_all}
 use Rattle.stays_laws.proofs.LaidBytes.{read_back}
 use Rattle.recording_laws.specs.Homes.{loads_in, home, calls_at}
 use Rattle.recording_laws.specs.Items.{with_lists}
@@ -53,7 +53,7 @@ use Rattle.recorded_items.specs.Recorded.{recorded}
 use Rattle.replay_check.specs.declared.verdict.Verdict.TheVariants.{Yes}
 use Rattle.replay_check.specs.Replays.{flat_file, placed_verdict, replayed}
 use Rattle.replay_check.specs.Verdicts.{verdict, verdict_from}
-use Rattle.replay_laws.proofs.RecordedRun.{forks_file, exits_file, rest, start, open_call, map_call, fork_call, exec_call, exit_call, notes, page, mapping, at_boot, at_map, unmapped, mapped, step, item, calls, open_traces, other_traces, first_stay, first_items, second_items, second_stay, loading, launch, second_launch, first_recording}
+use Rattle.replay_laws.proofs.RecordedRun.{forks_file, exits_file, rest, start, map_call, notes, page, mapping, at_boot, at_map, unmapped, mapped, item, calls, open_traces, other_traces, first_stay, first_items, second_items, second_stay, loading, launch, second_launch, first_recording}
 
 -- ---- boot: the first program is loaded into the first space
 

@@ -1,5 +1,5 @@
 -- A replay says yes to the items that a run records, over the file of the program that the load note names.
-use Rattle.std.specs.Prelude.{◌≡◌, ℕ, ◌+◌, ◌≤◌, List, [], ◌∷◌, length, Option, Some, None, Ok, slice_get}
+use Rattle.std.specs.Prelude.{◌≡◌, ℕ, ◌≤◌, List, length, Option, Some, None, Ok, slice_get}
 use Rattle.std.specs.List.{AllByRecursion}
 use Rattle.call_log.specs.Notes.{LoadEntry, Note}
 use Rattle.quantum_sched.specs.declared.Quantum.{Quantum}
@@ -46,15 +46,7 @@ ItemsAreAccepted =
     now.events ≤ most_count → load_of rest.keep now.notes ≡ Some load → slice_get rest.programs load.program ≡ Some p → IsFileOf file p.original →
     recorded now.recording now.notes ≡ Some items → replayed file items ≡ Ok Yes
 
--- ---- that a manifest gives what these ask for
+-- ---- each program of a manifest has its file among those of the item lines
 
 abbrev pub LinesHaveFiles : Type 0
 LinesHaveFiles = (items : List Item) (files : List (List ℕ)) (b : Brought) → AllByRecursion IsItem items → all_brought items files nothing_brought ≡ Ok b → AllByRecursion (HasFile items files) b.programs
-
-abbrev pub counts_of : List Quantum → ℕ
-counts_of [] = 0
-counts_of (q ∷ qs) = q.count + counts_of qs
-
--- no more events than the quanta give
-abbrev pub EventsAreFew : Type 0
-EventsAreFew = (rest : Rest) (starts : List StartLine) (w : World) (quanta : List Quantum) → boot rest starts ≡ Ok w → (turns quanta w).world.events ≤ counts_of quanta

@@ -6,4 +6,4 @@
 
 mod laws;
 
-pub use laws::{accepted_items_law, run_setup_law};
+pub use laws::{accepted_items_law, files_law};
