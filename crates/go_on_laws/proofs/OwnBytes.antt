@@ -1,5 +1,5 @@
 -- One memory stands for every world of a run, so that the bytes of a space are there exactly in its own ranges.
-use Rattle.std.proofs.Common.{◌≡◌, ℕ, zero, suc, ◌<◌, Bool, true, false, List, [], ◌∷◌, Option, Some, None, refl, sym, ap, subst, ◌∙◌, arith}
+use Rattle.std.proofs.Common.{◌≡◌, ℕ, zero, suc, Bool, true, false, List, [], ◌∷◌, Option, Some, None, refl, ap, subst, ◌∙◌, arith}
 use Rattle.std.specs.Prelude.{is_some, if◌then◌else◌, map}
 use Rattle.rv32im_step.specs.declared.access.Access.{Access}
 use Rattle.byte_words.specs.ByteMap.{Bytes}
@@ -8,8 +8,7 @@ use Rattle.mmap_rules.specs.Space.{own_in}
 use Rattle.call_log.specs.Notes.{stray_note}
 use Rattle.quantum_sched.specs.declared.Quantum.{Quantum}
 use Rattle.quantum_sched.specs.Picked.{picked}
-use Rattle.vfork_exec.specs.Keyed.{find}
-use Rattle.machine_world.specs.World.{LiveSpace, World, id_of}
+use Rattle.machine_world.specs.World.{World}
 use Rattle.machine_world.specs.Families.{MayRun, ready_pids}
 use Rattle.machine_world.specs.Event.{Trace, Outcome, went, strays, full, idle, noted, event}
 use Rattle.machine_world.specs.Turns.{Walk, End, stray_at, seen_of, traced, stays_at, turned, turn, going_on, quantum_turn, turns}
