@@ -1,5 +1,5 @@
 -- Laws of what was noted first at an address.
-use Rattle.std.proofs.Common.{◌≡◌, ℕ, zero, suc, ◌<◌, ◌≤◌, ◌==◌, Bool, true, false, List, [], ◌∷◌, ◌++◌, drop, length, filter, Option, Some, None, if◌then◌else◌, sym, ◌∙◌, ap, refl, arith, slice_index_or, eq-eqb}
+use Rattle.std.proofs.Common.{◌≡◌, ℕ, zero, suc, ◌<◌, ◌≤◌, ◌==◌, Bool, true, false, List, [], ◌∷◌, ◌++◌, drop, length, filter, Option, Some, None, if◌then◌else◌, sym, ◌∙◌, ap, refl, arith, slice_index_or}
 use Rattle.std.specs.Ordering.{nat_cmp, is_lt, is_le, is_some_and}
 use Rattle.std.specs.Option.{option_or}
 use Rattle.std.specs.List.{IsAllAdjacentAnswer}

@@ -1,4 +1,4 @@
-use Rattle.std.proofs.Common.{◌≡◌, ◌≤◌, ◌∙◌, length, drop, refl, ap, arith}
+use Rattle.std.proofs.Common.{◌∙◌, length, drop, refl, ap, arith}
 use Rattle.std.proofs.lemmas.List.{take_rest}
 use Rattle.bflt_format.specs.Values.{Values}
 use Rattle.bflt_format.proofs.Spelled.{header_fits}

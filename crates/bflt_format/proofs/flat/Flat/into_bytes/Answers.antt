@@ -1,4 +1,4 @@
-use Rattle.std.proofs.Common.{◌≡◌, ◌*◌, ◌++◌, ◌∙◌, length, take, drop, refl, ap, append_assoc, arith}
+use Rattle.std.proofs.Common.{◌≡◌, ◌*◌, ◌++◌, ◌∙◌, length, drop, refl, ap, append_assoc, arith}
 use Rattle.std.proofs.Math.Seq.{take-append_seam}
 use Rattle.bflt_format.specs.Values.{Values}
 use Rattle.bflt_format.specs.Spelling.{words_text, spell}

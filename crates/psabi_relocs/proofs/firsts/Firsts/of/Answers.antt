@@ -1,6 +1,5 @@
 use Rattle.std.proofs.Common.{refl, rules}
 use Rattle.std.proofs.lemmas.List.Sorted.{IsNonDecreasingBy-from_sort_by_key, answers_always}
-use Rattle.psabi_relocs.specs.Noted.{noted}
 use Rattle.psabi_relocs.proofs.FirstNotes.{noted_stable, ascend_where}
 use Rattle.psabi_relocs.proofs.firsts.Firsts.of.Goals as goal
 use Rattle.psabi_relocs.proofs.firsts.Firsts.of.Goals.{then-not-is_sorted_by_key+in_ok-sort_by_key, else-not-is_sorted_by_key}
