@@ -2,13 +2,14 @@
 use Rattle.std.proofs.Common.{◌≡◌, ℕ, ◌+◌, ◌-◌, ◌*◌, ◌%◌, ◌^◌, ◌<◌, ◌≤◌, true, false, not, ◌&&◌, ◌||◌, ◌==◌, ltb, leb, List, [], ◌++◌, length, map, take, drop, get_or, Option, Some, None, refl, sym, ap, subst, ◌∙◌, append_assoc, arith, inl, inr}
 use Rattle.std.specs.List.{range_with_len}
 use Rattle.std.proofs.lemmas.Bool.{le-ltb, le-leb, eq-eqb, ltb-false, and_from, or_from, not_from_true, and_right, or_cases, eqb-true}
-use Rattle.std.proofs.lemmas.List.{append-nil, length-append, length-take, length-drop, take_at, drop_at}
+use Rattle.std.proofs.lemmas.List.{append-nil, length-append, length-take, length-drop, take_at, drop_at, drop-take}
 use Rattle.std.proofs.lemmas.List.FromFn.{fill_by_all, length-map-range_with_len}
 use Rattle.bflt_format.specs.declared.fault.FlatFault.{FlatFault}
 use Rattle.byte_words.specs.Numbers.{IsBytes}
 use Rattle.bflt_format.specs.Numbers.{big_at}
 use Rattle.bflt_format.specs.Values.{Values, stored, image_size, ram_values}
 use Rattle.bflt_format.specs.Header.{magic, revision, entry, data_start, data_end, bss_end, stack_size, reloc_start, reloc_count, flags, record_at, flat_values}
+use Rattle.bflt_format.specs.Flat.{behind_header}
 use Rattle.bflt_format.specs.Fault.{is_known, is_in_order, is_out_of_bounds, is_entry, is_table_bad, header_rows, header_fault, is_near, passes_data, meets_earlier, targets_past, record_rows, record_fault, values_fault, flat_fault, or_else, IsHeader}
 use Rattle.bflt_format.specs.Spelling.{words_text, header_words, spell, Spells}
 use Rattle.byte_words.proofs.Searches.{none_below, any_below_none}
@@ -233,3 +234,15 @@ pub read_values : (y : List ℕ) (start end whole : ℕ) (f : Values) → start 
 unfolding flat_values
 read_values y start end whole f starts ends wholes e t d b s l body records =
     same_values f (flat_values y) e (rw (← starts) t) (rw (← starts, ← ends) d) (rw (← ends, ← wholes) b) s l (rw (← ends) body) records
+
+-- text and data are the first bytes of a file, behind its header
+pub behind_start : (y : List ℕ) (n : ℕ) → 64 ≤ n → behind_header (take n y) ≡ take (n - 64) (drop 64 y)
+behind_start y n long =
+    let whole : n ≡ 64 + (n - 64) = omega arith in
+    ap (λ k. drop 64 (take k y)) whole ∙ drop-take 64 (n - 64) y
+
+-- what has values has room for a header
+pub header_fits : (f : Values) (file : List ℕ) → Spells f → f.body ≡ behind_header file → 64 ≤ length file
+header_fits f file s body =
+    let len = ap length body in
+    omega (arith, s.entry_from, s.entry_to, s.body, len, length-drop 64 file)

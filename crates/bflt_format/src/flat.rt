@@ -5,8 +5,10 @@ ghost use Rattle.bflt_format.specs.Numbers.{big_at};
 ghost use Rattle.bflt_format.specs.Values.{ram_values};
 ghost use Rattle.bflt_format.specs.Spelling.{spell, Spells};
 ghost use Rattle.bflt_format.specs.Header.{flat_values};
+ghost use Rattle.bflt_format.specs.Flat.{behind_header};
 ghost use Rattle.bflt_format.specs.Fault.{flat_fault};
 
+use crate::header::LEN;
 use byte_words::big_word;
 use std::marker::Model;
 
@@ -19,7 +21,8 @@ pub struct Flat {
     pub(crate) bss: u32,
     pub(crate) stack: u32,
     pub(crate) flags: u32,
-    pub(crate) body: Vec<u8>,
+    /// Room for the header, and behind it the bytes of text and data: so that the file can be written in this place.
+    pub(crate) file: Vec<u8>,
     pub(crate) records: Vec<u32>,
 }
 
@@ -39,19 +42,20 @@ impl Model for Flat {
 impl Flat {
     /// The flat file of these values, with the flags 1 (RAM).
     ///
-    /// `entry` counts from the start of the file, `records` from the start of `body`.
+    /// `file` has 64 bytes of room for the header, and behind them the bytes of text and data. `entry` counts from its start,
+    /// `records` from the first byte of text.
     pub fn of(
         entry: u32,
         text: u32,
         data_len: u32,
         bss: u32,
         stack: u32,
-        body: Vec<u8>,
+        file: Vec<u8>,
         records: Vec<u32>,
     ) -> Flat
-        requires no_fault { flat_fault (spell (ram_values entry text data_len bss stack body.items records.items)) ≡ None }
-        requires values { let f = ram_values entry text data_len bss stack body.items records.items in flat_values (spell f) ≡ f }
-        ensures { result ≡ ram_values entry text data_len bss stack body.items records.items }
+        requires no_fault { flat_fault (spell (ram_values entry text data_len bss stack (behind_header file.items) records.items)) ≡ None }
+        requires values { let f = ram_values entry text data_len bss stack (behind_header file.items) records.items in flat_values (spell f) ≡ f }
+        ensures { result ≡ ram_values entry text data_len bss stack (behind_header file.items) records.items }
     {
         Flat {
             entry,
@@ -60,7 +64,7 @@ impl Flat {
             bss,
             stack,
             flags: 1,
-            body,
+            file,
             records,
         }
     }
@@ -118,7 +122,7 @@ impl Flat {
         ensures value { result.now ≡ self.now.body }
         ensures spells { Spells self.now }
     {
-        &self.body
+        &self.file[LEN as usize..]
     }
 
     /// The places of the words that are relocated, counted from the start of the body, in the order
@@ -136,6 +140,6 @@ impl Flat {
         requires { place + 4 ≤ length self.now.body }
         ensures { result ≡ big_at self.now.body place }
     {
-        big_word(&self.body, place as usize)
+        big_word(self.body(), place as usize)
     }
 }

@@ -41,7 +41,7 @@ impl Flat {
             bss: bss_end - data_end,
             stack: big_word(bytes, STACK_SIZE),
             flags: big_word(bytes, FLAGS),
-            body: Vec::from_slice(alloc, body)?,
+            file: Vec::from_slice(alloc, &bytes[..data_end as usize])?,
             records,
         })
     }

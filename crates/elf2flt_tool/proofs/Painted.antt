@@ -1,7 +1,6 @@
 -- Bytes laid over a list of bytes, as a picture.
-use Rattle.std.proofs.Common.{◌≡◌, ℕ, ◌+◌, ◌≤◌, true, false, List, inl, inr, [], ◌∷◌, ◌++◌, length, get_or, replicate, take, refl, sym, ap, ◌∙◌, arith}
-use Rattle.std.proofs.Math.Seq.{take-append_seam}
-use Rattle.std.proofs.lemmas.List.{length-replicate, get_or-replicate}
+use Rattle.std.proofs.Common.{◌≡◌, ℕ, ◌+◌, ◌≤◌, true, false, List, inl, inr, [], ◌∷◌, ◌++◌, length, get_or, replicate, take, refl, sym, ap, ◌∙◌, append_assoc, arith}
+use Rattle.std.proofs.lemmas.List.{length-append, length-replicate, get_or-replicate, take_at, drop_at}
 use Rattle.std.proofs.lemmas.Bool.{cases_lt, and_parts}
 use Rattle.elf32_reader.specs.declared.section.Section.{Section}
 use Rattle.elf32_reader.specs.Sections.{section, is_allocated, is_stored, has_content, content}
@@ -9,6 +8,7 @@ use Rattle.elf32_reader.proofs.Places.{allocated_has_content}
 use Rattle.byte_words.specs.Patches.{Patch, spans, patched, painted, bytes_below, laid}
 use Rattle.byte_words.proofs.Laid.{laid_picture, length-laid}
 use Rattle.byte_words.proofs.Painting.{bytes_below_list, bytes_below_same, length-bytes_below, byte_below, patched_off, painted_same, spans_below, spans_past}
+use Rattle.bflt_format.specs.Flat.{behind_header}
 use Rattle.flat_layout.specs.Numbering.{has_bytes}
 use Rattle.flat_layout.specs.Layout.{layout, off}
 use Rattle.elf2flt_tool.specs.Image.{section_patch}
@@ -83,6 +83,16 @@ laid-push n ps p m fits =
     ∙ ap (λ k. bytes_below k (patched p (λ i. get_or (bytes_below n (painted ps m)) i 0))) len
     ∙ below-push n ps p m
 
--- a part that is the whole, written back
-pub written_back : (n : ℕ) (xs ys : List ℕ) → length xs ≡ n → take n (xs ++ ys) ≡ xs
-written_back n xs ys is = rw (← is) (take-append_seam xs ys)
+-- a file whose image was written, behind the header as it was
+file_back : (n : ℕ) (header image rest more : List ℕ) → length header + length image ≡ n → take n ((header ++ (image ++ rest)) ++ more) ≡ header ++ image
+file_back n header image rest more is =
+    ap (take n) (append_assoc header (image ++ rest) more ∙ ap (λ xs. header ++ xs) (append_assoc image rest more) ∙ sym (append_assoc header image (rest ++ more)))
+    ∙ take_at (header ++ image) (rest ++ more) n (length-append header image ∙ is)
+
+pub header_back : (n : ℕ) (header image rest more : List ℕ) → length header ≡ 64 → length header + length image ≡ n → 64 ≤ length (take n ((header ++ (image ++ rest)) ++ more))
+header_back n header image rest more len is =
+    let back = ap length (file_back n header image rest more is) ∙ length-append header image in
+    omega (arith, back, len)
+
+pub image_back : (n : ℕ) (header image rest more : List ℕ) → length header ≡ 64 → length header + length image ≡ n → behind_header (take n ((header ++ (image ++ rest)) ++ more)) ≡ image
+image_back n header image rest more len is = ap behind_header (file_back n header image rest more is) ∙ drop_at header image 64 len

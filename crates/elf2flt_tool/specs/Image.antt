@@ -1,9 +1,10 @@
 -- The image of an ELF file at a base: its sections' bytes, with every kept relocation computed anew there.
 -- RISC-V ELF psABI, "Relocations": a static relocation of all sections by one distance.
-use Rattle.std.specs.Prelude.{ℕ, ◌+◌, not, List, [], ◌∷◌, map, filter, Option, if◌then◌else◌}
+use Rattle.std.specs.Prelude.{◌≡◌, ℕ, ◌+◌, ◌≤◌, not, List, [], ◌∷◌, length, map, filter, Option, if◌then◌else◌}
 use Rattle.std.specs.List.{range_with_len}
 use Rattle.byteorder.specs.Endian.{little_number}
-use Rattle.byte_words.specs.Patches.{Patch, patched, painted, from_base, little_word}
+use Rattle.byte_words.specs.Patches.{Patch, patched, painted, bytes_below, from_base, little_word}
+use Rattle.bflt_format.specs.Flat.{behind_header}
 use Rattle.elf32_reader.specs.Header.{count_of}
 use Rattle.elf32_reader.specs.Sections.{section, content}
 use Rattle.flat_layout.specs.declared.layout.Layout.{Layout}
@@ -23,6 +24,11 @@ section_patch e i = record {
 -- the linked bytes by number, zeros where no section stands
 unfoldable pub bare : List ℕ → ℕ → ℕ
 bare e = painted (map (section_patch e) (range_with_len 0 (count_of e))) (λ n. 0)
+
+-- room for a header, and behind it the linked bytes of text and data
+pub record IsLinkedFile (e file : List ℕ) : Type 0 where
+  pub header : 64 ≤ length file
+  pub image : behind_header file ≡ bytes_below ((layout e).text + (layout e).data_len) (bare e)
 
 -- the little-endian word of a picture at number n
 unfoldable pub word_of : (ℕ → ℕ) → ℕ → ℕ

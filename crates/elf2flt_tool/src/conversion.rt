@@ -12,7 +12,7 @@ ghost use Rattle.elf2flt_tool.specs.Converted.{converted, flat};
 ghost use Rattle.elf2flt_tool.specs.Walk.{IsPlaced};
 
 use crate::collect::find_all;
-use crate::image::{linked_bytes, with_numbers};
+use crate::image::{HEADER_LEN, linked_file, with_numbers};
 use crate::overlap::lowest_met;
 use crate::places::{places_of, words_at};
 use crate::refusal::Refusal;
@@ -23,8 +23,6 @@ use elf32_reader::Elf;
 use flat_layout::Layout;
 use std::alloc::Global;
 
-/// Where the image's first byte stands in a flat file: behind the header.
-const HEADER_LEN: u32 = 64;
 /// The stack is a multiple of this many bytes.
 const STACK_UNIT: u32 = 16;
 
@@ -56,8 +54,9 @@ fn find_places(alloc: Global, elf: &Elf<'_>, layout: &Layout) -> Result<Placed, 
 {
     let found = find_all(alloc, elf, layout)?;
     let met = lowest_met(&found.cover, &found.words);
+    let most = found.words.len();
     drop(found.words);
-    let places = places_of(alloc, &found.cover.words)?;
+    let places = places_of(alloc, &found.cover.words, most)?;
     Ok(Placed { places, met })
 }
 
@@ -109,9 +108,9 @@ fn converted_flat(
         (λ refusal. (refusal ≡ Refusal.Memory) ⊎ (fault elf.now ≡ Some refusal)) }
 {
     let placed = find_places(alloc, elf, layout)?;
-    let image = linked_bytes(alloc, elf, layout)?;
-    let words = words_placed(alloc, elf, layout, &image, &placed)?;
-    let body = with_numbers(image, &words);
+    let linked = linked_file(alloc, elf, layout)?;
+    let words = words_placed(alloc, elf, layout, &linked[HEADER_LEN as usize..], &placed)?;
+    let file = with_numbers(linked, &words);
     let stack = stack.div_ceil(STACK_UNIT) * STACK_UNIT;
     let entry = HEADER_LEN + layout.entry;
     Ok(Flat::of(
@@ -120,7 +119,7 @@ fn converted_flat(
         layout.data_len,
         layout.bss,
         stack,
-        body,
+        file,
         placed.places,
     ))
 }
@@ -155,5 +154,5 @@ pub fn convert(alloc: Global, bytes: &[u8], stack: u32) -> Result<Vec<u8>, Refus
         (λ refusal. (refusal ≡ Refusal.Memory) ⊎ (fault bytes.now ≡ Some refusal)) }
 {
     let file = flat_file(alloc, bytes, stack)?;
-    Ok(file.write()?)
+    Ok(file.into_bytes()?)
 }

@@ -1,20 +1,24 @@
 //! The bytes of text and data.
 
-ghost use Rattle.std.specs.Prelude.{◌≡◌, ◌+◌, ◌<◌, ◌≤◌, true, None, All, length, map, slice_index, IfOk};
+ghost use Rattle.std.specs.Prelude.{◌≡◌, ◌+◌, ◌<◌, ◌≤◌, true, None, All, length, map, replicate, slice_index, IfOk};
 ghost use Rattle.elf32_reader.specs.Accepted.{IsAccepted};
 ghost use Rattle.elf32_reader.specs.Header.{count_of};
 ghost use Rattle.elf32_reader.specs.Sections.{section};
 ghost use Rattle.byte_words.specs.Patches.{laid, patched, painted, bytes_below};
+ghost use Rattle.bflt_format.specs.Flat.{behind_header};
 ghost use Rattle.flat_layout.specs.Layout.{layout as layout_of};
 ghost use Rattle.flat_layout.specs.Fault.{layout_fault};
 ghost use Rattle.flat_layout.specs.Numbering.{has_bytes};
-ghost use Rattle.elf2flt_tool.specs.Image.{section_patch, bare};
+ghost use Rattle.elf2flt_tool.specs.Image.{section_patch, bare, IsLinkedFile};
 ghost use Rattle.elf2flt_tool.specs.Converted.{number_patch};
 
 use crate::word::Word;
 use elf32_reader::{Elf, Section};
 use flat_layout::{Layout, has_bytes};
 use std::alloc::{AllocError, Global};
+
+/// How many bytes a flat file has before the image's first one.
+pub const HEADER_LEN: u32 = 64;
 
 /// Writes bytes over an image, from a number on.
 fn lay(image: &mut [u8], from: usize, bytes: &[u8])
@@ -39,17 +43,28 @@ fn lay_section(elf: &Elf<'_>, layout: &Layout, index: u32, image: &mut [u8])
     }
 }
 
-/// The linked bytes of text and data, zeros where no section stands.
-pub fn linked_bytes(alloc: Global, elf: &Elf<'_>, layout: &Layout) -> Result<Vec<u8>, AllocError>
+/// Lays the bytes of all sections over zeros.
+fn lay_sections(elf: &Elf<'_>, layout: &Layout, image: &mut [u8])
     requires no_fault { layout_fault elf.now ≡ None }
     requires layout { layout.now ≡ layout_of elf.now }
-    ensures { IfOk result (λ image. image.items ≡ bytes_below (layout.now.text + layout.now.data_len) (bare elf.now)) }
+    requires zeros { image.old ≡ replicate (layout.now.text + layout.now.data_len) 0 }
+    ensures { image.new ≡ bytes_below (layout.now.text + layout.now.data_len) (bare elf.now) }
 {
-    let mut image = vec![in alloc; 0; (layout.text + layout.data_len) as usize]?;
     for index in 0..elf.sections() {
-        lay_section(elf, layout, index, &mut image);
+        lay_section(elf, layout, index, image);
     }
-    Ok(image)
+}
+
+/// The linked bytes of text and data, zeros where no section stands, behind room for a header.
+pub fn linked_file(alloc: Global, elf: &Elf<'_>, layout: &Layout) -> Result<Vec<u8>, AllocError>
+    requires no_fault { layout_fault elf.now ≡ None }
+    requires layout { layout.now ≡ layout_of elf.now }
+    ensures { IfOk result (λ file. IsLinkedFile elf.now file.items) }
+{
+    let len = (HEADER_LEN + layout.text + layout.data_len) as usize;
+    let mut file = vec![in alloc; 0; len]?;
+    lay_sections(elf, layout, &mut file[HEADER_LEN as usize..]);
+    Ok(file)
 }
 
 /// Writes each word's number over the bytes at its place, big-endian.
@@ -63,10 +78,12 @@ fn write_numbers(words: &[Word], image: &mut [u8])
 }
 
 /// The linked bytes with each word's number at its place, big-endian.
-pub fn with_numbers(mut image: Vec<u8>, words: &[Word]) -> Vec<u8>
-    requires { All (λ word. word.place + 4 ≤ length image.items) words.now }
-    ensures { result.items ≡ bytes_below (length image.items) (painted (map number_patch words.now) (slice_index image.items)) }
+pub fn with_numbers(mut file: Vec<u8>, words: &[Word]) -> Vec<u8>
+    requires header { 64 ≤ length file.items }
+    requires inside { All (λ word. word.place + 4 ≤ length (behind_header file.items)) words.now }
+    ensures { behind_header result.items
+        ≡ bytes_below (length (behind_header file.items)) (painted (map number_patch words.now) (slice_index (behind_header file.items))) }
 {
-    write_numbers(words, &mut image);
-    image
+    write_numbers(words, &mut file[HEADER_LEN as usize..]);
+    file
 }

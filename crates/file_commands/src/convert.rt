@@ -49,7 +49,7 @@ fn convert_bytes<H: Host>(
     ensures { Performs (observed H.told H.faults host.old) (observed H.told H.faults host.new) (converted_outcome flt.now stack bytes.now) (ending_of result) }
 {
     match flat_file(alloc, bytes, stack) {
-        Ok(flat) => store_flat(alloc, flt, &flat, host),
+        Ok(flat) => store_flat(alloc, flt, flat, host),
         Err(refusal) => refuse(alloc, &refusal),
     }
 }
@@ -57,13 +57,13 @@ fn convert_bytes<H: Host>(
 fn store_flat<H: Host>(
     alloc: Global,
     flt: &str,
-    flat: &Flat,
+    flat: Flat,
     host: &mut H,
 ) -> Result<Answer, AllocError>
-    ensures { Performs (observed H.told H.faults host.old) (observed H.told H.faults host.new) (stored_outcome flt.now (spell flat.now) (convert_line (sizes_of flat.now))) (ending_of result) }
+    ensures { Performs (observed H.told H.faults host.old) (observed H.told H.faults host.new) (stored_outcome flt.now (spell flat) (convert_line (sizes_of flat))) (ending_of result) }
 {
-    let line = texts::convert_line(alloc, flat)?;
-    let bytes = flat.write()?;
+    let line = texts::convert_line(alloc, &flat)?;
+    let bytes = flat.into_bytes()?;
     store_file(alloc, flt, &bytes, line, host)
 }
 

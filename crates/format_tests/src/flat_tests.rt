@@ -23,7 +23,8 @@ fn made_anew(alloc: Global, flat: &Flat) -> Result<Option<Flat>, AllocError> {
     if flat.flags() != 1 {
         return Ok(None);
     }
-    let body = Vec::from_slice(alloc, flat.body())?;
+    let mut file = vec![in alloc; 0; 64]?;
+    file.extend_from_slice(flat.body())?;
     let records = Vec::from_slice(alloc, flat.records())?;
     Ok(Some(Flat::of(
         flat.entry(),
@@ -31,7 +32,7 @@ fn made_anew(alloc: Global, flat: &Flat) -> Result<Option<Flat>, AllocError> {
         flat.data_len(),
         flat.bss(),
         flat.stack(),
-        body,
+        file,
         records,
     )))
 }
@@ -40,7 +41,7 @@ fn made_anew(alloc: Global, flat: &Flat) -> Result<Option<Flat>, AllocError> {
 fn written_anew(alloc: Global, file: &[u8]) -> Result<Vec<u8>, Fail> {
     let flat = Flat::read(alloc, file)?;
     let made = made_anew(alloc, &flat)?.ok_or("flags 1")?;
-    Ok(made.write()?)
+    Ok(made.into_bytes()?)
 }
 
 #[test]

@@ -1,18 +1,21 @@
 -- Laws of what was noted first at an address.
-use Rattle.std.proofs.Common.{◌≡◌, ℕ, zero, suc, ◌<◌, ◌≤◌, ◌==◌, Bool, true, false, List, [], ◌∷◌, ◌++◌, drop, length, filter, Option, Some, None, if◌then◌else◌, sym, ◌∙◌, ap, refl, arith, slice_index_or, eq-eqb}
-use Rattle.std.specs.Ordering.{nat_cmp, is_lt}
+use Rattle.std.proofs.Common.{◌≡◌, ℕ, zero, suc, ◌<◌, ◌≤◌, ◌==◌, Bool, true, false, List, [], ◌∷◌, ◌++◌, drop, length, filter, Option, Some, None, if◌then◌else◌, sym, ◌∙◌, ap, refl, arith, slice_index_or}
+use Rattle.std.specs.Ordering.{nat_cmp, is_lt, is_le, is_some_and}
 use Rattle.std.specs.Option.{option_or}
+use Rattle.std.specs.List.{IsAllAdjacentAnswer}
 use Rattle.std.specs.List.Sorted.{IsNonDecreasingBy, IsStableByKey, ties}
+use Rattle.std.proofs.lemmas.List.Sorted.{IsNonDecreasingBy-from_all_adjacent}
+use Rattle.std.proofs.lemmas.Map.Keys.{le_from_is_le}
 use Rattle.std.proofs.lemmas.Bool.{eqb-false, ne_eqb}
 use Rattle.std.proofs.lemmas.Grind.{common_steps}
 use Rattle.psabi_relocs.specs.Noted.{noted, head_at}
 
 -- one more note
-pub noted_more : (ns : List (ℕ × ℕ)) (more : ℕ × ℕ) (q : ℕ) → noted (ns ++ more ∷ []) q ≡ option_or (noted ns q) (if more.0 == q then Some more.1 else None)
+pub noted_more : {X : Type 0} (ns : List (ℕ × X)) (more : ℕ × X) (q : ℕ) → noted (ns ++ more ∷ []) q ≡ option_or (noted ns q) (if more.0 == q then Some more.1 else None)
 noted_more [] more q = refl
-noted_more (n ∷ ns) more q = by (n.0 == q) (noted_more ns more q)
+noted_more {X} (n ∷ ns) more q = by (n.0 == q) (noted_more ns more q)
   where
-    rest : Option ℕ
+    rest : Option X
     rest = if more.0 == q then Some more.1 else None
 
     by : (b : Bool) → noted (ns ++ more ∷ []) q ≡ option_or (noted ns q) rest
@@ -21,7 +24,7 @@ noted_more (n ∷ ns) more q = by (n.0 == q) (noted_more ns more q)
     by false step = step
 
 -- the notes at the address alone
-noted_filter : (t : ℕ × ℕ → Bool) (q : ℕ) → ((n : ℕ × ℕ) → t n ≡ (n.0 == q)) → (ns : List (ℕ × ℕ)) → noted (filter t ns) q ≡ noted ns q
+noted_filter : {X : Type 0} (t : ℕ × X → Bool) (q : ℕ) → ((n : ℕ × X) → t n ≡ (n.0 == q)) → (ns : List (ℕ × X)) → noted (filter t ns) q ≡ noted ns q
 noted_filter t q is [] = refl
 noted_filter t q is (n ∷ ns) = by (t n) (n.0 == q) refl (is n) refl (noted_filter t q is ns)
   where
@@ -31,24 +34,29 @@ noted_filter t q is (n ∷ ns) = by (t n) (n.0 == q) refl (is n) refl (noted_fil
     by true false passes same at rest = absurd cc
     by false true passes same at rest = absurd cc
 
-ties_at : (q : ℕ) (n : ℕ × ℕ) → ties (λ x y. is_lt (nat_cmp x.0 y.0)) (q, 0) n ≡ (n.0 == q)
-ties_at q n = grind (arith, common_steps)
+ties_at : {X : Type 0} (q : ℕ) (x : X) (n : ℕ × X) → ties (λ x y. is_lt (nat_cmp x.0 y.0)) (q, x) n ≡ (n.0 == q)
+ties_at q x n = grind (arith, common_steps)
+
+noted_tied : {X : Type 0} (ns ms : List (ℕ × X)) → IsStableByKey (λ n. n.0) nat_cmp ns ms → X → (q : ℕ) → noted ms q ≡ noted ns q
+noted_tied {X} ns ms stable x q =
+    let test = ties (λ (x y : ℕ × X). is_lt (nat_cmp x.0 y.0)) (q, x) in
+    sym (noted_filter test q (ties_at q x) ms) ∙ ap (λ ks. noted ks q) (stable (q, x)) ∙ noted_filter test q (ties_at q x) ns
 
 -- a stable sort by address changes nothing
-pub noted_stable : (ns ms : List (ℕ × ℕ)) → IsStableByKey (λ n. n.0) nat_cmp ns ms → (q : ℕ) → noted ms q ≡ noted ns q
-noted_stable ns ms stable q =
-    let test = ties (λ (x y : ℕ × ℕ). is_lt (nat_cmp x.0 y.0)) (q, 0) in
-    sym (noted_filter test q (ties_at q) ms) ∙ ap (λ ks. noted ks q) (stable (q, 0)) ∙ noted_filter test q (ties_at q) ns
+pub noted_stable : {X : Type 0} (ns ms : List (ℕ × X)) → IsStableByKey (λ n. n.0) nat_cmp ns ms → (q : ℕ) → noted ms q ≡ noted ns q
+noted_stable [] [] stable q = refl
+noted_stable [] (m ∷ ms) stable q = noted_tied [] (m ∷ ms) stable m.1 q
+noted_stable (n ∷ ns) ms stable q = noted_tied (n ∷ ns) ms stable n.1 q
 
 -- no note is at the address
-noted_none : (ns : List (ℕ × ℕ)) (q : ℕ) → ((k : ℕ) (d : ℕ × ℕ) → k < length ns → (slice_index_or ns k d).0 == q ≡ false) → noted ns q ≡ None
+noted_none : {X : Type 0} (ns : List (ℕ × X)) (q : ℕ) → ((k : ℕ) (d : ℕ × X) → k < length ns → (slice_index_or ns k d).0 == q ≡ false) → noted ns q ≡ None
 noted_none [] q none = refl
 noted_none (n ∷ ns) q none = rw (none 0 n (omega arith)) (noted_none ns q (λ k d h. none (suc k) d (omega arith)))
 
 -- a search in notes whose addresses ascend: those before i are below the address, and the others aren't
-pub search_noted : (ns : List (ℕ × ℕ)) (i q : ℕ) → IsNonDecreasingBy (λ n. n.0) ns
-    → ((k : ℕ) (d : ℕ × ℕ) → k < i → k < length ns → (slice_index_or ns k d).0 < q)
-    → ((k : ℕ) (d : ℕ × ℕ) → i ≤ k → k < length ns → q ≤ (slice_index_or ns k d).0)
+pub search_noted : {X : Type 0} (ns : List (ℕ × X)) (i q : ℕ) → IsNonDecreasingBy (λ n. n.0) ns
+    → ((k : ℕ) (d : ℕ × X) → k < i → k < length ns → (slice_index_or ns k d).0 < q)
+    → ((k : ℕ) (d : ℕ × X) → i ≤ k → k < length ns → q ≤ (slice_index_or ns k d).0)
     → head_at (drop i ns) q ≡ noted ns q
 search_noted [] zero q ascend below above = refl
 search_noted [] (suc i) q ascend below above = refl
@@ -67,14 +75,8 @@ search_noted (n ∷ ns) (suc i) q ascend below above =
     (λ k d h in_list. below (suc k) d (omega arith) (omega arith))
     (λ k d h in_list. above (suc k) d (omega arith) (omega arith)))
 
-pub head_found : (ns : List (ℕ × ℕ)) (q : ℕ) (d : ℕ × ℕ) → 1 ≤ length ns → (slice_index_or ns 0 d).0 ≡ q → head_at ns q ≡ Some (slice_index_or ns 0 d).1
-head_found [] q d some at = absurd (omega arith)
-head_found (n ∷ ns) q d some at = rw (eq-eqb n.0 q at) refl
-
-pub head_apart : (ns : List (ℕ × ℕ)) (q : ℕ) (d : ℕ × ℕ) → 1 ≤ length ns → ((slice_index_or ns 0 d).0 ≡ q → ⊥) → head_at ns q ≡ None
-head_apart [] q d some apart = refl
-head_apart (n ∷ ns) q d some apart = rw (ne_eqb n.0 q apart) refl
-
-pub head_none : (ns : List (ℕ × ℕ)) (q : ℕ) → length ns < 1 → head_at ns q ≡ None
-head_none [] q none = refl
-head_none (n ∷ ns) q none = absurd (omega arith)
+-- what the test of two neighbours each says
+pub ascend_where : {X : Type 0} (ns : List (ℕ × X)) (r : Bool) → IsAllAdjacentAnswer (λ x y b. b ≡ is_some_and is_le (Some (nat_cmp x.0 y.0))) ns r → r ≡ true
+    → IsNonDecreasingBy (λ n. n.0) ns
+ascend_where ns true all is = IsNonDecreasingBy-from_all_adjacent (λ n. n.0) ns (λ k d l. le_from_is_le _ _ (sym (all k d l)))
+ascend_where ns false all is = absurd cc

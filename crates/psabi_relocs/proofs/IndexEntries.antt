@@ -1,7 +1,7 @@
 -- What an index says of the first entries of its section.
 use Rattle.std.proofs.Common.{◌≡◌, ℕ, ◌+◌, ◌==◌, Bool, true, false, List, Option, Some, None, if◌then◌else◌, refl, sym, ◌∙◌, add-one}
 use Rattle.std.specs.Ordering.{nat_cmp}
-use Rattle.std.specs.Option.{option_or}
+use Rattle.std.specs.Option.{option_map, option_or}
 use Rattle.std.specs.BTreeMap as tree
 use Rattle.elf32_reader.specs.declared.section.Section.{Section}
 use Rattle.elf32_reader.specs.Relas.{rela_count}
@@ -21,14 +21,14 @@ use Rattle.psabi_relocs.specs.Reloc.{reloc, target_section}
 use Rattle.psabi_relocs.specs.Pair.{is_high_at, high_of, names, low_of}
 use Rattle.psabi_relocs.specs.Group.{row_step, entry_step, sum_below}
 use Rattle.psabi_relocs.specs.Sums.{no_sums, sums_or_none, sum_of}
-use Rattle.psabi_relocs.specs.Noted.{noted}
+use Rattle.psabi_relocs.specs.Noted.{noted, high_part}
 use Rattle.psabi_relocs.specs.Index.{IsPairs}
-use Rattle.psabi_relocs.proofs.IndexSearches.{first_below_next}
+use Rattle.psabi_relocs.proofs.IndexSearches.{first_below_next, first_kept_next}
 
 -- p has what the first n entries note, of the kept section i
 pub record HasEntries (e : List ℕ) (i n : ℕ) (p : Noted) : Type 0 where
-  pub high : (q : ℕ) → noted p.high q ≡ first_below (λ k. is_high_at q (reloc e i k)) n
-  pub low : (q : ℕ) → noted p.low q ≡ first_below (λ k. names (target_section e i) q (reloc e i k)) n
+  pub high : (q : ℕ) → noted p.high.items q ≡ option_map (λ k. high_part (reloc e i k)) (first_below (λ k. is_high_at q (reloc e i k)) n)
+  pub low : (q : ℕ) → noted p.low.items q ≡ first_below (λ k. names (target_section e i) q (reloc e i k)) n
   pub sums : (q : ℕ) (width : Width) → sum_of width (sums_or_none (tree.get nat_cmp p.sums q)) ≡ sum_below e i q width n
 
 pub sum_below_zero : (e : List ℕ) (i q : ℕ) (width : Width) → sum_of width no_sums ≡ sum_below e i q width 0
@@ -47,8 +47,8 @@ sum_below_next e i q n width old new before step = rw (step, before, add-one) re
 
 -- what one more entry r changes in an index
 pub record Notes (e : List ℕ) (i n : ℕ) (r : Reloc) (old new : Noted) : Type 0 where
-  pub high : (q : ℕ) → noted new.high q ≡ option_or (noted old.high q) (if is_high_at q r then Some n else None)
-  pub low : (q : ℕ) → noted new.low q ≡ option_or (noted old.low q) (if names (target_section e i) q r then Some n else None)
+  pub high : (q : ℕ) → noted new.high.items q ≡ option_or (noted old.high.items q) (if is_high_at q r then Some (high_part r) else None)
+  pub low : (q : ℕ) → noted new.low.items q ≡ option_or (noted old.low.items q) (if names (target_section e i) q r then Some n else None)
   pub sums : (q : ℕ) (width : Width) → sum_of width (sums_or_none (tree.get nat_cmp new.sums q)) ≡ entry_step q width r (sum_of width (sums_or_none (tree.get nat_cmp old.sums q)))
 
 -- an entry that is by itself changes nothing
@@ -99,9 +99,9 @@ module _ (r : Reloc) (alone : is_joined r.row ≡ false) where
   or_same true x y same = sym same
   or_same false x y same = refl
 
-  pub unpaired_high : (q n : ℕ) (o : Option ℕ) → o ≡ option_or o (if is_high_at q r then Some n else None)
+  pub unpaired_high : {X : Type 0} (q : ℕ) (what : X) (o : Option X) → o ≡ option_or o (if is_high_at q r then Some what else None)
   unfolding is_high_at
-  unpaired_high q n o = rw (no_high r.row alone) (or_none o)
+  unpaired_high q what o = rw (no_high r.row alone) (or_none o)
 
   pub unpaired_low : (s : Section) (q n : ℕ) (o : Option ℕ) → o ≡ option_or o (if names s q r then Some n else None)
   unfolding names
@@ -112,14 +112,14 @@ module _ (r : Reloc) (alone : is_joined r.row ≡ false) where
 
 pub one_more : (e : List ℕ) (i n : ℕ) (old new : Noted) → HasEntries e i n old → Notes e i n (reloc e i n) old new → HasEntries e i (n + 1) new
 one_more e i n old new before step = record {
-  high = λ q. first_below_next (λ k. is_high_at q (reloc e i k)) n _ _ (before.high q) (step.high q);
+  high = λ q. first_kept_next (λ k. high_part (reloc e i k)) (λ k. is_high_at q (reloc e i k)) n _ _ (before.high q) (step.high q);
   low = λ q. first_below_next (λ k. names (target_section e i) q (reloc e i k)) n _ _ (before.low q) (step.low q);
   sums = λ q width. sum_below_next e i q n width _ _ (before.sums q width) (step.sums q width);
 }
 
 -- the index of all entries
 pub all_entries : (e : List ℕ) (i : ℕ) (n : Noted) (p : Pairs) → HasEntries e i (rela_count e i) n
-    → ((q : ℕ) → noted p.high q ≡ noted n.high q) → ((q : ℕ) → noted p.low q ≡ noted n.low q) → p.sums ≡ n.sums → IsPairs e i p
+    → ((q : ℕ) → noted p.high q ≡ noted n.high.items q) → ((q : ℕ) → noted p.low q ≡ noted n.low.items q) → p.sums ≡ n.sums → IsPairs e i p
 unfolding high_of low_of
 all_entries e i n p h high low sums = record {
   high = λ q. high q ∙ h.high q;

@@ -1,6 +1,6 @@
 -- Laws of `first_below`.
 use Rattle.std.proofs.Common.{◌≡◌, ℕ, zero, suc, ◌+◌, ◌<◌, Bool, true, false, Option, Some, None, if◌then◌else◌, inl, inr, sym, ◌∙◌, ap, refl, arith, add-one}
-use Rattle.std.specs.Option.{option_or}
+use Rattle.std.specs.Option.{option_map, option_or}
 use Rattle.std.proofs.lemmas.Bool.{cases_lt}
 use Rattle.psabi_relocs.specs.Search.{first_below}
 
@@ -59,3 +59,15 @@ first_below_only p n i below here only = by (first_below p n) refl
 -- a look-up that has taken one more index
 pub first_below_next : (p : ℕ → Bool) (n : ℕ) (old new : Option ℕ) → old ≡ first_below p n → new ≡ option_or old (if p n then Some n else None) → new ≡ first_below p (n + 1)
 first_below_next p n old new before step = step ∙ ap (λ o. option_or o (if p n then Some n else None)) before ∙ sym (first_below_more p n)
+
+map-or : {X : Type 0} (f : ℕ → X) (o : Option ℕ) (b : Bool) (n : ℕ)
+    → option_map f (option_or o (if b then Some n else None)) ≡ option_or (option_map f o) (if b then Some (f n) else None)
+map-or f None true n = refl
+map-or f None false n = refl
+map-or f (Some k) b n = refl
+
+-- the same of what is kept of an index
+pub first_kept_next : {X : Type 0} (f : ℕ → X) (p : ℕ → Bool) (n : ℕ) (old new : Option X) → old ≡ option_map f (first_below p n)
+    → new ≡ option_or old (if p n then Some (f n) else None) → new ≡ option_map f (first_below p (n + 1))
+first_kept_next f p n old new before step =
+    step ∙ ap (λ o. option_or o (if p n then Some (f n) else None)) before ∙ sym (ap (option_map f) (first_below_more p n) ∙ map-or f (first_below p n) (p n) n)

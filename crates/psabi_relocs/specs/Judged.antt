@@ -8,8 +8,11 @@ use Rattle.psabi_relocs.specs.declared.pairs.Pairs.{Pairs}
 use Rattle.psabi_relocs.specs.declared.stored.StoredSections.{StoredSections}
 use Rattle.psabi_relocs.specs.declared.reloc.Reloc.{Reloc}
 use Rattle.psabi_relocs.specs.declared.slot.Slot.{Slot}
+use Rattle.psabi_relocs.specs.declared.high.HighPart.{HighPart}
+use Rattle.psabi_relocs.specs.Reloc.{reloc}
 use Rattle.psabi_relocs.specs.Pair.{own_high}
 use Rattle.psabi_relocs.specs.Slot.{own_slot, slot_section}
+use Rattle.psabi_relocs.specs.Noted.{high_part}
 use Rattle.psabi_relocs.specs.Index.{AreStored, IsPairs}
 
 -- section `section` of the file e
@@ -31,8 +34,8 @@ pub record Judged : Type 0 where
   pub section : ℕ
   pub reloc : Reloc
 
--- h is the pair of the entry r, and g its slot with the section that holds it
-pub record IsLinked (e : List ℕ) (i : ℕ) (r : Reloc) (h : Option ℕ) (g : Option Slot) : Type 0 where
-  pub high : h ≡ own_high e i r
+-- h is what the entry r needs of its pair, and g its slot with the section that holds it
+pub record IsLinked (e : List ℕ) (i : ℕ) (r : Reloc) (h : Option HighPart) (g : Option Slot) : Type 0 where
+  pub high : h ≡ option_map (λ j. high_part (reloc e i j)) (own_high e i r)
   pub slot : option_map (λ slot. slot.address) g ≡ own_slot e i r
   pub section : IfSome g (λ slot. slot.section ≡ slot_section e slot.address)

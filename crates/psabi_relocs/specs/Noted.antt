@@ -1,12 +1,21 @@
 -- What was noted at addresses, for the index of a section's entries alone.
 use Rattle.std.specs.Prelude.{ℕ, ◌==◌, List, [], ◌∷◌, Option, Some, None, if◌then◌else◌}
+use Rattle.psabi_relocs.specs.declared.high.HighPart.{HighPart}
+use Rattle.psabi_relocs.specs.declared.high.HighPart.TheVariants.{Distance, Slot}
+use Rattle.psabi_relocs.specs.declared.reloc.Reloc.{Reloc}
+use Rattle.psabi_relocs.specs.Row.{is_got_hi20}
+use Rattle.psabi_relocs.specs.Field.{own_ends, relative}
 
--- the first entry that was noted at the address q; each note has an address and an entry
-abbrev pub noted : List (ℕ × ℕ) → ℕ → Option ℕ
+-- what was noted first at the address q; each note has an address, and what it says
+abbrev pub noted : {X : Type 0} → List (ℕ × X) → ℕ → Option X
 noted [] q = None
 noted (n ∷ ns) q = if n.0 == q then Some n.1 else noted ns q
 
--- the first note's entry, if it is at the address q
-abbrev pub head_at : List (ℕ × ℕ) → ℕ → Option ℕ
+-- what the first note says, if it is at the address q
+abbrev pub head_at : {X : Type 0} → List (ℕ × X) → ℕ → Option X
 head_at [] q = None
 head_at (n ∷ ns) q = if n.0 == q then Some n.1 else None
+
+-- what low parts need of the high part r: the distance to its symbol, or that it is the one to its slot
+abbrev pub high_part : Reloc → HighPart
+high_part r = if is_got_hi20 r.row then Slot else Distance (relative 0 (own_ends r))

@@ -7,12 +7,13 @@ ghost use Rattle.psabi_relocs.specs.Row.{is_low};
 ghost use Rattle.psabi_relocs.specs.Reloc.{target_section};
 ghost use Rattle.psabi_relocs.specs.Bytes.{holds, word_in};
 ghost use Rattle.psabi_relocs.specs.Pair.{high_of};
-ghost use Rattle.psabi_relocs.specs.Slot.{slot_section};
+ghost use Rattle.psabi_relocs.specs.Slot.{slot_of, slot_section};
 ghost use Rattle.psabi_relocs.specs.Shape.{has_value};
-ghost use Rattle.psabi_relocs.specs.Field.{own_ends, slot_ends, high_ends, pair_ends, absolute, relative, own_fields, holds_value, mismatches, is_mismatch};
+ghost use Rattle.psabi_relocs.specs.Field.{own_ends, slot_ends, pair_ends, absolute, relative, own_fields, holds_value, mismatches, is_mismatch};
 ghost use Rattle.psabi_relocs.specs.Fault.{is_place_outside};
 
 use crate::bytes::WORD_LEN;
+use crate::high::HighPart;
 use crate::judged::JudgedEntry;
 use crate::kept::KeptSection;
 use crate::reloc::Reloc;
@@ -30,7 +31,7 @@ impl Reloc {
 
     /// S + A - P modulo 2^32.
     #[tactic(auto, unfolding(crate::specs::Field::relative))]
-    fn distance(&self) -> u32
+    pub(crate) fn distance(&self) -> u32
         ensures { result ≡ relative 0 (own_ends self.now) }
     {
         self.value
@@ -48,18 +49,12 @@ fn slot_distance(place: u32, slot: u32) -> u32
 }
 
 impl KeptSection<'_, '_> {
-    /// The distance of an entry that is no low part: from P to its symbol, or to the slot of a GOT_HI20.
-    #[tactic(auto, unfolding(crate::specs::Field::high_ends))]
-    fn high_distance(&self, reloc: &Reloc) -> Option<u32>
-        ensures { result ≡ option_map (relative 0) (high_ends self.now.file self.now.section reloc.now) }
+    /// The distance of a GOT_HI20 at a place. None if it has no slot.
+    fn got_distance(&self, place: u32) -> Option<u32>
+        ensures { result ≡ option_map (λ slot. relative 0 (slot_ends place slot)) (slot_of self.now.file self.now.section place) }
     {
-        match reloc.row {
-            Row::GotHi20 => {
-                let slot = self.slot_address(reloc.place)?;
-                Some(slot_distance(reloc.place, slot))
-            }
-            _ => Some(reloc.distance()),
-        }
+        let slot = self.slot_address(place)?;
+        Some(slot_distance(place, slot))
     }
 
     /// Whether a field doesn't hold its value.
@@ -101,13 +96,14 @@ impl KeptSection<'_, '_> {
 
 impl JudgedEntry<'_, '_> {
     /// The distance of a low part's pair. None if it has none.
-    #[tactic(auto, using(crate::proofs::Partners::high_of_below))]
     fn pair_distance(&self) -> Option<u32>
         requires { is_low self.now.reloc.row ≡ true }
         ensures { result ≡ option_map (relative 0) (pair_ends self.now.file self.now.section (high_of self.now.file self.now.section self.now.reloc.value)) }
     {
-        let high = self.kept.reloc(self.high?);
-        self.kept.high_distance(&high)
+        match self.high? {
+            HighPart::Distance(distance) => Some(distance),
+            HighPart::Slot => self.kept.got_distance(self.reloc.value),
+        }
     }
 
     /// Whether a field at P or the slot doesn't hold its value, or a GOT_HI20 has an addend.

@@ -1,99 +1,61 @@
 //! What was noted first at each address.
 
-ghost use Rattle.std.specs.Prelude.{◌≡◌, ℕ, ◌==◌, [], if◌then◌else◌, None, Some, IfOk, OnOk};
+ghost use Rattle.std.specs.Prelude.{◌≡◌, ℕ, ◌==◌, ◌++◌, [], ◌∷◌, if◌then◌else◌, None, Some, IfOk, OnOk};
 ghost use Rattle.std.specs.Option.{option_or};
 ghost use Rattle.psabi_relocs.specs.Noted.{noted, head_at};
 
-use std::alloc::{AllocError, Global};
+use std::alloc::AllocError;
 use std::marker::Model;
 
-/// The entries that were noted at addresses, in the order of the notes. Contracts see the pairs of an address and an entry.
+/// By address, what was noted there first. Contracts see the pairs of an address and what was noted.
 #[derive(Drop)]
-pub struct Notes {
-    notes: Vec<(u32, u32)>,
-    /// That no address is below the one before it: so the notes needn't be sorted.
-    ascend: bool,
+pub struct Firsts<T> {
+    notes: Vec<(u32, T)>,
 }
 
-impl Model for Notes {
-    ghost use Rattle.std.specs.Prelude.{◌≡◌, ℕ, List, true};
-    ghost use Rattle.std.specs.List.Sorted.{IsNonDecreasingBy};
-
-    ghost Value = { List (ℕ × ℕ) };
-
-    ghost view = { λ s. s.notes.items };
-
-    ghost invariant = { λ s. s.ascend ≡ true → IsNonDecreasingBy (λ n. n.0) s.notes.items };
-}
-
-/// By address, the entry that was noted there first. Contracts see the pairs of an address and an entry.
-#[derive(Drop)]
-pub struct Firsts {
-    notes: Vec<(u32, u32)>,
-}
-
-impl Model for Firsts {
+impl<T> Model for Firsts<T> {
     ghost use Rattle.std.specs.Prelude.{ℕ, List};
     ghost use Rattle.std.specs.List.Sorted.{IsNonDecreasingBy};
 
-    ghost Value = { List (ℕ × ℕ) };
+    ghost Value = { List (ℕ × T) };
 
     ghost view = { λ s. s.notes.items };
 
     ghost invariant = { λ s. IsNonDecreasingBy (λ n. n.0) s.notes.items };
 }
 
-impl Notes {
-    /// None.
-    pub fn new(alloc: Global) -> Notes
-        ensures { result ≡ [] }
-    {
-        Notes {
-            notes: Vec::new(alloc),
-            ascend: true,
-        }
-    }
-
-    /// Notes an entry at an address.
-    pub fn note(&mut self, address: u32, entry: u32) -> Result<(), AllocError>
-        ensures { OnOk result ((q : ℕ) →
-            noted self.new q ≡ option_or (noted self.old q) (if address == q then Some entry else None)) }
-    {
-        let ascend = self.ascend
-            && match self.notes.last() {
-                Some((last, _)) => *last <= address,
-                None => true,
-            };
-        self.notes.push((address, entry))?;
-        self.ascend = ascend;
-        Ok(())
-    }
-
-    /// What was noted first at each address. Notes at one address keep their order.
-    pub fn firsts(self) -> Result<Firsts, AllocError>
-        ensures { IfOk result (λ firsts. (q : ℕ) → noted firsts q ≡ noted self q) }
-    {
-        let Notes { mut notes, ascend } = self;
-        if !ascend {
-            notes.sort_by_key(|note| note.0)?;
-        }
-        Ok(Firsts { notes })
-    }
+/// Notes something at an address, behind what was noted so far.
+pub fn note<T: Copy>(notes: &mut Vec<(u32, T)>, address: u32, what: T) -> Result<(), AllocError>
+    ensures { OnOk result ((q : ℕ) →
+        noted notes.new.items q ≡ option_or (noted notes.old.items q) (if address == q then Some what else None)) }
+{
+    notes.push((address, what))?;
+    Ok(())
 }
 
-/// The first note's entry, if it is at the address.
-fn head_at(notes: &[(u32, u32)], address: u32) -> Option<u32>
+/// What the first note says, if it is at the address.
+fn head_at<T: Copy>(notes: &[(u32, T)], address: u32) -> Option<T>
     ensures { result ≡ head_at notes.now address }
 {
     match notes {
-        [(at, entry), ..] if *at == address => Some(*entry),
+        [(at, what), ..] if *at == address => Some(*what),
         _ => None,
     }
 }
 
-impl Firsts {
-    /// The entry that was noted first at an address. The time is the logarithm of the number of notes.
-    pub fn get(&self, address: u32) -> Option<u32>
+impl<T: Copy> Firsts<T> {
+    /// What was noted first at each address. Notes at one address keep their order; where all ascend, nothing is sorted.
+    pub fn of(mut notes: Vec<(u32, T)>) -> Result<Firsts<T>, AllocError>
+        ensures { IfOk result (λ firsts. (q : ℕ) → noted firsts q ≡ noted notes.items q) }
+    {
+        if !notes.is_sorted_by_key(|note| note.0) {
+            notes.sort_by_key(|note| note.0)?;
+        }
+        Ok(Firsts { notes })
+    }
+
+    /// What was noted first at the address. The time is the logarithm of the number of notes.
+    pub fn get(&self, address: u32) -> Option<T>
         ensures { result ≡ noted self.now address }
     {
         let below = self.notes.partition_point(|note| note.0 < address);

@@ -2,9 +2,12 @@
 
 ghost use Rattle.std.specs.Prelude.{◌≡◌, IfSome};
 ghost use Rattle.std.specs.Option.{option_map};
+ghost use Rattle.psabi_relocs.specs.Reloc.{reloc as reloc_of};
 ghost use Rattle.psabi_relocs.specs.Pair.{own_high};
+ghost use Rattle.psabi_relocs.specs.Noted.{high_part};
 ghost use Rattle.psabi_relocs.specs.Slot.{own_slot, slot_section};
 
+use crate::high::HighPart;
 use crate::kept::KeptSection;
 use crate::reloc::Reloc;
 use crate::row::Row;
@@ -17,8 +20,8 @@ use std::marker::Model;
 pub struct JudgedEntry<'a, 'b> {
     pub kept: KeptSection<'a, 'b>,
     pub reloc: Reloc,
-    /// Of a low part, the entry with its high part.
-    pub high: Option<u32>,
+    /// Of a low part, what it needs of its high part.
+    pub high: Option<HighPart>,
     /// Of a GOT_HI20, its slot.
     pub slot: Option<Slot>,
 }
@@ -34,9 +37,9 @@ impl<'a, 'b> Model for JudgedEntry<'a, 'b> {
 }
 
 impl<'a, 'b> KeptSection<'a, 'b> {
-    /// The pair of an entry: other entries than low parts have none.
-    fn own_high(&self, reloc: &Reloc) -> Option<u32>
-        ensures { result ≡ own_high self.now.file self.now.section reloc.now }
+    /// What an entry needs of its pair: other entries than low parts have none.
+    fn own_high(&self, reloc: &Reloc) -> Option<HighPart>
+        ensures { result ≡ option_map (λ j. high_part (reloc_of self.now.file self.now.section j)) (own_high self.now.file self.now.section reloc.now) }
     {
         match reloc.row {
             Row::Low(_) => self.pairs.high.get(reloc.value),

@@ -11,6 +11,7 @@ mod fault;
 mod field;
 mod firsts;
 mod group;
+mod high;
 mod judged;
 mod judgement;
 mod kept;

@@ -13,12 +13,13 @@ ghost use Rattle.psabi_relocs.specs.Bytes.{holds};
 ghost use Rattle.psabi_relocs.specs.Pair.{is_high_at, names};
 ghost use Rattle.psabi_relocs.specs.Group.{entry_step};
 ghost use Rattle.psabi_relocs.specs.Sums.{sums_or_none, sum_of, CanStep};
-ghost use Rattle.psabi_relocs.specs.Noted.{noted};
+ghost use Rattle.psabi_relocs.specs.Noted.{noted, high_part};
 ghost use Rattle.psabi_relocs.specs.Index.{IsPairs};
 
 use crate::bytes::holds;
-use crate::firsts::{Firsts, Notes};
+use crate::firsts::{Firsts, note};
 use crate::group::Sums;
+use crate::high::HighPart;
 use crate::reloc::{Reloc, reloc_at};
 use crate::row::{Row, Shape};
 use elf32_reader::{Elf, Section};
@@ -28,10 +29,10 @@ use std::collections::BTreeMap;
 /// A kept section's entries by address.
 #[derive(Drop)]
 pub struct Pairs {
-    /// By place, the first entry with a high part.
-    pub(crate) high: Firsts,
+    /// By place, what low parts need of the first entry with a high part.
+    pub(crate) high: Firsts<HighPart>,
     /// By the address that it names, the first low part.
-    pub(crate) low: Firsts,
+    pub(crate) low: Firsts<u32>,
     /// By place, the sums of the groups.
     pub(crate) sums: BTreeMap<u32, Sums>,
 }
@@ -39,8 +40,8 @@ pub struct Pairs {
 /// What the walk over the entries has noted for `Pairs`.
 #[derive(Drop)]
 struct Noted {
-    high: Notes,
-    low: Notes,
+    high: Vec<(u32, HighPart)>,
+    low: Vec<(u32, u32)>,
     sums: BTreeMap<u32, Sums>,
 }
 
@@ -73,24 +74,29 @@ fn names_address(target: &Section, reloc: &Reloc) -> bool
 
 /// Takes in an entry's high part, if it has one.
 #[tactic(auto, unfolding(crate::specs::Pair::is_high_at))]
-fn note_high(high: &mut Notes, reloc: &Reloc, entry: u32) -> Result<(), AllocError>
+fn note_high(high: &mut Vec<(u32, HighPart)>, reloc: &Reloc) -> Result<(), AllocError>
     ensures { OnOk result ((q : ℕ) →
-        noted high.new q ≡ option_or (noted high.old q) (if is_high_at q reloc.now then Some entry else None)) }
+        noted high.new.items q ≡ option_or (noted high.old.items q) (if is_high_at q reloc.now then Some (high_part reloc.now) else None)) }
 {
     if has_high(reloc) {
-        high.note(reloc.place, entry)?;
+        note(high, reloc.place, reloc.high_part())?;
     }
     Ok(())
 }
 
 /// Takes in the address that an entry names as a low part in `target`, if it does.
 #[tactic(auto, unfolding(crate::specs::Pair::names))]
-fn note_low(low: &mut Notes, target: &Section, reloc: &Reloc, entry: u32) -> Result<(), AllocError>
+fn note_low(
+    low: &mut Vec<(u32, u32)>,
+    target: &Section,
+    reloc: &Reloc,
+    entry: u32,
+) -> Result<(), AllocError>
     ensures { OnOk result ((q : ℕ) →
-        noted low.new q ≡ option_or (noted low.old q) (if names target.now q reloc.now then Some entry else None)) }
+        noted low.new.items q ≡ option_or (noted low.old.items q) (if names target.now q reloc.now then Some entry else None)) }
 {
     if names_address(target, reloc) {
-        low.note(reloc.value, entry)?;
+        note(low, reloc.value, entry)?;
     }
     Ok(())
 }
@@ -126,13 +132,13 @@ impl Noted {
     fn note(&mut self, target: &Section, reloc: &Reloc, entry: u32) -> Result<(), AllocError>
         requires room { (width : Width) → CanStep (sum_of width (sums_or_none (tree.get nat_cmp self.old.sums reloc.now.place))) }
         ensures high { OnOk result ((q : ℕ) →
-            noted self.new.high q ≡ option_or (noted self.old.high q) (if is_high_at q reloc.now then Some entry else None)) }
+            noted self.new.high.items q ≡ option_or (noted self.old.high.items q) (if is_high_at q reloc.now then Some (high_part reloc.now) else None)) }
         ensures low { OnOk result ((q : ℕ) →
-            noted self.new.low q ≡ option_or (noted self.old.low q) (if names target.now q reloc.now then Some entry else None)) }
+            noted self.new.low.items q ≡ option_or (noted self.old.low.items q) (if names target.now q reloc.now then Some entry else None)) }
         ensures sums { OnOk result ((q : ℕ) (width : Width) →
             sum_of width (sums_or_none (tree.get nat_cmp self.new.sums q)) ≡ entry_step q width reloc.now (sum_of width (sums_or_none (tree.get nat_cmp self.old.sums q)))) }
     {
-        note_high(&mut self.high, reloc, entry)?;
+        note_high(&mut self.high, reloc)?;
         note_low(&mut self.low, target, reloc, entry)?;
         note_step(&mut self.sums, reloc)
     }
@@ -150,9 +156,9 @@ impl Noted {
         requires entry { entry < rela_count elf.now section }
         requires room { (width : Width) → CanStep (sum_of width (sums_or_none (tree.get nat_cmp self.old.sums (reloc elf.now section entry).place))) }
         ensures high { OnOk result ((q : ℕ) →
-            noted self.new.high q ≡ option_or (noted self.old.high q) (if is_high_at q (reloc elf.now section entry) then Some entry else None)) }
+            noted self.new.high.items q ≡ option_or (noted self.old.high.items q) (if is_high_at q (reloc elf.now section entry) then Some (high_part (reloc elf.now section entry)) else None)) }
         ensures low { OnOk result ((q : ℕ) →
-            noted self.new.low q ≡ option_or (noted self.old.low q) (if names target.now q (reloc elf.now section entry) then Some entry else None)) }
+            noted self.new.low.items q ≡ option_or (noted self.old.low.items q) (if names target.now q (reloc elf.now section entry) then Some entry else None)) }
         ensures sums { OnOk result ((q : ℕ) (width : Width) →
             sum_of width (sums_or_none (tree.get nat_cmp self.new.sums q)) ≡ entry_step q width (reloc elf.now section entry) (sum_of width (sums_or_none (tree.get nat_cmp self.old.sums q)))) }
     {
@@ -164,8 +170,8 @@ impl Noted {
 }
 
 impl Pairs {
-    /// The index of the kept section `section`. It takes memory for the entries that pair or group alone: eight bytes for
-    /// each that pairs, as much again while they are sorted, and one node for all steps of groups at one place. Where the
+    /// The index of the kept section `section`. It takes memory for the entries that pair or group alone: at most twelve
+    /// bytes for each that pairs, as much again while they are sorted, and one node for all steps of groups at one place. Where the
     /// addresses ascend in the order of the entries, nothing is sorted; else the time is n log n in the entries. Only out
     /// of memory is an `Err`.
     pub fn of(alloc: Global, elf: &Elf<'_>, section: u32) -> Result<Pairs, AllocError>
@@ -174,16 +180,16 @@ impl Pairs {
     {
         let target = elf.section(elf.section(section).info);
         let mut noted = Noted {
-            high: Notes::new(alloc),
-            low: Notes::new(alloc),
+            high: Vec::new(alloc),
+            low: Vec::new(alloc),
             sums: BTreeMap::new(alloc),
         };
         for entry in 0..elf.relas(section) {
             noted.note_entry(elf, section, &target, entry)?;
         }
         Ok(Pairs {
-            high: noted.high.firsts()?,
-            low: noted.low.firsts()?,
+            high: Firsts::of(noted.high)?,
+            low: Firsts::of(noted.low)?,
             sums: noted.sums,
         })
     }

@@ -7,4 +7,4 @@ pub returns : goal.returns
 unfolding flat
 returns c =
     let found = c.in_ok-file.ensures in
-    (found.0, c.in_ok-write.ensures ∙ ap spell found.1)
+    (found.0, c.in_ok-into_bytes.ensures ∙ ap spell found.1)

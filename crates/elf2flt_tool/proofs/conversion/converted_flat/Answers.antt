@@ -1,8 +1,13 @@
 use Rattle.std.proofs.Common.{◌≡◌, ◌+◌, ◌*◌, ◌/◌, ◌∙◌, map, sym, ap, subst, inl, inr, arith, None}
 use Rattle.std.proofs.lemmas.Result.{err_from_is_err_and}
+use Rattle.std.proofs.lemmas.List.{take_rest}
 use Rattle.bflt_format.specs.Spelling.{spell}
 use Rattle.bflt_format.specs.Fault.{flat_fault}
 use Rattle.bflt_format.specs.Header.{flat_values}
+use Rattle.bflt_format.specs.Flat.{behind_header}
+use Rattle.byte_words.specs.Patches.{bytes_below}
+use Rattle.flat_layout.specs.declared.layout.Layout.{Layout}
+use Rattle.elf2flt_tool.specs.Image.{bare}
 use Rattle.bflt_format.proofs.Spelled.{values_back, no_fault}
 use Rattle.elf2flt_tool.specs.Word.{records, word_at}
 use Rattle.elf2flt_tool.specs.Converted.{converted}
@@ -20,12 +25,23 @@ returns-in_err-placed c =
       | inr is ↦ inr (fault-relocs c.args.elf.now _ c.requires.accepted.no_fault c.requires.no_fault is)
     ])
 
-pub with_numbers-body-requires : goal.with_numbers-body-requires
-with_numbers-body-requires c =
+pub with_numbers-file-requires-clause-inside : goal.with_numbers-file-requires-clause-inside
+with_numbers-file-requires-clause-inside c =
     let e = c.args.elf.now in
     let l = c.args.layout.now in
-    let words = c.deref-2.ensures.value ∙ c.in_ok-words.ensures.1 ∙ ap (λ image. map (word_at l image) (records e)) c.deref.ensures.value in
-    words-below e l _ _ c.requires.accepted.bytes c.in_ok-words.ensures.0 c.requires.layout c.in_ok-image.ensures words
+    let linked = c.in_ok-linked.ensures.image ∙ ap (λ (l : Layout). bytes_below (l.text + l.data_len) (bare e)) (sym c.requires.layout) in
+    let words = c.deref-2.ensures.value ∙ c.in_ok-words.ensures.1 ∙ ap (λ image. map (word_at l image) (records e)) (take_rest c.deref.result.now 64 ∙ ap behind_header c.deref.ensures.value) in
+    words-below e l _ _ c.requires.accepted.bytes c.in_ok-words.ensures.0 c.requires.layout linked words
+
+pub with_numbers-file-requires-clause-header : goal.with_numbers-file-requires-clause-header
+with_numbers-file-requires-clause-header c = c.in_ok-linked.ensures.header
+
+pub words_placed-requires-clause-image : goal.words_placed-requires-clause-image
+words_placed-requires-clause-image c =
+    let e = c.args.elf.now in
+    let l = c.args.layout.now in
+    let linked = c.in_ok-linked.ensures.image ∙ ap (λ (l : Layout). bytes_below (l.text + l.data_len) (bare e)) (sym c.requires.layout) in
+    take_rest c.deref.result.now 64 ∙ ap behind_header c.deref.ensures.value ∙ linked
 
 pub overflow_add-entry : goal.overflow_add-entry
 overflow_add-entry c =
@@ -39,25 +55,28 @@ pub of-requires-clause-no_fault : goal.of-requires-clause-no_fault
 of-requires-clause-no_fault c =
     let e = c.args.elf.now in
     let l = c.args.layout.now in
+    let linked = c.in_ok-linked.ensures.image ∙ ap (λ (l : Layout). bytes_below (l.text + l.data_len) (bare e)) (sym c.requires.layout) in
     let rounded : c.div_ceil-stack.result * 16 ≡ (c.args.stack + 15) / 16 * 16 = omega (arith, c.div_ceil-stack.ensures) in
-    let words = c.deref-2.ensures.value ∙ c.in_ok-words.ensures.1 ∙ ap (λ image. map (word_at l image) (records e)) c.deref.ensures.value in
-    let same = assembled e l c.args.stack _ _ _ _ _ c.requires.accepted.bytes c.in_ok-words.ensures.0 c.requires.layout rounded c.in_ok-image.ensures words c.with_numbers-body.ensures c.in_ok-placed.ensures.places in
+    let words = c.deref-2.ensures.value ∙ c.in_ok-words.ensures.1 ∙ ap (λ image. map (word_at l image) (records e)) (take_rest c.deref.result.now 64 ∙ ap behind_header c.deref.ensures.value) in
+    let same = assembled e l c.args.stack _ _ _ _ _ c.requires.accepted.bytes c.in_ok-words.ensures.0 c.requires.layout rounded linked words c.with_numbers-file.ensures c.in_ok-placed.ensures.places in
     subst (λ f. flat_fault (spell f) ≡ None) (sym same) (no_fault (converted e c.args.stack) (spells_converted e c.args.stack c.requires.accepted.bytes c.in_ok-words.ensures.0 c.requires.stack_limit))
 
 pub of-requires-clause-values : goal.of-requires-clause-values
 of-requires-clause-values c =
     let e = c.args.elf.now in
     let l = c.args.layout.now in
+    let linked = c.in_ok-linked.ensures.image ∙ ap (λ (l : Layout). bytes_below (l.text + l.data_len) (bare e)) (sym c.requires.layout) in
     let rounded : c.div_ceil-stack.result * 16 ≡ (c.args.stack + 15) / 16 * 16 = omega (arith, c.div_ceil-stack.ensures) in
-    let words = c.deref-2.ensures.value ∙ c.in_ok-words.ensures.1 ∙ ap (λ image. map (word_at l image) (records e)) c.deref.ensures.value in
-    let same = assembled e l c.args.stack _ _ _ _ _ c.requires.accepted.bytes c.in_ok-words.ensures.0 c.requires.layout rounded c.in_ok-image.ensures words c.with_numbers-body.ensures c.in_ok-placed.ensures.places in
+    let words = c.deref-2.ensures.value ∙ c.in_ok-words.ensures.1 ∙ ap (λ image. map (word_at l image) (records e)) (take_rest c.deref.result.now 64 ∙ ap behind_header c.deref.ensures.value) in
+    let same = assembled e l c.args.stack _ _ _ _ _ c.requires.accepted.bytes c.in_ok-words.ensures.0 c.requires.layout rounded linked words c.with_numbers-file.ensures c.in_ok-placed.ensures.places in
     subst (λ f. flat_values (spell f) ≡ f) (sym same) (values_back (converted e c.args.stack) (spells_converted e c.args.stack c.requires.accepted.bytes c.in_ok-words.ensures.0 c.requires.stack_limit))
 
 pub returns : goal.returns
 returns c =
     let e = c.args.elf.now in
     let l = c.args.layout.now in
+    let linked = c.in_ok-linked.ensures.image ∙ ap (λ (l : Layout). bytes_below (l.text + l.data_len) (bare e)) (sym c.requires.layout) in
     let rounded : c.div_ceil-stack.result * 16 ≡ (c.args.stack + 15) / 16 * 16 = omega (arith, c.div_ceil-stack.ensures) in
-    let words = c.deref-2.ensures.value ∙ c.in_ok-words.ensures.1 ∙ ap (λ image. map (word_at l image) (records e)) c.deref.ensures.value in
-    let same = assembled e l c.args.stack _ _ _ _ _ c.requires.accepted.bytes c.in_ok-words.ensures.0 c.requires.layout rounded c.in_ok-image.ensures words c.with_numbers-body.ensures c.in_ok-placed.ensures.places in
+    let words = c.deref-2.ensures.value ∙ c.in_ok-words.ensures.1 ∙ ap (λ image. map (word_at l image) (records e)) (take_rest c.deref.result.now 64 ∙ ap behind_header c.deref.ensures.value) in
+    let same = assembled e l c.args.stack _ _ _ _ _ c.requires.accepted.bytes c.in_ok-words.ensures.0 c.requires.layout rounded linked words c.with_numbers-file.ensures c.in_ok-placed.ensures.places in
     (c.in_ok-words.ensures.0, c.of.ensures ∙ same)

@@ -7,8 +7,8 @@ use Rattle.psabi_relocs.proofs.FirstNotes.{search_noted}
 use Rattle.psabi_relocs.proofs.firsts.Firsts.get.Goals as goal
 
 pub returns : goal.returns
-returns c =
-    let notes : List (ℕ × ℕ) = c.deref.result.now in
+returns g c =
+    let notes : List (ℕ × g.row.T.Denot) = c.deref.result.now in
     let q = c.args.address in
     let i = c.partition_point-below.result in
     let ascend : IsNonDecreasingBy (λ n. n.0) notes = rw c.deref.ensures.value c.self.invariant in

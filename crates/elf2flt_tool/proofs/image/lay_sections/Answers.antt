@@ -1,25 +1,17 @@
-use Rattle.std.proofs.Common.{◌≡◌, ◌+◌, ◌<◌, length, map, replicate, sym, ap, ◌∙◌, zero-add, arith, rules}
+use Rattle.std.proofs.Common.{◌≡◌, ◌+◌, ◌<◌, length, map, sym, ap, ◌∙◌, zero-add, arith}
 use Rattle.std.specs.List.{range_with_len}
 use Rattle.std.proofs.lemmas.List.FromFn.{map-range_with_len_more}
 use Rattle.elf32_reader.specs.Header.{count_of}
 use Rattle.byte_words.specs.Patches.{painted, bytes_below}
 use Rattle.byte_words.proofs.Painting.{length-bytes_below}
-use Rattle.flat_layout.proofs.Facts.{size_le, text-data, laid_out}
+use Rattle.flat_layout.proofs.Facts.{text-data, laid_out}
 use Rattle.flat_layout.proofs.Numbers.{is_numbered, stored_inside}
 use Rattle.elf2flt_tool.specs.Image.{section_patch, bare}
-use Rattle.elf2flt_tool.proofs.Painted.{below-push, below-zeros, section_patch-stored, written_back}
-use Rattle.elf2flt_tool.proofs.image.linked_bytes.Goals as goal
-
-pub overflow_add-layout : goal.overflow_add-layout
-overflow_add-layout c =
-    let small = size_le c.args.elf.now c.requires.no_fault in
-    rw c.requires.layout (omega arith)
+use Rattle.elf2flt_tool.proofs.Painted.{below-push, below-zeros, section_patch-stored}
+use Rattle.elf2flt_tool.proofs.image.lay_sections.Goals as goal
 
 pub loop-index-init : goal.loop-index-init
-loop-index-init c =
-    let n = c.args.layout.now.text + c.args.layout.now.data_len in
-    let zeros : c.in_ok-image.image.items ≡ replicate n 0 = search rules in
-    zeros ∙ below-zeros n
+loop-index-init c = c.requires.zeros ∙ below-zeros (c.args.layout.now.text + c.args.layout.now.data_len)
 
 pub lay_section-requires-clause-fits : goal.lay_section-requires-clause-fits
 lay_section-requires-clause-fits c = λ is.
@@ -31,8 +23,8 @@ lay_section-requires-clause-fits c = λ is.
     let number = (is_numbered e i none below (laid_out e i is)).number in
     let whole = text-data e in
     let painted_so_far = painted (map (section_patch e) (range_with_len 0 i)) (λ n. 0) in
-    let len : length c.deref_mut.result.now ≡ c.args.layout.now.text + c.args.layout.now.data_len =
-    ap length c.deref_mut.ensures.value ∙ ap length c.loop-index.invariant ∙ length-bytes_below _ painted_so_far in
+    let len : length c.loop-index.image ≡ c.args.layout.now.text + c.args.layout.now.data_len =
+    ap length c.loop-index.invariant ∙ length-bytes_below _ painted_so_far in
     rw (len, c.requires.layout, section_patch-stored e i is, number, whole) inside
 
 pub loop-index-preserved : goal.loop-index-preserved
@@ -41,13 +33,10 @@ loop-index-preserved c =
     let i = c.loop-index.index in
     let n = c.args.layout.now.text + c.args.layout.now.data_len in
     let ps = map (section_patch e) (range_with_len 0 i) in
-    let image = c.deref_mut.result.now in
-    let now : image ≡ bytes_below n (painted ps (λ k. 0)) = c.deref_mut.ensures.value ∙ c.loop-index.invariant in
-    let len : length image ≡ n = ap length now ∙ length-bytes_below n (painted ps (λ k. 0)) in
+    let now : c.loop-index.image ≡ bytes_below n (painted ps (λ k. 0)) = c.loop-index.invariant in
+    let len : length c.loop-index.image ≡ n = ap length now ∙ length-bytes_below n (painted ps (λ k. 0)) in
     let laid_now = rw (len, now) at c.lay_section.ensures in
-    let back = written_back c.loop-index.image.len c.lay_section.new.image _
-    (ap length c.lay_section.ensures ∙ length-bytes_below (length image) _ ∙ c.deref_mut.ensures.len) in
-    back ∙ laid_now ∙ below-push n ps (section_patch e i) (λ k. 0)
+    laid_now ∙ below-push n ps (section_patch e i) (λ k. 0)
     ∙ ap (λ qs. bytes_below n (painted qs (λ k. 0))) (sym (map-range_with_len_more (section_patch e) 0 i i (zero-add i)))
 
 pub returns : goal.returns
