@@ -192,10 +192,10 @@ decoded_kept mem slots at instr whole is fields are = record {
 }
 
 -- a word that isn't kept stands in the last slot
-pub apart_kept : (mem : List ℕ) (slots : List Slot) (instr : Instr) → length mem < 2 ^ 31 → AreSlots mem slots → AreSlots mem (slice_set slots 16384 (record { at = 2 ^ 32 - 1; instr = instr }))
+pub apart_kept : (mem : List ℕ) (slots : List Slot) (instr : Instr) → length mem < 2 ^ 31 → AreSlots mem slots → AreSlots mem (slice_set slots 16384 (record { at = 2 ^ 64 - 1; instr = instr }))
 apart_kept mem slots instr small are = record {
-  count = length-set slots 16384 (record { at = 2 ^ 32 - 1; instr = instr }) ∙ are.count;
-  say = λ i s there fits. elim (in_set slots 16384 i (record { at = 2 ^ 32 - 1; instr = instr }) s there) [
+  count = length-set slots 16384 (record { at = 2 ^ 64 - 1; instr = instr }) ∙ are.count;
+  say = λ i s there fits. elim (in_set slots 16384 i (record { at = 2 ^ 64 - 1; instr = instr }) s there) [
     | inl (here, same) ↦ absurd (omega (arith, ap (λ (x : Slot). x.at) same))
     | inr other ↦ are.say i s other fits
   ];
@@ -220,19 +220,19 @@ set_kept mem at len bytes old new is_len inside is are forgets =
 
 -- all zero, with empty slots
 pub new_kept : (pages : ℕ) (mem : List ℕ) (slots : List Slot) → 1 ≤ pages → pages ≤ 16384 → mem ≡ replicate (4096 * pages) 0
-    → slots ≡ replicate 16385 (record { at = 2 ^ 32 - 1; instr = Fence }) → IsMemory mem × AreSlots mem slots
+    → slots ≡ replicate 16385 (record { at = 2 ^ 64 - 1; instr = Fence }) → IsMemory mem × AreSlots mem slots
 new_kept pages mem slots some most zeros are =
     let long = ap (length {A = ℕ}) zeros ∙ length-replicate (4096 * pages) 0 in (
       record { whole = omega (arith, long); some = omega (arith, long); most = omega (arith, long) },
       record {
-        count = ap (length {A = Slot}) are ∙ length-replicate {A = Slot} 16385 (record { at = 2 ^ 32 - 1; instr = Fence });
+        count = ap (length {A = Slot}) are ∙ length-replicate {A = Slot} 16385 (record { at = 2 ^ 64 - 1; instr = Fence });
         say = λ i s there fits. absurd (omega (arith, long, nowhere i s (ap (λ l. slice_get l i) (sym are) ∙ there)));
       },
     )
   where
-    nowhere : (i : ℕ) (s : Slot) → slice_get (replicate 16385 (record { at = 2 ^ 32 - 1; instr = Fence })) i ≡ Some s → s.at ≡ 2 ^ 32 - 1
+    nowhere : (i : ℕ) (s : Slot) → slice_get (replicate 16385 (record { at = 2 ^ 64 - 1; instr = Fence })) i ≡ Some s → s.at ≡ 2 ^ 64 - 1
     nowhere i s there =
-        let nothing : Slot = record { at = 2 ^ 32 - 1; instr = Fence } in
+        let nothing : Slot = record { at = 2 ^ 64 - 1; instr = Fence } in
         let within = slice_get_within (replicate 16385 nothing) i s there in
         let long = length-replicate 16385 nothing in
         let at = get_or_from_slice_get (replicate 16385 nothing) i s nothing there in

@@ -35,17 +35,17 @@ IsDecoded None slots None = Unit {0}
 -- the word at a place: other slots stay, or are empty, which is to have the place 2^64 - 1
 pub record Loses (at : ℕ) (old new : List Slot) : Type 0 where
   pub count : length new ≡ length old
-  pub kept : (i : ℕ) (s : Slot) → slice_get new i ≡ Some s → (slice_get old i ≡ Some s) ⊎ (s.at ≡ 2 ^ 32 - 1)
+  pub kept : (i : ℕ) (s : Slot) → slice_get new i ≡ Some s → (slice_get old i ≡ Some s) ⊎ (s.at ≡ 2 ^ 64 - 1)
   pub gone : (s : Slot) → slice_get new (slot_of at) ≡ Some s → s.at ≢ at
 
 -- the word of a slot isn't one of these, by their indices
 abbrev pub IsBeside : (first words : ℕ) → Slot → Type 0
-IsBeside first words s = (s.at ≡ 2 ^ 32 - 1) ⊎ ((s.at / 4 < first) ⊎ (first + words ≤ s.at / 4))
+IsBeside first words s = (s.at ≡ 2 ^ 64 - 1) ⊎ ((s.at / 4 < first) ⊎ (first + words ≤ s.at / 4))
 
 -- those of these words that stand in the slots of the first n of them
 pub record LosesAll (first words n : ℕ) (old new : List Slot) : Type 0 where
   pub count : length new ≡ length old
-  pub kept : (i : ℕ) (s : Slot) → slice_get new i ≡ Some s → (slice_get old i ≡ Some s) ⊎ (s.at ≡ 2 ^ 32 - 1)
+  pub kept : (i : ℕ) (s : Slot) → slice_get new i ≡ Some s → (slice_get old i ≡ Some s) ⊎ (s.at ≡ 2 ^ 64 - 1)
   pub gone : (k : ℕ) (s : Slot) → k < n → slice_get new ((first + k) % 16384) ≡ Some s → IsBeside first words s
 
 -- ---- what may change

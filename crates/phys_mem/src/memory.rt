@@ -120,7 +120,7 @@ impl PhysMem {
     {
         let place = place_of(at);
         let mut slot = slot_of(place);
-        if self.slots[slot].at != place {
+        if self.slots[slot].at != u64::from(place) {
             slot = decoded_slot(&mut self.slots, &self.bytes, place)?;
         }
         Some(self.slots[slot].instr)

@@ -14,20 +14,20 @@ use std::alloc::{AllocError, Global};
 const SLOTS: usize = 16384;
 
 /// The place of an empty slot.
-const NOWHERE: u32 = u32::MAX;
+const NOWHERE: u64 = u64::MAX;
 
 /// A word that was decoded. The one at a place is kept in the slot of its index, modulo the number of slots.
 #[derive(Clone, Copy)]
 pub struct Slot {
-    /// Its place in memory, a multiple of 4.
-    pub at: u32,
+    /// Its place in memory, a multiple of 4. Of 8 bytes, so that a slot has 16, and is found by one shift.
+    pub at: u64,
     /// The instruction that it is.
     pub instr: Instr,
 }
 
 /// Empty slots.
 pub fn no_words(alloc: Global) -> Result<Vec<Slot>, AllocError>
-    ensures { IfOk result (λ slots. slots.items ≡ replicate 16385 (record { at = 2 ^ 32 - 1; instr = Instr.Fence })) }
+    ensures { IfOk result (λ slots. slots.items ≡ replicate 16385 (record { at = 2 ^ 64 - 1; instr = Instr.Fence })) }
 {
     let empty = Slot {
         at: NOWHERE,
@@ -57,7 +57,10 @@ pub fn decoded_slot(slots: &mut Vec<Slot>, bytes: &[u8], at: u32) -> Option<usiz
     let instr = decode(read(bytes, at as usize, 4))?;
     if at % 4 == 0 {
         let slot = slot_of(at);
-        slots[slot] = Slot { at, instr };
+        slots[slot] = Slot {
+            at: u64::from(at),
+            instr,
+        };
         return Some(slot);
     }
     slots[SLOTS] = Slot { at: NOWHERE, instr };
@@ -68,11 +71,11 @@ pub fn decoded_slot(slots: &mut Vec<Slot>, bytes: &[u8], at: u32) -> Option<usiz
 #[inline]
 fn forget_word(slots: &mut Vec<Slot>, at: u32)
     requires count { length slots.old.items ≡ 16385 }
-    requires small { at < 2 ^ 32 - 1 }
+    requires small { at < 2 ^ 31 }
     ensures { Loses at slots.old.items slots.new.items }
 {
     let slot = &mut slots[slot_of(at)];
-    if slot.at == at {
+    if slot.at == u64::from(at) {
         slot.at = NOWHERE;
     }
 }
@@ -97,10 +100,11 @@ pub fn forget_number(slots: &mut Vec<Slot>, at: u32, len: u32)
 fn forget_if_within(slot: &mut Slot, first: u32, words: u32)
     requires { first + words < 2 ^ 31 }
     ensures beside { IsBeside first words slot.new }
-    ensures kept { (slot.new ≡ slot.old) ⊎ (slot.new.at ≡ 2 ^ 32 - 1) }
+    ensures kept { (slot.new ≡ slot.old) ⊎ (slot.new.at ≡ 2 ^ 64 - 1) }
 {
     let index = slot.at / 4;
-    if first <= index && index - first < words {
+    let first = u64::from(first);
+    if first <= index && index - first < u64::from(words) {
         slot.at = NOWHERE;
     }
 }

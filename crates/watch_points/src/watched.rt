@@ -1,6 +1,7 @@
 //! The loop of instructions that tells what hits.
 
 ghost use Rattle.std.specs.Prelude.{◌≡◌, ◌<◌, ◌≤◌, true, length, None, IfSome};
+ghost use Rattle.rv32im_step.specs.Registers.{registers};
 ghost use Rattle.rv32im_step.specs.declared.stop.Stop.TheVariants.{Next};
 ghost use Rattle.region_watch.specs.declared.mode.Mode.TheVariants.{Halt};
 ghost use Rattle.region_watch.specs.Private.{passes, passed_bytes, kept_bytes};
@@ -16,7 +17,7 @@ use crate::point::WatchPoint;
 use crate::probed::Probed;
 use crate::span::Span;
 use region_watch::{Progress, Watch};
-use rv32im_step::{Access, Regs, Stop, step};
+use rv32im_step::{Access, RegisterFile, Regs, Stop, step_at};
 
 /// How far a program came, and the access behind which it left the loop.
 #[derive(Clone, Copy)]
@@ -28,10 +29,15 @@ struct NearRun {
 /// Carries out up to `count` instructions, and leaves the loop behind the first that made a data access near
 /// what is watched.
 #[inline]
-fn near_steps(regs: &mut Regs, bus: &mut Probed<'_, Watch<'_>>, count: u32) -> Progress
+fn near_steps(
+    pc: &mut u32,
+    x: &mut RegisterFile,
+    bus: &mut Probed<'_, Watch<'_>>,
+    count: u32,
+) -> Progress
     requires fresh { bus.old.seen ≡ None }
-    ensures left { Left count bus.old.bus.now.mode bus.old.bus.now.owners.now regs.old bus.old.bus.now.mem.now (first_stray bus.old.bus.now) bus.old.near
-        result.done result.stop regs.new bus.new.bus.now.mem.now (first_stray bus.new.bus.now) (listed bus.new.seen) }
+    ensures left { Left count bus.old.bus.now.mode bus.old.bus.now.owners.now (registers pc.old x.old) bus.old.bus.now.mem.now (first_stray bus.old.bus.now) bus.old.near
+        result.done result.stop (registers pc.new x.new) bus.new.bus.now.mem.now (first_stray bus.new.bus.now) (listed bus.new.seen) }
     ensures bound { result.done ≤ count }
     ensures goes { 0 < count → result.stop ≡ Next → 0 < result.done }
     ensures owners { bus.new.bus.now.owners.now ≡ bus.old.bus.now.owners.now }
@@ -40,7 +46,7 @@ fn near_steps(regs: &mut Regs, bus: &mut Probed<'_, Watch<'_>>, count: u32) -> P
     ensures same_watch { bus.new.bus.ghost_name ≡ bus.old.bus.ghost_name }
 {
     for done in 0..count {
-        let stop = step(regs, bus);
+        let stop = step_at(pc, x, bus);
         if stop != Stop::Next {
             return Progress { done, stop };
         }
@@ -57,7 +63,7 @@ fn near_steps(regs: &mut Regs, bus: &mut Probed<'_, Watch<'_>>, count: u32) -> P
     }
 }
 
-/// `near_steps` over a bus of its own, with the access behind which it left the loop.
+/// `near_steps` over a bus of its own, of registers that are taken apart for it, with the access behind which it left the loop.
 fn run_near(regs: &mut Regs, watch: &mut Watch<'_>, near: Near, count: u32) -> NearRun
     ensures left { Left count watch.old.mode watch.old.owners.now regs.old watch.old.mem.now (first_stray watch.old) near
         result.progress.done result.progress.stop regs.new watch.new.mem.now (first_stray watch.new) (listed result.seen) }
@@ -72,7 +78,10 @@ fn run_near(regs: &mut Regs, watch: &mut Watch<'_>, near: Near, count: u32) -> N
         near,
         seen: None,
     };
-    let progress = near_steps(regs, &mut bus, count);
+    let mut pc = regs.pc;
+    let mut x = RegisterFile::of(&regs.x);
+    let progress = near_steps(&mut pc, &mut x, &mut bus, count);
+    *regs = Regs { pc, x: x.array() };
     NearRun {
         progress,
         seen: bus.seen,

@@ -7,20 +7,20 @@ use Rattle.watch_points.proofs.watched.near_steps.Goals as goal
 
 pub returns-then-ne-clause-left : goal.returns-then-ne-clause-left
 returns-then-ne-clause-left c =
-    let did = c.step-stop.ensures.did in
+    let did = c.step_at-stop.ensures.did in
     let before = c.loop-done.invariant in
-    more_stops c.args.count c.loop-done.done _ _ _ _ _ _ _ _ _ _ _ c.args.bus.now.near c.step-stop.result _ c.loop-done-test.true before.left
-    (stepped _ _ _ _ _ _ _ _ _ _ _ _ _ _ c.step-stop.result _ _ before.mode did.0.2 before.owners did.0.1 before.near before.seen
-    c.loop-done.bus.bus.now.paged c.step-stop.ensures.means did.0.3 did.0.4 did.0.5 did.3)
+    more_stops c.args.count c.loop-done.done _ _ _ _ _ _ _ _ _ _ _ c.args.bus.now.near c.step_at-stop.result _ c.loop-done-test.true before.left
+    (stepped _ _ _ _ _ _ _ _ _ _ _ _ _ _ c.step_at-stop.result _ _ before.mode did.0.2 before.owners did.0.1 before.near before.seen
+    c.loop-done.bus.bus.now.paged c.step_at-stop.ensures.means did.0.3 did.0.4 did.0.5 did.3)
     (search rules)
 
 pub returns-then-is_some-clause-left : goal.returns-then-is_some-clause-left
 returns-then-is_some-clause-left c =
-    let did = c.step-stop.ensures.did in
+    let did = c.step_at-stop.ensures.did in
     let before = c.loop-done.invariant in
-    more_goes c.args.count c.loop-done.done _ _ _ _ _ _ _ _ _ _ _ c.args.bus.now.near c.step-stop.result _ c.loop-done-test.true before.left
-    (stepped _ _ _ _ _ _ _ _ _ _ _ _ _ _ c.step-stop.result _ _ before.mode did.0.2 before.owners did.0.1 before.near before.seen
-    c.loop-done.bus.bus.now.paged c.step-stop.ensures.means did.0.3 did.0.4 did.0.5 did.3)
+    more_goes c.args.count c.loop-done.done _ _ _ _ _ _ _ _ _ _ _ c.args.bus.now.near c.step_at-stop.result _ c.loop-done-test.true before.left
+    (stepped _ _ _ _ _ _ _ _ _ _ _ _ _ _ c.step_at-stop.result _ _ before.mode did.0.2 before.owners did.0.1 before.near before.seen
+    c.loop-done.bus.bus.now.paged c.step_at-stop.ensures.means did.0.3 did.0.4 did.0.5 did.3)
     (search rules)
 
 pub returns-clause-left : goal.returns-clause-left
@@ -39,14 +39,14 @@ loop-done-init c = record {
 
 pub loop-done-preserved : goal.loop-done-preserved
 loop-done-preserved c =
-    let did = c.step-stop.ensures.did in
+    let did = c.step_at-stop.ensures.did in
     let before = c.loop-done.invariant in
-    let next : c.step-stop.result ≡ Next = search rules in
+    let next : c.step_at-stop.result ≡ Next = search rules in
     let unseen = none_seen _ (sym c.is_some.ensures ∙ c.if-is_some.false) in
     record {
-      left = more_none c.args.count c.loop-done.done _ _ _ _ _ _ _ _ _ _ _ c.args.bus.now.near c.step-stop.result _ c.loop-done-test.true before.left
-          (stepped _ _ _ _ _ _ _ _ _ _ _ _ _ _ c.step-stop.result _ _ before.mode did.0.2 before.owners did.0.1 before.near before.seen
-          c.loop-done.bus.bus.now.paged c.step-stop.ensures.means did.0.3 did.0.4 did.0.5 did.3)
+      left = more_none c.args.count c.loop-done.done _ _ _ _ _ _ _ _ _ _ _ c.args.bus.now.near c.step_at-stop.result _ c.loop-done-test.true before.left
+          (stepped _ _ _ _ _ _ _ _ _ _ _ _ _ _ c.step_at-stop.result _ _ before.mode did.0.2 before.owners did.0.1 before.near before.seen
+          c.loop-done.bus.bus.now.paged c.step_at-stop.ensures.means did.0.3 did.0.4 did.0.5 did.3)
           next unseen;
       owners = did.0.1 ∙ before.owners;
       mode = did.0.2 ∙ before.mode;
