@@ -1,7 +1,7 @@
 //! Instructions of one program, one after the other.
 
 ghost use Rattle.std.specs.Prelude.{◌≡◌, true, length};
-ghost use Rattle.rv32im_step.specs.Registers.{registers};
+ghost use Rattle.rv32im_step.specs.Parts.{registers};
 ghost use Rattle.region_watch.specs.declared.mode.Mode.TheVariants.{Halt};
 ghost use Rattle.region_watch.specs.Private.{passes, passed_bytes, kept_bytes};
 ghost use Rattle.region_watch.specs.Instructions.{instructions, ran, all_asked};

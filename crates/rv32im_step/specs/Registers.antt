@@ -11,10 +11,6 @@ register x r = if r == 0 then 0 else slice_index x r
 unfoldable pub with_register : List ℕ → ℕ → ℕ → List ℕ
 with_register x r v = if r == 0 then x else slice_set x r v
 
--- the registers, by their parts
-abbrev pub registers : ℕ → List ℕ → Regs
-registers pc x = record { pc = pc; x = x }
-
 -- nothing but pc changes
 abbrev pub following : Regs → Regs
 following regs = record { pc = wrap (regs.pc + 4); x = regs.x }

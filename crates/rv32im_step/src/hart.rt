@@ -4,7 +4,7 @@ ghost use Rattle.std.specs.Prelude.{◌≡◌};
 ghost use Rattle.rv32im_table.specs.Instr.{FieldsFit};
 ghost use Rattle.rv32im_step.specs.Asked.{asked, effect_asked};
 ghost use Rattle.rv32im_step.specs.Meaning.{Means, meaning, effect};
-ghost use Rattle.rv32im_step.specs.Registers.{registers};
+ghost use Rattle.rv32im_step.specs.Parts.{registers};
 
 use crate::bus::Bus;
 use crate::integer::{is_below, sll, slt, sltu, sra, srl, sub};

@@ -6,7 +6,8 @@ ghost use Rattle.rv32im_step.specs.Asked.{reads, writes};
 ghost use Rattle.rv32im_step.specs.Integer.{add};
 ghost use Rattle.rv32im_step.specs.Meaning.{Means, loads, stores, same};
 ghost use Rattle.rv32im_step.specs.Memory.{load_of, store_of};
-ghost use Rattle.rv32im_step.specs.Registers.{register, registers};
+ghost use Rattle.rv32im_step.specs.Parts.{registers};
+ghost use Rattle.rv32im_step.specs.Registers.{register};
 
 use crate::bus::Bus;
 use crate::regs::{RegisterFile, follow};

@@ -35,7 +35,8 @@ impl Model for RegisterFile {
 #[tactic(auto, using(crate::proofs::FileLaws::files))]
 impl RegisterFile {
     ghost use Rattle.std.specs.Prelude.{◌<◌};
-    ghost use Rattle.rv32im_step.specs.Registers.{register, registers, setting, with_register};
+    ghost use Rattle.rv32im_step.specs.Parts.{registers};
+    ghost use Rattle.rv32im_step.specs.Registers.{register, setting, with_register};
 
     /// The file of the registers' `x`.
     #[inline]

@@ -3,7 +3,8 @@
 ghost use Rattle.std.specs.Prelude.{◌≡◌, ℕ, List, ◌<◌, ◌+◌, ◌-◌, ◌%◌, ◌^◌};
 ghost use Rattle.byte_words.specs.ByteMap.{Bytes};
 ghost use Rattle.rv32im_step.specs.Meaning.{Means, jumps, branches, even};
-ghost use Rattle.rv32im_step.specs.Registers.{register, registers};
+ghost use Rattle.rv32im_step.specs.Parts.{registers};
+ghost use Rattle.rv32im_step.specs.Registers.{register};
 ghost use Rattle.rv32im_step.specs.Word.{wrap};
 
 use crate::regs::{RegisterFile, follow};

@@ -1,7 +1,7 @@
 //! The loop of instructions that tells what hits.
 
 ghost use Rattle.std.specs.Prelude.{◌≡◌, ◌<◌, ◌≤◌, true, length, None, IfSome};
-ghost use Rattle.rv32im_step.specs.Registers.{registers};
+ghost use Rattle.rv32im_step.specs.Parts.{registers};
 ghost use Rattle.rv32im_step.specs.declared.stop.Stop.TheVariants.{Next};
 ghost use Rattle.region_watch.specs.declared.mode.Mode.TheVariants.{Halt};
 ghost use Rattle.region_watch.specs.Private.{passes, passed_bytes, kept_bytes};
@@ -26,39 +26,34 @@ struct NearRun {
     seen: Option<Access>,
 }
 
-/// Carries out up to `count` instructions, and leaves the loop behind the first that made a data access near
-/// what is watched.
+/// Carries out up to as many instructions as the bus lets follow, and leaves the loop behind the first that made a data access
+/// near what is watched.
 #[inline]
 fn near_steps(
     pc: &mut u32,
     x: &mut RegisterFile,
     bus: &mut Probed<'_, Watch<'_>>,
-    count: u32,
 ) -> Progress
     requires fresh { bus.old.seen ≡ None }
-    ensures left { Left count bus.old.bus.now.mode bus.old.bus.now.owners.now (registers pc.old x.old) bus.old.bus.now.mem.now (first_stray bus.old.bus.now) bus.old.near
+    ensures left { Left bus.old.end bus.old.bus.now.mode bus.old.bus.now.owners.now (registers pc.old x.old) bus.old.bus.now.mem.now (first_stray bus.old.bus.now) bus.old.near
         result.done result.stop (registers pc.new x.new) bus.new.bus.now.mem.now (first_stray bus.new.bus.now) (listed bus.new.seen) }
-    ensures bound { result.done ≤ count }
-    ensures goes { 0 < count → result.stop ≡ Next → 0 < result.done }
+    ensures bound { result.done ≤ bus.old.end }
+    ensures goes { 0 < bus.old.end → result.stop ≡ Next → 0 < result.done }
     ensures owners { bus.new.bus.now.owners.now ≡ bus.old.bus.now.owners.now }
     ensures mode { bus.new.bus.now.mode ≡ bus.old.bus.now.mode }
     ensures same_reference { bus.new.bus.now.mem.ghost_name ≡ bus.old.bus.now.mem.ghost_name }
     ensures same_watch { bus.new.bus.ghost_name ≡ bus.old.bus.ghost_name }
 {
-    for done in 0..count {
+    let mut done = 0;
+    while done < bus.end {
         let stop = step_at(pc, x, bus);
         if stop != Stop::Next {
             return Progress { done, stop };
         }
-        if bus.seen.is_some() {
-            return Progress {
-                done: done + 1,
-                stop,
-            };
-        }
+        done += 1;
     }
     Progress {
-        done: count,
+        done,
         stop: Stop::Next,
     }
 }
@@ -77,10 +72,11 @@ fn run_near(regs: &mut Regs, watch: &mut Watch<'_>, near: Near, count: u32) -> N
         bus: watch,
         near,
         seen: None,
+        end: count,
     };
     let mut pc = regs.pc;
     let mut x = RegisterFile::of(&regs.x);
-    let progress = near_steps(&mut pc, &mut x, &mut bus, count);
+    let progress = near_steps(&mut pc, &mut x, &mut bus);
     *regs = Regs { pc, x: x.array() };
     NearRun {
         progress,

@@ -1,15 +1,15 @@
--- The window is the block's own range, or empty.
+-- The window is the mapping's own range, or empty.
 use Rattle.std.proofs.Common.{◌+◌, refl, sym, ◌∙◌}
 use Rattle.mmap_rules.specs.Space.{may_use}
-use Rattle.flat_machine.proofs.Windows.{block_used, fits_of}
+use Rattle.flat_machine.proofs.Windows.{mapping_used, fits_of}
 use Rattle.flat_machine.proofs.advance.window.Goals as goal
 
 pub returns-then-is_some : goal.returns-then-is_some
 returns-then-is_some c =
-    let m = c.in-Some.block.now in
+    let m = c.in-Some.mapping.now in
     let v = c.maps.ensures.maps in
-    let first = rw v at c.in-Some.ensures.value in
-    block_used c.args.space.now.maps m (sym first) c.if-range.true
+    let is = rw v at c.in-Some.ensures.value in
+    mapping_used c.args.space.now.maps c.args.at m (sym is) c.if-range.true
     (fits_of (m.range.from + m.range.size) (m.range.from + m.range.size) c.checked_add.result c.checked_add.ensures (sym c.is_some.ensures ∙ c.if-is_some.true))
 
 pub returns-else-range : goal.returns-else-range

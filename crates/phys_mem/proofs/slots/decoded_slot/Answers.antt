@@ -14,7 +14,7 @@ returns-then-at-eq0-clause-slot c =
 pub returns-then-at-eq0-clause-kept : goal.returns-then-at-eq0-clause-kept
 returns-then-at-eq0-clause-kept c are =
     let is : decoded (little c.args.bytes.now c.args.at 4) ≡ Some c.in_ok-instr.instr = ap decoded (sym c.read.ensures.value) ∙ sym c.in_ok-instr.ensures.row in
-    rw (c.slot_of-slot.ensures.slot) (decoded_kept _ _ _ _ c.if-at-eq0.true is c.in_ok-instr.ensures.fields are)
+    rw (c.slot_of-slot.ensures.slot, c.from.ensures) (decoded_kept _ _ _ _ c.if-at-eq0.true is c.in_ok-instr.ensures.fields are)
 
 pub returns-clause-slot : goal.returns-clause-slot
 returns-clause-slot c =

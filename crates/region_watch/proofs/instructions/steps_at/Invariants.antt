@@ -1,5 +1,5 @@
 use Rattle.std.proofs.Common.{◌≡◌, ◌-◌, true, length}
-use Rattle.rv32im_step.specs.Registers.{registers}
+use Rattle.rv32im_step.specs.Parts.{registers}
 use Rattle.region_watch.specs.declared.mode.Mode.TheVariants.{Halt}
 use Rattle.region_watch.specs.Private.{passes, passed_bytes, kept_bytes}
 use Rattle.region_watch.specs.Instructions.{instructions, all_asked}

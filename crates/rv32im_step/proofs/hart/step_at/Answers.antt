@@ -1,6 +1,6 @@
 -- A step's accesses are the fetch's and then the instruction's.
 use Rattle.std.specs.Prelude.{Ok, Err}
-use Rattle.rv32im_step.specs.Registers.{registers}
+use Rattle.rv32im_step.specs.Parts.{registers}
 use Rattle.rv32im_step.proofs.AskedLaws.{meaning_on, asked_on}
 use Rattle.rv32im_step.proofs.hart.step_at.Goals as goal
 
