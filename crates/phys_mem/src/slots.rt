@@ -1,16 +1,16 @@
 //! Words that were decoded.
 
-ghost use Rattle.std.specs.Prelude.{◌≡◌, ◌⊎◌, ◌+◌, ◌-◌, ◌<◌, ◌≤◌, ◌^◌, IfOk, length, replicate};
+ghost use Rattle.std.specs.Prelude.{◌≡◌, ◌⊎◌, ◌+◌, ◌-◌, ◌<◌, ◌≤◌, ◌^◌, IfOk, IfSome, length, replicate};
 ghost use Rattle.byte_words.specs.ByteMap.{little};
+ghost use Rattle.rv32im_table.specs.Instr.{FieldsFit};
 ghost use Rattle.rv32im_table.specs.Table.{decoded};
-ghost use Rattle.phys_mem.specs.Slots.{slot_of, AreSlots, IsDecoded, IsBeside, Loses, Forgets};
+ghost use Rattle.phys_mem.specs.Slots.{slot_of, AreSlots, IsBeside, Loses, Forgets};
 
 use crate::words::read;
 use rv32im_table::{Instr, decode};
 use std::alloc::{AllocError, Global};
 
-/// How many words are kept: those of 64 KiB that stand side by side. Behind their slots stands one more, for a word at no
-/// multiple of 4, which isn't kept.
+/// How many words are kept: those of 64 KiB that stand side by side.
 const SLOTS: usize = 16384;
 
 /// The place of an empty slot.
@@ -27,13 +27,13 @@ pub struct Slot {
 
 /// Empty slots.
 pub fn no_words(alloc: Global) -> Result<Vec<Slot>, AllocError>
-    ensures { IfOk result (λ slots. slots.items ≡ replicate 16385 (record { at = 2 ^ 64 - 1; instr = Instr.Fence })) }
+    ensures { IfOk result (λ slots. slots.items ≡ replicate 16384 (record { at = 2 ^ 64 - 1; instr = Instr.Fence })) }
 {
     let empty = Slot {
         at: NOWHERE,
         instr: Instr::Fence,
     };
-    Ok(vec![in alloc; empty; SLOTS + 1]?)
+    Ok(vec![in alloc; empty; SLOTS]?)
 }
 
 /// The slot of the word at a place.
@@ -45,32 +45,31 @@ pub fn slot_of(at: u32) -> usize
     (at / 4) as usize % SLOTS
 }
 
-/// The slot in which the word at a place stands once it is decoded. None where it is no instruction.
+/// The instruction that the word at a place is, which is kept from now on where the place is a multiple of 4. None where it is none.
 #[inline(never)]
-pub fn decoded_slot(slots: &mut Vec<Slot>, bytes: &[u8], at: u32) -> Option<usize>
-    requires count { length slots.old.items ≡ 16385 }
+pub fn decoded_word(slots: &mut Vec<Slot>, bytes: &[u8], at: u32) -> Option<Instr>
+    requires count { length slots.old.items ≡ 16384 }
     requires within { at + 4 ≤ length bytes.now }
     requires small { length bytes.now < 2 ^ 31 }
-    ensures slot { IsDecoded (decoded (little bytes.now at 4)) slots.new.items result }
+    ensures instr { result ≡ decoded (little bytes.now at 4) }
+    ensures fields { IfSome result FieldsFit }
     ensures kept { AreSlots bytes.now slots.old.items → AreSlots bytes.now slots.new.items }
 {
     let instr = decode(read(bytes, at as usize, 4))?;
-    if at % 4 == 0 {
-        let slot = slot_of(at);
-        slots[slot] = Slot {
-            at: u64::from(at),
-            instr,
-        };
-        return Some(slot);
+    if at % 4 != 0 {
+        return Some(instr);
     }
-    slots[SLOTS] = Slot { at: NOWHERE, instr };
-    Some(SLOTS)
+    slots[slot_of(at)] = Slot {
+        at: u64::from(at),
+        instr,
+    };
+    Some(instr)
 }
 
 /// Forgets the word at a place.
 #[inline]
 fn forget_word(slots: &mut Vec<Slot>, at: u32)
-    requires count { length slots.old.items ≡ 16385 }
+    requires count { length slots.old.items ≡ 16384 }
     requires small { at < 2 ^ 31 }
     ensures { Loses at slots.old.items slots.new.items }
 {
@@ -83,7 +82,7 @@ fn forget_word(slots: &mut Vec<Slot>, at: u32)
 /// Forgets the words that a number of one, two or four bytes touches.
 #[inline]
 pub fn forget_number(slots: &mut Vec<Slot>, at: u32, len: u32)
-    requires count { length slots.old.items ≡ 16385 }
+    requires count { length slots.old.items ≡ 16384 }
     requires some { 0 < len }
     requires few { len ≤ 4 }
     requires range { at + len < 2 ^ 31 }
@@ -111,7 +110,7 @@ fn forget_if_within(slot: &mut Slot, first: u32, words: u32)
 
 /// Forgets the words that a range touches.
 pub fn forget(slots: &mut Vec<Slot>, at: u32, len: u32)
-    requires count { length slots.old.items ≡ 16385 }
+    requires count { length slots.old.items ≡ 16384 }
     requires range { at + len < 2 ^ 31 }
     ensures { Forgets at (at + len) slots.old.items slots.new.items }
 {
