@@ -1,6 +1,6 @@
 //! The loop of instructions that tells what hits.
 
-ghost use Rattle.std.specs.Prelude.{◌≡◌, ◌<◌, ◌≤◌, true, length, None, IfSome};
+ghost use Rattle.std.specs.Prelude.{◌≡◌, ◌<◌, ◌≤◌, ◌^◌, true, length, None, IfSome};
 ghost use Rattle.rv32im_step.specs.Parts.{registers};
 ghost use Rattle.rv32im_step.specs.declared.stop.Stop.TheVariants.{Next};
 ghost use Rattle.region_watch.specs.declared.mode.Mode.TheVariants.{Halt};
@@ -35,6 +35,7 @@ fn near_steps(
     bus: &mut Probed<'_, Watch<'_>>,
 ) -> Progress
     requires fresh { bus.old.seen ≡ None }
+    requires small { bus.old.end < 2 ^ 32 }
     ensures left { Left bus.old.end bus.old.bus.now.mode bus.old.bus.now.owners.now (registers pc.old x.old) bus.old.bus.now.mem.now (first_stray bus.old.bus.now) bus.old.near
         result.done result.stop (registers pc.new x.new) bus.new.bus.now.mem.now (first_stray bus.new.bus.now) (listed bus.new.seen) }
     ensures bound { result.done ≤ bus.old.end }

@@ -1,7 +1,10 @@
 -- A step more, and what it saw.
-use Rattle.std.proofs.Common.{rules, ◌≡◌, ◌<◌, ◌∙◌, inl, inr, refl, subst, arith}
+use Rattle.std.proofs.Common.{rules, ◌≡◌, ◌<◌, ◌∙◌, true, inl, inr, refl, arith}
 use Rattle.std.specs.Prelude.{None}
 use Rattle.rv32im_step.specs.declared.stop.Stop.TheVariants.{Next}
+use Rattle.rv32im_step.specs.Asked.{asked}
+use Rattle.rv32im_step.specs.Parts.{registers}
+use Rattle.region_watch.specs.Private.{passes, passed_bytes}
 use Rattle.watch_points.proofs.Told.{ends_on, unseen_yet, room_yet, end_reached}
 use Rattle.watch_points.proofs.Parts.{left_all, left_unseen, stepped, more_goes, left_next, more_stops}
 use Rattle.watch_points.proofs.watched.near_steps.Goals as goal
@@ -54,6 +57,8 @@ loop-done-preserved c =
     let next : c.step_at-stop.result ≡ Next = search rules in
     let unseen = unseen_yet c.args.bus.now.end c.loop-done.done c.loop-done.bus.seen c.loop-done.bus.end before.ends c.loop-done-test.true in
     let room = room_yet c.args.bus.now.end c.loop-done.done c.loop-done.bus.seen c.loop-done.bus.end before.ends c.loop-done-test.true in
+    let watch = c.loop-done.bus.bus.now in
+    let accesses = asked (registers c.loop-done.pc c.loop-done.x) (passed_bytes watch.mode watch.owners.now watch.mem.now) (passes watch.mode watch.owners.now true) in
     record {
       left = left_next _ _ _ _ _ _ _ _ _ _ _ _ c.step_at-stop.result next
           (more_goes c.args.bus.now.end c.loop-done.done _ _ _ _ _ _ _ _ _ _ _ c.args.bus.now.near c.step_at-stop.result _ room
@@ -66,10 +71,15 @@ loop-done-preserved c =
       name = did.0.0 ∙ before.name;
       watch = did.1 ∙ before.watch;
       near = did.2 ∙ before.near;
-      ends = ends_on c.loop-done.bus.near c.args.bus.now.end c.loop-done.bus.seen _ c.loop-done.bus.end _ _ before.ends did.3 did.4;
+      ends = ends_on c.loop-done.bus.near c.args.bus.now.end c.loop-done.bus.seen _ c.loop-done.bus.end _ accesses before.ends did.3 did.4;
       bound = omega (arith, room);
       goes = λ seen. omega arith;
     }
+
+pub overflow_add-done : goal.overflow_add-done
+overflow_add-done c =
+    let room = room_yet c.args.bus.now.end c.loop-done.done c.loop-done.bus.seen c.loop-done.bus.end c.loop-done.invariant.ends c.loop-done-test.true in
+    omega (arith, room, c.requires.small)
 
 pub loop-done-smaller : goal.loop-done-smaller
 loop-done-smaller c =
