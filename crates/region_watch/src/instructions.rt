@@ -23,12 +23,7 @@ pub struct Progress {
 /// `run_steps` of registers that are taken apart, so that pc is a number by itself.
 #[inline]
 #[tactic(auto, using(crate::proofs::Runs::runs))]
-fn steps_at(
-    pc: &mut u32,
-    x: &mut RegisterFile,
-    watch: &mut Watch<'_>,
-    count: u32,
-) -> Progress
+fn steps_at(pc: &mut u32, x: &mut RegisterFile, watch: &mut Watch<'_>, count: u32) -> Progress
     ensures leaves { ran (registers pc.new x.new) (passed_bytes watch.old.mode watch.old.owners.now watch.new.mem.now) result.done result.stop
         ≡ instructions count (passes watch.old.mode watch.old.owners.now true) (registers pc.old x.old) (passed_bytes watch.old.mode watch.old.owners.now watch.old.mem.now) }
     ensures frozen { kept_bytes watch.old.mode watch.old.owners.now watch.new.mem.now ≡ kept_bytes watch.old.mode watch.old.owners.now watch.old.mem.now }

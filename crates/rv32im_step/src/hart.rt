@@ -39,11 +39,7 @@ fn execute<B: Bus>(instr: Instr, pc: &mut u32, x: &mut RegisterFile, bus: &mut B
         Instr::Beq { rs1, rs2, imm } => branch(pc, x.read(rs1) == x.read(rs2), imm),
         Instr::Bne { rs1, rs2, imm } => branch(pc, x.read(rs1) != x.read(rs2), imm),
         Instr::Blt { rs1, rs2, imm } => branch(pc, is_below(x.read(rs1), x.read(rs2)), imm),
-        Instr::Bge { rs1, rs2, imm } => branch(
-            pc,
-            !is_below(x.read(rs1), x.read(rs2)),
-            imm,
-        ),
+        Instr::Bge { rs1, rs2, imm } => branch(pc, !is_below(x.read(rs1), x.read(rs2)), imm),
         Instr::Bltu { rs1, rs2, imm } => branch(pc, x.read(rs1) < x.read(rs2), imm),
         Instr::Bgeu { rs1, rs2, imm } => branch(pc, x.read(rs1) >= x.read(rs2), imm),
         Instr::Lb { rd, rs1, imm } => load_byte(pc, x, bus, rd, rs1, imm),

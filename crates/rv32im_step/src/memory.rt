@@ -33,7 +33,14 @@ fn extended_half(n: u32) -> u32
 
 /// LB.
 #[inline(always)]
-pub fn load_byte<B: Bus>(pc: &mut u32, x: &mut RegisterFile, bus: &mut B, rd: u8, rs1: u8, offset: u32) -> Stop
+pub fn load_byte<B: Bus>(
+    pc: &mut u32,
+    x: &mut RegisterFile,
+    bus: &mut B,
+    rd: u8,
+    rs1: u8,
+    offset: u32,
+) -> Stop
     requires rd { rd < 32 }
     requires rs1 { rs1 < 32 }
     ensures means { Means (loads (registers pc.old x.old) (B.byte bus.old) rd (add (register x.old rs1) offset) 1 (sign_extended 8))
@@ -49,7 +56,14 @@ pub fn load_byte<B: Bus>(pc: &mut u32, x: &mut RegisterFile, bus: &mut B, rd: u8
 
 /// LH.
 #[inline(always)]
-pub fn load_half<B: Bus>(pc: &mut u32, x: &mut RegisterFile, bus: &mut B, rd: u8, rs1: u8, offset: u32) -> Stop
+pub fn load_half<B: Bus>(
+    pc: &mut u32,
+    x: &mut RegisterFile,
+    bus: &mut B,
+    rd: u8,
+    rs1: u8,
+    offset: u32,
+) -> Stop
     requires rd { rd < 32 }
     requires rs1 { rs1 < 32 }
     ensures means { Means (loads (registers pc.old x.old) (B.byte bus.old) rd (add (register x.old rs1) offset) 2 (sign_extended 16))
@@ -65,7 +79,15 @@ pub fn load_half<B: Bus>(pc: &mut u32, x: &mut RegisterFile, bus: &mut B, rd: u8
 
 /// LW, LBU and LHU, which load `len` bytes.
 #[inline(always)]
-pub fn load<B: Bus>(pc: &mut u32, x: &mut RegisterFile, bus: &mut B, rd: u8, rs1: u8, offset: u32, len: u32) -> Stop
+pub fn load<B: Bus>(
+    pc: &mut u32,
+    x: &mut RegisterFile,
+    bus: &mut B,
+    rd: u8,
+    rs1: u8,
+    offset: u32,
+    len: u32,
+) -> Stop
     requires rd { rd < 32 }
     requires rs1 { rs1 < 32 }
     requires len { (len ≡ 1) ⊎ (len ≡ 2) ⊎ (len ≡ 4) }
@@ -82,7 +104,15 @@ pub fn load<B: Bus>(pc: &mut u32, x: &mut RegisterFile, bus: &mut B, rd: u8, rs1
 
 /// SB, SH and SW, which store the lowest `len` bytes of `rs2`.
 #[inline(always)]
-pub fn store<B: Bus>(pc: &mut u32, x: &mut RegisterFile, bus: &mut B, rs1: u8, rs2: u8, offset: u32, len: u32) -> Stop
+pub fn store<B: Bus>(
+    pc: &mut u32,
+    x: &mut RegisterFile,
+    bus: &mut B,
+    rs1: u8,
+    rs2: u8,
+    offset: u32,
+    len: u32,
+) -> Stop
     requires rs1 { rs1 < 32 }
     requires rs2 { rs2 < 32 }
     requires len { (len ≡ 1) ⊎ (len ≡ 2) ⊎ (len ≡ 4) }

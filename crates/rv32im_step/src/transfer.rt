@@ -29,13 +29,7 @@ pub fn jump(rd: u8, target: u32, pc: &mut u32, x: &mut RegisterFile) -> Stop
 
 /// JALR. `rs1` is read before `rd` is written.
 #[inline]
-pub fn jump_by_register(
-    pc: &mut u32,
-    x: &mut RegisterFile,
-    rd: u8,
-    rs1: u8,
-    offset: u32,
-) -> Stop
+pub fn jump_by_register(pc: &mut u32, x: &mut RegisterFile, rd: u8, rs1: u8, offset: u32) -> Stop
     requires rd { rd < 32 }
     requires rs1 { rs1 < 32 }
     ensures { (m : Bytes) → Means (jumps (registers pc.old x.old) m rd (even (wrap (register x.old rs1 + offset)))) (registers pc.old x.old)
