@@ -25,8 +25,8 @@ impl<B> Probed<'_, B> {
     fn see(&mut self, access: Access, done: bool)
         requires data { is_data access.kind ≡ true }
         ensures { self.new ≡ record self.old {
-            seen = seen_one self.old.near self.old.seen (record { access = access; done = done });
-            end = end_one self.old.near self.old.end (record { access = access; done = done });
+          seen = seen_one self.old.near self.old.seen (record { access = access; done = done });
+          end = end_one self.old.near self.old.end (record { access = access; done = done });
         } }
     {
         if done && self.near.has(access.addr) {

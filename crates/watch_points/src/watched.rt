@@ -29,11 +29,7 @@ struct NearRun {
 /// Carries out up to as many instructions as the bus lets follow, and leaves the loop behind the first that made a data access
 /// near what is watched.
 #[inline]
-fn near_steps(
-    pc: &mut u32,
-    x: &mut RegisterFile,
-    bus: &mut Probed<'_, Watch<'_>>,
-) -> Progress
+fn near_steps(pc: &mut u32, x: &mut RegisterFile, bus: &mut Probed<'_, Watch<'_>>) -> Progress
     requires fresh { bus.old.seen ≡ None }
     requires small { bus.old.end < 2 ^ 32 }
     ensures left { Left bus.old.end bus.old.bus.now.mode bus.old.bus.now.owners.now (registers pc.old x.old) bus.old.bus.now.mem.now (first_stray bus.old.bus.now) bus.old.near
