@@ -1,9 +1,9 @@
 -- What the slots say, after a write.
 use Rattle.std.proofs.Common.{◌≡◌, ℕ, ◌+◌, ◌-◌, ◌*◌, ◌/◌, ◌%◌, ◌^◌, ◌<◌, ◌≤◌, ◌⊎◌, inl, inr, zero, suc, List, [], ◌∷◌, length, length-set, refl, sym, ap, subst, ◌∙◌, arith}
-use Rattle.std.specs.Prelude.{Some, slice_get, slice_index, slice_set, replicate}
+use Rattle.std.specs.Prelude.{Option, Some, true, slice_get, slice_index, slice_set, replicate}
 use Rattle.std.proofs.lemmas.Bool.{cases_lt}
-use Rattle.std.proofs.lemmas.List.{length-replicate, get_or-replicate}
-use Rattle.std.proofs.lemmas.Option.{slice_get_within, get_or_from_slice_get}
+use Rattle.std.proofs.lemmas.List.{length-replicate, get_or-replicate, get_or-set_same}
+use Rattle.std.proofs.lemmas.Option.{slice_get_within, get_or_from_slice_get, slice_get-get_or}
 use Rattle.rv32im_table.specs.declared.instr.Instr.{Instr}
 use Rattle.rv32im_table.specs.declared.instr.Instr.TheVariants.{Fence}
 use Rattle.rv32im_table.specs.Instr.{FieldsFit}
@@ -13,7 +13,7 @@ use Rattle.byte_words.specs.Patches.{laid}
 use Rattle.byte_words.proofs.Laid.{length-laid, laid_before, laid_past}
 use Rattle.phys_mem.specs.Memory.{IsMemory, Within, place}
 use Rattle.phys_mem.specs.declared.slots.Slot.{Slot}
-use Rattle.phys_mem.specs.Slots.{slot_of, Says, AreSlots, Loses, IsBeside, LosesAll, SameBeside, Forgets}
+use Rattle.phys_mem.specs.Slots.{slot_of, Says, AreSlots, IsDecoded, Loses, IsBeside, LosesAll, SameBeside, Forgets}
 
 -- ---- words that the range leaves
 
@@ -191,6 +191,16 @@ decoded_kept mem slots at instr whole is fields are = record {
   ];
 }
 
+-- a word that isn't kept stands in a slot that has no place
+pub apart_kept : (mem : List ℕ) (slots : List Slot) (at : ℕ) (instr : Instr) → length mem < 2 ^ 31 → AreSlots mem slots → AreSlots mem (slice_set slots at (record { at = 2 ^ 64 - 1; instr = instr }))
+apart_kept mem slots at instr small are = record {
+  count = length-set slots at (record { at = 2 ^ 64 - 1; instr = instr }) ∙ are.count;
+  say = λ i s there fits. elim (in_set slots at i (record { at = 2 ^ 64 - 1; instr = instr }) s there) [
+    | inl (here, same) ↦ absurd (omega (arith, ap (λ (x : Slot). x.at) same))
+    | inr other ↦ are.say i s other fits
+  ];
+}
+
 -- a range that lies in memory lies in its array
 pub in_array : (bytes mem : List ℕ) (at p len : ℕ) → bytes ≡ mem → p ≡ place at → Within mem at len → p + len ≤ length bytes
 in_array bytes mem at p len same is within =
@@ -227,3 +237,10 @@ new_kept pages mem slots some most zeros are =
         let long = length-replicate 16384 nothing in
         let at = get_or_from_slice_get (replicate 16384 nothing) i s nothing there in
         ap (λ (x : Slot). x.at) (sym at ∙ get_or-replicate 16384 i nothing nothing (omega (arith, within, long)))
+
+-- an instruction that was written into a slot stands there
+pub is_decoded : (found : Option Instr) (slots : List Slot) (i : ℕ) (s : Slot) (instr : Instr) → i < length slots → s.instr ≡ instr → found ≡ Some instr → FieldsFit instr
+    → IsDecoded found (slice_set slots i s) i true
+is_decoded found slots i s instr within is_instr is fields =
+    let there : slice_get (slice_set slots i s) i ≡ Some s = slice_get-get_or (slice_set slots i s) i s (omega (arith, length-set slots i s)) ∙ ap (λ (x : Slot). Some x) (get_or-set_same slots i s s within) in
+    rw (is) (s, there, is_instr, fields)

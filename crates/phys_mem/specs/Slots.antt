@@ -1,6 +1,6 @@
 -- Words of memory that were decoded. Each is kept in the slot of its index, modulo the number of slots: it says that the word at
 -- this place is this instruction, and nothing of who owns it.
-use Rattle.std.specs.Prelude.{◌≡◌, ◌≢◌, ◌⊎◌, ℕ, ◌+◌, ◌/◌, ◌%◌, ◌^◌, ◌-◌, ◌<◌, ◌≤◌, List, length, Some, slice_get, slice_index}
+use Rattle.std.specs.Prelude.{◌≡◌, ◌≢◌, ◌⊎◌, ℕ, ◌+◌, ◌/◌, ◌%◌, ◌^◌, ◌-◌, ◌<◌, ◌≤◌, Bool, true, false, List, length, Option, Some, None, slice_get, slice_index}
 use Rattle.byte_words.specs.ByteMap.{little}
 use Rattle.rv32im_table.specs.declared.instr.Instr.{Instr}
 use Rattle.rv32im_table.specs.Instr.{FieldsFit}
@@ -22,6 +22,13 @@ pub record Says (bytes : List ℕ) (i : ℕ) (s : Slot) : Type 0 where
 pub record AreSlots (bytes : List ℕ) (slots : List Slot) : Type 0 where
   pub count : length slots ≡ 16384
   pub say : (i : ℕ) (s : Slot) → slice_get slots i ≡ Some s → s.at + 4 ≤ length bytes → Says bytes i s
+
+-- an instruction stands in a slot, or there is none
+abbrev pub IsDecoded : Option Instr → List Slot → ℕ → Bool → Type 0
+IsDecoded (Some instr) slots i true = (s : Slot) × (slice_get slots i ≡ Some s) × (s.instr ≡ instr) × FieldsFit instr
+IsDecoded (Some instr) slots i false = ⊥
+IsDecoded None slots i true = ⊥
+IsDecoded None slots i false = Unit {0}
 
 -- ---- what is forgotten
 

@@ -119,11 +119,13 @@ impl PhysMem {
         ensures same { self.new ≡ self.old }
     {
         let place = place_of(at);
-        let slot = self.slots[slot_of(place)];
-        if slot.at == u64::from(place) {
-            return Some(slot.instr);
+        let slot = slot_of(place);
+        if self.slots[slot].at != u64::from(place) {
+            if !decoded_word(&mut self.slots, &self.bytes, place) {
+                return None;
+            }
         }
-        decoded_word(&mut self.slots, &self.bytes, place)
+        Some(self.slots[slot].instr)
     }
 
     /// A byte.

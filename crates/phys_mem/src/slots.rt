@@ -1,10 +1,9 @@
 //! Words that were decoded.
 
-ghost use Rattle.std.specs.Prelude.{◌≡◌, ◌⊎◌, ◌+◌, ◌-◌, ◌<◌, ◌≤◌, ◌^◌, IfOk, IfSome, length, replicate};
+ghost use Rattle.std.specs.Prelude.{◌≡◌, ◌⊎◌, ◌+◌, ◌-◌, ◌<◌, ◌≤◌, ◌^◌, IfOk, length, replicate};
 ghost use Rattle.byte_words.specs.ByteMap.{little};
-ghost use Rattle.rv32im_table.specs.Instr.{FieldsFit};
 ghost use Rattle.rv32im_table.specs.Table.{decoded};
-ghost use Rattle.phys_mem.specs.Slots.{slot_of, AreSlots, IsBeside, Loses, Forgets};
+ghost use Rattle.phys_mem.specs.Slots.{slot_of, AreSlots, IsDecoded, IsBeside, Loses, Forgets};
 
 use crate::words::read;
 use rv32im_table::{Instr, decode};
@@ -45,25 +44,29 @@ pub fn slot_of(at: u32) -> usize
     (at / 4) as usize % SLOTS
 }
 
-/// The instruction that the word at a place is, which is kept from now on where the place is a multiple of 4. None where it is none.
+/// Decodes the word at a place into its slot, and says whether it is an instruction. One at no multiple of 4 isn't kept: it stands there
+/// for this once.
 #[inline(never)]
-pub fn decoded_word(slots: &mut Vec<Slot>, bytes: &[u8], at: u32) -> Option<Instr>
+pub fn decoded_word(slots: &mut Vec<Slot>, bytes: &[u8], at: u32) -> bool
     requires count { length slots.old.items ≡ 16384 }
     requires within { at + 4 ≤ length bytes.now }
     requires small { length bytes.now < 2 ^ 31 }
-    ensures instr { result ≡ decoded (little bytes.now at 4) }
-    ensures fields { IfSome result FieldsFit }
+    ensures slot { IsDecoded (decoded (little bytes.now at 4)) slots.new.items (slot_of at) result }
     ensures kept { AreSlots bytes.now slots.old.items → AreSlots bytes.now slots.new.items }
 {
-    let instr = decode(read(bytes, at as usize, 4))?;
-    if at % 4 != 0 {
-        return Some(instr);
-    }
-    slots[slot_of(at)] = Slot {
-        at: u64::from(at),
-        instr,
+    let Some(instr) = decode(read(bytes, at as usize, 4)) else {
+        return false;
     };
-    Some(instr)
+    let slot = slot_of(at);
+    if at % 4 == 0 {
+        slots[slot] = Slot {
+            at: u64::from(at),
+            instr,
+        };
+        return true;
+    }
+    slots[slot] = Slot { at: NOWHERE, instr };
+    true
 }
 
 /// Forgets the word at a place.
