@@ -22,12 +22,12 @@ use region_watch::{Mode, Progress, Watch, Window};
 use rv32im_step::Stop;
 use watch_points::{Hits, Span, run_watched};
 
-/// The own bytes of the program's block.
-fn window(space: &Space) -> Window
+/// The own bytes of a mapping by its place in the list, if there is one, and all of them may be written.
+fn window(space: &Space, at: usize) -> Window
     ensures { may_use (writable_in space.now.maps) result.from result.size ≡ true }
 {
-    if let Some(block) = space.maps().first() {
-        let range = block.range;
+    if let Some(mapping) = space.maps().get(at) {
+        let range = mapping.range;
         if range.writes && range.from.checked_add(range.size).is_some() {
             return Window {
                 from: range.from,
@@ -79,11 +79,12 @@ pub(crate) fn advance<G: Fn(&[Span], u32, u32) -> bool>(
     let task = parts.procs.get_mut(pid);
     match &parts.spaces[task.space as usize] {
         Some(space) => {
-            let mut watch = Watch::with_window(
+            let mut watch = Watch::with_windows(
                 &mut parts.mem,
                 space.owners(),
                 mode_within(reach),
-                window(space),
+                window(space, 0),
+                window(space, 1),
             );
             let progress = run_watched(
                 &mut task.regs,

@@ -1,6 +1,6 @@
 -- What the slots say, after a write.
 use Rattle.std.proofs.Common.{◌≡◌, ℕ, ◌+◌, ◌-◌, ◌*◌, ◌/◌, ◌%◌, ◌^◌, ◌<◌, ◌≤◌, ◌⊎◌, inl, inr, zero, suc, List, [], ◌∷◌, length, length-set, refl, sym, ap, subst, ◌∙◌, arith}
-use Rattle.std.specs.Prelude.{Option, Some, slice_get, slice_index, slice_set, replicate}
+use Rattle.std.specs.Prelude.{Option, Some, true, slice_get, slice_index, slice_set, replicate}
 use Rattle.std.proofs.lemmas.Bool.{cases_lt}
 use Rattle.std.proofs.lemmas.List.{length-replicate, get_or-replicate, get_or-set_same}
 use Rattle.std.proofs.lemmas.Option.{slice_get_within, get_or_from_slice_get, slice_get-get_or}
@@ -191,11 +191,11 @@ decoded_kept mem slots at instr whole is fields are = record {
   ];
 }
 
--- a word that isn't kept stands in the last slot
-pub apart_kept : (mem : List ℕ) (slots : List Slot) (instr : Instr) → length mem < 2 ^ 31 → AreSlots mem slots → AreSlots mem (slice_set slots 16384 (record { at = 2 ^ 32 - 1; instr = instr }))
-apart_kept mem slots instr small are = record {
-  count = length-set slots 16384 (record { at = 2 ^ 32 - 1; instr = instr }) ∙ are.count;
-  say = λ i s there fits. elim (in_set slots 16384 i (record { at = 2 ^ 32 - 1; instr = instr }) s there) [
+-- a word that isn't kept stands in a slot that has no place
+pub apart_kept : (mem : List ℕ) (slots : List Slot) (at : ℕ) (instr : Instr) → length mem < 2 ^ 31 → AreSlots mem slots → AreSlots mem (slice_set slots at (record { at = 2 ^ 64 - 1; instr = instr }))
+apart_kept mem slots at instr small are = record {
+  count = length-set slots at (record { at = 2 ^ 64 - 1; instr = instr }) ∙ are.count;
+  say = λ i s there fits. elim (in_set slots at i (record { at = 2 ^ 64 - 1; instr = instr }) s there) [
     | inl (here, same) ↦ absurd (omega (arith, ap (λ (x : Slot). x.at) same))
     | inr other ↦ are.say i s other fits
   ];
@@ -220,27 +220,27 @@ set_kept mem at len bytes old new is_len inside is are forgets =
 
 -- all zero, with empty slots
 pub new_kept : (pages : ℕ) (mem : List ℕ) (slots : List Slot) → 1 ≤ pages → pages ≤ 16384 → mem ≡ replicate (4096 * pages) 0
-    → slots ≡ replicate 16385 (record { at = 2 ^ 32 - 1; instr = Fence }) → IsMemory mem × AreSlots mem slots
+    → slots ≡ replicate 16384 (record { at = 2 ^ 64 - 1; instr = Fence }) → IsMemory mem × AreSlots mem slots
 new_kept pages mem slots some most zeros are =
     let long = ap (length {A = ℕ}) zeros ∙ length-replicate (4096 * pages) 0 in (
       record { whole = omega (arith, long); some = omega (arith, long); most = omega (arith, long) },
       record {
-        count = ap (length {A = Slot}) are ∙ length-replicate {A = Slot} 16385 (record { at = 2 ^ 32 - 1; instr = Fence });
+        count = ap (length {A = Slot}) are ∙ length-replicate {A = Slot} 16384 (record { at = 2 ^ 64 - 1; instr = Fence });
         say = λ i s there fits. absurd (omega (arith, long, nowhere i s (ap (λ l. slice_get l i) (sym are) ∙ there)));
       },
     )
   where
-    nowhere : (i : ℕ) (s : Slot) → slice_get (replicate 16385 (record { at = 2 ^ 32 - 1; instr = Fence })) i ≡ Some s → s.at ≡ 2 ^ 32 - 1
+    nowhere : (i : ℕ) (s : Slot) → slice_get (replicate 16384 (record { at = 2 ^ 64 - 1; instr = Fence })) i ≡ Some s → s.at ≡ 2 ^ 64 - 1
     nowhere i s there =
-        let nothing : Slot = record { at = 2 ^ 32 - 1; instr = Fence } in
-        let within = slice_get_within (replicate 16385 nothing) i s there in
-        let long = length-replicate 16385 nothing in
-        let at = get_or_from_slice_get (replicate 16385 nothing) i s nothing there in
-        ap (λ (x : Slot). x.at) (sym at ∙ get_or-replicate 16385 i nothing nothing (omega (arith, within, long)))
+        let nothing : Slot = record { at = 2 ^ 64 - 1; instr = Fence } in
+        let within = slice_get_within (replicate 16384 nothing) i s there in
+        let long = length-replicate 16384 nothing in
+        let at = get_or_from_slice_get (replicate 16384 nothing) i s nothing there in
+        ap (λ (x : Slot). x.at) (sym at ∙ get_or-replicate 16384 i nothing nothing (omega (arith, within, long)))
 
 -- an instruction that was written into a slot stands there
 pub is_decoded : (found : Option Instr) (slots : List Slot) (i : ℕ) (s : Slot) (instr : Instr) → i < length slots → s.instr ≡ instr → found ≡ Some instr → FieldsFit instr
-    → IsDecoded found (slice_set slots i s) (Some i)
+    → IsDecoded found (slice_set slots i s) i true
 is_decoded found slots i s instr within is_instr is fields =
     let there : slice_get (slice_set slots i s) i ≡ Some s = slice_get-get_or (slice_set slots i s) i s (omega (arith, length-set slots i s)) ∙ ap (λ (x : Slot). Some x) (get_or-set_same slots i s s within) in
     rw (is) (s, there, is_instr, fields)

@@ -1,6 +1,6 @@
 -- Words of memory that were decoded. Each is kept in the slot of its index, modulo the number of slots: it says that the word at
 -- this place is this instruction, and nothing of who owns it.
-use Rattle.std.specs.Prelude.{◌≡◌, ◌≢◌, ◌⊎◌, ℕ, ◌+◌, ◌/◌, ◌%◌, ◌^◌, ◌-◌, ◌<◌, ◌≤◌, List, length, Option, Some, None, slice_get, slice_index}
+use Rattle.std.specs.Prelude.{◌≡◌, ◌≢◌, ◌⊎◌, ℕ, ◌+◌, ◌/◌, ◌%◌, ◌^◌, ◌-◌, ◌<◌, ◌≤◌, Bool, true, false, List, length, Option, Some, None, slice_get, slice_index}
 use Rattle.byte_words.specs.ByteMap.{little}
 use Rattle.rv32im_table.specs.declared.instr.Instr.{Instr}
 use Rattle.rv32im_table.specs.Instr.{FieldsFit}
@@ -18,34 +18,34 @@ pub record Says (bytes : List ℕ) (i : ℕ) (s : Slot) : Type 0 where
   pub instr : decoded (little bytes s.at 4) ≡ Some s.instr
   pub fields : FieldsFit s.instr
 
--- the place of an empty slot isn't in memory, and that of the last one never is
+-- the place of an empty slot isn't in memory
 pub record AreSlots (bytes : List ℕ) (slots : List Slot) : Type 0 where
-  pub count : length slots ≡ 16385
+  pub count : length slots ≡ 16384
   pub say : (i : ℕ) (s : Slot) → slice_get slots i ≡ Some s → s.at + 4 ≤ length bytes → Says bytes i s
 
 -- an instruction stands in a slot, or there is none
-abbrev pub IsDecoded : Option Instr → List Slot → Option ℕ → Type 0
-IsDecoded (Some instr) slots (Some i) = (s : Slot) × (slice_get slots i ≡ Some s) × (s.instr ≡ instr) × FieldsFit instr
-IsDecoded (Some instr) slots None = ⊥
-IsDecoded None slots (Some i) = ⊥
-IsDecoded None slots None = Unit {0}
+abbrev pub IsDecoded : Option Instr → List Slot → ℕ → Bool → Type 0
+IsDecoded (Some instr) slots i true = (s : Slot) × (slice_get slots i ≡ Some s) × (s.instr ≡ instr) × FieldsFit instr
+IsDecoded (Some instr) slots i false = ⊥
+IsDecoded None slots i true = ⊥
+IsDecoded None slots i false = Unit {0}
 
 -- ---- what is forgotten
 
 -- the word at a place: other slots stay, or are empty, which is to have the place 2^64 - 1
 pub record Loses (at : ℕ) (old new : List Slot) : Type 0 where
   pub count : length new ≡ length old
-  pub kept : (i : ℕ) (s : Slot) → slice_get new i ≡ Some s → (slice_get old i ≡ Some s) ⊎ (s.at ≡ 2 ^ 32 - 1)
+  pub kept : (i : ℕ) (s : Slot) → slice_get new i ≡ Some s → (slice_get old i ≡ Some s) ⊎ (s.at ≡ 2 ^ 64 - 1)
   pub gone : (s : Slot) → slice_get new (slot_of at) ≡ Some s → s.at ≢ at
 
 -- the word of a slot isn't one of these, by their indices
 abbrev pub IsBeside : (first words : ℕ) → Slot → Type 0
-IsBeside first words s = (s.at ≡ 2 ^ 32 - 1) ⊎ ((s.at / 4 < first) ⊎ (first + words ≤ s.at / 4))
+IsBeside first words s = (s.at ≡ 2 ^ 64 - 1) ⊎ ((s.at / 4 < first) ⊎ (first + words ≤ s.at / 4))
 
 -- those of these words that stand in the slots of the first n of them
 pub record LosesAll (first words n : ℕ) (old new : List Slot) : Type 0 where
   pub count : length new ≡ length old
-  pub kept : (i : ℕ) (s : Slot) → slice_get new i ≡ Some s → (slice_get old i ≡ Some s) ⊎ (s.at ≡ 2 ^ 32 - 1)
+  pub kept : (i : ℕ) (s : Slot) → slice_get new i ≡ Some s → (slice_get old i ≡ Some s) ⊎ (s.at ≡ 2 ^ 64 - 1)
   pub gone : (k : ℕ) (s : Slot) → k < n → slice_get new ((first + k) % 16384) ≡ Some s → IsBeside first words s
 
 -- ---- what may change

@@ -7,7 +7,7 @@ ghost use Rattle.rv32im_table.specs.Instr.{FieldsFit};
 ghost use Rattle.rv32im_table.specs.Table.{decoded};
 ghost use Rattle.phys_mem.specs.Memory.{IsMemory, Within, place};
 
-use crate::slots::{Slot, decoded_slot, forget, forget_number, no_words, slot_of};
+use crate::slots::{Slot, decoded_word, forget, forget_number, no_words, slot_of};
 use crate::words::{copy_over, read, write, zero, zeros};
 use rv32im_table::Instr;
 use std::alloc::{AllocError, Global};
@@ -119,9 +119,11 @@ impl PhysMem {
         ensures same { self.new ≡ self.old }
     {
         let place = place_of(at);
-        let mut slot = slot_of(place);
-        if self.slots[slot].at != place {
-            slot = decoded_slot(&mut self.slots, &self.bytes, place)?;
+        let slot = slot_of(place);
+        if self.slots[slot].at != u64::from(place) {
+            if !decoded_word(&mut self.slots, &self.bytes, place) {
+                return None;
+            }
         }
         Some(self.slots[slot].instr)
     }

@@ -9,31 +9,30 @@ use crate::words::read;
 use rv32im_table::{Instr, decode};
 use std::alloc::{AllocError, Global};
 
-/// How many words are kept: those of 64 KiB that stand side by side. Behind their slots stands one more, for a word at no
-/// multiple of 4, which isn't kept.
+/// How many words are kept: those of 64 KiB that stand side by side.
 const SLOTS: usize = 16384;
 
 /// The place of an empty slot.
-const NOWHERE: u32 = u32::MAX;
+const NOWHERE: u64 = u64::MAX;
 
 /// A word that was decoded. The one at a place is kept in the slot of its index, modulo the number of slots.
 #[derive(Clone, Copy)]
 pub struct Slot {
-    /// Its place in memory, a multiple of 4.
-    pub at: u32,
+    /// Its place in memory, a multiple of 4. Of 8 bytes, so that a slot has 16, and is found by one shift.
+    pub at: u64,
     /// The instruction that it is.
     pub instr: Instr,
 }
 
 /// Empty slots.
 pub fn no_words(alloc: Global) -> Result<Vec<Slot>, AllocError>
-    ensures { IfOk result (λ slots. slots.items ≡ replicate 16385 (record { at = 2 ^ 32 - 1; instr = Instr.Fence })) }
+    ensures { IfOk result (λ slots. slots.items ≡ replicate 16384 (record { at = 2 ^ 64 - 1; instr = Instr.Fence })) }
 {
     let empty = Slot {
         at: NOWHERE,
         instr: Instr::Fence,
     };
-    Ok(vec![in alloc; empty; SLOTS + 1]?)
+    Ok(vec![in alloc; empty; SLOTS]?)
 }
 
 /// The slot of the word at a place.
@@ -45,34 +44,40 @@ pub fn slot_of(at: u32) -> usize
     (at / 4) as usize % SLOTS
 }
 
-/// The slot in which the word at a place stands once it is decoded. None where it is no instruction.
+/// Decodes the word at a place into its slot, and says whether it is an instruction. One at no multiple of 4 isn't kept: it stands there
+/// for this once.
 #[inline(never)]
-pub fn decoded_slot(slots: &mut Vec<Slot>, bytes: &[u8], at: u32) -> Option<usize>
-    requires count { length slots.old.items ≡ 16385 }
+pub fn decoded_word(slots: &mut Vec<Slot>, bytes: &[u8], at: u32) -> bool
+    requires count { length slots.old.items ≡ 16384 }
     requires within { at + 4 ≤ length bytes.now }
     requires small { length bytes.now < 2 ^ 31 }
-    ensures slot { IsDecoded (decoded (little bytes.now at 4)) slots.new.items result }
+    ensures slot { IsDecoded (decoded (little bytes.now at 4)) slots.new.items (slot_of at) result }
     ensures kept { AreSlots bytes.now slots.old.items → AreSlots bytes.now slots.new.items }
 {
-    let instr = decode(read(bytes, at as usize, 4))?;
+    let Some(instr) = decode(read(bytes, at as usize, 4)) else {
+        return false;
+    };
+    let slot = slot_of(at);
     if at % 4 == 0 {
-        let slot = slot_of(at);
-        slots[slot] = Slot { at, instr };
-        return Some(slot);
+        slots[slot] = Slot {
+            at: u64::from(at),
+            instr,
+        };
+        return true;
     }
-    slots[SLOTS] = Slot { at: NOWHERE, instr };
-    Some(SLOTS)
+    slots[slot] = Slot { at: NOWHERE, instr };
+    true
 }
 
 /// Forgets the word at a place.
 #[inline]
 fn forget_word(slots: &mut Vec<Slot>, at: u32)
-    requires count { length slots.old.items ≡ 16385 }
-    requires small { at < 2 ^ 32 - 1 }
+    requires count { length slots.old.items ≡ 16384 }
+    requires small { at < 2 ^ 31 }
     ensures { Loses at slots.old.items slots.new.items }
 {
     let slot = &mut slots[slot_of(at)];
-    if slot.at == at {
+    if slot.at == u64::from(at) {
         slot.at = NOWHERE;
     }
 }
@@ -80,7 +85,7 @@ fn forget_word(slots: &mut Vec<Slot>, at: u32)
 /// Forgets the words that a number of one, two or four bytes touches.
 #[inline]
 pub fn forget_number(slots: &mut Vec<Slot>, at: u32, len: u32)
-    requires count { length slots.old.items ≡ 16385 }
+    requires count { length slots.old.items ≡ 16384 }
     requires some { 0 < len }
     requires few { len ≤ 4 }
     requires range { at + len < 2 ^ 31 }
@@ -97,17 +102,18 @@ pub fn forget_number(slots: &mut Vec<Slot>, at: u32, len: u32)
 fn forget_if_within(slot: &mut Slot, first: u32, words: u32)
     requires { first + words < 2 ^ 31 }
     ensures beside { IsBeside first words slot.new }
-    ensures kept { (slot.new ≡ slot.old) ⊎ (slot.new.at ≡ 2 ^ 32 - 1) }
+    ensures kept { (slot.new ≡ slot.old) ⊎ (slot.new.at ≡ 2 ^ 64 - 1) }
 {
     let index = slot.at / 4;
-    if first <= index && index - first < words {
+    let first = u64::from(first);
+    if first <= index && index - first < u64::from(words) {
         slot.at = NOWHERE;
     }
 }
 
 /// Forgets the words that a range touches.
 pub fn forget(slots: &mut Vec<Slot>, at: u32, len: u32)
-    requires count { length slots.old.items ≡ 16385 }
+    requires count { length slots.old.items ≡ 16384 }
     requires range { at + len < 2 ^ 31 }
     ensures { Forgets at (at + len) slots.old.items slots.new.items }
 {

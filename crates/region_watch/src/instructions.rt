@@ -1,6 +1,7 @@
 //! Instructions of one program, one after the other.
 
 ghost use Rattle.std.specs.Prelude.{◌≡◌, true, length};
+ghost use Rattle.rv32im_step.specs.Parts.{registers};
 ghost use Rattle.region_watch.specs.declared.mode.Mode.TheVariants.{Halt};
 ghost use Rattle.region_watch.specs.Private.{passes, passed_bytes, kept_bytes};
 ghost use Rattle.region_watch.specs.Instructions.{instructions, ran, all_asked};
@@ -8,7 +9,7 @@ ghost use Rattle.region_watch.specs.Strays.{noted_all, noted_stop};
 ghost use Rattle.region_watch.specs.Watched.{first_stray};
 
 use crate::watch::Watch;
-use rv32im_step::{Regs, Stop, step};
+use rv32im_step::{RegisterFile, Regs, Stop, step_at};
 
 /// How far a program came.
 #[derive(Clone, Copy, PartialEq, Eq)]
@@ -19,8 +20,34 @@ pub struct Progress {
     pub stop: Stop,
 }
 
-/// Carries out up to `count` instructions, and stops at the first that isn't carried out.
+/// `run_steps` of registers that are taken apart, so that pc is a number by itself.
+#[inline]
 #[tactic(auto, using(crate::proofs::Runs::runs))]
+fn steps_at(pc: &mut u32, x: &mut RegisterFile, watch: &mut Watch<'_>, count: u32) -> Progress
+    ensures leaves { ran (registers pc.new x.new) (passed_bytes watch.old.mode watch.old.owners.now watch.new.mem.now) result.done result.stop
+        ≡ instructions count (passes watch.old.mode watch.old.owners.now true) (registers pc.old x.old) (passed_bytes watch.old.mode watch.old.owners.now watch.old.mem.now) }
+    ensures frozen { kept_bytes watch.old.mode watch.old.owners.now watch.new.mem.now ≡ kept_bytes watch.old.mode watch.old.owners.now watch.old.mem.now }
+    ensures length { length watch.new.mem.now ≡ length watch.old.mem.now }
+    ensures owners { watch.new.owners.now ≡ watch.old.owners.now }
+    ensures mode { watch.new.mode ≡ watch.old.mode }
+    ensures first { first_stray watch.new ≡ noted_all watch.old.owners.now (first_stray watch.old)
+        (all_asked count (passes watch.old.mode watch.old.owners.now true) (registers pc.old x.old) (passed_bytes watch.old.mode watch.old.owners.now watch.old.mem.now)) }
+    ensures halts { watch.old.mode ≡ Halt → first_stray watch.new ≡ noted_stop (first_stray watch.old) result.stop }
+    ensures same_reference { watch.new.mem.ghost_name ≡ watch.old.mem.ghost_name }
+{
+    for done in 0..count {
+        let stop = step_at(pc, x, watch);
+        if stop != Stop::Next {
+            return Progress { done, stop };
+        }
+    }
+    Progress {
+        done: count,
+        stop: Stop::Next,
+    }
+}
+
+/// Carries out up to `count` instructions, and stops at the first that isn't carried out.
 pub fn run_steps(regs: &mut Regs, watch: &mut Watch<'_>, count: u32) -> Progress
     ensures leaves { ran regs.new (passed_bytes watch.old.mode watch.old.owners.now watch.new.mem.now) result.done result.stop
         ≡ instructions count (passes watch.old.mode watch.old.owners.now true) regs.old (passed_bytes watch.old.mode watch.old.owners.now watch.old.mem.now) }
@@ -33,14 +60,9 @@ pub fn run_steps(regs: &mut Regs, watch: &mut Watch<'_>, count: u32) -> Progress
     ensures halts { watch.old.mode ≡ Halt → first_stray watch.new ≡ noted_stop (first_stray watch.old) result.stop }
     ensures same_reference { watch.new.mem.ghost_name ≡ watch.old.mem.ghost_name }
 {
-    for done in 0..count {
-        let stop = step(regs, watch);
-        if stop != Stop::Next {
-            return Progress { done, stop };
-        }
-    }
-    Progress {
-        done: count,
-        stop: Stop::Next,
-    }
+    let mut pc = regs.pc;
+    let mut x = RegisterFile::of(&regs.x);
+    let progress = steps_at(&mut pc, &mut x, watch, count);
+    *regs = Regs { pc, x: x.array() };
+    progress
 }

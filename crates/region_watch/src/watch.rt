@@ -13,8 +13,8 @@ use phys_mem::{BASE, PAGE, PhysMem};
 use rv32im_step::{Access, AccessKind, Bus};
 use rv32im_table::Instr;
 
-/// The own bytes of the program's block: those from `from` on, `size` of them. All of them may be written.
-/// It may be smaller than the block, and empty.
+/// Own bytes of a mapping, as the program's block: those from `from` on, `size` of them. All of them may be written.
+/// It may be smaller than the mapping, and empty.
 #[derive(Clone, Copy, PartialEq, Eq)]
 pub struct Window {
     /// The first address.
@@ -39,9 +39,13 @@ pub struct Watch<'a> {
     from: u32,
     /// How many addresses from there on begin an access of 4 bytes within the window.
     reach: u32,
+    /// The same of a second window.
+    second_from: u32,
+    second_reach: u32,
     first: Option<Access>,
     ghost paged: { length mem.now ≡ 4096 * length owners.now },
     ghost window: { 0 < reach → may_use (owns owners.now true) from (reach + 3) ≡ true },
+    ghost second: { 0 < second_reach → may_use (owns owners.now true) second_from (second_reach + 3) ≡ true },
 }
 
 /// The look into the table stands apart, and takes no watch, so that a watch's fields stay in registers.
@@ -80,6 +84,7 @@ impl<'a> Watch<'a> {
     /// The same with a window, whose bytes the table names as own and writable: an access within it is allowed without a look into the
     /// table.
     #[inline]
+    #[tactic(auto, unfolding(mmap_rules::specs::Space::may_use))]
     pub fn with_window(
         mem: &'a mut PhysMem,
         owners: &'a Owners,
@@ -94,12 +99,35 @@ impl<'a> Watch<'a> {
         ensures mode { result.mode ≡ mode }
         ensures first { first_stray result ≡ None }
     {
+        Watch::with_windows(mem, owners, mode, window, Window { from: 0, size: 0 })
+    }
+
+    /// The same with two windows, as of a program's block and its heap.
+    #[inline]
+    pub fn with_windows(
+        mem: &'a mut PhysMem,
+        owners: &'a Owners,
+        mode: Mode,
+        window: Window,
+        second: Window,
+    ) -> Watch<'a>
+        requires paged { length mem.old ≡ 4096 * length owners.now }
+        requires window { may_use (owns owners.now true) window.from window.size ≡ true }
+        requires second { may_use (owns owners.now true) second.from second.size ≡ true }
+        ensures same_reference { result.mem.ghost_name ≡ mem.entry.ghost_name }
+        ensures mem { result.mem.now ≡ mem.old }
+        ensures owners { result.owners.now ≡ owners.now }
+        ensures mode { result.mode ≡ mode }
+        ensures first { first_stray result ≡ None }
+    {
         Watch {
             mem,
             owners,
             mode,
             from: window.from,
             reach: window.size.saturating_sub(3),
+            second_from: second.from,
+            second_reach: second.size.saturating_sub(3),
             first: None,
         }
     }
@@ -125,7 +153,7 @@ impl<'a> Watch<'a> {
         }
     }
 
-    /// Whether an access of an instruction is to be carried out: the window comes before the table.
+    /// Whether an access of an instruction is to be carried out: the windows come before the table.
     #[inline]
     fn allows(&mut self, access: Access, write: bool) -> bool
         requires { access.len ≤ 4 }
@@ -136,6 +164,10 @@ impl<'a> Watch<'a> {
         ensures first { first_stray self.new ≡ noted (first_stray self.old) access (may_use (owns self.old.owners.now write) access.addr access.len) }
     {
         if access.addr.wrapping_sub(self.from) < self.reach {
+            return true;
+        }
+        let distance = access.addr.wrapping_sub(self.second_from);
+        if distance < self.second_reach {
             return true;
         }
         self.looks_up(access, write)

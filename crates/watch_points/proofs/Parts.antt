@@ -183,21 +183,15 @@ more_goes n done mode table regs mid after mem half now first later last near st
     (left_on n mode table regs mid after mem half now first later last near done 1 Next [] (listed seen) a
     (step_goes (n - done) mode table mid after half now later last near stop seen (omega arith) s is))
 
--- one in which nothing near was seen either
-pub more_none : (n done : ℕ) (mode : Mode) (table : List PageOwner) (regs mid after : Regs) (mem half now : List ℕ) (first later last : Option Access) (near : Near) (stop : Stop) (seen : Option Access)
-    → done < n → Left n mode table regs mem first near done Next mid half later [] → Stepped mode table mid half later near stop after now last seen → stop ≡ Next → seen ≡ None
-    → Left n mode table regs mem first near (done + 1) Next after now last []
-more_none n done mode table regs mid after mem half now first later last near stop seen less a s is none =
-    subst (λ k. Left n mode table regs mem first near (done + 1) k after now last []) is
-    (subst (λ o. Left n mode table regs mem first near (done + 1) stop after now last (listed o)) none
-    (more_goes n done mode table regs mid after mem half now first later last near stop seen less a s is))
+-- the loop is still in a run
+pub left_next : (n : ℕ) (mode : Mode) (table : List PageOwner) (regs after : Regs) (mem now : List ℕ) (first last : Option Access) (near : Near) (seen : List Access) (done : ℕ) (stop : Stop)
+    → stop ≡ Next → Left n mode table regs mem first near done stop after now last seen → Left n mode table regs mem first near done Next after now last seen
+left_next n mode table regs after mem now first last near seen done stop is a = subst (λ s. Left n mode table regs mem first near done s after now last seen) is a
 
--- all were carried out
-pub left_end : (n done : ℕ) (mode : Mode) (table : List PageOwner) (regs after : Regs) (mem now : List ℕ) (first last : Option Access) (near : Near) (seen : Option Access) → done ≡ n → seen ≡ None
-    → Left n mode table regs mem first near done Next after now last [] → Left n mode table regs mem first near n Next after now last (listed seen)
-left_end n done mode table regs after mem now first last near seen all unseen a =
-    subst (λ o. Left n mode table regs mem first near n Next after now last (listed o)) (sym unseen)
-    (subst (λ k. Left n mode table regs mem first near k Next after now last []) all a)
+-- and saw nothing near
+pub left_unseen : (n : ℕ) (mode : Mode) (table : List PageOwner) (regs after : Regs) (mem now : List ℕ) (first last : Option Access) (near : Near) (done : ℕ) (stop : Stop) (seen : Option Access)
+    → seen ≡ None → Left n mode table regs mem first near done stop after now last (listed seen) → Left n mode table regs mem first near done stop after now last []
+left_unseen n mode table regs after mem now first last near done stop seen none a = subst (λ o. Left n mode table regs mem first near done stop after now last (listed o)) none a
 
 pub more_stops : (n done : ℕ) (mode : Mode) (table : List PageOwner) (regs mid after : Regs) (mem half now : List ℕ) (first later last : Option Access) (near : Near) (stop : Stop) (seen : Option Access)
     → done < n → Left n mode table regs mem first near done Next mid half later [] → Stepped mode table mid half later near stop after now last seen → stop ≢ Next

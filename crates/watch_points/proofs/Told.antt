@@ -1,5 +1,5 @@
 -- The accesses near what is watched tell the hits.
-use Rattle.std.proofs.Common.{◌≡◌, ℕ, Bool, true, false, ◌&&◌, List, [], ◌∷◌, ◌++◌, map, refl, ap, sym, ◌∙◌, subst}
+use Rattle.std.proofs.Common.{◌≡◌, ℕ, Bool, true, false, ◌&&◌, List, [], ◌∷◌, ◌++◌, ◌<◌, ◌≤◌, ◌⊎◌, inl, inr, map, refl, ap, sym, ◌∙◌, subst, arith}
 use Rattle.std.specs.Prelude.{filter, cond, if◌then◌else◌, is_some, Option, Some, None, IfSome}
 use Rattle.std.specs.List.{AllByRecursion as Each}
 use Rattle.std.proofs.lemmas.List.{map-append}
@@ -15,7 +15,7 @@ use Rattle.watch_points.specs.declared.near.Near.{Near}
 use Rattle.watch_points.specs.declared.span.Span.{Span}
 use Rattle.watch_points.specs.declared.point.PointKind.{PointKind}
 use Rattle.watch_points.specs.Points.{Found, IsShort, hit, is_data, is_hit, hits_in, with_hits}
-use Rattle.watch_points.specs.Near.{IsNear, near_to, is_near, near_in, seen_all, listed, told}
+use Rattle.watch_points.specs.Near.{IsNear, near_to, is_near, near_in, seen_one, seen_all, end_one, end_all, end_at, listed, told}
 use Rattle.watch_points.proofs.Kept.{with_hits-nil}
 use Rattle.watch_points.proofs.Asked.{Short, short_all, AtMostOne, one_fetched}
 
@@ -159,3 +159,36 @@ seen_step near regs m w = seen_single near (fetched_asked (loaded m (fetch_of re
 pub none_seen : (seen : Option Access) → is_some seen ≡ false → seen ≡ None
 none_seen None is = refl
 none_seen (Some access) is = absurd (let e = is in cc)
+
+-- ---- where the loop ends
+
+ends_one : (near : Near) (n : ℕ) (seen : Option Access) (x : Asked) → end_at n (seen_one near seen x) ≡ end_one near (end_at n seen) x
+ends_one near n seen x = by (is_near near x)
+  where
+    by : (test : Bool) → end_at n (if test then Some x.access else seen) ≡ (if test then 0 else end_at n seen)
+    by true = refl
+    by false = refl
+
+-- the end is that of what was seen
+pub ends_all : (near : Near) (n : ℕ) (seen : Option Access) (xs : List Asked) → end_at n (seen_all near seen xs) ≡ end_all near (end_at n seen) xs
+ends_all near n seen [] = refl
+ends_all near n seen (x ∷ xs) = ends_all near n (seen_one near seen x) xs ∙ ap (λ (end : ℕ). end_all near end xs) (ends_one near n seen x)
+
+pub ends_on : (near : Near) (n : ℕ) (unseen seen : Option Access) (end next : ℕ) (xs : List Asked) → end ≡ end_at n unseen → seen ≡ seen_all near unseen xs
+    → next ≡ end_all near end xs → next ≡ end_at n seen
+ends_on near n unseen seen end next xs is sees ends =
+    ends ∙ ap (λ (e : ℕ). end_all near e xs) is ∙ sym (ends_all near n unseen xs) ∙ ap (end_at n) (sym sees)
+
+-- while it isn't reached nothing was seen
+pub unseen_yet : (n done : ℕ) (seen : Option Access) (end : ℕ) → end ≡ end_at n seen → done < end → seen ≡ None
+unseen_yet n done None end is less = refl
+unseen_yet n done (Some access) end is less = absurd (omega arith)
+
+pub room_yet : (n done : ℕ) (seen : Option Access) (end : ℕ) → end ≡ end_at n seen → done < end → done < n
+room_yet n done None end is less = omega arith
+room_yet n done (Some access) end is less = absurd (omega arith)
+
+-- it is reached when all were carried out, or one was seen
+pub end_reached : (n done : ℕ) (seen : Option Access) (end : ℕ) → end ≡ end_at n seen → end ≤ done → 0 < n → (seen ≡ None → ⊥) ⊎ (n ≤ done)
+end_reached n done None end is past some = inr (omega arith)
+end_reached n done (Some access) end is past some = inl (λ none. absurd (cc))

@@ -52,6 +52,26 @@ pub seen_on : (near next : Near) (a b c : Option Access) (xs ys : List Asked) �
 seen_on near next a b c xs ys same p q =
     q ∙ ap (λ (n : Near). seen_all n b ys) same ∙ ap (λ (seen : Option Access). seen_all near seen ys) p ∙ sym (seen_both near a xs ys)
 
+-- how many instructions may be carried out in all: none is to follow one that was seen
+abbrev pub end_one : Near → ℕ → Asked → ℕ
+end_one near end one = if is_near near one then 0 else end
+
+abbrev pub end_all : Near → ℕ → List Asked → ℕ
+end_all near end [] = end
+end_all near end (one ∷ more) = end_all near (end_one near end one) more
+
+abbrev pub end_at : ℕ → Option Access → ℕ
+end_at n None = n
+end_at n (Some access) = 0
+
+end_both : (near : Near) (end : ℕ) (xs ys : List Asked) → end_all near end (xs ++ ys) ≡ end_all near (end_all near end xs) ys
+end_both near end [] ys = refl
+end_both near end (x ∷ xs) ys = end_both near (end_one near end x) xs ys
+
+pub end_on : (near next : Near) (a b c : ℕ) (xs ys : List Asked) → next ≡ near → b ≡ end_all near a xs → c ≡ end_all next b ys → c ≡ end_all near a (xs ++ ys)
+end_on near next a b c xs ys same p q =
+    q ∙ ap (λ (n : Near). end_all n b ys) same ∙ ap (λ (end : ℕ). end_all near end ys) p ∙ sym (end_both near a xs ys)
+
 -- one or none as a list
 abbrev pub listed : Option Access → List Access
 listed None = []

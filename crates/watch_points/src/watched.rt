@@ -1,6 +1,7 @@
 //! The loop of instructions that tells what hits.
 
-ghost use Rattle.std.specs.Prelude.{◌≡◌, ◌<◌, ◌≤◌, true, length, None, IfSome};
+ghost use Rattle.std.specs.Prelude.{◌≡◌, ◌<◌, ◌≤◌, ◌^◌, true, length, None, IfSome};
+ghost use Rattle.rv32im_step.specs.Parts.{registers};
 ghost use Rattle.rv32im_step.specs.declared.stop.Stop.TheVariants.{Next};
 ghost use Rattle.region_watch.specs.declared.mode.Mode.TheVariants.{Halt};
 ghost use Rattle.region_watch.specs.Private.{passes, passed_bytes, kept_bytes};
@@ -16,7 +17,7 @@ use crate::point::WatchPoint;
 use crate::probed::Probed;
 use crate::span::Span;
 use region_watch::{Progress, Watch};
-use rv32im_step::{Access, Regs, Stop, step};
+use rv32im_step::{Access, RegisterFile, Regs, Stop, step_at};
 
 /// How far a program came, and the access behind which it left the loop.
 #[derive(Clone, Copy)]
@@ -25,39 +26,36 @@ struct NearRun {
     seen: Option<Access>,
 }
 
-/// Carries out up to `count` instructions, and leaves the loop behind the first that made a data access near
-/// what is watched.
+/// Carries out up to as many instructions as the bus lets follow, and leaves the loop behind the first that made a data access
+/// near what is watched.
 #[inline]
-fn near_steps(regs: &mut Regs, bus: &mut Probed<'_, Watch<'_>>, count: u32) -> Progress
+fn near_steps(pc: &mut u32, x: &mut RegisterFile, bus: &mut Probed<'_, Watch<'_>>) -> Progress
     requires fresh { bus.old.seen ≡ None }
-    ensures left { Left count bus.old.bus.now.mode bus.old.bus.now.owners.now regs.old bus.old.bus.now.mem.now (first_stray bus.old.bus.now) bus.old.near
-        result.done result.stop regs.new bus.new.bus.now.mem.now (first_stray bus.new.bus.now) (listed bus.new.seen) }
-    ensures bound { result.done ≤ count }
-    ensures goes { 0 < count → result.stop ≡ Next → 0 < result.done }
+    requires small { bus.old.end < 2 ^ 32 }
+    ensures left { Left bus.old.end bus.old.bus.now.mode bus.old.bus.now.owners.now (registers pc.old x.old) bus.old.bus.now.mem.now (first_stray bus.old.bus.now) bus.old.near
+        result.done result.stop (registers pc.new x.new) bus.new.bus.now.mem.now (first_stray bus.new.bus.now) (listed bus.new.seen) }
+    ensures bound { result.done ≤ bus.old.end }
+    ensures goes { 0 < bus.old.end → result.stop ≡ Next → 0 < result.done }
     ensures owners { bus.new.bus.now.owners.now ≡ bus.old.bus.now.owners.now }
     ensures mode { bus.new.bus.now.mode ≡ bus.old.bus.now.mode }
     ensures same_reference { bus.new.bus.now.mem.ghost_name ≡ bus.old.bus.now.mem.ghost_name }
     ensures same_watch { bus.new.bus.ghost_name ≡ bus.old.bus.ghost_name }
 {
-    for done in 0..count {
-        let stop = step(regs, bus);
+    let mut done = 0;
+    while done < bus.end {
+        let stop = step_at(pc, x, bus);
         if stop != Stop::Next {
             return Progress { done, stop };
         }
-        if bus.seen.is_some() {
-            return Progress {
-                done: done + 1,
-                stop,
-            };
-        }
+        done += 1;
     }
     Progress {
-        done: count,
+        done,
         stop: Stop::Next,
     }
 }
 
-/// `near_steps` over a bus of its own, with the access behind which it left the loop.
+/// `near_steps` over a bus of its own, of registers that are taken apart for it, with the access behind which it left the loop.
 fn run_near(regs: &mut Regs, watch: &mut Watch<'_>, near: Near, count: u32) -> NearRun
     ensures left { Left count watch.old.mode watch.old.owners.now regs.old watch.old.mem.now (first_stray watch.old) near
         result.progress.done result.progress.stop regs.new watch.new.mem.now (first_stray watch.new) (listed result.seen) }
@@ -71,8 +69,12 @@ fn run_near(regs: &mut Regs, watch: &mut Watch<'_>, near: Near, count: u32) -> N
         bus: watch,
         near,
         seen: None,
+        end: count,
     };
-    let progress = near_steps(regs, &mut bus, count);
+    let mut pc = regs.pc;
+    let mut x = RegisterFile::of(&regs.x);
+    let progress = near_steps(&mut pc, &mut x, &mut bus);
+    *regs = Regs { pc, x: x.array() };
     NearRun {
         progress,
         seen: bus.seen,

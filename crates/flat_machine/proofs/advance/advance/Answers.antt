@@ -15,8 +15,8 @@ index-requires g c =
     let h = has_space (kept_of c.parts.inside) c.args.pid c.get_mut-task.result.now c.parts.invariant.0.0 c.get_mut-task.ensures.value in
     omega (arith, below c.parts.inside.spaces.items c.get_mut-task.result.now.space h)
 
-pub with_window-watch-requires-clause-paged : goal.with_window-watch-requires-clause-paged
-with_window-watch-requires-clause-paged g c =
+pub with_windows-watch-requires-clause-paged : goal.with_windows-watch-requires-clause-paged
+with_windows-watch-requires-clause-paged g c =
     space_paged (kept_of c.parts.inside) c.args.pid c.get_mut-task.result.now c.index.result.now c.in-Some.space c.owners.result.now c.parts.invariant.0.0
     c.get_mut-task.ensures.value c.index.ensures c.in-Some.is c.owners.ensures.pages
 
@@ -24,10 +24,10 @@ pub invariant_of-parts : goal.invariant_of-parts
 invariant_of-parts g c =
     let ready = subst (λ (k : Kept). CanRun k.procs c.args.pid) (sym c.parts.view_is) c.requires.ready in
     let strayed = rw (← c.parts.view_is) at c.requires.strayed in (
-      rw (c.pass.ensures) ((advances c.args.reach (kept_of c.parts.inside) c.args.pid c.args.count c.get_mut-task.result.now c.index.result.now c.in-Some.space c.with_window-watch.result.mode c.owners.result.now
-          c.with_window-watch.result.owners.now c.with_window-watch.result.mem.now c.run_watched-progress.new.watch.mem.now c.run_watched-progress.new.regs c.run_watched-progress.result.done c.run_watched-progress.result.stop
+      rw (c.pass.ensures) ((advances c.args.reach (kept_of c.parts.inside) c.args.pid c.args.count c.get_mut-task.result.now c.index.result.now c.in-Some.space c.with_windows-watch.result.mode c.owners.result.now
+          c.with_windows-watch.result.owners.now c.with_windows-watch.result.mem.now c.run_watched-progress.new.watch.mem.now c.run_watched-progress.new.regs c.run_watched-progress.result.done c.run_watched-progress.result.stop
           c.parts.invariant.0 ready strayed c.get_mut-task.ensures.value c.index.ensures c.in-Some.is
-          c.owners.ensures.own c.owners.ensures.writable c.owners.ensures.pages (c.with_window-watch.ensures.mode ∙ c.mode_within.ensures) c.with_window-watch.ensures.owners c.with_window-watch.ensures.mem
+          c.owners.ensures.own c.owners.ensures.writable c.owners.ensures.pages (c.with_windows-watch.ensures.mode ∙ c.mode_within.ensures) c.with_windows-watch.ensures.owners c.with_windows-watch.ensures.mem
           c.run_watched-progress.ensures.leaves c.run_watched-progress.ensures.frozen c.run_watched-progress.ensures.length).regular),
       c.parts.invariant.1,
     )
@@ -36,28 +36,28 @@ pub returns-in-Some-clause-ready : goal.returns-in-Some-clause-ready
 returns-in-Some-clause-ready g c =
     let ready = subst (λ (k : Kept). CanRun k.procs c.args.pid) (sym c.parts.view_is) c.requires.ready in
     let strayed = rw (← c.parts.view_is) at c.requires.strayed in
-    (advances c.args.reach (kept_of c.parts.inside) c.args.pid c.args.count c.get_mut-task.result.now c.index.result.now c.in-Some.space c.with_window-watch.result.mode c.owners.result.now
-    c.with_window-watch.result.owners.now c.with_window-watch.result.mem.now c.run_watched-progress.new.watch.mem.now c.run_watched-progress.new.regs c.run_watched-progress.result.done c.run_watched-progress.result.stop
+    (advances c.args.reach (kept_of c.parts.inside) c.args.pid c.args.count c.get_mut-task.result.now c.index.result.now c.in-Some.space c.with_windows-watch.result.mode c.owners.result.now
+    c.with_windows-watch.result.owners.now c.with_windows-watch.result.mem.now c.run_watched-progress.new.watch.mem.now c.run_watched-progress.new.regs c.run_watched-progress.result.done c.run_watched-progress.result.stop
     c.parts.invariant.0 ready strayed c.get_mut-task.ensures.value c.index.ensures c.in-Some.is
-    c.owners.ensures.own c.owners.ensures.writable c.owners.ensures.pages (c.with_window-watch.ensures.mode ∙ c.mode_within.ensures) c.with_window-watch.ensures.owners c.with_window-watch.ensures.mem
+    c.owners.ensures.own c.owners.ensures.writable c.owners.ensures.pages (c.with_windows-watch.ensures.mode ∙ c.mode_within.ensures) c.with_windows-watch.ensures.owners c.with_windows-watch.ensures.mem
     c.run_watched-progress.ensures.leaves c.run_watched-progress.ensures.frozen c.run_watched-progress.ensures.length).ready
 
 pub returns-in-Some-clause-within : goal.returns-in-Some-clause-within
 returns-in-Some-clause-within g c =
     let ready = subst (λ (k : Kept). CanRun k.procs c.args.pid) (sym c.parts.view_is) c.requires.ready in
     let strayed = rw (← c.parts.view_is) at c.requires.strayed in
-    (advances c.args.reach (kept_of c.parts.inside) c.args.pid c.args.count c.get_mut-task.result.now c.index.result.now c.in-Some.space c.with_window-watch.result.mode c.owners.result.now
-    c.with_window-watch.result.owners.now c.with_window-watch.result.mem.now c.run_watched-progress.new.watch.mem.now c.run_watched-progress.new.regs c.run_watched-progress.result.done c.run_watched-progress.result.stop
+    (advances c.args.reach (kept_of c.parts.inside) c.args.pid c.args.count c.get_mut-task.result.now c.index.result.now c.in-Some.space c.with_windows-watch.result.mode c.owners.result.now
+    c.with_windows-watch.result.owners.now c.with_windows-watch.result.mem.now c.run_watched-progress.new.watch.mem.now c.run_watched-progress.new.regs c.run_watched-progress.result.done c.run_watched-progress.result.stop
     c.parts.invariant.0 ready strayed c.get_mut-task.ensures.value c.index.ensures c.in-Some.is
-    c.owners.ensures.own c.owners.ensures.writable c.owners.ensures.pages (c.with_window-watch.ensures.mode ∙ c.mode_within.ensures) c.with_window-watch.ensures.owners c.with_window-watch.ensures.mem
+    c.owners.ensures.own c.owners.ensures.writable c.owners.ensures.pages (c.with_windows-watch.ensures.mode ∙ c.mode_within.ensures) c.with_windows-watch.ensures.owners c.with_windows-watch.ensures.mem
     c.run_watched-progress.ensures.leaves c.run_watched-progress.ensures.frozen c.run_watched-progress.ensures.length).within
 
 pub returns-in-Some-clause-still : goal.returns-in-Some-clause-still
 returns-in-Some-clause-still g c none =
     let v = c.parts.view_is in
-    rw (← v, c.pass.ensures) (none_done c.args.reach (kept_of c.parts.inside) c.args.pid c.args.count c.get_mut-task.result.now c.in-Some.space c.with_window-watch.result.mode c.owners.result.now
-    c.with_window-watch.result.owners.now c.with_window-watch.result.mem.now c.run_watched-progress.new.watch.mem.now c.run_watched-progress.new.regs c.run_watched-progress.result.done c.run_watched-progress.result.stop
-    c.get_mut-task.ensures.value c.owners.ensures.own c.owners.ensures.writable (c.with_window-watch.ensures.mode ∙ c.mode_within.ensures) c.with_window-watch.ensures.owners c.with_window-watch.ensures.mem
+    rw (← v, c.pass.ensures) (none_done c.args.reach (kept_of c.parts.inside) c.args.pid c.args.count c.get_mut-task.result.now c.in-Some.space c.with_windows-watch.result.mode c.owners.result.now
+    c.with_windows-watch.result.owners.now c.with_windows-watch.result.mem.now c.run_watched-progress.new.watch.mem.now c.run_watched-progress.new.regs c.run_watched-progress.result.done c.run_watched-progress.result.stop
+    c.get_mut-task.ensures.value c.owners.ensures.own c.owners.ensures.writable (c.with_windows-watch.ensures.mode ∙ c.mode_within.ensures) c.with_windows-watch.ensures.owners c.with_windows-watch.ensures.mem
     c.run_watched-progress.ensures.leaves c.run_watched-progress.ensures.frozen none)
 
 pub returns-in-Some-clause-leads : goal.returns-in-Some-clause-leads
@@ -65,20 +65,20 @@ returns-in-Some-clause-leads g c =
     let v = c.parts.view_is in
     let ready = subst (λ (k : Kept). CanRun k.procs c.args.pid) (sym c.parts.view_is) c.requires.ready in
     let strayed = rw (← c.parts.view_is) at c.requires.strayed in
-    rw (← v, c.pass.ensures) (advances c.args.reach (kept_of c.parts.inside) c.args.pid c.args.count c.get_mut-task.result.now c.index.result.now c.in-Some.space c.with_window-watch.result.mode c.owners.result.now
-    c.with_window-watch.result.owners.now c.with_window-watch.result.mem.now c.run_watched-progress.new.watch.mem.now c.run_watched-progress.new.regs c.run_watched-progress.result.done c.run_watched-progress.result.stop
+    rw (← v, c.pass.ensures) (advances c.args.reach (kept_of c.parts.inside) c.args.pid c.args.count c.get_mut-task.result.now c.index.result.now c.in-Some.space c.with_windows-watch.result.mode c.owners.result.now
+    c.with_windows-watch.result.owners.now c.with_windows-watch.result.mem.now c.run_watched-progress.new.watch.mem.now c.run_watched-progress.new.regs c.run_watched-progress.result.done c.run_watched-progress.result.stop
     c.parts.invariant.0 ready strayed c.get_mut-task.ensures.value c.index.ensures c.in-Some.is
-    c.owners.ensures.own c.owners.ensures.writable c.owners.ensures.pages (c.with_window-watch.ensures.mode ∙ c.mode_within.ensures) c.with_window-watch.ensures.owners c.with_window-watch.ensures.mem
+    c.owners.ensures.own c.owners.ensures.writable c.owners.ensures.pages (c.with_windows-watch.ensures.mode ∙ c.mode_within.ensures) c.with_windows-watch.ensures.owners c.with_windows-watch.ensures.mem
     c.run_watched-progress.ensures.leaves c.run_watched-progress.ensures.frozen c.run_watched-progress.ensures.length).leads
 
 pub returns-in-Some-clause-halts : goal.returns-in-Some-clause-halts
 returns-in-Some-clause-halts g c =
     let ready = subst (λ (k : Kept). CanRun k.procs c.args.pid) (sym c.parts.view_is) c.requires.ready in
     let strayed = rw (← c.parts.view_is) at c.requires.strayed in
-    rw (c.pass.ensures) ((advances c.args.reach (kept_of c.parts.inside) c.args.pid c.args.count c.get_mut-task.result.now c.index.result.now c.in-Some.space c.with_window-watch.result.mode c.owners.result.now
-    c.with_window-watch.result.owners.now c.with_window-watch.result.mem.now c.run_watched-progress.new.watch.mem.now c.run_watched-progress.new.regs c.run_watched-progress.result.done c.run_watched-progress.result.stop
+    rw (c.pass.ensures) ((advances c.args.reach (kept_of c.parts.inside) c.args.pid c.args.count c.get_mut-task.result.now c.index.result.now c.in-Some.space c.with_windows-watch.result.mode c.owners.result.now
+    c.with_windows-watch.result.owners.now c.with_windows-watch.result.mem.now c.run_watched-progress.new.watch.mem.now c.run_watched-progress.new.regs c.run_watched-progress.result.done c.run_watched-progress.result.stop
     c.parts.invariant.0 ready strayed c.get_mut-task.ensures.value c.index.ensures c.in-Some.is
-    c.owners.ensures.own c.owners.ensures.writable c.owners.ensures.pages (c.with_window-watch.ensures.mode ∙ c.mode_within.ensures) c.with_window-watch.ensures.owners c.with_window-watch.ensures.mem
+    c.owners.ensures.own c.owners.ensures.writable c.owners.ensures.pages (c.with_windows-watch.ensures.mode ∙ c.mode_within.ensures) c.with_windows-watch.ensures.owners c.with_windows-watch.ensures.mem
     c.run_watched-progress.ensures.leaves c.run_watched-progress.ensures.frozen c.run_watched-progress.ensures.length).halts)
 
 pub returns-in-Some-clause-leads_in : goal.returns-in-Some-clause-leads_in
@@ -86,20 +86,20 @@ returns-in-Some-clause-leads_in g c =
     let v = c.parts.view_is in
     let ready = subst (λ (k : Kept). CanRun k.procs c.args.pid) (sym c.parts.view_is) c.requires.ready in
     let strayed = rw (← c.parts.view_is) at c.requires.strayed in
-    rw (← v, c.pass.ensures) (advances c.args.reach (kept_of c.parts.inside) c.args.pid c.args.count c.get_mut-task.result.now c.index.result.now c.in-Some.space c.with_window-watch.result.mode c.owners.result.now
-    c.with_window-watch.result.owners.now c.with_window-watch.result.mem.now c.run_watched-progress.new.watch.mem.now c.run_watched-progress.new.regs c.run_watched-progress.result.done c.run_watched-progress.result.stop
+    rw (← v, c.pass.ensures) (advances c.args.reach (kept_of c.parts.inside) c.args.pid c.args.count c.get_mut-task.result.now c.index.result.now c.in-Some.space c.with_windows-watch.result.mode c.owners.result.now
+    c.with_windows-watch.result.owners.now c.with_windows-watch.result.mem.now c.run_watched-progress.new.watch.mem.now c.run_watched-progress.new.regs c.run_watched-progress.result.done c.run_watched-progress.result.stop
     c.parts.invariant.0 ready strayed c.get_mut-task.ensures.value c.index.ensures c.in-Some.is
-    c.owners.ensures.own c.owners.ensures.writable c.owners.ensures.pages (c.with_window-watch.ensures.mode ∙ c.mode_within.ensures) c.with_window-watch.ensures.owners c.with_window-watch.ensures.mem
+    c.owners.ensures.own c.owners.ensures.writable c.owners.ensures.pages (c.with_windows-watch.ensures.mode ∙ c.mode_within.ensures) c.with_windows-watch.ensures.owners c.with_windows-watch.ensures.mem
     c.run_watched-progress.ensures.leaves c.run_watched-progress.ensures.frozen c.run_watched-progress.ensures.length).leads_in
 
 pub returns-in-Some-clause-halts_in : goal.returns-in-Some-clause-halts_in
 returns-in-Some-clause-halts_in g c =
     let ready = subst (λ (k : Kept). CanRun k.procs c.args.pid) (sym c.parts.view_is) c.requires.ready in
     let strayed = rw (← c.parts.view_is) at c.requires.strayed in
-    rw (c.pass.ensures) ((advances c.args.reach (kept_of c.parts.inside) c.args.pid c.args.count c.get_mut-task.result.now c.index.result.now c.in-Some.space c.with_window-watch.result.mode c.owners.result.now
-    c.with_window-watch.result.owners.now c.with_window-watch.result.mem.now c.run_watched-progress.new.watch.mem.now c.run_watched-progress.new.regs c.run_watched-progress.result.done c.run_watched-progress.result.stop
+    rw (c.pass.ensures) ((advances c.args.reach (kept_of c.parts.inside) c.args.pid c.args.count c.get_mut-task.result.now c.index.result.now c.in-Some.space c.with_windows-watch.result.mode c.owners.result.now
+    c.with_windows-watch.result.owners.now c.with_windows-watch.result.mem.now c.run_watched-progress.new.watch.mem.now c.run_watched-progress.new.regs c.run_watched-progress.result.done c.run_watched-progress.result.stop
     c.parts.invariant.0 ready strayed c.get_mut-task.ensures.value c.index.ensures c.in-Some.is
-    c.owners.ensures.own c.owners.ensures.writable c.owners.ensures.pages (c.with_window-watch.ensures.mode ∙ c.mode_within.ensures) c.with_window-watch.ensures.owners c.with_window-watch.ensures.mem
+    c.owners.ensures.own c.owners.ensures.writable c.owners.ensures.pages (c.with_windows-watch.ensures.mode ∙ c.mode_within.ensures) c.with_windows-watch.ensures.owners c.with_windows-watch.ensures.mem
     c.run_watched-progress.ensures.leaves c.run_watched-progress.ensures.frozen c.run_watched-progress.ensures.length).halts_in)
 
 pub invariant_of-parts-in-None : goal.invariant_of-parts-in-None
@@ -136,16 +136,16 @@ returns-in-Some-clause-hits g c =
     let ready = subst (λ (k : Kept). CanRun k.procs c.args.pid) (sym c.parts.view_is) c.requires.ready in
     let strayed = rw (← c.parts.view_is) at c.requires.strayed in
     let advanced =
-    (advances c.args.reach (kept_of c.parts.inside) c.args.pid c.args.count c.get_mut-task.result.now c.index.result.now c.in-Some.space c.with_window-watch.result.mode c.owners.result.now
-    c.with_window-watch.result.owners.now c.with_window-watch.result.mem.now c.run_watched-progress.new.watch.mem.now c.run_watched-progress.new.regs c.run_watched-progress.result.done c.run_watched-progress.result.stop
+    (advances c.args.reach (kept_of c.parts.inside) c.args.pid c.args.count c.get_mut-task.result.now c.index.result.now c.in-Some.space c.with_windows-watch.result.mode c.owners.result.now
+    c.with_windows-watch.result.owners.now c.with_windows-watch.result.mem.now c.run_watched-progress.new.watch.mem.now c.run_watched-progress.new.regs c.run_watched-progress.result.done c.run_watched-progress.result.stop
     c.parts.invariant.0 ready strayed c.get_mut-task.ensures.value c.index.ensures c.in-Some.is
-    c.owners.ensures.own c.owners.ensures.writable c.owners.ensures.pages (c.with_window-watch.ensures.mode ∙ c.mode_within.ensures) c.with_window-watch.ensures.owners c.with_window-watch.ensures.mem
+    c.owners.ensures.own c.owners.ensures.writable c.owners.ensures.pages (c.with_windows-watch.ensures.mode ∙ c.mode_within.ensures) c.with_windows-watch.ensures.owners c.with_windows-watch.ensures.mem
     c.run_watched-progress.ensures.leaves c.run_watched-progress.ensures.frozen c.run_watched-progress.ensures.length) in
     rw (← v, c.pass.ensures) (advance_hits (kind_of_point c.args.watcher.now.point.now) c.args.watcher.now.spans.now c.args.hits.now c.run_watched-progress.new.hits c.args.reach (kept_of c.parts.inside) c.args.pid c.args.count
-    c.get_mut-task.result.now c.index.result.now c.in-Some.space c.with_window-watch.result.mode c.owners.result.now
-    c.with_window-watch.result.owners.now c.with_window-watch.result.mem.now c.run_watched-progress.new.watch.mem.now c.run_watched-progress.new.regs c.run_watched-progress.result.done c.run_watched-progress.result.stop
+    c.get_mut-task.result.now c.index.result.now c.in-Some.space c.with_windows-watch.result.mode c.owners.result.now
+    c.with_windows-watch.result.owners.now c.with_windows-watch.result.mem.now c.run_watched-progress.new.watch.mem.now c.run_watched-progress.new.regs c.run_watched-progress.result.done c.run_watched-progress.result.stop
     c.run_watched-progress.ensures.hits advanced c.parts.invariant.0 strayed c.get_mut-task.ensures.value c.index.ensures c.in-Some.is
-    c.owners.ensures.own c.owners.ensures.writable c.owners.ensures.pages (c.with_window-watch.ensures.mode ∙ c.mode_within.ensures) c.with_window-watch.ensures.owners c.with_window-watch.ensures.mem
+    c.owners.ensures.own c.owners.ensures.writable c.owners.ensures.pages (c.with_windows-watch.ensures.mode ∙ c.mode_within.ensures) c.with_windows-watch.ensures.owners c.with_windows-watch.ensures.mem
     c.run_watched-progress.ensures.leaves c.run_watched-progress.ensures.frozen c.run_watched-progress.ensures.length).own
 
 pub returns-in-Some-clause-hits_in : goal.returns-in-Some-clause-hits_in
@@ -154,16 +154,16 @@ returns-in-Some-clause-hits_in g c =
     let ready = subst (λ (k : Kept). CanRun k.procs c.args.pid) (sym c.parts.view_is) c.requires.ready in
     let strayed = rw (← c.parts.view_is) at c.requires.strayed in
     let advanced =
-    (advances c.args.reach (kept_of c.parts.inside) c.args.pid c.args.count c.get_mut-task.result.now c.index.result.now c.in-Some.space c.with_window-watch.result.mode c.owners.result.now
-    c.with_window-watch.result.owners.now c.with_window-watch.result.mem.now c.run_watched-progress.new.watch.mem.now c.run_watched-progress.new.regs c.run_watched-progress.result.done c.run_watched-progress.result.stop
+    (advances c.args.reach (kept_of c.parts.inside) c.args.pid c.args.count c.get_mut-task.result.now c.index.result.now c.in-Some.space c.with_windows-watch.result.mode c.owners.result.now
+    c.with_windows-watch.result.owners.now c.with_windows-watch.result.mem.now c.run_watched-progress.new.watch.mem.now c.run_watched-progress.new.regs c.run_watched-progress.result.done c.run_watched-progress.result.stop
     c.parts.invariant.0 ready strayed c.get_mut-task.ensures.value c.index.ensures c.in-Some.is
-    c.owners.ensures.own c.owners.ensures.writable c.owners.ensures.pages (c.with_window-watch.ensures.mode ∙ c.mode_within.ensures) c.with_window-watch.ensures.owners c.with_window-watch.ensures.mem
+    c.owners.ensures.own c.owners.ensures.writable c.owners.ensures.pages (c.with_windows-watch.ensures.mode ∙ c.mode_within.ensures) c.with_windows-watch.ensures.owners c.with_windows-watch.ensures.mem
     c.run_watched-progress.ensures.leaves c.run_watched-progress.ensures.frozen c.run_watched-progress.ensures.length) in
     rw (← v, c.pass.ensures) (advance_hits (kind_of_point c.args.watcher.now.point.now) c.args.watcher.now.spans.now c.args.hits.now c.run_watched-progress.new.hits c.args.reach (kept_of c.parts.inside) c.args.pid c.args.count
-    c.get_mut-task.result.now c.index.result.now c.in-Some.space c.with_window-watch.result.mode c.owners.result.now
-    c.with_window-watch.result.owners.now c.with_window-watch.result.mem.now c.run_watched-progress.new.watch.mem.now c.run_watched-progress.new.regs c.run_watched-progress.result.done c.run_watched-progress.result.stop
+    c.get_mut-task.result.now c.index.result.now c.in-Some.space c.with_windows-watch.result.mode c.owners.result.now
+    c.with_windows-watch.result.owners.now c.with_windows-watch.result.mem.now c.run_watched-progress.new.watch.mem.now c.run_watched-progress.new.regs c.run_watched-progress.result.done c.run_watched-progress.result.stop
     c.run_watched-progress.ensures.hits advanced c.parts.invariant.0 strayed c.get_mut-task.ensures.value c.index.ensures c.in-Some.is
-    c.owners.ensures.own c.owners.ensures.writable c.owners.ensures.pages (c.with_window-watch.ensures.mode ∙ c.mode_within.ensures) c.with_window-watch.ensures.owners c.with_window-watch.ensures.mem
+    c.owners.ensures.own c.owners.ensures.writable c.owners.ensures.pages (c.with_windows-watch.ensures.mode ∙ c.mode_within.ensures) c.with_windows-watch.ensures.owners c.with_windows-watch.ensures.mem
     c.run_watched-progress.ensures.leaves c.run_watched-progress.ensures.frozen c.run_watched-progress.ensures.length).memory
 
 pub returns-in-None-clause-hits : goal.returns-in-None-clause-hits
