@@ -69,7 +69,7 @@ module _ {A : Type 0} (of : World → A) (keeps : (w : World) (i : ℕ) (l : Loa
   kept_all (s ∷ ss) w now is =
       kept_then (started w s) w (λ v. all_started v ss) now (λ v first. kept_located w s (found w.rest (path_of s)) v first) (λ v. kept_all ss v now) is
 
-  kept_boot : (rest : Rest) (starts : List StartLine) (w : World) → boot rest starts ≡ Ok w → of w ≡ of (empty_world rest)
+  pub kept_boot : (rest : Rest) (starts : List StartLine) (w : World) → boot rest starts ≡ Ok w → of w ≡ of (empty_world rest)
   unfolding boot
   kept_boot rest starts w is = kept_all starts (empty_world rest) w is
 

@@ -33,7 +33,7 @@ use Rattle.suite_top.specs.declared.telling.Telling.TheVariants.{Report, Trace}
 use Rattle.suite_top.specs.Telling.{told_ending}
 use Rattle.suite_top.specs.Result.{command_outcome, result_of}
 use Rattle.suite_top.specs.StatusLaws.{IsOneText, TextsAreApart, RefutedIsOfReplay, UsageIsExact}
-use Rattle.suite_top.proofs.RunOutcomes.{kept_by, run_by, demo_by, told_status}
+use Rattle.suite_top.proofs.RunOutcomes.{run_by, demo_by, told_status}
 use Rattle.suite_top.proofs.ImageOutcomes.{romfs_by}
 use Rattle.suite_top.proofs.ReplayOutcomes.{replay_by}
 
@@ -82,7 +82,7 @@ module _ (P : Ending → Type 0) (read : (name : List ℕ) → P (failure_ending
   module _ (told : (telling : Telling) (dumped : List ℕ) (w : World) (end : Option End) → P (told_ending telling dumped w end)) where
     pub invoked : (k : Invocation) (inputs : Inputs) → (IsReplay k → (text : List ℕ) → P (refuted_ending text)) → P (command_outcome (Some k) inputs).ending
     invoked (run manifest log mode kind kept watch) inputs refuted =
-        run_by (λ (o : Outcome). P o.ending) refused kept (λ telling shown w end. kept_by P kept w _ (told telling shown w end)) (λ name o p. p) read manifest (Report log watch) mode kind inputs
+        run_by (λ (o : Outcome). P o.ending) refused kept told (λ name o p. p) read manifest (Report log watch) mode kind inputs
     invoked (trace manifest pid counted kind) inputs refuted = run_by (λ (o : Outcome). P o.ending) refused None told (λ name o p. p) read manifest (Trace pid counted) Halt kind inputs
     invoked (demo programs) inputs refuted = demo_by (λ (o : Outcome). P o.ending) refused told programs
     invoked (convert elf flt stack) inputs refuted = other_than_run (convert elf flt stack) inputs tt refuted

@@ -17,7 +17,7 @@ use Rattle.file_commands.specs.declared.status.Status.{Status}
 use Rattle.file_commands.specs.declared.status.Status.TheVariants.{Done, Stray, OutOfQuanta, LogFull, Stuck}
 use Rattle.file_commands.specs.Texts.Refusals.{manifest_tail, line_tail}
 use Rattle.file_commands.specs.Arguments.{Kept}
-use Rattle.file_commands.specs.Ending.{Ending, refused_ending}
+use Rattle.file_commands.specs.Ending.{refused_ending}
 use Rattle.file_commands.specs.Outcome.{load, failure_ending, Outcome, Inputs, after}
 use Rattle.file_commands.specs.Load.{at_once}
 use Rattle.run_setup.specs.Brought.{Brought, FaultAt, nothing_brought, all_brought}
@@ -33,11 +33,6 @@ use Rattle.file_commands.specs.Manifests.{manifest_limit}
 use Rattle.suite_top.proofs.LoadOutcomes.{load_run, items_run}
 use Rattle.suite_top.specs.Kept.{keep_of, kept_outcome}
 use Rattle.suite_top.specs.Run.{start_line, opening, boot_fault, world_hits, memory_hits, mode_outcome, booted_outcome, brought_outcome, files_outcome, manifest_outcome, run_outcome}
-
--- what a machine tells that stopped, whether it keeps items or not
-pub kept_by : (P : Ending → Type 0) (kept : Option Kept) (w : World) (ending : Ending) → P ending → P (kept_outcome kept w ending).ending
-kept_by P None w ending p = p
-kept_by P (Some k) w ending p = p
 
 -- what holds of each end
 module _ (P : Outcome → Type 0) (refused : (tail : List ℕ) → P (at_once (refused_ending tail))) (kept : Option Kept)
