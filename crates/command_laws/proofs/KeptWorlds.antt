@@ -1,6 +1,7 @@
 -- Whose space a world records stays the same along a run, and each event is one event more at most.
-use Rattle.std.proofs.Common.{◌≡◌, ℕ, zero, suc, ◌+◌, ◌*◌, ◌≤◌, Bool, true, false, List, [], ◌∷◌, ◌++◌, Option, Some, None, Result, Ok, refl, sym, ap, ◌∙◌, arith}
+use Rattle.std.proofs.Common.{◌≡◌, ℕ, zero, suc, ◌+◌, ◌*◌, ◌≤◌, Bool, true, false, List, [], ◌∷◌, ◌++◌, Option, Some, None, arith}
 use Rattle.std.specs.Prelude.{sum_by, if◌then◌else◌}
+use Rattle.std.proofs.Math.Nat.{suc-mul}
 use Rattle.std.proofs.lemmas.List.Sums.{sum_by-cons, sum_by-append}
 use Rattle.quantum_sched.specs.declared.Quantum.{Quantum}
 use Rattle.quantum_sched.specs.Picked.{picked}
@@ -126,7 +127,7 @@ counts_repeated zero quanta = omega arith
 counts_repeated (suc n) quanta =
     let split : counts (quanta ++ repeated n quanta) ≡ counts quanta + counts (repeated n quanta) = sum_by-append (λ (q : Quantum). q.count) quanta (repeated n quanta) in
     let again = counts_repeated n quanta in
-    split ∙ ap (λ m. counts quanta + m) again ∙ (omega arith)
+    omega (arith, split, again, suc-mul n (counts quanta))
 
 pub events_most : (n : ℕ) (quanta : List Quantum) (w : World) → (turns (repeated n quanta) w).world.events ≤ w.events + n * counts quanta
 events_most n quanta w = let most = turns_add (repeated n quanta) w in let is = counts_repeated n quanta in omega (arith, most, is)

@@ -1,5 +1,5 @@
 -- What a run with `--items N FILE` does: the items of the stay of load note N become the file FILE.
-use Rattle.std.specs.Prelude.{◌≡◌, ℕ, zero, suc, Bool, List, map, Option, Some, None, option_map, slice_get}
+use Rattle.std.specs.Prelude.{◌≡◌, ◌⊎◌, ℕ, zero, suc, Bool, List, map, Option, Some, None, option_map, slice_get}
 use Rattle.std.specs.FinMap.{insert}
 use Rattle.host_io.specs.Host.{Told}
 use Rattle.page_runs.specs.declared.place.Kind.{Kind}
@@ -8,9 +8,11 @@ use Rattle.watch_points.specs.declared.point.PointKind.{PointKind}
 use Rattle.items_text.specs.Items.{ItemsValue}
 use Rattle.recorded_items.specs.Recorded.{told_item}
 use Rattle.stays_laws.specs.Stays.{Stay}
-use Rattle.file_commands.specs.Outcome.{Inputs}
+use Rattle.file_commands.specs.Outcome.{Outcome, Inputs}
 use Rattle.file_commands.specs.Arguments.{Kept, run, command_of}
+use Rattle.suite_top.specs.declared.telling.Telling.TheVariants.{Report}
 use Rattle.suite_top.specs.Kept.{text_or_none, kept_text}
+use Rattle.suite_top.specs.Run.{run_outcome}
 use Rattle.suite_top.specs.Call.{Call, OverFiles}
 use Rattle.command_laws.specs.Booted.{booted_stays}
 use Rattle.command_laws.specs.RunLaws.{Opens, IsStop}
@@ -42,6 +44,16 @@ stay_text {keep = keep} o = text_or_none (option_map items_of_stay (stay_at keep
 -- what the world records behind the turns is that text
 abbrev pub TextsAreOfStays : Type 0
 TextsAreOfStays = (inputs : Inputs) (name : List ℕ) (keep : ℕ) (kind : Kind) (o : Opens inputs name keep kind) → kept_text (halting o).world ≡ stay_text o
+
+-- ---- beside the same run without it
+
+-- both reach their machine, or they are the same
+abbrev pub EndsAlike : (without with_it : Outcome) → Type 0
+EndsAlike without with_it = (IsStop without.ending.status × IsStop with_it.ending.status) ⊎ (with_it ≡ without)
+
+abbrev pub KeepingEndsEarlyAlike : Type 0
+KeepingEndsEarlyAlike = (name : List ℕ) (log : Bool) (kind : Kind) (kept : Kept) (watch : Option PointKind) (inputs : Inputs)
+    → EndsAlike (run_outcome name None (Report log watch) Halt kind inputs) (run_outcome name (Some kept) (Report log watch) Halt kind inputs)
 
 -- ---- a call, over a host that tells its files
 

@@ -270,11 +270,13 @@ fn read_placed<'a>(
 ) -> Option<Command<'a>>
     ensures { option_map invocation result ≡ placed_of manifest.now log mode (map string_bytes words.now) }
 {
-    let (kind, last) = match words {
-        [option, word, last @ ..] if option.as_str() == "--place" => (read_kind(word)?, last),
-        _ => (Kind::First, words),
-    };
-    read_kept(manifest, log, mode, kind, last)
+    match words {
+        [option, word, last @ ..] if option.as_str() == "--place" => {
+            let kind = read_kind(word)?;
+            read_kept(manifest, log, mode, kind, last)
+        }
+        _ => read_kept(manifest, log, mode, Kind::First, words),
+    }
 }
 
 /// The words behind `run MANIFEST`, and behind `--log`.

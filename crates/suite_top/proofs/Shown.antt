@@ -54,9 +54,9 @@ shows_memory : (s : State) (dumps : List Dump) → s.mode ≡ GoOn → dumps_of 
 shows_memory s dumps is = ap (λ (mode : Mode). dumps_of (in_mode s mode) dumps) is
 
 -- an answer, if there is one, with the machine behind it
-stopped : (result : Result Answer AllocError) (ending : Ending) (w : World) (s : State) → HasEnding ending result → world s ≡ w → IfOk result (Stopped ending w s)
-stopped (Ok answer) ending w s tells stands = record { tells = tells; stands = stands }
-stopped (Err error) ending w s tells stands = tt
+with_machine : (result : Result Answer AllocError) (ending : Ending) (w : World) (s : State) → HasEnding ending result → world s ≡ w → IfOk result (Stopped ending w s)
+with_machine (Ok answer) ending w s tells stands = record { tells = tells; stands = stands }
+with_machine (Err error) ending w s tells stands = tt
 
 -- what it tells of its run, with this text of its hits in front of its dumps
 module _ (telling : Telling) (quanta : List Quantum) (watched : List ℕ) (dumps : List Dump) (old new : State) (stays : new.mode ≡ old.mode) (end : Told) (result : Result Answer AllocError)
@@ -71,7 +71,7 @@ module _ (telling : Telling) (quanta : List Quantum) (watched : List ℕ) (dumps
       let tells : HasEnding (walked_ending telling watched dumps walk) result =
       subst (λ (w : World). HasEnding (told_ending telling (watched ++ own_dumps w dumps) w walk.end) result) world_is
       (subst (λ (dumped : List ℕ). HasEnding (told_ending telling (watched ++ dumped) (world new) walk.end) result) (shows_own new dumps (stays ∙ is)) (told walk.end ends)) in
-      stopped result (walked_ending telling watched dumps walk) walk.world new tells world_is
+      with_machine result (walked_ending telling watched dumps walk) walk.world new tells world_is
 
   goes_on : old.mode ≡ GoOn → (old.mode ≡ GoOn → RunsIn quanta old new (Ok end))
       → Stops (walked_on_ending telling watched dumps (physical_turns quanta (one_memory old))) (physical_turns quanta (one_memory old)).now.world
@@ -82,7 +82,7 @@ module _ (telling : Telling) (quanta : List Quantum) (watched : List ℕ) (dumps
       let tells : HasEnding (walked_on_ending telling watched dumps walk) result =
       subst (λ (p : Physical). HasEnding (told_ending telling (watched ++ memory_dumps p dumps) p.world walk.end) result) (sym memory_is)
       (subst (λ (dumped : List ℕ). HasEnding (told_ending telling (watched ++ dumped) (world new) walk.end) result) (shows_memory new dumps (stays ∙ is)) (told walk.end ends)) in
-      stopped result (walked_on_ending telling watched dumps walk) walk.now.world new tells (ap (λ (p : Physical). p.world) (sym memory_is))
+      with_machine result (walked_on_ending telling watched dumps walk) walk.now.world new tells (ap (λ (p : Physical). p.world) (sym memory_is))
 
   -- that text is the one of the definition
   pub halts_with : (watches : List WatchLine) → world_hits telling quanta watches (world old) ≡ watched

@@ -1,10 +1,14 @@
 -- The image is stored, or is too large; or the call was out of memory.
-use Rattle.std.proofs.Common.{map, refl, sym, ◌∙◌, inl, inr}
+use Rattle.std.proofs.Common.{map, refl, sym, subst, ◌∙◌, inl, inr}
 use Rattle.std.proofs.lemmas.List.{length-map}
 use Rattle.std.proofs.lemmas.Result.{err_from_is_err_and}
 use Rattle.romfs_image.specs.Code.{node_value}
 use Rattle.file_commands.specs.declared.status.Status.TheVariants as status
 use Rattle.file_commands.specs.Texts.{refused_line}
+use Rattle.file_commands.specs.Ending.{Ending}
+use Rattle.file_commands.specs.Outcome.{storing}
+use Rattle.file_commands.specs.Answer.{ending_of}
+use Rattle.file_commands.specs.HostCourse.{Performs}
 use Rattle.file_commands.specs.Texts.Images.{too_large_tail}
 use Rattle.file_commands.proofs.HostCourses.{runs_out}
 use Rattle.file_commands.proofs.Lines.{ends_with_line}

@@ -7,7 +7,7 @@ use Rattle.suite_top.proofs.kept.keep_items.Goals as goal
 
 pub returns-in_err-text-in-Some : goal.returns-in_err-text-in-Some
 returns-in_err-text-in-Some g c =
-    let p = err_from_is_err_and c.from_residual-in_err-text-in-Some.result c.from_residual-in_err-text-in-Some.ensures.1 in
+    let p = err_from_is_err_and c.from_residual.result c.from_residual.ensures.1 in
     rw p.1 (runs_out _ _ _ refl refl)
 
 pub returns-in-None : goal.returns-in-None

@@ -13,3 +13,9 @@ returns-clause-halt g c = λ is. keeps_with _ _ _ _ _ _ _ _ (c.in_ok-answer.ensu
 
 pub returns-clause-go_on : goal.returns-clause-go_on
 returns-clause-go_on g c = λ is. keeps_with _ _ _ _ _ _ _ _ (c.in_ok-answer.ensures.go_on is) c.keep_items.ensures
+
+pub returns-in_err-answer-clause-halt : goal.returns-in_err-answer-clause-halt
+returns-in_err-answer-clause-halt g c = λ is. let p = err_from_is_err_and c.from_residual.result c.from_residual.ensures.1 in rw p.1 (runs_out _ _ _ refl refl)
+
+pub returns-in_err-answer-clause-go_on : goal.returns-in_err-answer-clause-go_on
+returns-in_err-answer-clause-go_on g c = λ is. let p = err_from_is_err_and c.from_residual.result c.from_residual.ensures.1 in rw p.1 (runs_out _ _ _ refl refl)
