@@ -83,6 +83,7 @@ module _ (manifest : List ℕ) (log : Bool) (mode : Mode) where
   items_have kind words (Some kept) = told_has kind (Some kept) (watch_of words)
 
   kept_has : (kind : Kind) (words : List (List ℕ)) → HasRanges (kept_of manifest log mode kind words)
+  unfolding kept_of
   kept_has kind [] = tt
   kept_has kind (option ∷ []) = tt
   kept_has kind (option ∷ word ∷ []) = told_has kind None (watch_of (option ∷ word ∷ []))
@@ -96,21 +97,21 @@ module _ (manifest : List ℕ) (log : Bool) (mode : Mode) where
   kind_has words (Some kind) = kept_has kind words
 
   placed_has : (words : List (List ℕ)) → HasRanges (placed_of manifest log mode words)
-  placed_has [] = tt
-  placed_has (option ∷ []) = tt
+  placed_has [] = kept_has First []
+  placed_has (option ∷ []) = kept_has First (option ∷ [])
   placed_has (option ∷ word ∷ words) =
       either (bytes_eq option (codes "--place")) (option_and_then (λ kind. kept_of manifest log mode kind words) (kind_of_word word)) (kept_of manifest log mode First (option ∷ word ∷ words))
       (kind_has words (kind_of_word word)) (kept_has First (option ∷ word ∷ words))
 
 mode_has : (manifest : List ℕ) (log : Bool) (words : List (List ℕ)) → HasRanges (mode_of manifest log words)
-mode_has manifest log [] = tt
+mode_has manifest log [] = placed_has manifest log Halt []
 mode_has manifest log (option ∷ words) =
     either (bytes_eq option (codes "--go-on")) (placed_of manifest log GoOn words) (placed_of manifest log Halt (option ∷ words))
     (placed_has manifest log GoOn words) (placed_has manifest log Halt (option ∷ words))
 
 run_has : (words : List (List ℕ)) → HasRanges (run_of words)
 run_has [] = tt
-run_has (manifest ∷ []) = tt
+run_has (manifest ∷ []) = mode_has manifest false []
 run_has (manifest ∷ option ∷ words) =
     either (bytes_eq option (codes "--log")) (mode_of manifest true words) (mode_of manifest false (option ∷ words))
     (mode_has manifest true words) (mode_has manifest false (option ∷ words))

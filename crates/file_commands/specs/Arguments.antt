@@ -148,7 +148,7 @@ items_of Halt number file = option_map (λ n. record { number = n; file = file }
 items_of GoOn number file = None
 
 -- `--items N FILE` or not, and then `--watch` with its word or not
-abbrev pub kept_of : (manifest : List ℕ) (log : Bool) (mode : Mode) (kind : Kind) → List (List ℕ) → Option Invocation
+unfoldable pub kept_of : (manifest : List ℕ) (log : Bool) (mode : Mode) (kind : Kind) → List (List ℕ) → Option Invocation
 kept_of manifest log mode kind (option ∷ number ∷ file ∷ words) =
     if bytes_eq option (codes "--items") then option_and_then (λ kept. watched_of manifest log mode kind (Some kept) words) (items_of mode number file)
     else watched_of manifest log mode kind None (option ∷ number ∷ file ∷ words)

@@ -235,6 +235,7 @@ fn read_items<'a>(mode: Mode, number: &str, file: &'a str) -> Option<Kept<'a>>
 }
 
 /// The words behind `run MANIFEST`, `--log`, `--go-on` and `--place K`.
+#[tactic(auto, unfolding(crate::specs::Arguments::kept_of))]
 fn read_kept<'a>(
     manifest: &'a str,
     log: bool,

@@ -1,18 +1,14 @@
 -- The image is stored, or is too large; or the call was out of memory.
-use Rattle.std.proofs.Common.{map, refl, sym, subst, ◌∙◌, inl, inr}
+use Rattle.std.proofs.Common.{map, refl, sym, ◌∙◌, inl, inr}
 use Rattle.std.proofs.lemmas.List.{length-map}
 use Rattle.std.proofs.lemmas.Result.{err_from_is_err_and}
 use Rattle.romfs_image.specs.Code.{node_value}
 use Rattle.file_commands.specs.declared.status.Status.TheVariants as status
 use Rattle.file_commands.specs.Texts.{refused_line}
-use Rattle.file_commands.specs.Ending.{Ending}
-use Rattle.file_commands.specs.Outcome.{storing}
-use Rattle.file_commands.specs.Answer.{ending_of}
-use Rattle.file_commands.specs.HostCourse.{Performs}
 use Rattle.file_commands.specs.Texts.Images.{too_large_tail}
 use Rattle.file_commands.proofs.HostCourses.{runs_out}
 use Rattle.file_commands.proofs.Lines.{ends_with_line}
-use Rattle.file_commands.proofs.MadeImages.{stores_image, refuses_image}
+use Rattle.file_commands.proofs.MadeImages.{stores_as, stores_image, refuses_image}
 use Rattle.file_commands.proofs.romfs.store_tree.Goals as goal
 
 pub returns-in_err-nodes : goal.returns-in_err-nodes
@@ -31,7 +27,7 @@ returns-in-Ok g c =
     let made = rw c.deref.ensures.value at c.in-Ok.ensures in
     let says = rw (c.len-in-Ok.ensures, c.in-Ok.bytes.ok.0) at c.in_ok-line-in-Ok.ensures in
     let stored = rw c.deref-in-Ok.ensures.value at c.store_file.ensures in
-    let performs = subst (λ (e : Ending). Performs _ _ (storing c.args.image.now c.in-Ok.bytes.items e) (ending_of c.store_file.result)) c.done.ensures stored in
+    let performs = stores_as _ _ _ _ _ _ _ c.done.ensures stored in
     stores_image _ _ _ _ (map node_value given) _ _ c.len.result _ c.in_ok-nodes.ensures.nodes (c.len.ensures ∙ c.in_ok-nodes.nodes.ok.0 ∙ sym (length-map given node_value)) made.0 made.1 says performs
 
 pub returns-in-Err-TooLarge : goal.returns-in-Err-TooLarge
