@@ -3,3 +3,4 @@ pub mod Spelling
 pub mod Drafts
 pub mod SaidBounds
 pub mod Bounds
+pub mod ClearStarts

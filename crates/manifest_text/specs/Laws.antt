@@ -19,13 +19,21 @@ pub record IsItem (i : Item) : Type 0 where
   pub name : IsAscii i.name
   pub stack : HasStack i.kind i.stack
 
+-- no zero byte
+abbrev pub IsClear : List ℕ → Type 0
+IsClear bytes = list_all (λ b. not (b == 0)) bytes ≡ true
+
 -- the path has no zero byte
 abbrev pub HasClearPath : Item → Type 0
-HasClearPath i = list_all (λ b. not (b == 0)) i.path ≡ true
+HasClearPath i = IsClear i.path
 
 -- the first argument is the program's path
 abbrev pub HasArgument : Start → Type 0
 HasArgument s = 0 < length s.args
+
+-- no argument has a zero byte
+abbrev pub HasClearArguments : Start → Type 0
+HasClearArguments s = AllByRecursion IsClear s.args
 
 abbrev pub IsShort : Quantum → Type 0
 IsShort q = q.count ≤ 1000000
@@ -57,3 +65,7 @@ ManifestsAreReasonable = (text : Text) (m : Manifest) → manifest_of text ≡ O
 
 abbrev pub TreeManifestsAreReasonable : Type 0
 TreeManifestsAreReasonable = (text : Text) (m : Manifest) → tree_manifest_of text ≡ Ok m → Reasonable m
+
+-- no argument of a start line has a zero byte
+abbrev pub StartsAreClear : Type 0
+StartsAreClear = (text : Text) (m : Manifest) → manifest_of text ≡ Ok m → AllByRecursion HasClearArguments m.starts
