@@ -29,9 +29,9 @@ use Rattle.flat_machine.specs.Runs.{repeated}
 use Rattle.suite_top.specs.Run.{start_line, opening}
 use Rattle.command_laws.specs.Booted.{Booted, DoesAsAlone, EndsAsAlone, WaitsToTheEnd, HasWorldsInOrder, HasRegularWorlds}
 
-module _ {kind : Kind} {m : Manifest} {files : List (List ℕ)} (is : Reasonable m) (b : Booted kind m files) where
+module _ {keep : ℕ} {kind : Kind} {m : Manifest} {files : List (List ℕ)} (is : Reasonable m) (b : Booted keep kind m files) where
   abbrev rest : Rest
-  rest = opening kind m b.brought
+  rest = opening keep kind m b.brought
 
   abbrev starts : List StartLine
   starts = map start_line m.starts

@@ -100,7 +100,7 @@ with_program code = record {
 }
 
 abbrev pub rest : List ℕ → Rest
-rest code = opening First m (with_program code)
+rest code = opening 0 First m (with_program code)
 
 -- its program is loaded at the first page, and its process begins
 abbrev pub loading : List ℕ → Loading
@@ -113,7 +113,7 @@ at_first code = begun (empty_world (rest code)) 0 (loading code)
 abbrev exits : List ℕ
 exits = 0x00700513 ∷ 0x05d00893 ∷ 0x73 ∷ replicate 5 0
 
-abbrev exiting : Booted First m (flat exits ∷ [])
+abbrev exiting : Booted 0 First m (flat exits ∷ [])
 unfolding all_brought with_file place_of is_too_long names pieces walked flat_fault header_fault record_fault is_out_of_bounds is_entry is_table_bad any_below flat_values number_at spell started all_started boot block_pages frame_fits frame_len frame_start free_runs_in free_runs place
 exiting = record { brought = with_program exits; brings = refl; world = at_first exits; boots = refl }
 
@@ -218,14 +218,14 @@ exiting_is_regular = has_regular_worlds reasonable exiting
 abbrev elsewhere : Manifest
 elsewhere = record m { starts = record { line = 3; args = codes "/b" ∷ [] } ∷ [] }
 
-nothing_there : boot (opening First elsewhere (with_program exits)) (map start_line elsewhere.starts) ≡ Err (bad_start 3)
+nothing_there : boot (opening 0 First elsewhere (with_program exits)) (map start_line elsewhere.starts) ≡ Err (bad_start 3)
 unfolding started all_started boot pieces names is_too_long walked place_of
 nothing_there = refl
 
-none_boots : Booted First elsewhere (flat exits ∷ []) → ⊥
+none_boots : Booted 0 First elsewhere (flat exits ∷ []) → ⊥
 unfolding exiting
 none_boots b =
     let both : Ok (with_program exits) ≡ Ok b.brought = sym exiting.brings ∙ b.brings in
     let same : b.brought ≡ with_program exits = cc in
-    let never : Err (bad_start 3) ≡ Ok b.world = sym nothing_there ∙ subst (λ x. boot (opening First elsewhere x) (map start_line elsewhere.starts) ≡ Ok b.world) same b.boots in
+    let never : Err (bad_start 3) ≡ Ok b.world = sym nothing_there ∙ subst (λ x. boot (opening 0 First elsewhere x) (map start_line elsewhere.starts) ≡ Ok b.world) same b.boots in
     absurd cc

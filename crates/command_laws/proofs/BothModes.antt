@@ -22,7 +22,7 @@ alike_after request halts goes (inr same) = inr (ap (after request) same)
 
 pub runs_end_early_alike : RunsEndEarlyAlike
 runs_end_early_alike name log watch =
-    both_run (Report log watch) (Report log watch) Halt GoOn (λ halts goes. IsStop halts.ending.status ⊎ (goes ≡ halts)) alike_after (λ name. inr refl) (λ tail. inr refl)
+    both_run None (Report log watch) (Report log watch) Halt GoOn (λ halts goes. IsStop halts.ending.status ⊎ (goes ≡ halts)) alike_after (λ name. inr refl) (λ tail. inr refl)
     (λ quanta watches dumps headers w.
     let walk = turns quanta w in
     inl (told_status IsStop tt tt tt tt tt (Report log watch) [] walk.world walk.end)) name
@@ -39,5 +39,5 @@ no_stray None never = λ h. cc
 
 pub runs_on_never_stray : RunsOnNeverStray
 runs_on_never_stray name log watch =
-    both_run (Report log watch) (Report log watch) Halt GoOn (λ halts goes. goes.ending.status ≢ Stray) (λ request halts goes other. other) (λ name h. cc) (λ tail h. cc)
+    both_run None (Report log watch) (Report log watch) Halt GoOn (λ halts goes. goes.ending.status ≢ Stray) (λ request halts goes other. other) (λ name h. cc) (λ tail h. cc)
     (λ quanta watches dumps headers w. no_stray (physical_turns quanta (memory_opening headers w)).end (runs_never_stray quanta (memory_opening headers w))) name

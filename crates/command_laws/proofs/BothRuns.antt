@@ -12,20 +12,20 @@ use Rattle.flat_machine.specs.Runs.{repeated}
 use Rattle.region_watch.specs.declared.mode.Mode.{Mode}
 use Rattle.run_setup.specs.Brought.{Brought, FaultAt, nothing_brought, all_brought}
 use Rattle.file_commands.specs.Texts.Refusals.{too_long_at, manifest_tail, line_tail}
+use Rattle.file_commands.specs.Arguments.{Kept}
 use Rattle.file_commands.specs.Ending.{refused_ending}
 use Rattle.file_commands.specs.Outcome.{Request, load, failure_ending, Outcome, Inputs, after}
 use Rattle.file_commands.specs.Load.{at_once, behind, with_limited, with_load}
 use Rattle.file_commands.specs.Items.{load_limit, files_limit, has_file, with_item, with_items}
 use Rattle.suite_top.specs.declared.telling.Telling.{Telling}
 use Rattle.file_commands.specs.Manifests.{manifest_limit}
-use Rattle.suite_top.specs.Run.{start_line, opening, boot_fault, mode_ending, booted_ending, brought_ending, files_ending, manifest_outcome, run_outcome}
+use Rattle.suite_top.specs.Kept.{keep_of}
+use Rattle.suite_top.specs.Run.{start_line, opening, boot_fault, mode_outcome, booted_outcome, brought_outcome, files_outcome, manifest_outcome, run_outcome}
 
--- a relation of both outcomes holds if it holds of equal early ends and of what a machine tells, and stays behind a load
-module _ (telling telling_other : Telling) (mode mode_other : Mode) (R : (one other : Outcome) → Type 0) (step : (request : Request) (one other : Outcome) → R one other → R (after request one) (after request other))
+-- a relation of both outcomes holds if it holds of equal early ends, and stays behind a load
+module _ (R : (one other : Outcome) → Type 0) (step : (request : Request) (one other : Outcome) → R one other → R (after request one) (after request other))
     (failed : (name : List ℕ) → R (at_once (failure_ending (load name))) (at_once (failure_ending (load name))))
-    (refused : (tail : List ℕ) → R (at_once (refused_ending tail)) (at_once (refused_ending tail)))
-    (tells : (quanta : List Quantum) (watches : List WatchLine) (dumps : List Dump) (headers : List (List ℕ)) (w : World)
-    → R (at_once (mode_ending telling mode quanta watches dumps headers w)) (at_once (mode_ending telling_other mode_other quanta watches dumps headers w))) where
+    (refused : (tail : List ℕ) → R (at_once (refused_ending tail)) (at_once (refused_ending tail))) where
   -- ---- behind loads
 
   both_limited : (limit : ℕ) (line : Option ℕ) (name : List ℕ) (file : Option (List ℕ)) (one other : List ℕ → Outcome) → ((bytes : List ℕ) → R (one bytes) (other bytes))
@@ -59,28 +59,39 @@ module _ (telling telling_other : Telling) (mode mode_other : Mode) (R : (one ot
       both_item (λ bytes. with_items (left - length bytes) items (λ files. one (bytes ∷ files))) (λ bytes. with_items (left - length bytes) items (λ files. other (bytes ∷ files)))
       (λ bytes others. both_items (left - length bytes) items (λ files. one (bytes ∷ files)) (λ files. other (bytes ∷ files)) (λ files. each (bytes ∷ files)) others) left item inputs
 
-  -- ---- where all files are there
+  -- ---- and of what comes of the same files
 
-  module _ (m : Manifest) where
-    both_booted : (headers : List (List ℕ)) (r : Result World BootFault) → R (at_once (booted_ending telling mode m headers r)) (at_once (booted_ending telling_other mode_other m headers r))
-    both_booted headers (Err first) = let at = boot_fault first in refused (line_tail at.line at.fault)
-    both_booted headers (Ok w) = tells (repeated m.repeat m.quanta) m.watches m.dumps headers w
+  module _ (kept kept_other : Option Kept) (telling telling_other : Telling) (mode mode_other : Mode)
+      (each : (kind : Kind) (m : Manifest) (files : List (List ℕ)) → R (files_outcome kept telling mode kind m files) (files_outcome kept_other telling_other mode_other kind m files)) where
+    both_manifest : (kind : Kind) (r : Result Manifest Fault) (inputs : Inputs) → R (manifest_outcome kept telling mode kind r inputs) (manifest_outcome kept_other telling_other mode_other kind r inputs)
+    both_manifest kind (Err first) inputs = refused (manifest_tail first.line first.fault)
+    both_manifest kind (Ok m) inputs =
+        both_items files_limit m.items (files_outcome kept telling mode kind m) (files_outcome kept_other telling_other mode_other kind m) (each kind m) inputs
 
-    both_brought : (kind : Kind) (r : Result Brought FaultAt) → R (at_once (brought_ending telling mode kind m r)) (at_once (brought_ending telling_other mode_other kind m r))
-    both_brought kind (Err at) = refused (line_tail at.line at.fault)
-    both_brought kind (Ok b) = both_booted b.headers (boot (opening kind m b) (map start_line m.starts))
+    pub both_loaded : (name : List ℕ) (kind : Kind) (inputs : Inputs) → R (run_outcome name kept telling mode kind inputs) (run_outcome name kept_other telling_other mode_other kind inputs)
+    unfolding run_outcome
+    both_loaded name kind inputs =
+        both_load (λ bytes. manifest_outcome kept telling mode kind (manifest_of bytes)) (λ bytes. manifest_outcome kept_other telling_other mode_other kind (manifest_of bytes))
+        (λ bytes others. both_manifest kind (manifest_of bytes) others)
+        manifest_limit None name inputs
 
-    both_files : (kind : Kind) (files : List (List ℕ)) → R (at_once (files_ending telling mode kind m files)) (at_once (files_ending telling_other mode_other kind m files))
-    unfolding files_ending
-    both_files kind files = both_brought kind (all_brought m.items files nothing_brought)
+-- and of two runs from the same opening world, if it holds of what a machine tells
+module _ (kept : Option Kept) (telling telling_other : Telling) (mode mode_other : Mode) (R : (one other : Outcome) → Type 0) (step : (request : Request) (one other : Outcome) → R one other → R (after request one) (after request other))
+    (failed : (name : List ℕ) → R (at_once (failure_ending (load name))) (at_once (failure_ending (load name))))
+    (refused : (tail : List ℕ) → R (at_once (refused_ending tail)) (at_once (refused_ending tail)))
+    (tells : (quanta : List Quantum) (watches : List WatchLine) (dumps : List Dump) (headers : List (List ℕ)) (w : World)
+    → R (mode_outcome kept telling mode quanta watches dumps headers w) (mode_outcome kept telling_other mode_other quanta watches dumps headers w)) where
+  both_booted : (m : Manifest) (headers : List (List ℕ)) (r : Result World BootFault) → R (booted_outcome kept telling mode m headers r) (booted_outcome kept telling_other mode_other m headers r)
+  both_booted m headers (Err first) = let at = boot_fault first in refused (line_tail at.line at.fault)
+  both_booted m headers (Ok w) = tells (repeated m.repeat m.quanta) m.watches m.dumps headers w
 
-  both_manifest : (kind : Kind) (r : Result Manifest Fault) (inputs : Inputs) → R (manifest_outcome telling mode kind r inputs) (manifest_outcome telling_other mode_other kind r inputs)
-  both_manifest kind (Err first) inputs = refused (manifest_tail first.line first.fault)
-  both_manifest kind (Ok m) inputs =
-      both_items files_limit m.items (λ files. at_once (files_ending telling mode kind m files)) (λ files. at_once (files_ending telling_other mode_other kind m files)) (both_files m kind) inputs
+  both_brought : (kind : Kind) (m : Manifest) (r : Result Brought FaultAt) → R (brought_outcome kept telling mode kind m r) (brought_outcome kept telling_other mode_other kind m r)
+  both_brought kind m (Err at) = refused (line_tail at.line at.fault)
+  both_brought kind m (Ok b) = both_booted m b.headers (boot (opening (keep_of kept) kind m b) (map start_line m.starts))
 
-  pub both_run : (name : List ℕ) (kind : Kind) (inputs : Inputs) → R (run_outcome name telling mode kind inputs) (run_outcome name telling_other mode_other kind inputs)
-  unfolding run_outcome
-  both_run name kind inputs =
-      both_load (λ bytes. manifest_outcome telling mode kind (manifest_of bytes)) (λ bytes. manifest_outcome telling_other mode_other kind (manifest_of bytes)) (λ bytes others. both_manifest kind (manifest_of bytes) others)
-      manifest_limit None name inputs
+  both_files : (kind : Kind) (m : Manifest) (files : List (List ℕ)) → R (files_outcome kept telling mode kind m files) (files_outcome kept telling_other mode_other kind m files)
+  unfolding files_outcome
+  both_files kind m files = both_brought kind m (all_brought m.items files nothing_brought)
+
+  pub both_run : (name : List ℕ) (kind : Kind) (inputs : Inputs) → R (run_outcome name kept telling mode kind inputs) (run_outcome name kept telling_other mode_other kind inputs)
+  both_run name kind inputs = both_loaded R step failed refused kept kept telling telling_other mode mode_other both_files name kind inputs

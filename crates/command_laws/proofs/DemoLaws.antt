@@ -16,7 +16,7 @@ use Rattle.suite_top.specs.Result.{command_outcome}
 use Rattle.suite_top.specs.Call.{outcome_of}
 use Rattle.command_laws.specs.Booted.{booted_turns}
 use Rattle.command_laws.specs.RunLaws.{IsStop, IsEarly}
-use Rattle.suite_top.specs.Demo.{each_of, demo_manifest, demo_ending}
+use Rattle.suite_top.specs.Demo.{each_of, demo_manifest, demo_run}
 use Rattle.command_laws.specs.DemoLaws.{DemosConvert, DemosAskNothing, DemosRunWhereTheyOpen, DemosOpenWhereTheyStop, DemosStopOrAreRefused, DemosTellALine, ProgramsAreSpelled}
 use Rattle.suite_top.proofs.HostLaws.{untouched_at}
 use Rattle.file_commands.proofs.SpelledNumbers.{number_is_spelled}
@@ -39,18 +39,18 @@ demos_ask_nothing c n (ending, performs, delivers) is =
 -- ---- when a demo reaches its machine
 
 pub demos_run_where_they_open : DemosRunWhereTheyOpen
-unfolding demo_ending
-demos_run_where_they_open n o = runs_where_booted (Demo n) Halt First (demo_manifest n) (each_of demo_file n) o
+unfolding demo_run
+demos_run_where_they_open n o = ap (λ (x : Outcome). x.ending) (runs_where_booted None (Demo n) Halt First (demo_manifest n) (each_of demo_file n) o)
 
 pub demos_open_where_they_stop : DemosOpenWhereTheyStop
-unfolding demo_ending
-demos_open_where_they_stop n stop = booted_where_it_stops (Demo n) Halt First (demo_manifest n) (each_of demo_file n) stop
+unfolding demo_run
+demos_open_where_they_stop n stop = booted_where_it_stops None (Demo n) Halt First (demo_manifest n) (each_of demo_file n) stop
 
 -- it has no load that could fail
 pub demos_stop_or_are_refused : DemosStopOrAreRefused
-unfolding demo_ending
+unfolding demo_run
 demos_stop_or_are_refused n =
-    let either = demo_by (λ (o : Outcome). IsStop o.ending.status ⊎ IsEarly o.ending) (λ name o p. p) (λ name. inr (refl, inl refl)) (λ tail. inr (refl, inr refl))
+    let either = demo_by (λ (o : Outcome). IsStop o.ending.status ⊎ IsEarly o.ending) (λ tail. inr (refl, inr refl))
     (λ telling dumped w end. inl (told_status IsStop tt tt tt tt tt telling dumped w end)) n in
     elim either [
       | inl stop ↦ inl stop

@@ -19,7 +19,7 @@ use Rattle.command_laws.proofs.BootedRuns.{does_as_alone, ends_as_alone}
 use Rattle.command_laws.proofs.RunLaws.{reasonable, runs_where_it_opens, opens_where_it_stops}
 
 -- a machine's stop comes of the input alone
-stops_answer : (status : Status) → IsStop status → IsAnswer status
+pub stops_answer : (status : Status) → IsStop status → IsAnswer status
 stops_answer Done stop = tt
 stops_answer Stray stop = tt
 stops_answer OutOfQuanta stop = tt
@@ -34,12 +34,12 @@ stops_answer HostWrite stop = absurd stop
 stops_answer Refuted stop = absurd stop
 
 pub runs_are_runs_alone : RunsAreRunsAlone
-runs_are_runs_alone c manifest log mode kind watch is stop =
+runs_are_runs_alone c manifest log mode kind kept watch is stop =
     let whole = answers_are_whole c is.meets (stops_answer c.status stop) in
-    let same : outcome_of c ≡ run_outcome manifest (Report log watch) mode kind c.inputs = ap (λ (o : Option Invocation). command_outcome o c.inputs) is.command in
+    let same : outcome_of c ≡ run_outcome manifest kept (Report log watch) mode kind c.inputs = ap (λ (o : Option Invocation). command_outcome o c.inputs) is.command in
     let stops = subst IsStop (whole.status ∙ ap (λ (x : Outcome). x.ending.status) same) stop in
-    let opens = opens_where_it_stops c.inputs manifest (Report log watch) mode kind stops in
-    let opened : outcome_of c ≡ opened_outcome (Report log watch) mode opens = same ∙ runs_where_it_opens c.inputs manifest (Report log watch) mode kind opens in
+    let opens = opens_where_it_stops c.inputs manifest kept (Report log watch) mode kind stops in
+    let opened : outcome_of c ≡ opened_outcome kept (Report log watch) mode opens = same ∙ runs_where_it_opens c.inputs manifest kept (Report log watch) mode kind opens in
     record {
       opens = opens;
       performed = whole.performed;

@@ -1,7 +1,6 @@
 -- When a run reaches its machine.
 use Rattle.std.proofs.Common.{◌≡◌, ℕ, ◌-◌, ◌≤◌, Bool, true, false, cond, List, [], ◌∷◌, ◌++◌, map, length, nat_lt, Option, Some, None, Result, Ok, Err, ◌⊎◌, inl, inr, refl, sym, ap, ◌∙◌, arith, filter}
 use Rattle.std.proofs.lemmas.Bool.Decides.{nat_tests}
-use Rattle.std.proofs.lemmas.List.{append-nil}
 use Rattle.page_runs.specs.declared.place.Kind.{Kind}
 use Rattle.manifest_text.specs.Values.{Item, Manifest}
 use Rattle.manifest_text.specs.Manifest.{Fault, manifest_of}
@@ -13,19 +12,21 @@ use Rattle.region_watch.specs.declared.mode.Mode.{Mode}
 use Rattle.flat_machine.specs.Runs.{repeated}
 use Rattle.file_commands.specs.Texts.Refusals.{too_long_at}
 use Rattle.suite_top.specs.declared.telling.Telling.{Telling}
-use Rattle.file_commands.specs.Ending.{Ending, refused_ending}
+use Rattle.file_commands.specs.Arguments.{Kept}
+use Rattle.file_commands.specs.Ending.{refused_ending}
 use Rattle.file_commands.specs.Outcome.{Request, load, Outcome, Inputs, after}
 use Rattle.file_commands.specs.Load.{at_once, behind, with_limited, with_load}
 use Rattle.run_setup.specs.Brought.{Brought, FaultAt, nothing_brought, all_brought}
 use Rattle.file_commands.specs.Items.{load_limit, files_limit, has_file, with_item, with_items}
 use Rattle.file_commands.specs.Manifests.{manifest_limit}
-use Rattle.suite_top.specs.Run.{start_line, opening, mode_ending, booted_ending, brought_ending, files_ending, items_outcome, manifest_outcome, run_outcome}
+use Rattle.suite_top.specs.Kept.{keep_of}
+use Rattle.suite_top.specs.Run.{start_line, opening, mode_outcome, booted_outcome, brought_outcome, files_outcome, items_outcome, manifest_outcome, run_outcome}
 use Rattle.command_laws.specs.Booted.{Booted}
 use Rattle.command_laws.specs.RunLaws.{Opens, IsThere, behind_item, AreThere, opened_outcome, IsStop, IsEarly, RunsWhereItOpens, OpensWhereItStops, RunsStopOrEndEarly}
 use Rattle.suite_top.proofs.RunOutcomes.{run_by, told_status}
 
 -- a manifest that is read has no number past its bound
-pub reasonable : {inputs : Inputs} {name : List ℕ} {kind : Kind} (o : Opens inputs name kind) → Reasonable o.manifest
+pub reasonable : {inputs : Inputs} {name : List ℕ} {keep : ℕ} {kind : Kind} (o : Opens inputs name keep kind) → Reasonable o.manifest
 reasonable o = manifests_are_reasonable o.text o.manifest o.reads
 
 -- ---- from what is there to the outcome
@@ -63,21 +64,20 @@ items_there inputs left (item ∷ items) (file ∷ files) rest there =
     by_kind false is more = ap (λ bytes. next bytes inputs) (sym is) ∙ more
 
 -- of a run and of a demo
-pub runs_where_booted : (telling : Telling) (mode : Mode) (kind : Kind) (m : Manifest) (files : List (List ℕ)) (b : Booted kind m files)
-    → files_ending telling mode kind m files ≡ mode_ending telling mode (repeated m.repeat m.quanta) m.watches m.dumps b.brought.headers b.world
-unfolding files_ending
-runs_where_booted telling mode kind m files b =
-    ap (brought_ending telling mode kind m) b.brings ∙ ap (booted_ending telling mode m b.brought.headers) b.boots
+pub runs_where_booted : (kept : Option Kept) (telling : Telling) (mode : Mode) (kind : Kind) (m : Manifest) (files : List (List ℕ)) (b : Booted (keep_of kept) kind m files)
+    → files_outcome kept telling mode kind m files ≡ mode_outcome kept telling mode (repeated m.repeat m.quanta) m.watches m.dumps b.brought.headers b.world
+unfolding files_outcome
+runs_where_booted kept telling mode kind m files b =
+    ap (brought_outcome kept telling mode kind m) b.brings ∙ ap (booted_outcome kept telling mode m b.brought.headers) b.boots
 
 pub runs_where_it_opens : RunsWhereItOpens
 unfolding run_outcome
-runs_where_it_opens inputs name telling mode kind o =
+runs_where_it_opens inputs name kept telling mode kind o =
     ap (after (load name))
-    (is_within manifest_limit None name (inputs 0 name) o.text (λ bytes. manifest_outcome telling mode kind (manifest_of bytes) (behind inputs)) o.found o.fits
-    ∙ ap (λ (r : Result Manifest Fault). manifest_outcome telling mode kind r (behind inputs)) o.reads
-    ∙ items_there (behind inputs) files_limit o.manifest.items o.files (λ files. at_once (files_ending telling mode kind o.manifest files)) o.there
-    ∙ ap (λ (e : Ending). behind_all o.manifest.items (at_once e)) (runs_where_booted telling mode kind o.manifest o.files o.booted)
-    ∙ ap (λ (rs : List Request). record { requests = rs; ending = (opened_outcome telling mode o).ending }) (append-nil (loads_of o.manifest.items)))
+    (is_within manifest_limit None name (inputs 0 name) o.text (λ bytes. manifest_outcome kept telling mode kind (manifest_of bytes) (behind inputs)) o.found o.fits
+    ∙ ap (λ (r : Result Manifest Fault). manifest_outcome kept telling mode kind r (behind inputs)) o.reads
+    ∙ items_there (behind inputs) files_limit o.manifest.items o.files (files_outcome kept telling mode kind o.manifest) o.there
+    ∙ ap (behind_all o.manifest.items) (runs_where_booted kept telling mode kind o.manifest o.files o.booted))
 
 -- ---- from the status to what is there
 
@@ -111,36 +111,38 @@ items_within inputs left (item ∷ items) rest stop =
     let (files, there, last) = items_within (behind_item (has_file item.kind) inputs) (left - length file) items (λ files. rest (file ∷ files)) more in
     (file ∷ files, (is, there), last)
 
-ok_manifest : (inputs : Inputs) (telling : Telling) (mode : Mode) (kind : Kind) (r : Result Manifest Fault) → IsStop (manifest_outcome telling mode kind r inputs).ending.status → (m : Manifest) × (r ≡ Ok m) × IsStop (items_outcome telling mode kind m inputs).ending.status
-ok_manifest inputs telling mode kind (Err fault) stop = absurd stop
-ok_manifest inputs telling mode kind (Ok m) stop = (m, refl, stop)
+ok_manifest : (inputs : Inputs) (kept : Option Kept) (telling : Telling) (mode : Mode) (kind : Kind) (r : Result Manifest Fault) → IsStop (manifest_outcome kept telling mode kind r inputs).ending.status
+    → (m : Manifest) × (r ≡ Ok m) × IsStop (items_outcome kept telling mode kind m inputs).ending.status
+ok_manifest inputs kept telling mode kind (Err fault) stop = absurd stop
+ok_manifest inputs kept telling mode kind (Ok m) stop = (m, refl, stop)
 
-ok_brought : (telling : Telling) (mode : Mode) (kind : Kind) (m : Manifest) (r : Result Brought FaultAt) → IsStop (brought_ending telling mode kind m r).status
-    → (b : Brought) × (r ≡ Ok b) × IsStop (booted_ending telling mode m b.headers (boot (opening kind m b) (map start_line m.starts))).status
-ok_brought telling mode kind m (Err at) stop = absurd stop
-ok_brought telling mode kind m (Ok b) stop = (b, refl, stop)
+ok_brought : (kept : Option Kept) (telling : Telling) (mode : Mode) (kind : Kind) (m : Manifest) (r : Result Brought FaultAt) → IsStop (brought_outcome kept telling mode kind m r).ending.status
+    → (b : Brought) × (r ≡ Ok b) × IsStop (booted_outcome kept telling mode m b.headers (boot (opening (keep_of kept) kind m b) (map start_line m.starts))).ending.status
+ok_brought kept telling mode kind m (Err at) stop = absurd stop
+ok_brought kept telling mode kind m (Ok b) stop = (b, refl, stop)
 
-ok_world : (telling : Telling) (mode : Mode) (m : Manifest) (headers : List (List ℕ)) (r : Result World BootFault) → IsStop (booted_ending telling mode m headers r).status → (w : World) × (r ≡ Ok w)
-ok_world telling mode m headers (Err fault) stop = absurd stop
-ok_world telling mode m headers (Ok w) stop = (w, refl)
+ok_world : (kept : Option Kept) (telling : Telling) (mode : Mode) (m : Manifest) (headers : List (List ℕ)) (r : Result World BootFault) → IsStop (booted_outcome kept telling mode m headers r).ending.status → (w : World) × (r ≡ Ok w)
+ok_world kept telling mode m headers (Err fault) stop = absurd stop
+ok_world kept telling mode m headers (Ok w) stop = (w, refl)
 
-pub booted_where_it_stops : (telling : Telling) (mode : Mode) (kind : Kind) (m : Manifest) (files : List (List ℕ)) → IsStop (files_ending telling mode kind m files).status → Booted kind m files
-unfolding files_ending
-booted_where_it_stops telling mode kind m files stop =
-    let (brought, brings, boots_on) = ok_brought telling mode kind m (all_brought m.items files nothing_brought) stop in
-    let (world, boots) = ok_world telling mode m brought.headers (boot (opening kind m brought) (map start_line m.starts)) boots_on in
+pub booted_where_it_stops : (kept : Option Kept) (telling : Telling) (mode : Mode) (kind : Kind) (m : Manifest) (files : List (List ℕ)) → IsStop (files_outcome kept telling mode kind m files).ending.status → Booted (keep_of kept) kind m files
+unfolding files_outcome
+booted_where_it_stops kept telling mode kind m files stop =
+    let (brought, brings, boots_on) = ok_brought kept telling mode kind m (all_brought m.items files nothing_brought) stop in
+    let (world, boots) = ok_world kept telling mode m brought.headers (boot (opening (keep_of kept) kind m brought) (map start_line m.starts)) boots_on in
     record { brought = brought; brings = brings; world = world; boots = boots }
 
 pub opens_where_it_stops : OpensWhereItStops
 unfolding run_outcome
-opens_where_it_stops inputs name telling mode kind stop =
-    let (text, found, fits, reads_on) = within manifest_limit None name (inputs 0 name) (λ bytes. manifest_outcome telling mode kind (manifest_of bytes) (behind inputs)) stop in
-    let (m, reads, loads_on) = ok_manifest (behind inputs) telling mode kind (manifest_of text) reads_on in
-    let (files, there, makes_on) = items_within (behind inputs) files_limit m.items (λ fs. at_once (files_ending telling mode kind m fs)) loads_on in
-    let booted = booted_where_it_stops telling mode kind m files makes_on in
+opens_where_it_stops inputs name kept telling mode kind stop =
+    let (text, found, fits, reads_on) = within manifest_limit None name (inputs 0 name) (λ bytes. manifest_outcome kept telling mode kind (manifest_of bytes) (behind inputs)) stop in
+    let (m, reads, loads_on) = ok_manifest (behind inputs) kept telling mode kind (manifest_of text) reads_on in
+    let (files, there, makes_on) = items_within (behind inputs) files_limit m.items (files_outcome kept telling mode kind m) loads_on in
+    let booted = booted_where_it_stops kept telling mode kind m files makes_on in
     record { text = text; found = found; fits = fits; manifest = m; reads = reads; files = files; there = there; booted = booted }
 
 pub runs_stop_or_end_early : RunsStopOrEndEarly
-runs_stop_or_end_early =
-    run_by (λ (o : Outcome). IsStop o.ending.status ⊎ IsEarly o.ending) (λ name o p. p) (λ name. inr (refl, inl refl)) (λ tail. inr (refl, inr refl))
-    (λ telling dumped w end. inl (told_status IsStop tt tt tt tt tt telling dumped w end))
+runs_stop_or_end_early name kept telling mode kind inputs =
+    run_by (λ (o : Outcome). IsStop o.ending.status ⊎ IsEarly o.ending) (λ tail. inr (refl, inr refl)) kept
+    (λ telling dumped w end. inl (told_status IsStop tt tt tt tt tt telling dumped w end)) (λ name o p. p) (λ name. inr (refl, inl refl))
+    name telling mode kind inputs

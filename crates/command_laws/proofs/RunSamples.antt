@@ -20,7 +20,7 @@ use Rattle.mem_files.specs.Paths.{names, is_too_long, walked, place_of}
 use Rattle.run_setup.specs.Brought.{all_brought}
 use Rattle.file_commands.specs.Items.{with_items}
 use Rattle.suite_top.specs.declared.telling.Telling.TheVariants.{Report}
-use Rattle.suite_top.specs.Run.{files_ending, run_outcome}
+use Rattle.suite_top.specs.Run.{files_outcome, run_outcome}
 
 -- the tails of refused lines
 errno_is_told : line_tail 3 (Place Eexist) ≡ codes "line 3 errno 17"
@@ -44,8 +44,8 @@ alone : List ℕ → Inputs
 alone text zero name = Some text
 alone text (suc i) name = None
 
-no_program : run_outcome (codes "m") (Report false None) Halt First (alone (codes "start /a\nquanta 0:1\n")) ≡ record { requests = load (codes "m") ∷ []; ending = refused_ending (codes "line 1 start") }
-unfolding run_outcome manifest_of lines_of pieces words first_fault line_said words_said keyword_of keyword_said start_said quanta_said is_path is_name is_quantum quantum_value is_number_in decimal_value draft_of late_fault all_said with_items files_ending all_brought names is_too_long walked place_of boot all_started started digits alone
+no_program : run_outcome (codes "m") None (Report false None) Halt First (alone (codes "start /a\nquanta 0:1\n")) ≡ record { requests = load (codes "m") ∷ []; ending = refused_ending (codes "line 1 start") }
+unfolding run_outcome manifest_of lines_of pieces words first_fault line_said words_said keyword_of keyword_said start_said quanta_said is_path is_name is_quantum quantum_value is_number_in decimal_value draft_of late_fault all_said with_items files_outcome all_brought names is_too_long walked place_of boot all_started started digits alone
 no_program = refl
 
 -- two lines of files: the first has a fault, and the second isn't there
@@ -54,7 +54,7 @@ first_alone text zero name = Some text
 first_alone text (suc zero) name = Some []
 first_alone text (suc (suc i)) name = None
 
-loads_come_first : run_outcome (codes "m") (Report false None) GoOn First (first_alone (codes "flat /a a\nflat /b b\nstart /a\nquanta 0:1\n"))
+loads_come_first : run_outcome (codes "m") None (Report false None) GoOn First (first_alone (codes "flat /a a\nflat /b b\nstart /a\nquanta 0:1\n"))
     ≡ record { requests = load (codes "m") ∷ load (codes "a") ∷ load (codes "b") ∷ []; ending = failure_ending (load (codes "b")) }
 unfolding run_outcome manifest_of lines_of pieces words first_fault line_said words_said keyword_of keyword_said flat_said start_said quanta_said is_path is_name is_quantum quantum_value is_number_in decimal_value draft_of late_fault all_said with_items first_alone
 loads_come_first = refl

@@ -1,5 +1,5 @@
 -- What a call of `trace` does.
-use Rattle.std.proofs.Common.{List, [], ◌∷◌, inl, inr, refl, ap, arith}
+use Rattle.std.proofs.Common.{List, [], ◌∷◌, None, inl, inr, refl, ap, arith}
 use Rattle.machine_world.specs.Turns.{turns}
 use Rattle.region_watch.specs.declared.mode.Mode.TheVariants.{Halt}
 use Rattle.file_commands.specs.Arguments.{least_pid, most_pid}
@@ -29,7 +29,7 @@ alike_after request traced ran is = record {
 
 pub traces_are_runs : TracesAreRuns
 traces_are_runs manifest pid counted log kind watch inputs =
-    both_run (Trace pid counted) (Report log watch) Halt Halt IsAsRun alike_after (λ name. same _) (λ tail. same _)
+    both_run None (Trace pid counted) (Report log watch) Halt Halt IsAsRun alike_after (λ name. same _) (λ tail. same _)
     (λ quanta watches dumps headers w.
     let walk = turns quanta w in
     record { requests = refl; status = refl; out = refl; early = inl (told_status IsStop tt tt tt tt tt (Report log watch) [] walk.world walk.end) })
@@ -37,4 +37,4 @@ traces_are_runs manifest pid counted log kind watch inputs =
 
 pub traces_tell_notes : TracesTellNotes
 unfolding trace_report
-traces_tell_notes t manifest pid counted kind o = ap (λ (outcome : Outcome). outcome.ending.report) (runs_where_it_opens t manifest (Trace pid counted) Halt kind o)
+traces_tell_notes t manifest pid counted kind o = ap (λ (outcome : Outcome). outcome.ending.report) (runs_where_it_opens t manifest None (Trace pid counted) Halt kind o)

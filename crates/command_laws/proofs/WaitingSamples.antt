@@ -54,7 +54,7 @@ use Rattle.command_laws.proofs.BootedSamples.{flat, m, with_program, rest, loadi
 abbrev reads : List ℕ
 reads = 0xff010513 ∷ 0x03b00893 ∷ 0x73 ∷ 0x00300513 ∷ 0x00100613 ∷ 0x03f00893 ∷ 0x73 ∷ 0 ∷ []
 
-abbrev reading : Booted First m (flat reads ∷ [])
+abbrev reading : Booted 0 First m (flat reads ∷ [])
 unfolding all_brought with_file place_of is_too_long names pieces walked flat_fault header_fault record_fault is_out_of_bounds is_entry is_table_bad any_below flat_values number_at spell started all_started boot block_pages frame_fits frame_len frame_start free_runs_in free_runs place
 reading = record { brought = with_program reads; brings = refl; world = at_first reads; boots = refl }
 

@@ -11,11 +11,12 @@ use Rattle.manifest_text.specs.declared.manifest.Dump.{Dump}
 use Rattle.manifest_text.specs.declared.manifest.WatchLine.{WatchLine}
 use Rattle.watch_points.specs.declared.point.PointKind.{PointKind}
 use Rattle.page_runs.specs.declared.place.Kind.{Kind}
-use Rattle.file_commands.specs.Load.{at_once}
+use Rattle.file_commands.specs.Arguments.{Kept}
 use Rattle.file_commands.specs.Outcome.{Outcome, Inputs}
 use Rattle.suite_top.specs.declared.telling.Telling.TheVariants.{Report}
 use Rattle.suite_top.specs.Report.{own_dumps, memory_dumps, notes_text, report_text, stop_word, stop_line}
-use Rattle.suite_top.specs.Run.{mode_ending, run_outcome}
+use Rattle.suite_top.specs.Kept.{keep_of}
+use Rattle.suite_top.specs.Run.{mode_outcome, run_outcome}
 use Rattle.suite_top.proofs.RunOutcomes.{told_status}
 use Rattle.command_laws.specs.RunLaws.{Opens, IsStop, opened_outcome}
 use Rattle.command_laws.specs.TraceLaws.{IsAsRun}
@@ -27,9 +28,9 @@ use Rattle.command_laws.proofs.TraceLaws.{same, alike_after}
 
 -- ---- the same but for the report
 
-module _ (log : Bool) (point : PointKind) where
+module _ (kept : Option Kept) (log : Bool) (point : PointKind) where
   ends_alike : (mode : Mode) (quanta : List Quantum) (watches : List WatchLine) (dumps : List Dump) (headers : List (List ℕ)) (w : World)
-      → IsAsRun (at_once (mode_ending (Report log (Some point)) mode quanta watches dumps headers w)) (at_once (mode_ending (Report log None) mode quanta watches dumps headers w))
+      → IsAsRun (mode_outcome kept (Report log (Some point)) mode quanta watches dumps headers w) (mode_outcome kept (Report log None) mode quanta watches dumps headers w)
   ends_alike Halt quanta watches dumps headers w =
       let walk = turns quanta w in
       record { requests = refl; status = refl; out = refl; early = inl (told_status IsStop tt tt tt tt tt (Report log None) [] walk.world walk.end) }
@@ -38,8 +39,8 @@ module _ (log : Bool) (point : PointKind) where
       record { requests = refl; status = refl; out = refl; early = inl (told_status IsStop tt tt tt tt tt (Report log None) [] walk.now.world walk.end) }
 
 pub watches_are_runs : WatchesAreRuns
-watches_are_runs manifest log mode kind point inputs =
-    both_run (Report log (Some point)) (Report log None) mode mode IsAsRun alike_after (λ name. same _) (λ tail. same _) (ends_alike log point mode) manifest kind inputs
+watches_are_runs manifest log mode kind kept point inputs =
+    both_run kept (Report log (Some point)) (Report log None) mode mode IsAsRun alike_after (λ name. same _) (λ tail. same _) (ends_alike kept log point mode) manifest kind inputs
 
 -- ---- the report
 
@@ -61,14 +62,14 @@ has_more log lines dumped w end =
 more_is : (start lines one other without_it with_it : List ℕ) → one ≡ without_it → other ≡ with_it → HasMore start lines without_it with_it → HasMore start lines one other
 more_is start lines one other without_it with_it is has more = record { rest = more.rest; without = is ∙ more.without; has = has ∙ more.has }
 
-module _ (log : Bool) (point : PointKind) {inputs : Inputs} {name : List ℕ} {kind : Kind} (o : Opens inputs name kind) where
-  tells_more : (mode : Mode) → HasMore (notes_text log (world_behind mode o)) (hit_lines mode point o) (opened_outcome (Report log None) mode o).ending.report (opened_outcome (Report log (Some point)) mode o).ending.report
+module _ (log : Bool) (point : PointKind) {inputs : Inputs} {name : List ℕ} {kind : Kind} (kept : Option Kept) (o : Opens inputs name (keep_of kept) kind) where
+  tells_more : (mode : Mode) → HasMore (notes_text log (world_behind mode o)) (hit_lines mode point o) (opened_outcome kept (Report log None) mode o).ending.report (opened_outcome kept (Report log (Some point)) mode o).ending.report
   tells_more Halt = let walk = halting o in has_more log (hit_lines Halt point o) (own_dumps walk.world o.manifest.dumps) walk.world walk.end
   tells_more GoOn = let walk = going_on o in has_more log (hit_lines GoOn point o) (memory_dumps walk.now o.manifest.dumps) walk.now.world walk.end
 
-  report_is : (watch : Option PointKind) (mode : Mode) → (run_outcome name (Report log watch) mode kind inputs).ending.report ≡ (opened_outcome (Report log watch) mode o).ending.report
-  report_is watch mode = ap (λ (outcome : Outcome). outcome.ending.report) (runs_where_it_opens inputs name (Report log watch) mode kind o)
+  report_is : (watch : Option PointKind) (mode : Mode) → (run_outcome name kept (Report log watch) mode kind inputs).ending.report ≡ (opened_outcome kept (Report log watch) mode o).ending.report
+  report_is watch mode = ap (λ (outcome : Outcome). outcome.ending.report) (runs_where_it_opens inputs name kept (Report log watch) mode kind o)
 
 pub watches_tell_hits : WatchesTellHits
-watches_tell_hits inputs manifest log mode kind point o =
-    more_is _ _ _ _ _ _ (report_is log point o None mode) (report_is log point o (Some point) mode) (tells_more log point o mode)
+watches_tell_hits inputs manifest log mode kind kept point o =
+    more_is _ _ _ _ _ _ (report_is log point kept o None mode) (report_is log point kept o (Some point) mode) (tells_more log point kept o mode)

@@ -25,10 +25,10 @@ use Rattle.command_laws.specs.Booted.{booted_turns}
 use Rattle.command_laws.specs.RunLaws.{Opens, opened_outcome, IsStop}
 
 -- the turns without it, and those with it
-abbrev pub halting : {inputs : Inputs} {name : List ℕ} {kind : Kind} → Opens inputs name kind → Walk
+abbrev pub halting : {inputs : Inputs} {name : List ℕ} {keep : ℕ} {kind : Kind} → Opens inputs name keep kind → Walk
 halting o = booted_turns o.booted
 
-abbrev pub going_on : {inputs : Inputs} {name : List ℕ} {kind : Kind} → Opens inputs name kind → PhysicalWalk
+abbrev pub going_on : {inputs : Inputs} {name : List ℕ} {keep : ℕ} {kind : Kind} → Opens inputs name keep kind → PhysicalWalk
 going_on o = physical_turns (repeated o.manifest.repeat o.manifest.quanta) (memory_opening o.booted.brought.headers o.booted.world)
 
 -- ---- the worlds
@@ -46,33 +46,33 @@ pub record GoesOnWell (private : Walk) (one : PhysicalWalk) : Type 0 where
   pub past : (pid : ℕ) (access : Access) → private.end ≡ Some (stray_at pid access) → GoesPast private.world one pid access
 
 abbrev pub RunsGoOnWell : Type 0
-RunsGoOnWell = (inputs : Inputs) (name : List ℕ) (kind : Kind) (o : Opens inputs name kind) → GoesOnWell (halting o) (going_on o)
+RunsGoOnWell = (inputs : Inputs) (name : List ℕ) (keep : ℕ) (kind : Kind) (o : Opens inputs name keep kind) → GoesOnWell (halting o) (going_on o)
 
 -- the one memory of such a run behind some quanta, before the first stray access and behind it
-abbrev pub memory_behind : {inputs : Inputs} {name : List ℕ} {kind : Kind} → Opens inputs name kind → List Quantum → Physical
+abbrev pub memory_behind : {inputs : Inputs} {name : List ℕ} {keep : ℕ} {kind : Kind} → Opens inputs name keep kind → List Quantum → Physical
 memory_behind o quanta = (physical_turns quanta (memory_opening o.booted.brought.headers o.booted.world)).now
 
 -- its nodes are a tree of names, and all counts of what is open are exact
 abbrev pub MemoryIsInOrder : Type 0
-MemoryIsInOrder = (inputs : Inputs) (name : List ℕ) (kind : Kind) (o : Opens inputs name kind) (quanta : List Quantum) → IsInOrder (memory_behind o quanta).world
+MemoryIsInOrder = (inputs : Inputs) (name : List ℕ) (keep : ℕ) (kind : Kind) (o : Opens inputs name keep kind) (quanta : List Quantum) → IsInOrder (memory_behind o quanta).world
 
 -- and it is regular: the laws of refused calls speak of it
 abbrev pub MemoryIsRegular : Type 0
-MemoryIsRegular = (inputs : Inputs) (name : List ℕ) (kind : Kind) (o : Opens inputs name kind) (quanta : List Quantum) → IsRegularIn (memory_behind o quanta)
+MemoryIsRegular = (inputs : Inputs) (name : List ℕ) (keep : ℕ) (kind : Kind) (o : Opens inputs name keep kind) (quanta : List Quantum) → IsRegularIn (memory_behind o quanta)
 
 -- ---- the status and the texts
 
-abbrev pub halting_ending : {inputs : Inputs} {name : List ℕ} {kind : Kind} → (log : Bool) → (watch : Option PointKind) → Opens inputs name kind → Ending
-halting_ending log watch o = (opened_outcome (Report log watch) Halt o).ending
+abbrev pub halting_ending : {inputs : Inputs} {name : List ℕ} {kind : Kind} → (log : Bool) → (watch : Option PointKind) → Opens inputs name 0 kind → Ending
+halting_ending log watch o = (opened_outcome None (Report log watch) Halt o).ending
 
-abbrev pub going_on_ending : {inputs : Inputs} {name : List ℕ} {kind : Kind} → (log : Bool) → (watch : Option PointKind) → Opens inputs name kind → Ending
-going_on_ending log watch o = (opened_outcome (Report log watch) GoOn o).ending
+abbrev pub going_on_ending : {inputs : Inputs} {name : List ℕ} {kind : Kind} → (log : Bool) → (watch : Option PointKind) → Opens inputs name 0 kind → Ending
+going_on_ending log watch o = (opened_outcome None (Report log watch) GoOn o).ending
 
 -- what is told of the hits without it, and with it: nothing, where none are asked for
-abbrev pub halting_hits : {inputs : Inputs} {name : List ℕ} {kind : Kind} → (log : Bool) → (watch : Option PointKind) → Opens inputs name kind → List ℕ
+abbrev pub halting_hits : {inputs : Inputs} {name : List ℕ} {keep : ℕ} {kind : Kind} → (log : Bool) → (watch : Option PointKind) → Opens inputs name keep kind → List ℕ
 halting_hits log watch o = world_hits (Report log watch) (repeated o.manifest.repeat o.manifest.quanta) o.manifest.watches o.booted.world
 
-abbrev pub going_on_hits : {inputs : Inputs} {name : List ℕ} {kind : Kind} → (log : Bool) → (watch : Option PointKind) → Opens inputs name kind → List ℕ
+abbrev pub going_on_hits : {inputs : Inputs} {name : List ℕ} {keep : ℕ} {kind : Kind} → (log : Bool) → (watch : Option PointKind) → Opens inputs name keep kind → List ℕ
 going_on_hits log watch o =
     memory_hits (Report log watch) (repeated o.manifest.repeat o.manifest.quanta) o.manifest.watches (memory_opening o.booted.brought.headers o.booted.world)
 
@@ -97,7 +97,7 @@ pub record ReportsAlike (private : World) (one : Physical) (hits : List ℕ) (du
   pub shown : (d : Dump) → DumpsAlike private one d
 
 -- where nothing strays the status and the console are the same, and the reports, with their hits, but for such dumps
-pub record TellsAlike {inputs : Inputs} {name : List ℕ} {kind : Kind} (log : Bool) (watch : Option PointKind) (o : Opens inputs name kind) : Type 0 where
+pub record TellsAlike {inputs : Inputs} {name : List ℕ} {kind : Kind} (log : Bool) (watch : Option PointKind) (o : Opens inputs name 0 kind) : Type 0 where
   pub status : (going_on_ending log watch o).status ≡ (halting_ending log watch o).status
   pub out : (going_on_ending log watch o).out ≡ (halting_ending log watch o).out
   pub report : ReportsAlike (halting o).world (going_on o).now (halting_hits log watch o) o.manifest.dumps (halting_ending log watch o).report (going_on_ending log watch o).report
@@ -108,24 +108,24 @@ Begins start text = (more : List ℕ) × (text ≡ start ++ more)
 
 -- where they end with a stray access, the console goes on behind what it has there, and both reports begin with the notes up to that
 -- access, its own among them
-pub record TellsPast {inputs : Inputs} {name : List ℕ} {kind : Kind} (log : Bool) (watch : Option PointKind) (o : Opens inputs name kind) : Type 0 where
+pub record TellsPast {inputs : Inputs} {name : List ℕ} {kind : Kind} (log : Bool) (watch : Option PointKind) (o : Opens inputs name 0 kind) : Type 0 where
   pub out : Begins (halting_ending log watch o).out (going_on_ending log watch o).out
   pub halts : Begins (notes_text log (halting o).world) (halting_ending log watch o).report
   pub goes_on : Begins (notes_text log (halting o).world) (going_on_ending log watch o).report
 
-pub record TellsWell {inputs : Inputs} {name : List ℕ} {kind : Kind} (log : Bool) (watch : Option PointKind) (o : Opens inputs name kind) : Type 0 where
+pub record TellsWell {inputs : Inputs} {name : List ℕ} {kind : Kind} (log : Bool) (watch : Option PointKind) (o : Opens inputs name 0 kind) : Type 0 where
   pub alike : ((pid : ℕ) (access : Access) → (halting o).end ≢ Some (stray_at pid access)) → TellsAlike log watch o
   pub past : (pid : ℕ) (access : Access) → (halting o).end ≡ Some (stray_at pid access) → TellsPast log watch o
 
 abbrev pub RunsTellWell : Type 0
-RunsTellWell = (inputs : Inputs) (name : List ℕ) (kind : Kind) (log : Bool) (watch : Option PointKind) (o : Opens inputs name kind) → TellsWell log watch o
+RunsTellWell = (inputs : Inputs) (name : List ℕ) (kind : Kind) (log : Bool) (watch : Option PointKind) (o : Opens inputs name 0 kind) → TellsWell log watch o
 
 -- a run that doesn't reach its machine is the same with it and without it
 abbrev pub RunsEndEarlyAlike : Type 0
 RunsEndEarlyAlike = (name : List ℕ) (log : Bool) (watch : Option PointKind) (kind : Kind) (inputs : Inputs)
-    → IsStop (run_outcome name (Report log watch) Halt kind inputs).ending.status
-    ⊎ (run_outcome name (Report log watch) GoOn kind inputs ≡ run_outcome name (Report log watch) Halt kind inputs)
+    → IsStop (run_outcome name None (Report log watch) Halt kind inputs).ending.status
+    ⊎ (run_outcome name None (Report log watch) GoOn kind inputs ≡ run_outcome name None (Report log watch) Halt kind inputs)
 
 -- and with it no run ends at a stray access
 abbrev pub RunsOnNeverStray : Type 0
-RunsOnNeverStray = (name : List ℕ) (log : Bool) (watch : Option PointKind) (kind : Kind) (inputs : Inputs) → (run_outcome name (Report log watch) GoOn kind inputs).ending.status ≢ Stray
+RunsOnNeverStray = (name : List ℕ) (log : Bool) (watch : Option PointKind) (kind : Kind) (inputs : Inputs) → (run_outcome name None (Report log watch) GoOn kind inputs).ending.status ≢ Stray

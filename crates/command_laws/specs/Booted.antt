@@ -17,14 +17,15 @@ use Rattle.flat_machine.specs.Runs.{repeated}
 use Rattle.run_setup.specs.Brought.{Brought, nothing_brought, all_brought}
 use Rattle.suite_top.specs.Run.{start_line, opening}
 
--- what the item lines bring in with these files, and the world in which each start line has its program: the opening world
-pub record Booted (kind : Kind) (m : Manifest) (files : List (List ℕ)) : Type 0 where
+-- what the item lines bring in with these files, and the world in which each start line has its program: the opening world. It records the
+-- space of this load note, and none where it is 0
+pub record Booted (keep : ℕ) (kind : Kind) (m : Manifest) (files : List (List ℕ)) : Type 0 where
   pub brought : Brought
   pub brings : all_brought m.items files nothing_brought ≡ Ok brought
   pub world : World
-  pub boots : boot (opening kind m brought) (map start_line m.starts) ≡ Ok world
+  pub boots : boot (opening keep kind m brought) (map start_line m.starts) ≡ Ok world
 
-module _ {kind : Kind} {m : Manifest} {files : List (List ℕ)} (b : Booted kind m files) where
+module _ {keep : ℕ} {kind : Kind} {m : Manifest} {files : List (List ℕ)} (b : Booted keep kind m files) where
   -- the turns from that world
   abbrev pub booted_turns : Walk
   booted_turns = turns (repeated m.repeat m.quanta) b.world
@@ -37,7 +38,7 @@ module _ {kind : Kind} {m : Manifest} {files : List (List ℕ)} (b : Booted kind
 
   -- the stays of the start lines, along the turns: of an elf line's program the image is that of its ELF file
   abbrev pub booted_stays : List Stay
-  booted_stays = stays (first_stays (empty_world (opening kind m b.brought)) (map start_line m.starts)) b.world (repeated m.repeat m.quanta)
+  booted_stays = stays (first_stays (empty_world (opening keep kind m b.brought)) (map start_line m.starts)) b.world (repeated m.repeat m.quanta)
 
   -- what each process does is what its program does alone, under the replies that it had
   abbrev pub DoesAsAlone : Type 0
@@ -51,16 +52,16 @@ module _ {kind : Kind} {m : Manifest} {files : List (List ℕ)} (b : Booted kind
 
 -- who waits in the world behind the turns would wait again, for just what it waits for; and where the run is stuck, each process that
 -- lives waits so, or stands still for its vfork child
-pub record WaitsToTheEnd {kind : Kind} {m : Manifest} {files : List (List ℕ)} (b : Booted kind m files) : Type 0 where
+pub record WaitsToTheEnd {keep : ℕ} {kind : Kind} {m : Manifest} {files : List (List ℕ)} (b : Booted keep kind m files) : Type 0 where
   pub waits : WaitsWell (last_world b)
   pub when_stuck : (booted_turns b).end ≡ Some stuck → (pid : ℕ) (p : Process) → find pid_of pid (last_world b).procs ≡ Some p → WaitsOrLent (last_world b) p p.state
 
 -- ---- files, and refused calls
 
 -- in every world of its turns, up to the first stray access, the nodes are a tree of names, and all counts of what is open are exact
-abbrev pub HasWorldsInOrder : {kind : Kind} {m : Manifest} {files : List (List ℕ)} → Booted kind m files → Type 0
+abbrev pub HasWorldsInOrder : {keep : ℕ} {kind : Kind} {m : Manifest} {files : List (List ℕ)} → Booted keep kind m files → Type 0
 HasWorldsInOrder b = (quanta : List Quantum) → IsInOrder (turns quanta b.world).world
 
 -- and every such world is one of which the laws of refusals, of ENOMEM and of waiting speak
-abbrev pub HasRegularWorlds : {kind : Kind} {m : Manifest} {files : List (List ℕ)} → Booted kind m files → Type 0
+abbrev pub HasRegularWorlds : {keep : ℕ} {kind : Kind} {m : Manifest} {files : List (List ℕ)} → Booted keep kind m files → Type 0
 HasRegularWorlds b = (quanta : List Quantum) → IsRegular (turns quanta b.world).world

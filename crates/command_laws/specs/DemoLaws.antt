@@ -32,7 +32,7 @@ DemosAskNothing = (c : Call) (n : ℕ) → MeetsOutcome c → command_of c.argum
 
 -- the programs all stand in the memory, and this is the opening world
 abbrev pub DemoOpens : (n : ℕ) → Type 0
-DemoOpens n = Booted First (demo_manifest n) (each_of demo_file n)
+DemoOpens n = Booted 0 First (demo_manifest n) (each_of demo_file n)
 
 -- the turns from that world give the texts
 abbrev pub DemosRunWhereTheyOpen : Type 0

@@ -11,6 +11,8 @@
 -- Headline      what a call of `run` that reached its machine did
 -- TraceLaws     the command `trace`, beside the run of its manifest
 -- WatchLaws     a run with `--watch` beside the same run without it
+-- ItemsLaws     a run with `--items`: which items it stores
+-- AcceptedItems what a replay says of these
 -- DemoLaws      the command `demo`, and that its programs have no fault
 pub mod OneFileLaws
 pub mod ConvertLaws
@@ -26,4 +28,6 @@ pub mod HitsAlike
 pub mod Headline
 pub mod TraceLaws
 pub mod WatchLaws
+pub mod ItemsLaws
+pub mod AcceptedItems
 pub mod DemoLaws

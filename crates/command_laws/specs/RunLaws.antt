@@ -1,5 +1,5 @@
 -- When a run reaches its machine, and what is said of it from there on: over any host, for the files that its loads give.
-use Rattle.std.specs.Prelude.{◌≡◌, ◌⊎◌, ℕ, ◌-◌, ◌≤◌, Bool, true, false, List, [], ◌∷◌, map, filter, length, Some, Ok}
+use Rattle.std.specs.Prelude.{◌≡◌, ◌⊎◌, ℕ, ◌-◌, ◌≤◌, Bool, true, false, List, [], ◌∷◌, ◌++◌, map, filter, length, Option, Some, Ok}
 use Rattle.page_runs.specs.declared.place.Kind.{Kind}
 use Rattle.manifest_text.specs.Values.{Item, Manifest}
 use Rattle.manifest_text.specs.Manifest.{manifest_of}
@@ -8,12 +8,14 @@ use Rattle.flat_machine.specs.Runs.{repeated}
 use Rattle.file_commands.specs.declared.status.Status.{Status}
 use Rattle.file_commands.specs.declared.status.Status.TheVariants.{Done, HostRead, Refused, Stray, OutOfQuanta, LogFull, Stuck}
 use Rattle.suite_top.specs.declared.telling.Telling.{Telling}
+use Rattle.file_commands.specs.Arguments.{Kept}
 use Rattle.file_commands.specs.Ending.{Ending}
 use Rattle.file_commands.specs.Outcome.{load, Outcome, Inputs}
 use Rattle.file_commands.specs.Load.{behind}
 use Rattle.file_commands.specs.Items.{load_limit, files_limit, has_file}
 use Rattle.file_commands.specs.Manifests.{manifest_limit}
-use Rattle.suite_top.specs.Run.{mode_ending, run_outcome}
+use Rattle.suite_top.specs.Kept.{keep_of, kept_requests}
+use Rattle.suite_top.specs.Run.{mode_ending, stopped_world, run_outcome}
 use Rattle.command_laws.specs.Booted.{Booted, DoesAsAlone, EndsAsAlone, WaitsToTheEnd, HasWorldsInOrder, HasRegularWorlds}
 
 -- the file of a line that has one is what the next load gives, and isn't longer than the limit of that load
@@ -33,8 +35,8 @@ AreThere inputs left (item ∷ items) (file ∷ files) =
     IsThere inputs left item file (has_file item.kind) × AreThere (behind_item (has_file item.kind) inputs) (left - length file) items files
 AreThere inputs left items files = ⊥
 
--- all that a run needs is there and has no fault, and this is its opening world
-pub record Opens (inputs : Inputs) (name : List ℕ) (kind : Kind) : Type 0 where
+-- all that a run needs is there and has no fault, and this is its opening world, which records the space of this load note
+pub record Opens (inputs : Inputs) (name : List ℕ) (keep : ℕ) (kind : Kind) : Type 0 where
   pub text : List ℕ
   pub found : inputs 0 name ≡ Some text
   pub fits : length text ≤ manifest_limit
@@ -42,15 +44,17 @@ pub record Opens (inputs : Inputs) (name : List ℕ) (kind : Kind) : Type 0 wher
   pub reads : manifest_of text ≡ Ok manifest
   pub files : List (List ℕ)
   pub there : AreThere (behind inputs) files_limit manifest.items files
-  pub booted : Booted kind manifest files
+  pub booted : Booted keep kind manifest files
 
 -- the manifest is asked for, then the file of each line that has one, in order; and the turns from that world, or, of a run that goes on,
--- those over one memory, give the texts
-abbrev pub opened_outcome : {inputs : Inputs} {name : List ℕ} {kind : Kind} → Telling → Mode → Opens inputs name kind → Outcome
-opened_outcome {name = name} telling mode o = record {
-  requests = load name ∷ map (λ i. load i.name) (filter (λ i. has_file i.kind) o.manifest.items);
-  ending = mode_ending telling mode (repeated o.manifest.repeat o.manifest.quanta) o.manifest.watches o.manifest.dumps o.booted.brought.headers o.booted.world;
-}
+-- those over one memory, give the texts, and the items that are stored, if they are kept
+abbrev pub opened_outcome : {inputs : Inputs} {name : List ℕ} {kind : Kind} (kept : Option Kept) → Telling → Mode → Opens inputs name (keep_of kept) kind → Outcome
+opened_outcome {name = name} kept telling mode o =
+    let quanta = repeated o.manifest.repeat o.manifest.quanta in
+    record {
+      requests = load name ∷ (map (λ i. load i.name) (filter (λ i. has_file i.kind) o.manifest.items) ++ kept_requests kept (stopped_world mode quanta o.booted.brought.headers o.booted.world));
+      ending = mode_ending telling mode quanta o.manifest.watches o.manifest.dumps o.booted.brought.headers o.booted.world;
+    }
 
 -- the statuses of a machine that stopped
 abbrev pub IsStop : Status → Type 0
@@ -62,11 +66,13 @@ IsStop Stuck = Unit {0}
 IsStop other = ⊥
 
 abbrev pub RunsWhereItOpens : Type 0
-RunsWhereItOpens = (inputs : Inputs) (name : List ℕ) (telling : Telling) (mode : Mode) (kind : Kind) (o : Opens inputs name kind) → run_outcome name telling mode kind inputs ≡ opened_outcome telling mode o
+RunsWhereItOpens = (inputs : Inputs) (name : List ℕ) (kept : Option Kept) (telling : Telling) (mode : Mode) (kind : Kind) (o : Opens inputs name (keep_of kept) kind)
+    → run_outcome name kept telling mode kind inputs ≡ opened_outcome kept telling mode o
 
 -- and in no other case a run ends with one of these
 abbrev pub OpensWhereItStops : Type 0
-OpensWhereItStops = (inputs : Inputs) (name : List ℕ) (telling : Telling) (mode : Mode) (kind : Kind) → IsStop (run_outcome name telling mode kind inputs).ending.status → Opens inputs name kind
+OpensWhereItStops = (inputs : Inputs) (name : List ℕ) (kept : Option Kept) (telling : Telling) (mode : Mode) (kind : Kind)
+    → IsStop (run_outcome name kept telling mode kind inputs).ending.status → Opens inputs name (keep_of kept) kind
 
 -- it ends early: a load failed, or something was refused, and nothing goes to `out`
 abbrev pub IsEarly : Ending → Type 0
@@ -74,22 +80,22 @@ IsEarly ending = (ending.out ≡ []) × ((ending.status ≡ HostRead) ⊎ (endin
 
 -- a run reaches its machine or ends early, whatever its files are
 abbrev pub RunsStopOrEndEarly : Type 0
-RunsStopOrEndEarly = (name : List ℕ) (telling : Telling) (mode : Mode) (kind : Kind) (inputs : Inputs)
-    → IsStop (run_outcome name telling mode kind inputs).ending.status ⊎ IsEarly (run_outcome name telling mode kind inputs).ending
+RunsStopOrEndEarly = (name : List ℕ) (kept : Option Kept) (telling : Telling) (mode : Mode) (kind : Kind) (inputs : Inputs)
+    → IsStop (run_outcome name kept telling mode kind inputs).ending.status ⊎ IsEarly (run_outcome name kept telling mode kind inputs).ending
 
 -- ---- what is said of each run from its opening world on
 
 abbrev pub RunsAreAsAlone : Type 0
-RunsAreAsAlone = (inputs : Inputs) (name : List ℕ) (kind : Kind) (o : Opens inputs name kind) → DoesAsAlone o.booted
+RunsAreAsAlone = (inputs : Inputs) (name : List ℕ) (keep : ℕ) (kind : Kind) (o : Opens inputs name keep kind) → DoesAsAlone o.booted
 
 abbrev pub EndsAreAsAlone : Type 0
-EndsAreAsAlone = (inputs : Inputs) (name : List ℕ) (kind : Kind) (o : Opens inputs name kind) → EndsAsAlone o.booted
+EndsAreAsAlone = (inputs : Inputs) (name : List ℕ) (keep : ℕ) (kind : Kind) (o : Opens inputs name keep kind) → EndsAsAlone o.booted
 
 abbrev pub RunsWaitWell : Type 0
-RunsWaitWell = (inputs : Inputs) (name : List ℕ) (kind : Kind) (o : Opens inputs name kind) → WaitsToTheEnd o.booted
+RunsWaitWell = (inputs : Inputs) (name : List ℕ) (keep : ℕ) (kind : Kind) (o : Opens inputs name keep kind) → WaitsToTheEnd o.booted
 
 abbrev pub WorldsAreInOrder : Type 0
-WorldsAreInOrder = (inputs : Inputs) (name : List ℕ) (kind : Kind) (o : Opens inputs name kind) → HasWorldsInOrder o.booted
+WorldsAreInOrder = (inputs : Inputs) (name : List ℕ) (keep : ℕ) (kind : Kind) (o : Opens inputs name keep kind) → HasWorldsInOrder o.booted
 
 abbrev pub WorldsAreRegular : Type 0
-WorldsAreRegular = (inputs : Inputs) (name : List ℕ) (kind : Kind) (o : Opens inputs name kind) → HasRegularWorlds o.booted
+WorldsAreRegular = (inputs : Inputs) (name : List ℕ) (keep : ℕ) (kind : Kind) (o : Opens inputs name keep kind) → HasRegularWorlds o.booted

@@ -1,5 +1,5 @@
 -- What a call of `trace` does: it is the run of its manifest, but for the report.
-use Rattle.std.specs.Prelude.{◌≡◌, ◌↔◌, ◌⊎◌, ℕ, ◌≤◌, Bool, List, ◌++◌, map, reverse, decimal, Option, Some}
+use Rattle.std.specs.Prelude.{◌≡◌, ◌↔◌, ◌⊎◌, ℕ, ◌≤◌, Bool, List, ◌++◌, map, reverse, decimal, Option, Some, None}
 use Rattle.page_runs.specs.declared.place.Kind.{Kind}
 use Rattle.region_watch.specs.declared.mode.Mode.TheVariants.{Halt}
 use Rattle.watch_points.specs.declared.point.PointKind.{PointKind}
@@ -26,12 +26,12 @@ pub record IsAsRun (traced ran : Outcome) : Type 0 where
 -- whatever is shown, and whatever the run tells
 abbrev pub TracesAreRuns : Type 0
 TracesAreRuns = (manifest : List ℕ) (pid : Option ℕ) (counted log : Bool) (kind : Kind) (watch : Option PointKind) (inputs : Inputs)
-    → IsAsRun (command_outcome (Some (trace manifest pid counted kind)) inputs) (command_outcome (Some (run manifest log Halt kind watch)) inputs)
+    → IsAsRun (command_outcome (Some (trace manifest pid counted kind)) inputs) (command_outcome (Some (run manifest log Halt kind None watch)) inputs)
 
 -- where the machine is reached, the report has the texts of a trace, of the notes in the world behind the turns, then the dumps and why the
 -- run stopped
 abbrev pub TracesTellNotes : Type 0
-TracesTellNotes = (inputs : Inputs) (manifest : List ℕ) (pid : Option ℕ) (counted : Bool) (kind : Kind) (o : Opens inputs manifest kind)
+TracesTellNotes = (inputs : Inputs) (manifest : List ℕ) (pid : Option ℕ) (counted : Bool) (kind : Kind) (o : Opens inputs manifest 0 kind)
     → (command_outcome (Some (trace manifest pid counted kind)) inputs).ending.report
     ≡ trace_texts pid counted (map program_path (halting o).world.rest.programs) (reverse (halting o).world.notes)
     ++ own_dumps (halting o).world o.manifest.dumps

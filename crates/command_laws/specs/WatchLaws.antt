@@ -1,5 +1,5 @@
 -- What a run with `--watch` does: it is the same run without it, but for the lines of its hits.
-use Rattle.std.specs.Prelude.{◌≡◌, ℕ, Bool, List, ◌++◌, Some, None}
+use Rattle.std.specs.Prelude.{◌≡◌, ℕ, Bool, List, ◌++◌, Option, Some, None}
 use Rattle.page_runs.specs.declared.place.Kind.{Kind}
 use Rattle.region_watch.specs.declared.mode.Mode.{Mode}
 use Rattle.region_watch.specs.declared.mode.Mode.TheVariants.{Halt, GoOn}
@@ -9,7 +9,8 @@ use Rattle.physical_turns.specs.Physical.{opening as memory_opening}
 use Rattle.flat_machine.specs.Runs.{repeated}
 use Rattle.flat_machine.specs.Hits.{hits, hits_in_memory}
 use Rattle.file_commands.specs.Outcome.{Inputs}
-use Rattle.file_commands.specs.Arguments.{run}
+use Rattle.file_commands.specs.Arguments.{Kept, run}
+use Rattle.suite_top.specs.Kept.{keep_of}
 use Rattle.suite_top.specs.Report.{notes_text}
 use Rattle.suite_top.specs.Watched.{watched_text}
 use Rattle.suite_top.specs.Result.{command_outcome}
@@ -17,19 +18,19 @@ use Rattle.command_laws.specs.RunLaws.{Opens}
 use Rattle.command_laws.specs.TraceLaws.{IsAsRun}
 use Rattle.command_laws.specs.Beside.{halting, going_on}
 
--- whatever is watched
+-- whatever is watched, and whether items are kept or not
 abbrev pub WatchesAreRuns : Type 0
-WatchesAreRuns = (manifest : List ℕ) (log : Bool) (mode : Mode) (kind : Kind) (point : PointKind) (inputs : Inputs)
-    → IsAsRun (command_outcome (Some (run manifest log mode kind (Some point))) inputs) (command_outcome (Some (run manifest log mode kind None)) inputs)
+WatchesAreRuns = (manifest : List ℕ) (log : Bool) (mode : Mode) (kind : Kind) (kept : Option Kept) (point : PointKind) (inputs : Inputs)
+    → IsAsRun (command_outcome (Some (run manifest log mode kind kept (Some point))) inputs) (command_outcome (Some (run manifest log mode kind kept None)) inputs)
 
 -- the world that its notes are told of
-abbrev pub world_behind : {inputs : Inputs} {name : List ℕ} {kind : Kind} → Mode → Opens inputs name kind → World
+abbrev pub world_behind : {inputs : Inputs} {name : List ℕ} {keep : ℕ} {kind : Kind} → Mode → Opens inputs name keep kind → World
 world_behind Halt o = (halting o).world
 world_behind GoOn o = (going_on o).now.world
 
 -- the lines of the hits of this kind in the ranges of the manifest, in the order of the run: those of its turns, and with `--go-on` those of
 -- its turns over one memory
-abbrev pub hit_lines : {inputs : Inputs} {name : List ℕ} {kind : Kind} → Mode → PointKind → Opens inputs name kind → List ℕ
+abbrev pub hit_lines : {inputs : Inputs} {name : List ℕ} {keep : ℕ} {kind : Kind} → Mode → PointKind → Opens inputs name keep kind → List ℕ
 hit_lines Halt point o = watched_text (Some point) o.manifest.watches (λ kind spans. hits kind spans (repeated o.manifest.repeat o.manifest.quanta) o.booted.world)
 hit_lines GoOn point o =
     watched_text (Some point) o.manifest.watches
@@ -43,7 +44,7 @@ pub record HasMore (start lines without_it with_it : List ℕ) : Type 0 where
 
 -- where the machine is reached, the report has just these lines more, behind the notes
 abbrev pub WatchesTellHits : Type 0
-WatchesTellHits = (inputs : Inputs) (manifest : List ℕ) (log : Bool) (mode : Mode) (kind : Kind) (point : PointKind) (o : Opens inputs manifest kind)
+WatchesTellHits = (inputs : Inputs) (manifest : List ℕ) (log : Bool) (mode : Mode) (kind : Kind) (kept : Option Kept) (point : PointKind) (o : Opens inputs manifest (keep_of kept) kind)
     → HasMore (notes_text log (world_behind mode o)) (hit_lines mode point o)
-    (command_outcome (Some (run manifest log mode kind None)) inputs).ending.report
-    (command_outcome (Some (run manifest log mode kind (Some point))) inputs).ending.report
+    (command_outcome (Some (run manifest log mode kind kept None)) inputs).ending.report
+    (command_outcome (Some (run manifest log mode kind kept (Some point))) inputs).ending.report

@@ -3,6 +3,7 @@ ghost use Rattle.command_laws.specs.Beside.{MemoryIsInOrder, MemoryIsRegular, Ru
 ghost use Rattle.command_laws.specs.Headline.{RunsAreRunsAlone};
 ghost use Rattle.command_laws.specs.HitsAlike.{HitsAlike};
 ghost use Rattle.command_laws.specs.RunLaws.{RunsWhereItOpens, OpensWhereItStops, RunsStopOrEndEarly, RunsAreAsAlone, EndsAreAsAlone, RunsWaitWell, WorldsAreInOrder, WorldsAreRegular};
+ghost use Rattle.command_laws.specs.ItemsLaws.{TextsAreOfStays, ItemsAreStored, KeepingEndsEarlyAlike};
 ghost use Rattle.command_laws.specs.WatchLaws.{WatchesAreRuns, WatchesTellHits};
 ghost use Rattle.originals.specs.Originals.{OriginalsAreSame};
 
@@ -71,4 +72,14 @@ pub fn go_on_law()
 pub fn watch_law()
     ensures run { WatchesAreRuns }
     ensures report { WatchesTellHits }
+{}
+
+/// With `--items N FILE` a run whose machine is reached stores in FILE the text of exactly the items of the Nth stay along its turns: its
+/// program as it was loaded, the count of its events, and each of its calls with what a mapping brought; or the line `none` where there
+/// is no such load note. No other file changes. It reaches its machine exactly where the run without the option does, and else is the
+/// same as a whole.
+pub fn items_law()
+    ensures texts { TextsAreOfStays }
+    ensures files { ItemsAreStored }
+    ensures early { KeepingEndsEarlyAlike }
 {}

@@ -12,10 +12,10 @@ use Rattle.host_io.specs.declared.host.HostError.TheVariants as error
 use Rattle.file_commands.specs.declared.status.Status.TheVariants as status
 use Rattle.file_commands.specs.Texts.Refusals.{too_long_at}
 use Rattle.file_commands.specs.Ending.{Ending, refused_ending, memory_ending, OrMemory}
-use Rattle.file_commands.specs.Outcome.{load, store, Outcome, Inputs, failure_ending}
+use Rattle.file_commands.specs.Outcome.{load, store, Outcome, Inputs, failure_ending, storing}
 use Rattle.file_commands.specs.Load.{at_once, behind, with_limited, with_load}
 use Rattle.file_commands.specs.Observed.{Observed}
-use Rattle.file_commands.specs.HostCourse.{after_answer, after_failure, inputs_in, Performs, PerformsOver, PerformsCommand}
+use Rattle.file_commands.specs.HostCourse.{complete, after_answer, after_failure, inputs_in, Performs, PerformsOver, PerformsCommand}
 use Rattle.file_commands.specs.FileLoad.{GaveFile}
 use Rattle.file_commands.proofs.Stops.{stands}
 use Rattle.file_commands.proofs.HostCourses as courses
@@ -48,6 +48,16 @@ store_out_of_memory None new name bytes h = h
 store_out_of_memory (Some t) new name bytes h = h
 
 -- ---- a store at the end
+
+pub stores : (old new : Observed Told) (name bytes : List ℕ) (wanted : Ending) → wanted.status ≢ status.HostRead → StoreTold {T = Unit {0}} old.told new.told name bytes (Ok tt) → HasCause {T = Unit {0}} error.Failed old.faults new.faults (Ok tt)
+    → Performs old new (storing name bytes wanted) wanted
+stores old new name bytes wanted other told cause = record {
+  course = complete;
+  is_course = tt;
+  told = store_answered _ _ _ _ told;
+  faults = stands {T = Unit {0}} error.Failed old.faults new.faults (Ok tt) cause (λ e. cc);
+  ends = (refl, other);
+}
 
 module _ (old new : Observed Told) (name bytes : List ℕ) (wanted ending : Ending) where
   pub fails_to_store : StoreTold {T = Unit {0}} old.told new.told name bytes (Err error.Failed) → HasCause {T = Unit {0}} error.Failed old.faults new.faults (Err error.Failed) → OrMemory (failure_ending (store name bytes)) ending

@@ -13,7 +13,7 @@ use Rattle.rom_tree.specs.Nodes.{tree_nodes}
 use Rattle.file_commands.specs.Texts.Refusals.{manifest_tail}
 use Rattle.file_commands.specs.Texts.Images.{too_large_tail, image_line}
 use Rattle.file_commands.specs.Ending.{Ending, refused_ending, memory_ending, OrMemory}
-use Rattle.file_commands.specs.Outcome.{Outcome}
+use Rattle.file_commands.specs.Outcome.{Outcome, storing}
 use Rattle.file_commands.specs.Load.{at_once}
 use Rattle.file_commands.specs.Convert.{stored_outcome}
 use Rattle.file_commands.specs.Observed.{Observed}
@@ -58,6 +58,10 @@ module _ (image : List ℕ) (items : List Item) (files : List (List ℕ)) (endin
       ]
 
 -- ---- the image
+
+-- a store, and then the ending that it has
+pub stores_as : (old new : Observed Told) (name bytes : List ℕ) (one wanted ending : Ending) → one ≡ wanted → Performs old new (storing name bytes one) ending → Performs old new (storing name bytes wanted) ending
+stores_as old new name bytes one wanted ending is performs = subst (λ (e : Ending). Performs old new (storing name bytes e) ending) is performs
 
 abbrev sized_by : (image : List ℕ) (count : ℕ) (text : List ℕ) → Bool → Outcome
 sized_by image count text b = cond b (at_once (refused_ending too_large_tail)) (stored_outcome image text (image_line count (length text)))

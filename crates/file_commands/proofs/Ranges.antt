@@ -8,7 +8,7 @@ use Rattle.region_watch.specs.declared.mode.Mode.TheVariants.{Halt, GoOn}
 use Rattle.watch_points.specs.declared.point.PointKind.{PointKind}
 use Rattle.std.specs.Option.{option_and_then}
 use Rattle.file_commands.specs.declared.arguments.Format.{Format}
-use Rattle.file_commands.specs.Arguments.{Invocation, convert, list, check, run, trace, unromfs, replay, demo, least_stack, most_stack, least_programs, most_programs, stack_of, programs_of, pid_of, kind_of_word, only, romfs_of, convert_of, placement_of, watch_of, watched_of, placed_of, mode_of, run_of, counted_of, process_of, trace_of, format_of_word, replay_of, demo_of, command_of}
+use Rattle.file_commands.specs.Arguments.{Kept, Invocation, convert, list, check, run, trace, unromfs, replay, demo, least_stack, most_stack, least_programs, most_programs, stack_of, programs_of, pid_of, kind_of_word, only, romfs_of, convert_of, placement_of, watch_of, watched_of, note_of, items_of, kept_of, placed_of, mode_of, run_of, counted_of, process_of, trace_of, format_of_word, replay_of, demo_of, command_of}
 use Rattle.file_commands.proofs.SpelledNumbers.{is_spelled}
 
 -- what the commands ask for of their numbers
@@ -74,30 +74,44 @@ replay_has (word ∷ file ∷ items ∷ more ∷ words) = tt
 -- ---- `run` and `trace`
 
 module _ (manifest : List ℕ) (log : Bool) (mode : Mode) where
-  told_has : (kind : Kind) (o : Option (Option PointKind)) → HasRanges (option_map (run manifest log mode kind) o)
-  told_has kind None = tt
-  told_has kind (Some watch) = tt
+  told_has : (kind : Kind) (kept : Option Kept) (o : Option (Option PointKind)) → HasRanges (option_map (run manifest log mode kind kept) o)
+  told_has kind kept None = tt
+  told_has kind kept (Some watch) = tt
 
-  kind_has : (words : List (List ℕ)) (o : Option Kind) → HasRanges (option_and_then (λ kind. watched_of manifest log mode kind words) o)
+  items_have : (kind : Kind) (words : List (List ℕ)) (o : Option Kept) → HasRanges (option_and_then (λ kept. watched_of manifest log mode kind (Some kept) words) o)
+  items_have kind words None = tt
+  items_have kind words (Some kept) = told_has kind (Some kept) (watch_of words)
+
+  kept_has : (kind : Kind) (words : List (List ℕ)) → HasRanges (kept_of manifest log mode kind words)
+  unfolding kept_of
+  kept_has kind [] = tt
+  kept_has kind (option ∷ []) = tt
+  kept_has kind (option ∷ word ∷ []) = told_has kind None (watch_of (option ∷ word ∷ []))
+  kept_has kind (option ∷ number ∷ file ∷ words) =
+      either (bytes_eq option (codes "--items")) (option_and_then (λ kept. watched_of manifest log mode kind (Some kept) words) (items_of mode number file))
+      (watched_of manifest log mode kind None (option ∷ number ∷ file ∷ words))
+      (items_have kind words (items_of mode number file)) tt
+
+  kind_has : (words : List (List ℕ)) (o : Option Kind) → HasRanges (option_and_then (λ kind. kept_of manifest log mode kind words) o)
   kind_has words None = tt
-  kind_has words (Some kind) = told_has kind (watch_of words)
+  kind_has words (Some kind) = kept_has kind words
 
   placed_has : (words : List (List ℕ)) → HasRanges (placed_of manifest log mode words)
-  placed_has [] = tt
-  placed_has (option ∷ []) = tt
+  placed_has [] = kept_has First []
+  placed_has (option ∷ []) = kept_has First (option ∷ [])
   placed_has (option ∷ word ∷ words) =
-      either (bytes_eq option (codes "--place")) (option_and_then (λ kind. watched_of manifest log mode kind words) (kind_of_word word)) (watched_of manifest log mode First (option ∷ word ∷ words))
-      (kind_has words (kind_of_word word)) (told_has First (watch_of (option ∷ word ∷ words)))
+      either (bytes_eq option (codes "--place")) (option_and_then (λ kind. kept_of manifest log mode kind words) (kind_of_word word)) (kept_of manifest log mode First (option ∷ word ∷ words))
+      (kind_has words (kind_of_word word)) (kept_has First (option ∷ word ∷ words))
 
 mode_has : (manifest : List ℕ) (log : Bool) (words : List (List ℕ)) → HasRanges (mode_of manifest log words)
-mode_has manifest log [] = tt
+mode_has manifest log [] = placed_has manifest log Halt []
 mode_has manifest log (option ∷ words) =
     either (bytes_eq option (codes "--go-on")) (placed_of manifest log GoOn words) (placed_of manifest log Halt (option ∷ words))
     (placed_has manifest log GoOn words) (placed_has manifest log Halt (option ∷ words))
 
 run_has : (words : List (List ℕ)) → HasRanges (run_of words)
 run_has [] = tt
-run_has (manifest ∷ []) = tt
+run_has (manifest ∷ []) = mode_has manifest false []
 run_has (manifest ∷ option ∷ words) =
     either (bytes_eq option (codes "--log")) (mode_of manifest true words) (mode_of manifest false (option ∷ words))
     (mode_has manifest true words) (mode_has manifest false (option ∷ words))

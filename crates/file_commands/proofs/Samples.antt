@@ -4,7 +4,7 @@ use Rattle.std.specs.Prelude.{codes}
 use Rattle.std.specs.Fmt.{digits}
 use Rattle.file_commands.specs.Sizes.{Sizes, header_sizes}
 use Rattle.file_commands.specs.Texts.{refusal_tail, convert_line, check_line, demo_line}
-use Rattle.file_commands.specs.Arguments.{convert, check, run, trace, demo, command_of}
+use Rattle.file_commands.specs.Arguments.{convert, check, run, trace, demo, command_of, kept_of}
 use Rattle.elf2flt_tool.specs.declared.refusal.Refusal.TheVariants as refusal
 use Rattle.page_runs.specs.declared.place.Kind.TheVariants.{First, Best, Last}
 use Rattle.region_watch.specs.declared.mode.Mode.TheVariants.{Halt, GoOn}
@@ -57,39 +57,50 @@ zero_in_front = refl
 check_is_read : command_of (codes "check" ∷ codes "a.elf" ∷ []) ≡ Some (check (codes "a.elf"))
 check_is_read = refl
 
-run_is_read : command_of (codes "run" ∷ codes "a" ∷ []) ≡ Some (run (codes "a") false Halt First None)
+run_is_read : command_of (codes "run" ∷ codes "a" ∷ []) ≡ Some (run (codes "a") false Halt First None None)
+unfolding kept_of
 run_is_read = refl
 
-log_is_read : command_of (codes "run" ∷ codes "a" ∷ codes "--log" ∷ []) ≡ Some (run (codes "a") true Halt First None)
+log_is_read : command_of (codes "run" ∷ codes "a" ∷ codes "--log" ∷ []) ≡ Some (run (codes "a") true Halt First None None)
+unfolding kept_of
 log_is_read = refl
 
-placement_is_read : command_of (codes "run" ∷ codes "a" ∷ codes "--place" ∷ codes "best" ∷ []) ≡ Some (run (codes "a") false Halt Best None)
+placement_is_read : command_of (codes "run" ∷ codes "a" ∷ codes "--place" ∷ codes "best" ∷ []) ≡ Some (run (codes "a") false Halt Best None None)
+unfolding kept_of
 placement_is_read = refl
 
-both_are_read : command_of (codes "run" ∷ codes "a" ∷ codes "--log" ∷ codes "--place" ∷ codes "last" ∷ []) ≡ Some (run (codes "a") true Halt Last None)
+both_are_read : command_of (codes "run" ∷ codes "a" ∷ codes "--log" ∷ codes "--place" ∷ codes "last" ∷ []) ≡ Some (run (codes "a") true Halt Last None None)
+unfolding kept_of
 both_are_read = refl
 
 placement_in_front : command_of (codes "run" ∷ codes "a" ∷ codes "--place" ∷ codes "best" ∷ codes "--log" ∷ []) ≡ None
+unfolding kept_of
 placement_in_front = refl
 
-go_on_is_read : command_of (codes "run" ∷ codes "a" ∷ codes "--go-on" ∷ []) ≡ Some (run (codes "a") false GoOn First None)
+go_on_is_read : command_of (codes "run" ∷ codes "a" ∷ codes "--go-on" ∷ []) ≡ Some (run (codes "a") false GoOn First None None)
+unfolding kept_of
 go_on_is_read = refl
 
-all_are_read : command_of (codes "run" ∷ codes "a" ∷ codes "--log" ∷ codes "--go-on" ∷ codes "--place" ∷ codes "last" ∷ []) ≡ Some (run (codes "a") true GoOn Last None)
+all_are_read : command_of (codes "run" ∷ codes "a" ∷ codes "--log" ∷ codes "--go-on" ∷ codes "--place" ∷ codes "last" ∷ []) ≡ Some (run (codes "a") true GoOn Last None None)
+unfolding kept_of
 all_are_read = refl
 
 go_on_in_front : command_of (codes "run" ∷ codes "a" ∷ codes "--go-on" ∷ codes "--log" ∷ []) ≡ None
+unfolding kept_of
 go_on_in_front = refl
 
 unknown_placement : command_of (codes "run" ∷ codes "a" ∷ codes "--place" ∷ codes "worst" ∷ []) ≡ None
+unfolding kept_of
 unknown_placement = refl
 
-watch_is_read : command_of (codes "run" ∷ codes "a" ∷ codes "--watch" ∷ codes "touch" ∷ []) ≡ Some (run (codes "a") false Halt First (Some Touch))
+watch_is_read : command_of (codes "run" ∷ codes "a" ∷ codes "--watch" ∷ codes "touch" ∷ []) ≡ Some (run (codes "a") false Halt First None (Some Touch))
+unfolding kept_of
 watch_is_read = refl
 
 watch_is_the_last :
     command_of (codes "run" ∷ codes "a" ∷ codes "--log" ∷ codes "--go-on" ∷ codes "--place" ∷ codes "last" ∷ codes "--watch" ∷ codes "within" ∷ [])
-    ≡ Some (run (codes "a") true GoOn Last (Some Within))
+    ≡ Some (run (codes "a") true GoOn Last None (Some Within))
+unfolding kept_of
 watch_is_the_last = refl
 
 -- another kind, none, one before another option, and two
@@ -98,7 +109,32 @@ no_watch :
     ∷ command_of (codes "run" ∷ codes "a" ∷ codes "--watch" ∷ codes "touch" ∷ codes "--place" ∷ codes "best" ∷ [])
     ∷ command_of (codes "run" ∷ codes "a" ∷ codes "--watch" ∷ codes "touch" ∷ codes "--watch" ∷ codes "within" ∷ []) ∷ [])
     ≡ (None ∷ None ∷ None ∷ None ∷ [])
+unfolding kept_of
 no_watch = refl
+
+items_are_read :
+    command_of (codes "run" ∷ codes "a" ∷ codes "--items" ∷ codes "1" ∷ codes "i" ∷ [])
+    ≡ Some (run (codes "a") false Halt First (Some (record { number = 1; file = codes "i" })) None)
+unfolding digits kept_of
+items_are_read = refl
+
+-- behind the placement, and before what is watched
+items_are_last_but_one :
+    command_of (codes "run" ∷ codes "a" ∷ codes "--log" ∷ codes "--place" ∷ codes "best" ∷ codes "--items" ∷ codes "1000000" ∷ codes "i" ∷ codes "--watch" ∷ codes "touch" ∷ [])
+    ≡ Some (run (codes "a") true Halt Best (Some (record { number = 1000000; file = codes "i" })) (Some Touch))
+unfolding digits kept_of
+items_are_last_but_one = refl
+
+-- of load note 0, of one past the last that has a number, without a file, of a run that goes on, and behind what is watched
+no_items :
+    (command_of (codes "run" ∷ codes "a" ∷ codes "--items" ∷ codes "0" ∷ codes "i" ∷ [])
+    ∷ command_of (codes "run" ∷ codes "a" ∷ codes "--items" ∷ codes "1000001" ∷ codes "i" ∷ [])
+    ∷ command_of (codes "run" ∷ codes "a" ∷ codes "--items" ∷ codes "1" ∷ [])
+    ∷ command_of (codes "run" ∷ codes "a" ∷ codes "--go-on" ∷ codes "--items" ∷ codes "1" ∷ codes "i" ∷ [])
+    ∷ command_of (codes "run" ∷ codes "a" ∷ codes "--watch" ∷ codes "touch" ∷ codes "--items" ∷ codes "1" ∷ codes "i" ∷ []) ∷ [])
+    ≡ (None ∷ None ∷ None ∷ None ∷ None ∷ [])
+unfolding digits kept_of
+no_items = refl
 
 -- a trace, of all processes or of one
 trace_is_read : command_of (codes "trace" ∷ codes "a" ∷ []) ≡ Some (trace (codes "a") None false First)

@@ -1,5 +1,5 @@
 -- The ending that an answer of the code is.
-use Rattle.std.specs.Prelude.{◌≡◌, Result, Ok, Err, String, string_bytes}
+use Rattle.std.specs.Prelude.{◌≡◌, Result, Ok, Err, IfOk, String, string_bytes}
 use Rattle.std.specs.declared.alloc.Global.{Global}
 use Rattle.std.specs.declared.alloc.AllocError.{AllocError}
 use Rattle.file_commands.specs.declared.status.Status.{Status}
@@ -13,6 +13,10 @@ ending_in answer = record { status = answer.status; out = answer.out.items; repo
 abbrev pub ending_of : Result Answer AllocError → Ending
 ending_of (Ok answer) = ending_in answer
 ending_of (Err error) = memory_ending
+
+-- the answer has this ending, if there was memory for it
+abbrev pub HasEnding : Ending → Result Answer AllocError → Type 0
+HasEnding wanted result = IfOk result (λ answer. ending_in answer ≡ wanted)
 
 -- the call ends early with this line, or there is no memory for the line
 abbrev pub EndsWithLine : Status → Result (String Global) AllocError → Ending → Type 0

@@ -11,15 +11,21 @@ use Rattle.watch_points.specs.declared.point.PointKind.{PointKind}
 use Rattle.watch_points.specs.declared.point.PointKind.TheVariants.{Touch, Within}
 use Rattle.file_commands.specs.declared.arguments.Format.{Format}
 use Rattle.file_commands.specs.declared.arguments.Format.TheVariants as format
+use Rattle.file_commands.specs.declared.arguments.Kept.{Kept as KeptArguments}
 use Rattle.file_commands.specs.declared.arguments.Command.{Command}
 use Rattle.file_commands.specs.declared.arguments.Command.TheVariants as command
+
+-- the number of the load note, from 1, whose space's items a run keeps, and the file that takes them
+pub record Kept : Type 0 where
+  pub number : ℕ
+  pub file : List ℕ
 
 -- a command with its arguments
 pub data Invocation : Type 0 where
   convert : (elf flt : List ℕ) (stack : ℕ) → Invocation
   list : (flt : List ℕ) → Invocation
   check : (elf : List ℕ) → Invocation
-  run : (manifest : List ℕ) (log : Bool) (mode : Mode) (kind : Kind) (watch : Option PointKind) → Invocation
+  run : (manifest : List ℕ) (log : Bool) (mode : Mode) (kind : Kind) (kept : Option Kept) (watch : Option PointKind) → Invocation
   trace : (manifest : List ℕ) (pid : Option ℕ) (counted : Bool) (kind : Kind) → Invocation
   romfs : (manifest image : List ℕ) → Invocation
   unromfs : (image : List ℕ) → Invocation
@@ -51,6 +57,13 @@ least_pid = 1
 abbrev pub most_pid : ℕ
 most_pid = 1000000
 
+-- the least and the greatest number of a load note
+abbrev pub least_note : ℕ
+least_note = 1
+
+abbrev pub most_note : ℕ
+most_note = 1000000
+
 abbrev pub is_between : (least most n : ℕ) → Bool
 is_between least most n = nat_le least n && nat_le n most
 
@@ -65,7 +78,7 @@ spelled_number least most text n = if is_spelling text n && is_between least mos
 abbrev pub number_of : (least most : ℕ) → List ℕ → Option ℕ
 number_of least most text = spelled_number least most text (digits_value 10 text)
 
--- the stack that a text spells, the number of programs, and the pid
+-- the stack that a text spells, the number of programs, the pid, and the number of a load note
 abbrev pub stack_of : List ℕ → Option ℕ
 stack_of text = number_of least_stack most_stack text
 
@@ -74,6 +87,9 @@ programs_of text = number_of least_programs most_programs text
 
 abbrev pub pid_of : List ℕ → Option ℕ
 pid_of text = number_of least_pid most_pid text
+
+abbrev pub note_of : List ℕ → Option ℕ
+note_of text = number_of least_note most_note text
 
 -- the first byte is a digit from 1 to 9
 abbrev pub StartsWell : List ℕ → Type 0
@@ -123,15 +139,27 @@ watch_of (option ∷ word ∷ []) = if bytes_eq option (codes "--watch") then op
 watch_of words = None
 
 -- the last words of `run`
-abbrev pub watched_of : (manifest : List ℕ) (log : Bool) (mode : Mode) (kind : Kind) → List (List ℕ) → Option Invocation
-watched_of manifest log mode kind words = option_map (run manifest log mode kind) (watch_of words)
+abbrev pub watched_of : (manifest : List ℕ) (log : Bool) (mode : Mode) (kind : Kind) (kept : Option Kept) → List (List ℕ) → Option Invocation
+watched_of manifest log mode kind kept words = option_map (run manifest log mode kind kept) (watch_of words)
 
--- `--place K` or not, and then `--watch` with its word or not
+-- `N FILE`: a run that goes on behind its first stray access keeps no items
+abbrev pub items_of : Mode → (number file : List ℕ) → Option Kept
+items_of Halt number file = option_map (λ n. record { number = n; file = file }) (note_of number)
+items_of GoOn number file = None
+
+-- `--items N FILE` or not, and then `--watch` with its word or not
+unfoldable pub kept_of : (manifest : List ℕ) (log : Bool) (mode : Mode) (kind : Kind) → List (List ℕ) → Option Invocation
+kept_of manifest log mode kind (option ∷ number ∷ file ∷ words) =
+    if bytes_eq option (codes "--items") then option_and_then (λ kept. watched_of manifest log mode kind (Some kept) words) (items_of mode number file)
+    else watched_of manifest log mode kind None (option ∷ number ∷ file ∷ words)
+kept_of manifest log mode kind words = watched_of manifest log mode kind None words
+
+-- `--place K` or not, and then the words behind it
 abbrev pub placed_of : (manifest : List ℕ) (log : Bool) (mode : Mode) → List (List ℕ) → Option Invocation
 placed_of manifest log mode (option ∷ word ∷ words) =
-    if bytes_eq option (codes "--place") then option_and_then (λ kind. watched_of manifest log mode kind words) (kind_of_word word)
-    else watched_of manifest log mode First (option ∷ word ∷ words)
-placed_of manifest log mode words = watched_of manifest log mode First words
+    if bytes_eq option (codes "--place") then option_and_then (λ kind. kept_of manifest log mode kind words) (kind_of_word word)
+    else kept_of manifest log mode First (option ∷ word ∷ words)
+placed_of manifest log mode words = kept_of manifest log mode First words
 
 -- `--go-on` or not, and then the words behind it
 abbrev pub mode_of : (manifest : List ℕ) (log : Bool) → List (List ℕ) → Option Invocation
@@ -200,17 +228,21 @@ command_of (first ∷ words) =
 
 -- no command, or one without a machine
 abbrev pub IsNoRun : Option Invocation → Type 0
-IsNoRun (Some (run manifest log mode kind watch)) = ⊥
+IsNoRun (Some (run manifest log mode kind kept watch)) = ⊥
 IsNoRun (Some (trace manifest pid counted kind)) = ⊥
 IsNoRun (Some (demo programs)) = ⊥
 IsNoRun other = Unit {0}
+
+-- the arguments of `--items` that the program read
+abbrev pub kept_value : KeptArguments → Kept
+kept_value k = record { number = k.number; file = k.file.now }
 
 -- the command that the program read
 abbrev pub invocation : Command → Invocation
 invocation (command.Convert elf flt stack) = convert elf.now flt.now stack
 invocation (command.List flt) = list flt.now
 invocation (command.Check elf) = check elf.now
-invocation (command.Run manifest log mode kind watch) = run manifest.now log mode kind watch
+invocation (command.Run manifest log mode kind kept watch) = run manifest.now log mode kind (option_map kept_value kept) watch
 invocation (command.Trace manifest pid counted kind) = trace manifest.now pid counted kind
 invocation (command.Romfs manifest image) = romfs manifest.now image.now
 invocation (command.Unromfs image) = unromfs image.now

@@ -1,5 +1,5 @@
 -- What a command requests of the host, in order, and what it then ends with.
-use Rattle.std.specs.Prelude.{ℕ, List, ◌∷◌, Option}
+use Rattle.std.specs.Prelude.{ℕ, List, [], ◌∷◌, Option}
 use Rattle.file_commands.specs.declared.status.Status.TheVariants as status
 use Rattle.file_commands.specs.Texts.{cannot_read_line, cannot_write_line}
 use Rattle.file_commands.specs.Ending.{Ending, early_ending}
@@ -29,3 +29,7 @@ Inputs = ℕ → List ℕ → Option (List ℕ)
 -- the outcome of a command that first makes this request
 abbrev pub after : Request → Outcome → Outcome
 after request rest = record { requests = request ∷ rest.requests; ending = rest.ending }
+
+-- the bytes become the file of this name, and then the command ends so
+abbrev pub storing : (name bytes : List ℕ) → Ending → Outcome
+storing name bytes ending = record { requests = store name bytes ∷ []; ending = ending }

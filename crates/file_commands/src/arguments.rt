@@ -1,6 +1,6 @@
 //! The table of commands.
 ghost use Rattle.std.specs.Prelude.{◌≡◌, ◌≤◌, ◌↔◌, IsTrue, map, option_map, string_bytes};
-ghost use Rattle.file_commands.specs.Arguments.{is_between, StartsWell, number_of, kind_of_word, point_of_word, only, romfs_of, convert_of, placement_of, watch_of, placed_of, mode_of, run_of, counted_of, process_of, trace_of, format_of_word, replay_of, demo_of, command_of, invocation};
+ghost use Rattle.file_commands.specs.Arguments.{is_between, StartsWell, number_of, kind_of_word, point_of_word, only, romfs_of, convert_of, placement_of, watch_of, items_of, kept_of, placed_of, mode_of, run_of, counted_of, process_of, trace_of, format_of_word, replay_of, demo_of, command_of, kept_value, invocation};
 
 use page_runs::Kind;
 use region_watch::Mode;
@@ -25,6 +25,11 @@ const LEAST_PID: u32 = 1;
 
 const MOST_PID: u32 = 1_000_000;
 
+/// The least number of a load note that an argument may say, and the greatest.
+const LEAST_NOTE: u32 = 1;
+
+const MOST_NOTE: u32 = 1_000_000;
+
 /// What a program's file is.
 #[derive(Clone, Copy, PartialEq, Eq)]
 pub enum Format {
@@ -32,6 +37,15 @@ pub enum Format {
     Elf,
     /// A flat file.
     Flat,
+}
+
+/// Whose items a run keeps, and where.
+#[derive(Clone, Copy)]
+pub struct Kept<'a> {
+    /// The number of the load note, from 1, whose space it is.
+    pub number: u32,
+    /// The file that takes the items.
+    pub file: &'a str,
 }
 
 /// A command with its arguments.
@@ -52,13 +66,15 @@ pub enum Command<'a> {
         elf: &'a str,
     },
     /// `run MANIFEST`; with `--log` the calls are told too, with `--go-on` the run goes on behind its first
-    /// stray access, with `--place K` another placement than the first fit, and with `--watch` the accesses
-    /// that hit what the manifest watches.
+    /// stray access, with `--place K` another placement than the first fit, with `--items N FILE` the items
+    /// of the space of load note N are kept in FILE, and with `--watch` the accesses that hit what the
+    /// manifest watches are told.
     Run {
         manifest: &'a str,
         log: bool,
         mode: Mode,
         kind: Kind,
+        kept: Option<Kept<'a>>,
         watch: Option<PointKind>,
     },
     /// `trace MANIFEST`; with `--pid P` the calls of that process alone are shown, with `--count` the shown
@@ -191,7 +207,7 @@ fn read_placement(words: &[String]) -> Option<Kind>
     }
 }
 
-/// The last words of `run`: which accesses hit, if hits are told.
+/// The last words of `run`: which hits are told, if any are.
 fn read_watch(words: &[String]) -> Option<Option<PointKind>>
     ensures { result ≡ watch_of (map string_bytes words.now) }
 {
@@ -205,18 +221,35 @@ fn read_watch(words: &[String]) -> Option<Option<PointKind>>
     }
 }
 
-/// The words behind `run MANIFEST`, `--log` and `--go-on`.
-fn read_placed<'a>(
+/// The words behind `--items`: a run that goes on behind its first stray access keeps no items.
+fn read_items<'a>(mode: Mode, number: &str, file: &'a str) -> Option<Kept<'a>>
+    ensures { option_map kept_value result ≡ items_of mode number.now file.now }
+{
+    match mode {
+        Mode::Halt => {
+            let number = read_number(number, LEAST_NOTE, MOST_NOTE)?;
+            Some(Kept { number, file })
+        }
+        Mode::GoOn => None,
+    }
+}
+
+/// The words behind `run MANIFEST`, `--log`, `--go-on` and `--place K`.
+#[tactic(auto, unfolding(crate::specs::Arguments::kept_of))]
+fn read_kept<'a>(
     manifest: &'a str,
     log: bool,
     mode: Mode,
-    words: &[String],
+    kind: Kind,
+    words: &'a [String],
 ) -> Option<Command<'a>>
-    ensures { option_map invocation result ≡ placed_of manifest.now log mode (map string_bytes words.now) }
+    ensures { option_map invocation result ≡ kept_of manifest.now log mode kind (map string_bytes words.now) }
 {
-    let (kind, last) = match words {
-        [option, word, last @ ..] if option.as_str() == "--place" => (read_kind(word)?, last),
-        _ => (Kind::First, words),
+    let (kept, last) = match words {
+        [option, number, file, last @ ..] if option.as_str() == "--items" => {
+            (Some(read_items(mode, number, file)?), last)
+        }
+        _ => (None, words),
     };
     let watch = read_watch(last)?;
     Some(Command::Run {
@@ -224,12 +257,31 @@ fn read_placed<'a>(
         log,
         mode,
         kind,
+        kept,
         watch,
     })
 }
 
+/// The words behind `run MANIFEST`, `--log` and `--go-on`.
+fn read_placed<'a>(
+    manifest: &'a str,
+    log: bool,
+    mode: Mode,
+    words: &'a [String],
+) -> Option<Command<'a>>
+    ensures { option_map invocation result ≡ placed_of manifest.now log mode (map string_bytes words.now) }
+{
+    match words {
+        [option, word, last @ ..] if option.as_str() == "--place" => {
+            let kind = read_kind(word)?;
+            read_kept(manifest, log, mode, kind, last)
+        }
+        _ => read_kept(manifest, log, mode, Kind::First, words),
+    }
+}
+
 /// The words behind `run MANIFEST`, and behind `--log`.
-fn read_mode<'a>(manifest: &'a str, log: bool, words: &[String]) -> Option<Command<'a>>
+fn read_mode<'a>(manifest: &'a str, log: bool, words: &'a [String]) -> Option<Command<'a>>
     ensures { option_map invocation result ≡ mode_of manifest.now log (map string_bytes words.now) }
 {
     let (mode, last) = match words {

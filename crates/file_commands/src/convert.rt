@@ -1,5 +1,5 @@
 //! The command `convert ELF FLT [--stack N]`.
-ghost use Rattle.std.specs.Prelude.{◌≡◌, ◌≤◌, string_bytes};
+ghost use Rattle.std.specs.Prelude.{◌≡◌, ◌≤◌};
 ghost use Rattle.bflt_format.specs.Spelling.{spell};
 ghost use Rattle.file_commands.specs.Sizes.{sizes_of};
 ghost use Rattle.file_commands.specs.Texts.{refusal_tail, convert_line};
@@ -13,10 +13,11 @@ ghost use Rattle.file_commands.specs.HostCourse.{Performs, PerformsCommand};
 use crate::answer::Answer;
 use crate::file_load::{FileLoad, load_file};
 use crate::status::Status;
+use crate::store::store_file;
 use crate::texts;
 use bflt_format::Flat;
 use elf2flt_tool::{Refusal, flat_file};
-use host_io::{Host, HostError};
+use host_io::Host;
 use std::alloc::{AllocError, Global};
 
 /// Loads the ELF file, converts it and stores its flat file.
@@ -64,26 +65,7 @@ fn store_flat<H: Host>(
 {
     let line = texts::convert_line(alloc, &flat)?;
     let bytes = flat.into_bytes()?;
-    store_file(alloc, flt, &bytes, line, host)
-}
-
-/// Stores a file, and then has this line for `out`.
-pub fn store_file<H: Host>(
-    alloc: Global,
-    name: &str,
-    bytes: &[u8],
-    line: String,
-    host: &mut H,
-) -> Result<Answer, AllocError>
-    ensures { Performs (observed H.told H.faults host.old) (observed H.told H.faults host.new) (stored_outcome name.now bytes.now (string_bytes line)) (ending_of result) }
-{
-    match host.store(alloc, name, bytes) {
-        Ok(()) => Ok(Answer::done(alloc, line)),
-        Err(HostError::Failed) => {
-            Answer::early(alloc, Status::HostWrite, texts::cannot_write(alloc, name))
-        }
-        Err(HostError::Memory) => Err(AllocError),
-    }
+    store_file(alloc, flt, &bytes, Answer::done(alloc, line), host)
 }
 
 /// The answer for an ELF file that isn't converted.

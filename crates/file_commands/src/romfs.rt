@@ -14,11 +14,11 @@ ghost use Rattle.file_commands.specs.Romfs.{imaged_outcome, filed_outcome, lined
 ghost use Rattle.file_commands.specs.HostCourse.{Performs, PerformsCommand};
 
 use crate::answer::Answer;
-use crate::convert::store_file;
 use crate::file_load::{FileLoad, load_limited};
 use crate::items::{ItemsLoad, load_items};
 use crate::manifests::{MANIFEST_LIMIT, refuse_line};
 use crate::status::Status;
+use crate::store::store_file;
 use crate::texts;
 use crate::texts::images::image_line;
 use crate::texts::refusals::refused_manifest;
@@ -115,7 +115,7 @@ fn store_tree<H: Host>(
     match make(alloc, &nodes) {
         Ok(bytes) => {
             let line = image_line(alloc, nodes.len(), bytes.len())?;
-            store_file(alloc, image, &bytes, line, host)
+            store_file(alloc, image, &bytes, Answer::done(alloc, line), host)
         }
         Err(MakeFault::TooLarge) => {
             let text = texts::refused(alloc, "too large");

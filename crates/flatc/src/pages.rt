@@ -14,15 +14,18 @@ usage: flatc COMMAND WORDS
   check ELF                                   say whether ELF can be converted, and store
                                               nothing
   list FLT                                    write the listing of the flat file FLT
-  run MANIFEST [--log] [--go-on] [--place K] [--watch touch|within]
+  run MANIFEST [--log] [--go-on] [--place K] [--items N FILE] [--watch touch|within]
                                               run the programs of MANIFEST by turns in one
                                               memory; --log tells their system calls too,
                                               --go-on goes on behind the first access that
                                               strays, over all of memory, and K says which
                                               free run is taken: first, best or last, else
-                                              first; --watch tells each load and store that
-                                              touches a range of the manifest's watch lines,
-                                              or lies within one
+                                              first; --items stores what the program of the
+                                              Nth load, 1 to 1000000, asked and got as FILE,
+                                              for replay, and not with --go-on; --watch
+                                              tells each load and store that touches a range
+                                              of the manifest's watch lines, or lies within
+                                              one
   trace MANIFEST [--pid P] [--count] [--place K]
                                               run the programs of MANIFEST as run does, and
                                               show each system call, as strace would; with

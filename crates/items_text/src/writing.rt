@@ -4,7 +4,6 @@ ghost use Rattle.std.specs.Prelude.{◌≡◌, ◌++◌, map, IfOk, codes};
 ghost use Rattle.std.specs.List.{flat_map};
 ghost use Rattle.call_log.specs.Programs.{paths_of as texts_of};
 ghost use Rattle.call_log.specs.Lines.{word_digits};
-ghost use Rattle.items_text.specs.Items.{AreSpelled};
 ghost use Rattle.items_text.specs.Values.{item_value, items_value};
 ghost use Rattle.items_text.specs.Lines.{space_line, arg_line, env_line, call_head, item_line, text_of};
 
@@ -16,7 +15,6 @@ use std::alloc::{AllocError, Global};
 /// `end`, each with its newline.
 #[tactic(auto, unfolding(crate::specs::Lines::text_of))]
 pub fn items_text(alloc: Global, items: &Items) -> Result<Vec<u8>, AllocError>
-    requires { AreSpelled (items_value items.now) }
     ensures { IfOk result (λ text. text.items ≡ text_of (items_value items.now)) }
 {
     let mut text = space_line(alloc, items.stack, items.base, items.pid, items.events)?;

@@ -15,7 +15,8 @@ use Rattle.flat_loader.specs.Begin.{Loading}
 use Rattle.machine_world.specs.World.{Rest, World}
 use Rattle.machine_world.specs.Boot.{StartLine, BootFault, bad_start, args_too_big, no_run, Found, found, path_of, placed, fitting, located, started, then_started, all_started, empty_world, begun, boot}
 use Rattle.kept_parts.specs.Stands.{world_of}
-use Rattle.physical_turns.specs.Physical.{Physical, opening as memory_opening}
+use Rattle.machine_world.specs.Turns.{turns}
+use Rattle.physical_turns.specs.Physical.{Physical, physical_turns, opening as memory_opening}
 use Rattle.flat_machine.specs.declared.boot.BootRefusal.{BootRefusal}
 use Rattle.flat_machine.specs.declared.boot.BootRefusal.TheVariants as refusal
 use Rattle.region_watch.specs.declared.mode.Mode.{Mode}
@@ -23,11 +24,18 @@ use Rattle.region_watch.specs.declared.mode.Mode.TheVariants.{Halt, GoOn}
 use Rattle.flat_machine.specs.State.{State, world, one_memory, lines_of}
 use Rattle.flat_machine.specs.Boots.{Boots}
 use Rattle.suite_top.specs.declared.telling.Telling.{Telling}
+use Rattle.host_io.specs.Host.{Told}
+use Rattle.file_commands.specs.Arguments.{Kept}
 use Rattle.file_commands.specs.Ending.{Ending, memory_ending, OrMemory}
+use Rattle.file_commands.specs.Outcome.{Outcome}
+use Rattle.file_commands.specs.Observed.{Observed}
+use Rattle.file_commands.specs.HostCourse.{Performs}
 use Rattle.run_setup.specs.Faults.{IsMemory}
 use Rattle.suite_top.specs.Refusing.{told_fault}
 use Rattle.file_commands.specs.Manifests.{fault_ending}
-use Rattle.suite_top.specs.Run.{start_line, boot_fault, world_ending, memory_run_ending, mode_ending, booted_ending}
+use Rattle.suite_top.specs.Kept.{kept_outcome}
+use Rattle.suite_top.specs.Run.{start_line, boot_fault, world_ending, memory_run_ending, mode_outcome, booted_outcome}
+use Rattle.file_commands.proofs.HostCourses.{runs_out, ends_at_once}
 
 -- ---- what no start line changes
 
@@ -61,7 +69,7 @@ module _ {A : Type 0} (of : World → A) (keeps : (w : World) (i : ℕ) (l : Loa
   kept_all (s ∷ ss) w now is =
       kept_then (started w s) w (λ v. all_started v ss) now (λ v first. kept_located w s (found w.rest (path_of s)) v first) (λ v. kept_all ss v now) is
 
-  kept_boot : (rest : Rest) (starts : List StartLine) (w : World) → boot rest starts ≡ Ok w → of w ≡ of (empty_world rest)
+  pub kept_boot : (rest : Rest) (starts : List StartLine) (w : World) → boot rest starts ≡ Ok w → of w ≡ of (empty_world rest)
   unfolding boot
   kept_boot rest starts w is = kept_all starts (empty_world rest) w is
 
@@ -97,21 +105,22 @@ booted (Ok w) machine is = ap Ok (sym is)
 booted (Err fault) machine is = absurd is
 
 -- what the machine was started with, as the definition has it
-pub boots_as : (rest : Rest) (starts : List StoredStart) (machine : State) (telling : Telling) (mode : Mode) (m : Manifest) (headers : List (List ℕ)) (ending : Ending) → m.starts ≡ map start_value starts
-    → Boots (boot rest (lines_of starts)) (Ok machine) → OrMemory (booted_ending telling mode m headers (Ok (world machine))) ending → OrMemory (booted_ending telling mode m headers (boot rest (map start_line m.starts))) ending
-boots_as rest starts machine telling mode m headers ending are boots ends =
+pub boots_as : (rest : Rest) (starts : List StoredStart) (machine : State) (kept : Option Kept) (telling : Telling) (mode : Mode) (m : Manifest) (headers : List (List ℕ)) (old new : Observed Told) (ending : Ending) → m.starts ≡ map start_value starts
+    → Boots (boot rest (lines_of starts)) (Ok machine) → Performs old new (booted_outcome kept telling mode m headers (Ok (world machine))) ending
+    → Performs old new (booted_outcome kept telling mode m headers (boot rest (map start_line m.starts))) ending
+boots_as rest starts machine kept telling mode m headers old new ending are boots ends =
     let same : boot rest (map start_line m.starts) ≡ Ok (world machine) = ap (λ ss. boot rest (map start_line ss)) are ∙ ap (boot rest) (sym (lines_are starts)) ∙ booted _ _ boots in
-    subst (λ (r : Result World BootFault). OrMemory (booted_ending telling mode m headers r) ending) (sym same) ends
+    subst (λ (r : Result World BootFault). Performs old new (booted_outcome kept telling mode m headers r) ending) (sym same) ends
 
 -- the machine's run as the definition has it
-pub ends_as : (machine : State) (telling : Telling) (mode : Mode) (quanta : List Quantum) (watches : List WatchLine) (dumps : List Dump) (headers : List (List ℕ)) (ending : Ending)
+pub ends_as : (machine : State) (kept : Option Kept) (telling : Telling) (mode : Mode) (quanta : List Quantum) (watches : List WatchLine) (dumps : List Dump) (headers : List (List ℕ)) (old new : Observed Told) (ending : Ending)
     → machine.mode ≡ mode → one_memory machine ≡ memory_opening headers (world machine)
-    → (machine.mode ≡ Halt → OrMemory (world_ending telling quanta watches dumps (world machine)) ending)
-    → (machine.mode ≡ GoOn → OrMemory (memory_run_ending telling quanta watches dumps (one_memory machine)) ending)
-    → OrMemory (mode_ending telling mode quanta watches dumps headers (world machine)) ending
-ends_as machine telling Halt quanta watches dumps headers ending is memory halt go_on = halt is
-ends_as machine telling GoOn quanta watches dumps headers ending is memory halt go_on =
-    subst (λ (p : Physical). OrMemory (memory_run_ending telling quanta watches dumps p) ending) memory (go_on is)
+    → (machine.mode ≡ Halt → Performs old new (kept_outcome kept (turns quanta (world machine)).world (world_ending telling quanta watches dumps (world machine))) ending)
+    → (machine.mode ≡ GoOn → Performs old new (kept_outcome kept (physical_turns quanta (one_memory machine)).now.world (memory_run_ending telling quanta watches dumps (one_memory machine))) ending)
+    → Performs old new (mode_outcome kept telling mode quanta watches dumps headers (world machine)) ending
+ends_as machine kept telling Halt quanta watches dumps headers old new ending is memory halt go_on = halt is
+ends_as machine kept telling GoOn quanta watches dumps headers old new ending is memory halt go_on =
+    subst (λ (p : Physical). Performs old new (kept_outcome kept (physical_turns quanta p).now.world (memory_run_ending telling quanta watches dumps p)) ending) memory (go_on is)
 
 pub machine_events : (machine : State) → (world machine).events ≡ machine.events
 unfolding world_of
@@ -122,23 +131,28 @@ unfolding world_of
 machine_kind machine = refl
 
 -- a machine that doesn't start
-refused_by : (fault : BootFault) (r : BootRefusal) (telling : Telling) (mode : Mode) (m : Manifest) (headers : List (List ℕ)) (ending : Ending) → Boots (Err fault) (Err r)
-    → OrMemory (fault_ending (told_fault r)) ending → (IsMemory (told_fault r).fault → ending ≡ memory_ending) → OrMemory (booted_ending telling mode m headers (Err fault)) ending
-refused_by fault refusal.Memory telling mode m headers ending is ends memory = inr (memory tt)
-refused_by (bad_start number) (refusal.BadStart at) telling mode m headers ending is ends memory = subst (λ n. OrMemory (fault_ending (boot_fault (bad_start n))) ending) is ends
-refused_by (args_too_big number) (refusal.E2big at) telling mode m headers ending is ends memory = subst (λ n. OrMemory (fault_ending (boot_fault (args_too_big n))) ending) is ends
-refused_by (no_run number) (refusal.NoRun at) telling mode m headers ending is ends memory = subst (λ n. OrMemory (fault_ending (boot_fault (no_run n))) ending) is ends
-refused_by fault r telling mode m headers ending is ends memory = absurd is
+refused_by : (fault : BootFault) (r : BootRefusal) (ending : Ending) → Boots (Err fault) (Err r)
+    → OrMemory (fault_ending (told_fault r)) ending → (IsMemory (told_fault r).fault → ending ≡ memory_ending) → OrMemory (fault_ending (boot_fault fault)) ending
+refused_by fault refusal.Memory ending is ends memory = inr (memory tt)
+refused_by (bad_start number) (refusal.BadStart at) ending is ends memory = subst (λ n. OrMemory (fault_ending (boot_fault (bad_start n))) ending) is ends
+refused_by (args_too_big number) (refusal.E2big at) ending is ends memory = subst (λ n. OrMemory (fault_ending (boot_fault (args_too_big n))) ending) is ends
+refused_by (no_run number) (refusal.NoRun at) ending is ends memory = subst (λ n. OrMemory (fault_ending (boot_fault (no_run n))) ending) is ends
+refused_by fault r ending is ends memory = absurd is
 
-pub boot_refused : (b : Result World BootFault) (r : BootRefusal) (telling : Telling) (mode : Mode) (m : Manifest) (headers : List (List ℕ)) (ending : Ending) → Boots b (Err r)
-    → OrMemory (fault_ending (told_fault r)) ending → (IsMemory (told_fault r).fault → ending ≡ memory_ending) → OrMemory (booted_ending telling mode m headers b) ending
-boot_refused (Ok w) refusal.Memory telling mode m headers ending is ends memory = inr (memory tt)
-boot_refused (Ok w) r telling mode m headers ending is ends memory = absurd is
-boot_refused (Err fault) r telling mode m headers ending is ends memory = refused_by fault r telling mode m headers ending is ends memory
+-- out of memory before the first request
+pub out_of_memory : (old : Observed Told) (outcome : Outcome) (ending : Ending) → ending ≡ memory_ending → Performs old old outcome ending
+out_of_memory old outcome ending is = subst (Performs old old outcome) (sym is) (runs_out old old outcome refl refl)
 
-pub refused_as : (rest : Rest) (starts : List StoredStart) (r : BootRefusal) (telling : Telling) (mode : Mode) (m : Manifest) (headers : List (List ℕ)) (ending : Ending) → m.starts ≡ map start_value starts
-    → Boots (boot rest (lines_of starts)) (Err r) → OrMemory (fault_ending (told_fault r)) ending → (IsMemory (told_fault r).fault → ending ≡ memory_ending)
-    → OrMemory (booted_ending telling mode m headers (boot rest (map start_line m.starts))) ending
-refused_as rest starts r telling mode m headers ending are boots ends memory =
-    let same : boot rest (map start_line m.starts) ≡ boot rest (lines_of starts) = ap (λ ss. boot rest (map start_line ss)) are ∙ ap (boot rest) (sym (lines_are starts)) in
-    subst (λ (b : Result World BootFault). OrMemory (booted_ending telling mode m headers b) ending) (sym same) (boot_refused (boot rest (lines_of starts)) r telling mode m headers ending boots ends memory)
+module _ (kept : Option Kept) (telling : Telling) (mode : Mode) (m : Manifest) (headers : List (List ℕ)) (old : Observed Told) (ending : Ending) where
+  boot_refused : (b : Result World BootFault) (r : BootRefusal) → Boots b (Err r)
+      → OrMemory (fault_ending (told_fault r)) ending → (IsMemory (told_fault r).fault → ending ≡ memory_ending) → Performs old old (booted_outcome kept telling mode m headers b) ending
+  boot_refused (Ok w) refusal.Memory is ends memory = out_of_memory old _ ending (memory tt)
+  boot_refused (Ok w) r is ends memory = absurd is
+  boot_refused (Err fault) r is ends memory = ends_at_once old (fault_ending (boot_fault fault)) ending (λ h. cc) (refused_by fault r ending is ends memory)
+
+  pub refused_as : (rest : Rest) (starts : List StoredStart) (r : BootRefusal) → m.starts ≡ map start_value starts
+      → Boots (boot rest (lines_of starts)) (Err r) → OrMemory (fault_ending (told_fault r)) ending → (IsMemory (told_fault r).fault → ending ≡ memory_ending)
+      → Performs old old (booted_outcome kept telling mode m headers (boot rest (map start_line m.starts))) ending
+  refused_as rest starts r are boots ends memory =
+      let same : boot rest (map start_line m.starts) ≡ boot rest (lines_of starts) = ap (λ ss. boot rest (map start_line ss)) are ∙ ap (boot rest) (sym (lines_are starts)) in
+      subst (λ (b : Result World BootFault). Performs old old (booted_outcome kept telling mode m headers b) ending) (sym same) (boot_refused (boot rest (lines_of starts)) r boots ends memory)

@@ -1,5 +1,5 @@
 -- The manifest of a demo.
-use Rattle.std.proofs.Common.{◌≡◌, ℕ, zero, suc, ◌+◌, ◌%◌, ◌^◌, ◌≤◌, ◌<◌, Bool, true, false, not, ◌&&◌, List, [], ◌∷◌, ◌++◌, length, map, refl, sym, ap, ◌∙◌, subst, arith, rules, add-one, length-append}
+use Rattle.std.proofs.Common.{◌≡◌, ℕ, zero, suc, ◌+◌, ◌%◌, ◌^◌, ◌≤◌, ◌<◌, Bool, true, false, not, ◌&&◌, List, [], ◌∷◌, ◌++◌, length, map, None, refl, sym, ap, ◌∙◌, subst, arith, rules, add-one, length-append}
 use Rattle.std.specs.Prelude.{◌==◌, decimal}
 use Rattle.std.specs.List.{AllByRecursion, list_all}
 use Rattle.std.proofs.lemmas.Bool.{ne_eqb}
@@ -12,9 +12,12 @@ use Rattle.manifest_text.specs.Laws.{IsItem, HasClearPath, HasArgument, Reasonab
 use Rattle.elf_maker.specs.Demo.{demo_file}
 use Rattle.region_watch.specs.declared.mode.Mode.TheVariants.{Halt}
 use Rattle.suite_top.specs.declared.telling.Telling.TheVariants.{Demo}
-use Rattle.file_commands.specs.Ending.{Ending, OrMemory}
-use Rattle.suite_top.specs.Run.{files_ending}
-use Rattle.suite_top.specs.Demo.{each_of, demo_item, demo_start, demo_manifest, demo_ending}
+use Rattle.host_io.specs.Host.{Told}
+use Rattle.file_commands.specs.Ending.{Ending}
+use Rattle.file_commands.specs.Observed.{Observed}
+use Rattle.file_commands.specs.HostCourse.{Performs}
+use Rattle.suite_top.specs.Run.{files_outcome}
+use Rattle.suite_top.specs.Demo.{each_of, demo_item, demo_start, demo_manifest, demo_run}
 
 module _ {A : Type 0} (of : ℕ → A) where
   pub none_yet : each_of of 0 ≡ []
@@ -102,10 +105,10 @@ as_many n m files manifest are =
     ∙ sym (ap (λ (x : Manifest). length x.items) manifest ∙ ap length (items_are n) ∙ length-each_of demo_item n)
 
 -- what was run is the demo
-pub is_demo : (n : ℕ) (kind : Kind) (m : Manifest) (files : List (List ℕ)) (ending : Ending) → kind ≡ First → m ≡ demo_manifest n → files ≡ each_of demo_file n
-    → OrMemory (files_ending (Demo n) Halt kind m files) ending → OrMemory (demo_ending n) ending
-unfolding demo_ending
-is_demo n kind m files ending first manifest are ends =
-    subst (λ (fs : List (List ℕ)). OrMemory (files_ending (Demo n) Halt First (demo_manifest n) fs) ending) are
-    (subst (λ (x : Manifest). OrMemory (files_ending (Demo n) Halt First x files) ending) manifest
-    (subst (λ (k : Kind). OrMemory (files_ending (Demo n) Halt k m files) ending) first ends))
+pub is_demo : (n : ℕ) (kind : Kind) (m : Manifest) (files : List (List ℕ)) (old new : Observed Told) (ending : Ending) → kind ≡ First → m ≡ demo_manifest n → files ≡ each_of demo_file n
+    → Performs old new (files_outcome None (Demo n) Halt kind m files) ending → Performs old new (demo_run n) ending
+unfolding demo_run
+is_demo n kind m files old new ending first manifest are ends =
+    subst (λ (fs : List (List ℕ)). Performs old new (files_outcome None (Demo n) Halt First (demo_manifest n) fs) ending) are
+    (subst (λ (x : Manifest). Performs old new (files_outcome None (Demo n) Halt First x files) ending) manifest
+    (subst (λ (k : Kind). Performs old new (files_outcome None (Demo n) Halt k m files) ending) first ends))

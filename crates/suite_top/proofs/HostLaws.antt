@@ -8,7 +8,7 @@ use Rattle.host_io.specs.Host.{Files, Told}
 use Rattle.page_runs.specs.declared.place.Kind.{Kind}
 use Rattle.file_commands.specs.Outcome.{Request, load, store, Outcome, Inputs, name_of}
 use Rattle.file_commands.specs.declared.arguments.Format.{Format}
-use Rattle.file_commands.specs.Arguments.{Invocation, convert, list, check, run, trace, romfs, unromfs, replay, demo, command_of}
+use Rattle.file_commands.specs.Arguments.{Kept, Invocation, convert, list, check, run, trace, romfs, unromfs, replay, demo, command_of}
 use Rattle.file_commands.specs.OneFile.{with_found}
 use Rattle.file_commands.specs.Convert.{converted_outcome}
 use Rattle.file_commands.specs.Romfs.{romfs_outcome}
@@ -88,8 +88,9 @@ HasStore stored (load name ∷ requests) = HasStore stored requests
 HasStore None (store name bytes ∷ requests) = ⊥
 HasStore (Some wanted) (store name bytes ∷ requests) = (name ≡ wanted) × (requests ≡ [])
 
-run_has : (manifest : List ℕ) (telling : Telling) (mode : Mode) (kind : Kind) (inputs : Inputs) → HasStore None (run_outcome manifest telling mode kind inputs).requests
-run_has = run_by (λ (o : Outcome). HasStore None o.requests) (λ name o has. has) (λ name. tt) (λ tail. tt) (λ telling dumped w end. tt)
+run_has : (kept : Option Kept) (manifest : List ℕ) (telling : Telling) (mode : Mode) (kind : Kind) (inputs : Inputs) → HasStore (option_map (λ k. k.file) kept) (run_outcome manifest kept telling mode kind inputs).requests
+run_has None = run_by (λ (o : Outcome). HasStore None o.requests) (λ tail. tt) None (λ telling shown w end. tt) (λ name o has. has) (λ name. tt)
+run_has (Some k) = run_by (λ (o : Outcome). HasStore (Some k.file) o.requests) (λ tail. tt) (Some k) (λ telling shown w end. (refl, refl)) (λ name o has. has) (λ name. tt)
 
 romfs_has : (manifest image : List ℕ) (inputs : Inputs) → HasStore (Some image) (romfs_outcome manifest image inputs).requests
 romfs_has manifest image inputs =
@@ -108,8 +109,8 @@ command_has None inputs = tt
 command_has (Some (convert elf flt stack)) inputs = behind_has flt stack (inputs 0 elf) (with_found elf (inputs 0 elf) (converted_outcome flt stack)).requests (requests_behind elf flt stack (inputs 0 elf))
 command_has (Some (list flt)) inputs = subst (HasStore None) (sym (list_requests flt inputs)) tt
 command_has (Some (check elf)) inputs = subst (HasStore None) (sym (check_requests elf inputs)) tt
-command_has (Some (run manifest log mode kind watch)) inputs = run_has manifest (Report log watch) mode kind inputs
-command_has (Some (trace manifest pid counted kind)) inputs = run_has manifest (Trace pid counted) Halt kind inputs
+command_has (Some (run manifest log mode kind kept watch)) inputs = run_has kept manifest (Report log watch) mode kind inputs
+command_has (Some (trace manifest pid counted kind)) inputs = run_has None manifest (Trace pid counted) Halt kind inputs
 command_has (Some (romfs manifest image)) inputs = romfs_has manifest image inputs
 command_has (Some (unromfs image)) inputs = subst (HasStore None) (sym (unromfs_requests image inputs)) tt
 command_has (Some (replay kind file items)) inputs = replay_has kind file items inputs

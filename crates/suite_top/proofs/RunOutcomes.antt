@@ -1,5 +1,5 @@
 -- What the outcome of a run can be: loads, one after the other, and then a refusal or the ending of a machine that stopped.
-use Rattle.std.proofs.Common.{ℕ, List, ◌++◌, map, Option, Some, None, Result, Ok, Err}
+use Rattle.std.proofs.Common.{◌≡◌, ℕ, List, ◌++◌, map, Option, Some, None, Result, Ok, Err, refl}
 use Rattle.page_runs.specs.declared.place.Kind.{Kind}
 use Rattle.manifest_text.specs.declared.manifest.Dump.{Dump}
 use Rattle.manifest_text.specs.declared.manifest.WatchLine.{WatchLine}
@@ -16,6 +16,7 @@ use Rattle.flat_machine.specs.Runs.{repeated}
 use Rattle.file_commands.specs.declared.status.Status.{Status}
 use Rattle.file_commands.specs.declared.status.Status.TheVariants.{Done, Stray, OutOfQuanta, LogFull, Stuck}
 use Rattle.file_commands.specs.Texts.Refusals.{manifest_tail, line_tail}
+use Rattle.file_commands.specs.Arguments.{Kept}
 use Rattle.file_commands.specs.Ending.{refused_ending}
 use Rattle.file_commands.specs.Outcome.{load, failure_ending, Outcome, Inputs, after}
 use Rattle.file_commands.specs.Load.{at_once}
@@ -26,47 +27,57 @@ use Rattle.suite_top.specs.declared.telling.Telling.TheVariants.{Report, Trace, 
 use Rattle.suite_top.specs.Telling.{told_ending}
 use Rattle.page_runs.specs.declared.place.Kind.TheVariants.{First}
 use Rattle.elf_maker.specs.Demo.{demo_file}
-use Rattle.suite_top.specs.Demo.{each_of, demo_manifest, demo_ending}
+use Rattle.suite_top.specs.Demo.{each_of, demo_manifest, demo_run}
 use Rattle.file_commands.specs.Items.{files_limit}
 use Rattle.file_commands.specs.Manifests.{manifest_limit}
 use Rattle.suite_top.proofs.LoadOutcomes.{load_run, items_run}
-use Rattle.suite_top.specs.Run.{start_line, opening, boot_fault, world_hits, memory_hits, mode_ending, booted_ending, brought_ending, files_ending, manifest_outcome, run_outcome}
+use Rattle.suite_top.specs.Kept.{keep_of, kept_outcome}
+use Rattle.suite_top.specs.Run.{start_line, opening, boot_fault, world_hits, memory_hits, mode_outcome, booted_outcome, brought_outcome, files_outcome, manifest_outcome, run_outcome}
 
--- what holds of each end, and of a load in front of an outcome of which it holds
-module _ (P : Outcome → Type 0) (step : (name : List ℕ) (o : Outcome) → P o → P (after (load name) o)) (read : (name : List ℕ) → P (at_once (failure_ending (load name)))) (refused : (tail : List ℕ) → P (at_once (refused_ending tail))) (told : (telling : Telling) (shown : List ℕ) (w : World) (end : Option End) → P (at_once (told_ending telling shown w end))) where
-  by_mode : (telling : Telling) (mode : Mode) (quanta : List Quantum) (watches : List WatchLine) (dumps : List Dump) (headers : List (List ℕ)) (w : World) → P (at_once (mode_ending telling mode quanta watches dumps headers w))
+-- what holds of each end
+module _ (P : Outcome → Type 0) (refused : (tail : List ℕ) → P (at_once (refused_ending tail))) (kept : Option Kept)
+    (told : (telling : Telling) (shown : List ℕ) (w : World) (end : Option End) → P (kept_outcome kept w (told_ending telling shown w end))) where
+  by_mode : (telling : Telling) (mode : Mode) (quanta : List Quantum) (watches : List WatchLine) (dumps : List Dump) (headers : List (List ℕ)) (w : World) → P (mode_outcome kept telling mode quanta watches dumps headers w)
   by_mode telling Halt quanta watches dumps headers w =
       let walk = turns quanta w in told telling (world_hits telling quanta watches w ++ own_dumps walk.world dumps) walk.world walk.end
   by_mode telling GoOn quanta watches dumps headers w =
       let p = memory_opening headers w in
       let walk = physical_turns quanta p in told telling (memory_hits telling quanta watches p ++ memory_dumps walk.now dumps) walk.now.world walk.end
 
-  booted : (telling : Telling) (mode : Mode) (m : Manifest) (headers : List (List ℕ)) (r : Result World BootFault) → P (at_once (booted_ending telling mode m headers r))
+  booted : (telling : Telling) (mode : Mode) (m : Manifest) (headers : List (List ℕ)) (r : Result World BootFault) → P (booted_outcome kept telling mode m headers r)
   booted telling mode m headers (Err first) = refused (line_tail (boot_fault first).line (boot_fault first).fault)
   booted telling mode m headers (Ok w) = by_mode telling mode (repeated m.repeat m.quanta) m.watches m.dumps headers w
 
-  made : (telling : Telling) (mode : Mode) (kind : Kind) (m : Manifest) (r : Result Brought FaultAt) → P (at_once (brought_ending telling mode kind m r))
+  made : (telling : Telling) (mode : Mode) (kind : Kind) (m : Manifest) (r : Result Brought FaultAt) → P (brought_outcome kept telling mode kind m r)
   made telling mode kind m (Err at) = refused (line_tail at.line at.fault)
-  made telling mode kind m (Ok b) = booted telling mode m b.headers (boot (opening kind m b) (map start_line m.starts))
+  made telling mode kind m (Ok b) = booted telling mode m b.headers (boot (opening (keep_of kept) kind m b) (map start_line m.starts))
 
-  from_files : (telling : Telling) (mode : Mode) (kind : Kind) (m : Manifest) (files : List (List ℕ)) → P (at_once (files_ending telling mode kind m files))
-  unfolding files_ending
+  from_files : (telling : Telling) (mode : Mode) (kind : Kind) (m : Manifest) (files : List (List ℕ)) → P (files_outcome kept telling mode kind m files)
+  unfolding files_outcome
   from_files telling mode kind m files = made telling mode kind m (all_brought m.items files nothing_brought)
 
-  from_manifest : (telling : Telling) (mode : Mode) (kind : Kind) (r : Result Manifest Fault) (inputs : Inputs) → P (manifest_outcome telling mode kind r inputs)
-  from_manifest telling mode kind (Err first) inputs = refused (manifest_tail first.line first.fault)
-  from_manifest telling mode kind (Ok m) inputs =
-      items_run P step read refused files_limit m.items (λ files. at_once (files_ending telling mode kind m files)) (from_files telling mode kind m) inputs
+  -- and of a load in front of an outcome of which it holds
+  module _ (step : (name : List ℕ) (o : Outcome) → P o → P (after (load name) o)) (read : (name : List ℕ) → P (at_once (failure_ending (load name)))) where
+    from_manifest : (telling : Telling) (mode : Mode) (kind : Kind) (r : Result Manifest Fault) (inputs : Inputs) → P (manifest_outcome kept telling mode kind r inputs)
+    from_manifest telling mode kind (Err first) inputs = refused (manifest_tail first.line first.fault)
+    from_manifest telling mode kind (Ok m) inputs =
+        items_run P step read refused files_limit m.items (files_outcome kept telling mode kind m) (from_files telling mode kind m) inputs
 
-  pub run_by : (name : List ℕ) (telling : Telling) (mode : Mode) (kind : Kind) (inputs : Inputs) → P (run_outcome name telling mode kind inputs)
-  unfolding run_outcome
-  run_by name telling mode kind inputs =
-      load_run P step read refused manifest_limit None name (λ bytes. manifest_outcome telling mode kind (manifest_of bytes))
-      (λ bytes more. from_manifest telling mode kind (manifest_of bytes) more) inputs
+    pub run_by : (name : List ℕ) (telling : Telling) (mode : Mode) (kind : Kind) (inputs : Inputs) → P (run_outcome name kept telling mode kind inputs)
+    unfolding run_outcome
+    run_by name telling mode kind inputs =
+        load_run P step read refused manifest_limit None name (λ bytes. manifest_outcome kept telling mode kind (manifest_of bytes))
+        (λ bytes more. from_manifest telling mode kind (manifest_of bytes) more) inputs
 
-  pub demo_by : (n : ℕ) → P (at_once (demo_ending n))
-  unfolding demo_ending
-  demo_by n = from_files (Demo n) Halt First (demo_manifest n) (each_of demo_file n)
+-- a demo keeps no items
+pub demo_by : (P : Outcome → Type 0) (refused : (tail : List ℕ) → P (at_once (refused_ending tail))) (told : (telling : Telling) (shown : List ℕ) (w : World) (end : Option End) → P (at_once (told_ending telling shown w end)))
+    (n : ℕ) → P (demo_run n)
+unfolding demo_run
+demo_by P refused told n = from_files P refused None told (Demo n) Halt First (demo_manifest n) (each_of demo_file n)
+
+-- so it asks for nothing
+pub demo_asks_nothing : (n : ℕ) → demo_run n ≡ at_once (demo_run n).ending
+demo_asks_nothing n = demo_by (λ (o : Outcome). o ≡ at_once o.ending) (λ tail. refl) (λ telling shown w end. refl) n
 
 -- the statuses of a machine that stopped
 pub other_status : (P : Status → Type 0) → P Done → P Stray → P OutOfQuanta → P LogFull → P Stuck → (end : Option End) → P (status_of_end end)

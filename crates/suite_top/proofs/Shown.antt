@@ -1,5 +1,6 @@
 -- What a machine shows of its processes, by what becomes of its run at the first stray access.
-use Rattle.std.proofs.Common.{◌≡◌, ℕ, false, List, ◌++◌, Option, Ok, refl, sym, ap, subst, ◌∙◌}
+use Rattle.std.proofs.Common.{◌≡◌, ◌≢◌, ℕ, false, List, ◌++◌, Option, Result, Ok, Err, IfOk, refl, sym, ap, subst, ◌∙◌}
+use Rattle.std.specs.declared.alloc.AllocError.{AllocError}
 use Rattle.quantum_sched.specs.declared.Quantum.{Quantum}
 use Rattle.manifest_text.specs.declared.manifest.Dump.{Dump}
 use Rattle.manifest_text.specs.declared.manifest.WatchLine.{WatchLine}
@@ -15,10 +16,21 @@ use Rattle.flat_machine.specs.Runs.{Runs}
 use Rattle.flat_machine.specs.RunsIn.{IsHalting, RunsIn}
 use Rattle.flat_machine.specs.OwnBytes.{own_bytes, memory_bytes}
 use Rattle.suite_top.specs.declared.telling.Telling.{Telling}
-use Rattle.file_commands.specs.Ending.{Ending, OrMemory}
+use Rattle.file_commands.specs.declared.answer.Answer.{Answer}
+use Rattle.file_commands.specs.Answer.{ending_in, HasEnding}
+use Rattle.file_commands.specs.Ending.{Ending}
 use Rattle.suite_top.specs.Report.{own_dumps, memory_dumps, shown_of, dumps_of}
 use Rattle.suite_top.specs.Telling.{told_ending, IsTold}
+use Rattle.host_io.specs.Host.{Told as Outside}
+use Rattle.file_commands.specs.declared.status.Status.TheVariants as status
+use Rattle.file_commands.specs.Arguments.{Kept}
+use Rattle.file_commands.specs.Observed.{Observed}
+use Rattle.file_commands.specs.HostCourse.{Performs}
+use Rattle.suite_top.specs.declared.course.Course.{Course}
+use Rattle.suite_top.specs.Kept.{kept_outcome}
+use Rattle.suite_top.specs.Running.{turns_of, Stopped, TellsHalting, TellsGoingOn}
 use Rattle.suite_top.specs.Run.{world_hits, memory_hits, walked_ending, world_ending, walked_on_ending, memory_run_ending}
+use Rattle.suite_top.proofs.RunEndings.{stop_is_told}
 
 abbrev in_mode : State → Mode → State
 in_mode s mode = record s { mode = mode }
@@ -41,31 +53,64 @@ shows_own s dumps is = ap (λ (mode : Mode). dumps_of (in_mode s mode) dumps) is
 shows_memory : (s : State) (dumps : List Dump) → s.mode ≡ GoOn → dumps_of s dumps ≡ memory_dumps (one_memory s) dumps
 shows_memory s dumps is = ap (λ (mode : Mode). dumps_of (in_mode s mode) dumps) is
 
+-- an answer, if there is one, with the machine behind it
+with_machine : (result : Result Answer AllocError) (ending : Ending) (w : World) (s : State) → HasEnding ending result → world s ≡ w → IfOk result (Stopped ending w s)
+with_machine (Ok answer) ending w s tells stands = record { tells = tells; stands = stands }
+with_machine (Err error) ending w s tells stands = tt
+
 -- what it tells of its run, with this text of its hits in front of its dumps
-module _ (telling : Telling) (quanta : List Quantum) (watched : List ℕ) (dumps : List Dump) (old new : State) (stays : new.mode ≡ old.mode) (end : Told) (ending : Ending)
-    (told : IsTold telling (watched ++ dumps_of new dumps) new end ending) where
-  halts : old.mode ≡ Halt → has_stray (world old).notes ≡ false → (IsHalting old → Runs quanta old new (Ok end)) → OrMemory (walked_ending telling watched dumps (turns quanta (world old))) ending
+module _ (telling : Telling) (quanta : List Quantum) (watched : List ℕ) (dumps : List Dump) (old new : State) (stays : new.mode ≡ old.mode) (end : Told) (result : Result Answer AllocError)
+    (told : IsTold telling (watched ++ dumps_of new dumps) new end result) where
+  abbrev Stops : Ending → World → Type 0
+  Stops ending w = IfOk result (Stopped ending w new)
+
+  halts : old.mode ≡ Halt → has_stray (world old).notes ≡ false → (IsHalting old → Runs quanta old new (Ok end)) → Stops (walked_ending telling watched dumps (turns quanta (world old))) (turns quanta (world old)).world
   halts is quiet runs =
       let (world_is, ends) = runs (record { halts = is; quiet = quiet }) in
       let walk = turns quanta (world old) in
-      subst (λ (w : World). OrMemory (told_ending telling (watched ++ own_dumps w dumps) w walk.end) ending) world_is
-      (subst (λ (dumped : List ℕ). OrMemory (told_ending telling (watched ++ dumped) (world new) walk.end) ending) (shows_own new dumps (stays ∙ is)) (told walk.end ends))
+      let tells : HasEnding (walked_ending telling watched dumps walk) result =
+      subst (λ (w : World). HasEnding (told_ending telling (watched ++ own_dumps w dumps) w walk.end) result) world_is
+      (subst (λ (dumped : List ℕ). HasEnding (told_ending telling (watched ++ dumped) (world new) walk.end) result) (shows_own new dumps (stays ∙ is)) (told walk.end ends)) in
+      with_machine result (walked_ending telling watched dumps walk) walk.world new tells world_is
 
-  goes_on : old.mode ≡ GoOn → (old.mode ≡ GoOn → RunsIn quanta old new (Ok end)) → OrMemory (walked_on_ending telling watched dumps (physical_turns quanta (one_memory old))) ending
+  goes_on : old.mode ≡ GoOn → (old.mode ≡ GoOn → RunsIn quanta old new (Ok end))
+      → Stops (walked_on_ending telling watched dumps (physical_turns quanta (one_memory old))) (physical_turns quanta (one_memory old)).now.world
   unfolding physical_of
   goes_on is runs =
       let (memory_is, ends) = runs is in
       let walk = physical_turns quanta (one_memory old) in
-      subst (λ (p : Physical). OrMemory (told_ending telling (watched ++ memory_dumps p dumps) p.world walk.end) ending) (sym memory_is)
-      (subst (λ (dumped : List ℕ). OrMemory (told_ending telling (watched ++ dumped) (world new) walk.end) ending) (shows_memory new dumps (stays ∙ is)) (told walk.end ends))
+      let tells : HasEnding (walked_on_ending telling watched dumps walk) result =
+      subst (λ (p : Physical). HasEnding (told_ending telling (watched ++ memory_dumps p dumps) p.world walk.end) result) (sym memory_is)
+      (subst (λ (dumped : List ℕ). HasEnding (told_ending telling (watched ++ dumped) (world new) walk.end) result) (shows_memory new dumps (stays ∙ is)) (told walk.end ends)) in
+      with_machine result (walked_on_ending telling watched dumps walk) walk.now.world new tells (ap (λ (p : Physical). p.world) (sym memory_is))
 
   -- that text is the one of the definition
   pub halts_with : (watches : List WatchLine) → world_hits telling quanta watches (world old) ≡ watched
-      → old.mode ≡ Halt → has_stray (world old).notes ≡ false → (IsHalting old → Runs quanta old new (Ok end)) → OrMemory (world_ending telling quanta watches dumps (world old)) ending
+      → old.mode ≡ Halt → has_stray (world old).notes ≡ false → (IsHalting old → Runs quanta old new (Ok end)) → Stops (world_ending telling quanta watches dumps (world old)) (turns quanta (world old)).world
   halts_with watches are is quiet runs =
-      subst (λ (text : List ℕ). OrMemory (walked_ending telling text dumps (turns quanta (world old))) ending) (sym are) (halts is quiet runs)
+      subst (λ (text : List ℕ). Stops (walked_ending telling text dumps (turns quanta (world old))) (turns quanta (world old)).world) (sym are) (halts is quiet runs)
 
   pub goes_on_with : (watches : List WatchLine) → memory_hits telling quanta watches (one_memory old) ≡ watched
-      → old.mode ≡ GoOn → (old.mode ≡ GoOn → RunsIn quanta old new (Ok end)) → OrMemory (memory_run_ending telling quanta watches dumps (one_memory old)) ending
+      → old.mode ≡ GoOn → (old.mode ≡ GoOn → RunsIn quanta old new (Ok end)) → Stops (memory_run_ending telling quanta watches dumps (one_memory old)) (physical_turns quanta (one_memory old)).now.world
   goes_on_with watches are is runs =
-      subst (λ (text : List ℕ). OrMemory (walked_on_ending telling text dumps (physical_turns quanta (one_memory old))) ending) (sym are) (goes_on is runs)
+      subst (λ (text : List ℕ). Stops (walked_on_ending telling text dumps (physical_turns quanta (one_memory old))) (physical_turns quanta (one_memory old)).now.world) (sym are) (goes_on is runs)
+
+-- ---- behind it
+
+by_modes : (P : Type 0) (mode : Mode) → (mode ≡ Halt → P) → (mode ≡ GoOn → P) → P
+by_modes P Halt halt go_on = halt refl
+by_modes P GoOn halt go_on = go_on refl
+
+-- the answer isn't that of a failed load
+pub is_no_failed_load : (telling : Telling) (c : Course) (old new : State) (answer : Answer) → TellsHalting telling c old new (Ok answer) → TellsGoingOn telling c old new (Ok answer) → answer.status ≢ status.HostRead
+is_no_failed_load telling c old new answer halt go_on =
+    by_modes (answer.status ≢ status.HostRead) old.mode
+    (λ is. let walk = turns (turns_of c) (world old) in stop_is_told (ending_in answer) telling _ walk.world walk.end (halt is).tells)
+    (λ is. let walk = physical_turns (turns_of c) (one_memory old) in stop_is_told (ending_in answer) telling _ walk.now.world walk.end (go_on is).tells)
+
+-- what is kept of the world of the machine is kept of that of the definition
+pub keeps_with : (kept : Option Kept) (answer : Answer) (s : State) (ending : Ending) (w : World) (before after : Observed Outside) (last : Ending)
+    → Stopped ending w s answer → Performs before after (kept_outcome kept (world s) (ending_in answer)) last → Performs before after (kept_outcome kept w ending) last
+keeps_with kept answer s ending w before after last is performs =
+    let of_world = subst (λ (v : World). Performs before after (kept_outcome kept v (ending_in answer)) last) is.stands performs in
+    subst (λ (e : Ending). Performs before after (kept_outcome kept w e) last) is.tells of_world

@@ -1,5 +1,5 @@
 -- The command `demo N`: the programs 1 to N of the demo run by turns in one memory, of which each takes two pages.
-use Rattle.std.specs.Prelude.{ℕ, zero, suc, List, [], ◌∷◌, ◌++◌, codes, decimal}
+use Rattle.std.specs.Prelude.{ℕ, zero, suc, List, [], ◌∷◌, ◌++◌, codes, decimal, None}
 use Rattle.page_runs.specs.declared.place.Kind.TheVariants.{First}
 use Rattle.quantum_sched.specs.declared.Quantum.{Quantum}
 use Rattle.manifest_text.specs.declared.manifest.ItemKind.TheVariants.{Elf}
@@ -11,7 +11,7 @@ use Rattle.file_commands.specs.Ending.{Ending}
 use Rattle.file_commands.specs.Outcome.{Outcome, Inputs}
 use Rattle.file_commands.specs.Load.{at_once}
 use Rattle.region_watch.specs.declared.mode.Mode.TheVariants.{Halt}
-use Rattle.suite_top.specs.Run.{files_ending}
+use Rattle.suite_top.specs.Run.{files_outcome}
 
 -- what is made of each of the numbers 1 to n, in their order
 unfoldable pub each_of : {A : Type 0} → (ℕ → A) → (n : ℕ) → List A
@@ -49,9 +49,14 @@ demo_manifest n = record {
   watches = [];
 }
 
--- a run with these files, which takes the first free run that fits
-unfoldable pub demo_ending : (n : ℕ) → Ending
-demo_ending n = files_ending (Demo n) Halt First (demo_manifest n) (each_of demo_file n)
+-- a run with these files, which takes the first free run that fits, and keeps no items
+unfoldable pub demo_run : (n : ℕ) → Outcome
+demo_run n = files_outcome None (Demo n) Halt First (demo_manifest n) (each_of demo_file n)
 
+-- what it ends with
+abbrev pub demo_ending : (n : ℕ) → Ending
+demo_ending n = (demo_run n).ending
+
+-- nothing is requested
 abbrev pub demo_outcome : (n : ℕ) → Inputs → Outcome
 demo_outcome n inputs = at_once (demo_ending n)

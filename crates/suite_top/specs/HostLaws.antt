@@ -1,11 +1,11 @@
 -- What the host was asked, and which files changed: laws over every call.
-use Rattle.std.specs.Prelude.{◌≡◌, ◌⊎◌, ◌++◌, ℕ, List, map, Option, Some, None}
+use Rattle.std.specs.Prelude.{◌≡◌, ◌⊎◌, ◌++◌, ℕ, List, map, Option, Some, None, option_map}
 use Rattle.std.specs.FinMap.{insert}
 use Rattle.std.specs.Option.{option_and_then}
 use Rattle.host_io.specs.Host.{Files, Told}
 use Rattle.file_commands.specs.Outcome.{name_of}
 use Rattle.file_commands.specs.HostCourse.{after_answers}
-use Rattle.file_commands.specs.Arguments.{Invocation, convert, romfs, command_of}
+use Rattle.file_commands.specs.Arguments.{Invocation, convert, run, romfs, command_of}
 use Rattle.suite_top.specs.Call.{Call, outcome_of, MeetsOutcome}
 
 -- the names asked are a prefix of those of the outcome
@@ -21,6 +21,7 @@ NothingIsAsked = (c : Call) → MeetsOutcome c → command_of c.arguments ≡ No
 -- the name of the one file that a command stores, if it stores one
 abbrev pub stores_of : Invocation → Option (List ℕ)
 stores_of (convert elf flt stack) = Some flt
+stores_of (run manifest log mode kind kept watch) = option_map (λ k. k.file) kept
 stores_of (romfs manifest image) = Some image
 stores_of other = None
 

@@ -1,5 +1,5 @@
 -- The commands `run MANIFEST` and `trace MANIFEST`: the programs of a manifest run by turns in one memory.
-use Rattle.std.specs.Prelude.{ℕ, List, [], ◌++◌, map, None, Result, Ok, Err}
+use Rattle.std.specs.Prelude.{ℕ, List, [], ◌++◌, map, Option, None, Result, Ok, Err}
 use Rattle.page_runs.specs.declared.place.Kind.{Kind}
 use Rattle.quantum_sched.specs.declared.Quantum.{Quantum}
 use Rattle.manifest_text.specs.declared.manifest.Dump.{Dump}
@@ -17,6 +17,7 @@ use Rattle.flat_machine.specs.Hits.{hits, hits_in_memory}
 use Rattle.fd_tables.specs.Files.{nothing_open}
 use Rattle.run_setup.specs.declared.fault.LineFault.TheVariants as line
 use Rattle.run_setup.specs.Brought.{Brought, FaultAt, nothing_brought, all_brought}
+use Rattle.file_commands.specs.Arguments.{Kept}
 use Rattle.file_commands.specs.Texts.Refusals.{manifest_tail}
 use Rattle.file_commands.specs.Ending.{Ending, refused_ending}
 use Rattle.file_commands.specs.Outcome.{Outcome, Inputs}
@@ -24,6 +25,7 @@ use Rattle.file_commands.specs.Load.{at_once, with_load}
 use Rattle.file_commands.specs.Items.{files_limit, with_items}
 use Rattle.file_commands.specs.Manifests.{manifest_limit, fault_ending}
 use Rattle.suite_top.specs.declared.telling.Telling.{Telling}
+use Rattle.suite_top.specs.Kept.{keep_of, kept_outcome}
 use Rattle.suite_top.specs.Report.{own_dumps, memory_dumps}
 use Rattle.suite_top.specs.Telling.{told_ending, watch_of}
 use Rattle.suite_top.specs.Watched.{watched_text}
@@ -33,16 +35,16 @@ use Rattle.suite_top.specs.Watched.{watched_text}
 abbrev pub start_line : Start → StartLine
 start_line s = record { line = s.line; args = s.args }
 
--- what no space holds, before the first program
-abbrev pub opening : Kind → Manifest → Brought → Rest
-opening kind m b = record {
+-- what no space holds, before the first program. The space of this load note is recorded, and none where it is 0
+abbrev pub opening : (keep : ℕ) → Kind → Manifest → Brought → Rest
+opening keep kind m b = record {
   pages = m.pages;
   kind = kind;
   programs = b.programs;
   tree = b.tree;
   files = nothing_open b.stdin;
   console = [];
-  keep = 0;
+  keep = keep;
 }
 
 -- why a start line is refused
@@ -77,28 +79,38 @@ abbrev pub mode_ending : Telling → Mode → List Quantum → List WatchLine �
 mode_ending telling Halt quanta watches dumps headers w = world_ending telling quanta watches dumps w
 mode_ending telling GoOn quanta watches dumps headers w = memory_run_ending telling quanta watches dumps (memory_opening headers w)
 
+-- the world in which it stopped
+abbrev pub stopped_world : Mode → List Quantum → (headers : List (List ℕ)) → World → World
+stopped_world Halt quanta headers w = (turns quanta w).world
+stopped_world GoOn quanta headers w = (physical_turns quanta (memory_opening headers w)).now.world
+
+-- the items are stored that it keeps, if it keeps any
+abbrev pub mode_outcome : Option Kept → Telling → Mode → List Quantum → List WatchLine → List Dump → (headers : List (List ℕ)) → World → Outcome
+mode_outcome kept telling mode quanta watches dumps headers w =
+    kept_outcome kept (stopped_world mode quanta headers w) (mode_ending telling mode quanta watches dumps headers w)
+
 -- ---- all in order
 
-abbrev pub booted_ending : Telling → Mode → Manifest → (headers : List (List ℕ)) → Result World BootFault → Ending
-booted_ending telling mode m headers (Err first) = fault_ending (boot_fault first)
-booted_ending telling mode m headers (Ok w) = mode_ending telling mode (repeated m.repeat m.quanta) m.watches m.dumps headers w
+abbrev pub booted_outcome : Option Kept → Telling → Mode → Manifest → (headers : List (List ℕ)) → Result World BootFault → Outcome
+booted_outcome kept telling mode m headers (Err first) = at_once (fault_ending (boot_fault first))
+booted_outcome kept telling mode m headers (Ok w) = mode_outcome kept telling mode (repeated m.repeat m.quanta) m.watches m.dumps headers w
 
-abbrev pub brought_ending : Telling → Mode → Kind → Manifest → Result Brought FaultAt → Ending
-brought_ending telling mode kind m (Err at) = fault_ending at
-brought_ending telling mode kind m (Ok b) = booted_ending telling mode m b.headers (boot (opening kind m b) (map start_line m.starts))
+abbrev pub brought_outcome : Option Kept → Telling → Mode → Kind → Manifest → Result Brought FaultAt → Outcome
+brought_outcome kept telling mode kind m (Err at) = at_once (fault_ending at)
+brought_outcome kept telling mode kind m (Ok b) = booted_outcome kept telling mode m b.headers (boot (opening (keep_of kept) kind m b) (map start_line m.starts))
 
 -- where the item lines' files are there
-unfoldable pub files_ending : Telling → Mode → Kind → Manifest → List (List ℕ) → Ending
-files_ending telling mode kind m files = brought_ending telling mode kind m (all_brought m.items files nothing_brought)
+unfoldable pub files_outcome : Option Kept → Telling → Mode → Kind → Manifest → List (List ℕ) → Outcome
+files_outcome kept telling mode kind m files = brought_outcome kept telling mode kind m (all_brought m.items files nothing_brought)
 
 -- behind the manifest
-abbrev pub items_outcome : Telling → Mode → Kind → Manifest → Inputs → Outcome
-items_outcome telling mode kind m inputs = with_items files_limit m.items (λ files. at_once (files_ending telling mode kind m files)) inputs
+abbrev pub items_outcome : Option Kept → Telling → Mode → Kind → Manifest → Inputs → Outcome
+items_outcome kept telling mode kind m inputs = with_items files_limit m.items (files_outcome kept telling mode kind m) inputs
 
-abbrev pub manifest_outcome : Telling → Mode → Kind → Result Manifest Fault → Inputs → Outcome
-manifest_outcome telling mode kind (Err first) inputs = at_once (refused_ending (manifest_tail first.line first.fault))
-manifest_outcome telling mode kind (Ok m) inputs = items_outcome telling mode kind m inputs
+abbrev pub manifest_outcome : Option Kept → Telling → Mode → Kind → Result Manifest Fault → Inputs → Outcome
+manifest_outcome kept telling mode kind (Err first) inputs = at_once (refused_ending (manifest_tail first.line first.fault))
+manifest_outcome kept telling mode kind (Ok m) inputs = items_outcome kept telling mode kind m inputs
 
 -- the manifest is load 0, and the files of its items are the loads behind it
-unfoldable pub run_outcome : (name : List ℕ) → Telling → Mode → Kind → Inputs → Outcome
-run_outcome name telling mode kind inputs = with_load manifest_limit None name (λ bytes. manifest_outcome telling mode kind (manifest_of bytes)) inputs
+unfoldable pub run_outcome : (name : List ℕ) → Option Kept → Telling → Mode → Kind → Inputs → Outcome
+run_outcome name kept telling mode kind inputs = with_load manifest_limit None name (λ bytes. manifest_outcome kept telling mode kind (manifest_of bytes)) inputs

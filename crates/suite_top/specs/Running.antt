@@ -1,12 +1,23 @@
 -- For private functions only: a machine's run by the lines of its manifest.
-use Rattle.std.specs.Prelude.{◌≡◌, ◌+◌, ◌*◌, ◌^◌, ◌<◌, List, sum_by}
+use Rattle.std.specs.Prelude.{◌≡◌, ◌+◌, ◌*◌, ◌^◌, ◌<◌, List, sum_by, Option, Result, IfOk}
+use Rattle.std.specs.declared.alloc.AllocError.{AllocError}
 use Rattle.quantum_sched.specs.declared.Quantum.{Quantum}
+use Rattle.host_io.specs.Host.{Told}
 use Rattle.region_watch.specs.declared.mode.Mode.TheVariants.{Halt, GoOn}
+use Rattle.machine_world.specs.World.{World}
+use Rattle.machine_world.specs.Turns.{turns}
+use Rattle.physical_turns.specs.Physical.{physical_turns}
 use Rattle.flat_machine.specs.State.{State, world, one_memory}
 use Rattle.flat_machine.specs.Runs.{repeated}
-use Rattle.file_commands.specs.Ending.{Ending, OrMemory}
+use Rattle.file_commands.specs.declared.answer.Answer.{Answer}
+use Rattle.file_commands.specs.Answer.{ending_in}
+use Rattle.file_commands.specs.Arguments.{Kept}
+use Rattle.file_commands.specs.Ending.{Ending}
+use Rattle.file_commands.specs.Observed.{Observed}
+use Rattle.file_commands.specs.HostCourse.{Performs}
 use Rattle.suite_top.specs.declared.course.Course.{Course}
 use Rattle.suite_top.specs.declared.telling.Telling.{Telling}
+use Rattle.suite_top.specs.Kept.{kept_outcome}
 use Rattle.suite_top.specs.Run.{world_ending, memory_run_ending}
 
 -- its turns
@@ -17,9 +28,26 @@ turns_of c = repeated c.repeat c.quanta.items
 abbrev pub IsCounted : Course → State → Type 0
 IsCounted c s = s.events + c.repeat * sum_by (λ q. q.count) c.quanta.items < 2 ^ 64
 
--- what is told behind them
-abbrev pub TellsHalting : Telling → Course → State → Ending → Type 0
-TellsHalting telling c old ending = old.mode ≡ Halt → OrMemory (world_ending telling (turns_of c) c.watches.items c.dumps.items (world old)) ending
+-- a machine that stopped in this world, and the answer that tells of it
+pub record Stopped (ending : Ending) (w : World) (s : State) (answer : Answer) : Type 0 where
+  pub tells : ending_in answer ≡ ending
+  pub stands : world s ≡ w
 
-abbrev pub TellsGoingOn : Telling → Course → State → Ending → Type 0
-TellsGoingOn telling c old ending = old.mode ≡ GoOn → OrMemory (memory_run_ending telling (turns_of c) c.watches.items c.dumps.items (one_memory old)) ending
+-- what is told behind them
+abbrev pub TellsHalting : Telling → Course → (old new : State) → Result Answer AllocError → Type 0
+TellsHalting telling c old new result =
+    old.mode ≡ Halt → IfOk result (Stopped (world_ending telling (turns_of c) c.watches.items c.dumps.items (world old)) (turns (turns_of c) (world old)).world new)
+
+abbrev pub TellsGoingOn : Telling → Course → (old new : State) → Result Answer AllocError → Type 0
+TellsGoingOn telling c old new result =
+    old.mode ≡ GoOn → IfOk result (Stopped (memory_run_ending telling (turns_of c) c.watches.items c.dumps.items (one_memory old)) (physical_turns (turns_of c) (one_memory old)).now.world new)
+
+-- and the items are stored that are kept
+abbrev pub KeepsHalting : Option Kept → Telling → Course → State → (old new : Observed Told) → Ending → Type 0
+KeepsHalting kept telling c s old new ending =
+    s.mode ≡ Halt → Performs old new (kept_outcome kept (turns (turns_of c) (world s)).world (world_ending telling (turns_of c) c.watches.items c.dumps.items (world s))) ending
+
+abbrev pub KeepsGoingOn : Option Kept → Telling → Course → State → (old new : Observed Told) → Ending → Type 0
+KeepsGoingOn kept telling c s old new ending =
+    s.mode ≡ GoOn
+    → Performs old new (kept_outcome kept (physical_turns (turns_of c) (one_memory s)).now.world (memory_run_ending telling (turns_of c) c.watches.items c.dumps.items (one_memory s))) ending

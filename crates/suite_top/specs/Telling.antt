@@ -1,5 +1,6 @@
 -- What a run of programs tells: with `run` its report, with `trace` its calls as a trace, and with `demo` a line.
-use Rattle.std.specs.Prelude.{ℕ, Bool, false, List, ◌++◌, reverse, length, sum_by, Option, Some, None}
+use Rattle.std.specs.Prelude.{ℕ, Bool, false, List, ◌++◌, reverse, length, sum_by, Option, Some, None, Result}
+use Rattle.std.specs.declared.alloc.AllocError.{AllocError}
 use Rattle.call_log.specs.declared.how.How.TheVariants as how
 use Rattle.call_log.specs.Notes.{Note, end_note}
 use Rattle.machine_world.specs.World.{World}
@@ -10,7 +11,9 @@ use Rattle.watch_points.specs.declared.point.PointKind.{PointKind}
 use Rattle.suite_top.specs.declared.telling.Telling.{Telling}
 use Rattle.suite_top.specs.declared.telling.Telling.TheVariants as telling
 use Rattle.file_commands.specs.Texts.{demo_line}
-use Rattle.file_commands.specs.Ending.{Ending, done_ending, OrMemory}
+use Rattle.file_commands.specs.declared.answer.Answer.{Answer}
+use Rattle.file_commands.specs.Answer.{HasEnding}
+use Rattle.file_commands.specs.Ending.{Ending, done_ending}
 use Rattle.flat_machine.specs.State.{State, world}
 use Rattle.suite_top.specs.Report.{status_of_end, report_text, trace_report}
 
@@ -53,15 +56,15 @@ watch_of (telling.Report log watch) = watch
 watch_of (telling.Trace pid counted) = None
 watch_of (telling.Demo programs) = None
 
--- of each end that the code's end says
-abbrev pub EndsWith : (report : List ℕ) → State → Told → Ending → Type 0
-EndsWith report s told ending = (end : Option End) → Ends end told → OrMemory (ending_with report (world s) end) ending
+-- of each end that the code's end says, if there is memory
+abbrev pub EndsWith : (report : List ℕ) → State → Told → Result Answer AllocError → Type 0
+EndsWith report s told result = (end : Option End) → Ends end told → HasEnding (ending_with report (world s) end) result
 
-abbrev pub IsReported : (log : Bool) → (shown : List ℕ) → State → Told → Ending → Type 0
-IsReported log shown s told ending = (end : Option End) → Ends end told → OrMemory (reported_ending log shown (world s) end) ending
+abbrev pub IsReported : (log : Bool) → (shown : List ℕ) → State → Told → Result Answer AllocError → Type 0
+IsReported log shown s told result = (end : Option End) → Ends end told → HasEnding (reported_ending log shown (world s) end) result
 
-abbrev pub IsTraced : Option ℕ → (counted : Bool) → (shown : List ℕ) → State → Told → Ending → Type 0
-IsTraced pid counted shown s told ending = (end : Option End) → Ends end told → OrMemory (traced_ending pid counted shown (world s) end) ending
+abbrev pub IsTraced : Option ℕ → (counted : Bool) → (shown : List ℕ) → State → Told → Result Answer AllocError → Type 0
+IsTraced pid counted shown s told result = (end : Option End) → Ends end told → HasEnding (traced_ending pid counted shown (world s) end) result
 
-abbrev pub IsTold : Telling → (shown : List ℕ) → State → Told → Ending → Type 0
-IsTold telling shown s told ending = (end : Option End) → Ends end told → OrMemory (told_ending telling shown (world s) end) ending
+abbrev pub IsTold : Telling → (shown : List ℕ) → State → Told → Result Answer AllocError → Type 0
+IsTold telling shown s told result = (end : Option End) → Ends end told → HasEnding (told_ending telling shown (world s) end) result

@@ -5,17 +5,19 @@ ghost use Rattle.page_runs.specs.Choosers.{IsChooser, kind_of};
 ghost use Rattle.quantum_sched.specs.declared.Quantum.{Quantum};
 ghost use Rattle.manifest_text.specs.Values.{item_value, start_value, manifest_value, vec_texts};
 ghost use Rattle.elf_maker.specs.Demo.{demo_file};
-ghost use Rattle.file_commands.specs.Ending.{OrMemory};
+ghost use Rattle.file_commands.specs.Observed.{observed};
 ghost use Rattle.file_commands.specs.Answer.{ending_of};
+ghost use Rattle.file_commands.specs.HostCourse.{Performs};
 ghost use Rattle.file_commands.specs.Arguments.{least_programs, most_programs};
 ghost use Rattle.suite_top.specs.Points.{ArePoints};
-ghost use Rattle.suite_top.specs.Demo.{each_of, demo_path, demo_item, demo_start, demo_quanta, demo_manifest, demo_ending};
+ghost use Rattle.suite_top.specs.Demo.{each_of, demo_path, demo_item, demo_start, demo_quanta, demo_manifest, demo_run};
 
 use crate::points::Points;
 use crate::run::run_files;
 use crate::telling::Telling;
 use elf_maker::demo;
 use file_commands::{Answer, DEFAULT_STACK};
+use host_io::Host;
 use manifest_text::{Item, ItemKind, Manifest, Start};
 use page_runs::{Chooser, Run};
 use quantum_sched::Quantum;
@@ -29,12 +31,13 @@ const PAGES: u32 = 128;
 /// How often the quanta are gone through, which is more than the most programs need.
 const REPEAT: u32 = 100_000;
 
-/// Runs programs 1 to `programs` of the demo.
-pub fn run_demo<F, P, Q>(
+/// Runs programs 1 to `programs` of the demo. Nothing is asked of the host.
+pub fn run_demo<H: Host, F, P, Q>(
     alloc: Global,
     programs: u32,
     chooser: &Chooser<F>,
     points: &Points<P, Q>,
+    host: &mut H,
 ) -> Result<Answer, AllocError>
 where
     F: Fn(&[Run], u32) -> Option<usize>,
@@ -45,7 +48,7 @@ where
     requires first { kind_of chooser.now ≡ Kind.First }
     requires some { least_programs ≤ programs }
     requires few { programs ≤ most_programs }
-    ensures { OrMemory (demo_ending programs) (ending_of result) }
+    ensures { Performs (observed H.told H.faults host.old) (observed H.told H.faults host.new) (demo_run programs) (ending_of result) }
 {
     let manifest = demo_manifest(alloc, programs)?;
     let files = demo_files(alloc, programs)?;
@@ -53,10 +56,12 @@ where
         alloc,
         manifest,
         files,
+        None,
         Telling::Demo { programs },
         Mode::Halt,
         chooser,
         points,
+        host,
     )
 }
 

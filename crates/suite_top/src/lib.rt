@@ -6,6 +6,7 @@
 
 mod course;
 mod demo_run;
+mod kept;
 mod laws;
 mod placements;
 mod points;

@@ -2,8 +2,8 @@
 ghost use Rattle.std.specs.Prelude.{◌≡◌, map, sum_by};
 ghost use Rattle.call_log.specs.Values.{note_value};
 ghost use Rattle.flat_machine.specs.State.{world};
-ghost use Rattle.file_commands.specs.Ending.{done_ending, OrMemory};
-ghost use Rattle.file_commands.specs.Answer.{ending_of};
+ghost use Rattle.file_commands.specs.Ending.{done_ending};
+ghost use Rattle.file_commands.specs.Answer.{HasEnding};
 ghost use Rattle.suite_top.specs.Telling.{exit_code, demo_text, watch_of, EndsWith, IsReported, IsTraced, IsTold};
 
 use crate::report::{report, status_of, trace_report};
@@ -42,7 +42,7 @@ pub fn told(
     shown: &str,
     end: End,
 ) -> Result<Answer, AllocError>
-    ensures { IsTold telling shown.now machine.now end (ending_of result) }
+    ensures { IsTold telling shown.now machine.now end result }
 {
     match telling {
         Telling::Report { log, .. } => reported(alloc, machine, log, shown, end),
@@ -64,7 +64,7 @@ fn reported(
     shown: &str,
     end: End,
 ) -> Result<Answer, AllocError>
-    ensures { IsReported log shown.now machine.now end (ending_of result) }
+    ensures { IsReported log shown.now machine.now end result }
 {
     let report = report(alloc, machine, log, shown, end)?;
     with_console(alloc, machine, report, end)
@@ -79,7 +79,7 @@ fn traced(
     shown: &str,
     end: End,
 ) -> Result<Answer, AllocError>
-    ensures { IsTraced pid counted shown.now machine.now end (ending_of result) }
+    ensures { IsTraced pid counted shown.now machine.now end result }
 {
     let report = trace_report(alloc, machine, pid, counted, shown, end)?;
     with_console(alloc, machine, report, end)
@@ -92,7 +92,7 @@ fn with_console(
     report: Vec<u8>,
     end: End,
 ) -> Result<Answer, AllocError>
-    ensures { EndsWith report.items machine.now end (ending_of result) }
+    ensures { EndsWith report.items machine.now end result }
 {
     let out = Vec::from_slice(alloc, machine.console())?;
     Ok(Answer {
@@ -104,7 +104,7 @@ fn with_console(
 
 /// The console, and the line of a demo behind it.
 fn demonstrated(alloc: Global, machine: &Machine, programs: u32) -> Result<Answer, AllocError>
-    ensures { OrMemory (done_ending (demo_text programs (world machine.now))) (ending_of result) }
+    ensures { HasEnding (done_ending (demo_text programs (world machine.now))) result }
 {
     let console = machine.console();
     let exits = exit_sum(machine.notes());

@@ -6,6 +6,7 @@ ghost use Rattle.suite_top.specs.Points.{ArePoints};
 ghost use Rattle.file_commands.specs.Observed.{observed, observed_sink};
 ghost use Rattle.file_commands.specs.Answer.{ending_of};
 ghost use Rattle.suite_top.specs.Result.{result_of};
+ghost use Rattle.suite_top.specs.Kept.{kept_in};
 ghost use Rattle.suite_top.specs.Run.{run_outcome};
 ghost use Rattle.file_commands.specs.HostCourse.{PerformsCommand};
 ghost use Rattle.suite_top.specs.Call.{MeetsResult};
@@ -16,7 +17,7 @@ use crate::points::Points;
 use crate::run::run_file;
 use crate::telling::Telling;
 use file_commands::{
-    Answer, Command, Status, check_file, convert_file, deliver, list_file, read_arguments,
+    Answer, Command, Kept, Status, check_file, convert_file, deliver, list_file, read_arguments,
     replay_file, romfs_file, texts, unromfs_file,
 };
 use host_io::{Host, Sink};
@@ -29,6 +30,7 @@ use watch_points::Span;
 fn run_placed<H: Host, A, B, C, P, Q>(
     alloc: Global,
     manifest: &str,
+    kept: Option<Kept<'_>>,
     telling: Telling,
     mode: Mode,
     kind: Kind,
@@ -44,12 +46,12 @@ where
     Q: Fn(&[Span], u32, u32) -> bool,
     requires place { ArePlacements A.pre A.post B.pre B.post C.pre C.post place.now }
     requires points { ArePoints P.pre P.post Q.pre Q.post points.now }
-    ensures { PerformsCommand (observed H.told H.faults host.old) (observed H.told H.faults host.new) (run_outcome manifest.now telling mode kind) (ending_of result) }
+    ensures { PerformsCommand (observed H.told H.faults host.old) (observed H.told H.faults host.new) (run_outcome manifest.now (kept_in kept) telling mode kind) (ending_of result) }
 {
     match kind {
-        Kind::First => run_file(alloc, manifest, telling, mode, &place.first, points, host),
-        Kind::Best => run_file(alloc, manifest, telling, mode, &place.best, points, host),
-        Kind::Last => run_file(alloc, manifest, telling, mode, &place.last, points, host),
+        Kind::First => run_file(alloc, manifest, kept, telling, mode, &place.first, points, host),
+        Kind::Best => run_file(alloc, manifest, kept, telling, mode, &place.best, points, host),
+        Kind::Last => run_file(alloc, manifest, kept, telling, mode, &place.last, points, host),
     }
 }
 
@@ -80,11 +82,14 @@ where
                 log,
                 mode,
                 kind,
+                kept,
                 watch,
             },
         ) => {
             let telling = Telling::Report { log, watch };
-            run_placed(alloc, manifest, telling, mode, kind, host, place, points)
+            run_placed(
+                alloc, manifest, kept, telling, mode, kind, host, place, points,
+            )
         }
         Some(
             Command::Trace {
@@ -98,6 +103,7 @@ where
             run_placed(
                 alloc,
                 manifest,
+                None,
                 telling,
                 Mode::Halt,
                 kind,
@@ -115,7 +121,7 @@ where
                 items,
             },
         ) => replay_file(alloc, format, file, items, host),
-        Some(Command::Demo { programs }) => run_demo(alloc, programs, &place.first, points),
+        Some(Command::Demo { programs }) => run_demo(alloc, programs, &place.first, points, host),
         None => Answer::early(alloc, Status::Usage, texts::usage(alloc)),
     }
 }

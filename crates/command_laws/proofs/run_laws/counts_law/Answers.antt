@@ -6,9 +6,9 @@ use Rattle.command_laws.proofs.RunLaws.{reasonable}
 use Rattle.command_laws.proofs.run_laws.counts_law.Goals as goal
 
 pub returns-clause-worlds : goal.returns-clause-worlds
-returns-clause-worlds c inputs name kind o = has_worlds_in_order (reasonable o) o.booted
+returns-clause-worlds c inputs name keep kind o = has_worlds_in_order (reasonable o) o.booted
 
 pub returns-clause-memory : goal.returns-clause-memory
-returns-clause-memory c inputs name kind o quanta =
+returns-clause-memory c inputs name keep kind o quanta =
     let b = o.booted in
     runs_keep_order_in quanta (memory_opening b.brought.headers b.world) (openings_keep_order b.brought.headers b.world (begins_in_order (reasonable o) b))

@@ -29,7 +29,7 @@ use Rattle.command_laws.proofs.BootedRuns.{can_boot, few_starts, sound}
 use Rattle.command_laws.proofs.RunLaws.{reasonable}
 use Rattle.command_laws.proofs.run_laws.go_on_law.Goals as goal
 
-module _ {inputs : Inputs} {name : List ℕ} {kind : Kind} (o : Opens inputs name kind) where
+module _ {inputs : Inputs} {name : List ℕ} {keep : ℕ} {kind : Kind} (o : Opens inputs name keep kind) where
   abbrev one : Physical
   one = memory_opening o.booted.brought.headers o.booted.world
 
@@ -37,11 +37,11 @@ module _ {inputs : Inputs} {name : List ℕ} {kind : Kind} (o : Opens inputs nam
   stands =
       let is = reasonable o in
       let b = o.booted in
-      boots_go_on (opening kind o.manifest b.brought) (map start_line o.manifest.starts) b.world b.brought.headers (can_boot is b) (few_starts is b)
+      boots_go_on (opening keep kind o.manifest b.brought) (map start_line o.manifest.starts) b.world b.brought.headers (can_boot is b) (few_starts is b)
       (headers_short o.manifest.items o.files b.brought b.brings) b.boots
 
   unstrayed : has_stray o.booted.world.notes ≡ false
-  unstrayed = boots_note_no_stray (opening kind o.manifest o.booted.brought) (map start_line o.manifest.starts) o.booted.world o.booted.boots
+  unstrayed = boots_note_no_stray (opening keep kind o.manifest o.booted.brought) (map start_line o.manifest.starts) o.booted.world o.booted.boots
 
   goes_alike : GoesAlike (halting o).world (going_on o) (halting o).end
   goes_alike = runs_go_on (repeated o.manifest.repeat o.manifest.quanta) o.booted.world one (sound (reasonable o) o.booted) stands unstrayed
@@ -60,7 +60,7 @@ module _ {inputs : Inputs} {name : List ℕ} {kind : Kind} (o : Opens inputs nam
       (runs_leave_programs quanta (memory_opening b.brought.headers b.world)).programs ∙ sym (programs_stay b.world.rest.programs quanta b.world refl)
 
 pub returns-clause-worlds : goal.returns-clause-worlds
-returns-clause-worlds c inputs name kind o = goes_on_well (halting o) (going_on o) (goes_alike o)
+returns-clause-worlds c inputs name keep kind o = goes_on_well (halting o) (going_on o) (goes_alike o)
 
 pub returns-clause-texts : goal.returns-clause-texts
 returns-clause-texts c inputs name kind log watch o = record {

@@ -4,4 +4,4 @@ use Rattle.command_laws.proofs.RunLaws.{reasonable}
 use Rattle.command_laws.proofs.run_laws.waits_law.Goals as goal
 
 pub returns : goal.returns
-returns c t name kind o = waits_to_the_end (reasonable o) o.booted
+returns c t name keep kind o = waits_to_the_end (reasonable o) o.booted

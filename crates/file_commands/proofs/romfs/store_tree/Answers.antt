@@ -8,7 +8,7 @@ use Rattle.file_commands.specs.Texts.{refused_line}
 use Rattle.file_commands.specs.Texts.Images.{too_large_tail}
 use Rattle.file_commands.proofs.HostCourses.{runs_out}
 use Rattle.file_commands.proofs.Lines.{ends_with_line}
-use Rattle.file_commands.proofs.MadeImages.{stores_image, refuses_image}
+use Rattle.file_commands.proofs.MadeImages.{stores_as, stores_image, refuses_image}
 use Rattle.file_commands.proofs.romfs.store_tree.Goals as goal
 
 pub returns-in_err-nodes : goal.returns-in_err-nodes
@@ -26,7 +26,8 @@ returns-in-Ok g c =
     let given = c.in_ok-nodes.nodes.items in
     let made = rw c.deref.ensures.value at c.in-Ok.ensures in
     let says = rw (c.len-in-Ok.ensures, c.in-Ok.bytes.ok.0) at c.in_ok-line-in-Ok.ensures in
-    let performs = rw c.deref-in-Ok.ensures.value at c.store_file.ensures in
+    let stored = rw c.deref-in-Ok.ensures.value at c.store_file.ensures in
+    let performs = stores_as _ _ _ _ _ _ _ c.done.ensures stored in
     stores_image _ _ _ _ (map node_value given) _ _ c.len.result _ c.in_ok-nodes.ensures.nodes (c.len.ensures ∙ c.in_ok-nodes.nodes.ok.0 ∙ sym (length-map given node_value)) made.0 made.1 says performs
 
 pub returns-in-Err-TooLarge : goal.returns-in-Err-TooLarge

@@ -20,5 +20,5 @@ run_files-requires-clause-files g c =
 
 pub returns : goal.returns
 returns g c =
-    is_demo c.args.programs (kind_of c.args.chooser.now) (manifest_value c.in_ok-manifest.manifest) (vec_texts c.in_ok-files.files.items) _
+    is_demo c.args.programs (kind_of c.args.chooser.now) (manifest_value c.in_ok-manifest.manifest) (vec_texts c.in_ok-files.files.items) _ _ _
     c.requires.first c.in_ok-manifest.ensures c.in_ok-files.ensures c.run_files.ensures

@@ -6,4 +6,4 @@ use Rattle.suite_top.proofs.run.run_items.Goals as goal
 pub returns-in-Whole : goal.returns-in-Whole
 returns-in-Whole g c =
     let gave = rw c.deref.ensures.value at c.in-Whole.ensures in
-    runs_files _ _ _ _ _ (manifest_value c.args.manifest) _ _ gave c.run_files.ensures
+    runs_files _ _ _ _ _ _ _ (manifest_value c.args.manifest) _ _ gave c.run_files.ensures

@@ -16,7 +16,7 @@ returns-in-Err-At g c =
     let arm = c.in-Err-At in
     let is = rw arm.field-0-is at arm.ensures in
     let says = rw arm.field-0-is at c.refused_manifest-text.ensures in
-    refuses_manifest _ _ _ _ _ _ _ is
+    refuses_manifest _ _ _ _ _ _ _ _ is
     (ends_with_line status.Refused c.refused_manifest-text.result (refused_line (manifest_tail arm.line arm.fault)) _ says c.early.ensures)
 
 pub returns-in-Err-Memory : goal.returns-in-Err-Memory

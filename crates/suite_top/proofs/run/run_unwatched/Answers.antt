@@ -2,7 +2,6 @@
 use Rattle.std.proofs.Common.{[]}
 use Rattle.flat_machine.specs.Hits.{hits, hits_in_memory}
 use Rattle.flat_machine.specs.State.{world, one_memory}
-use Rattle.file_commands.specs.Answer.{ending_of}
 use Rattle.suite_top.specs.Running.{turns_of}
 use Rattle.suite_top.specs.Telling.{watch_of}
 use Rattle.suite_top.proofs.Hits.{none_told}
@@ -16,7 +15,7 @@ returns-clause-halt g c =
     let told = rw (c.deref-3.ensures, c.in_ok-shown.ensures, c.deref-2.ensures.value) at c.told.ensures in
     let none = none_told (watch_of c.args.telling) course.watches.items (λ kind spans. hits kind spans (turns_of course) (world c.args.machine.now)) c.requires.none in
     λ is. halts_with c.args.telling (turns_of course) [] course.dumps.items c.args.machine.now c.run_repeated.new.self c.in_ok-end.ensures.mode c.in_ok-end.end
-    (ending_of c.told.result) told course.watches.items none is c.requires.quiet turns
+    c.told.result told course.watches.items none is c.requires.quiet turns
 
 pub returns-clause-go_on : goal.returns-clause-go_on
 returns-clause-go_on g c =
@@ -25,4 +24,4 @@ returns-clause-go_on g c =
     let told = rw (c.deref-3.ensures, c.in_ok-shown.ensures, c.deref-2.ensures.value) at c.told.ensures in
     let none = none_told (watch_of c.args.telling) course.watches.items (λ kind spans. hits_in_memory kind spans (turns_of course) (one_memory c.args.machine.now)) c.requires.none in
     λ is. goes_on_with c.args.telling (turns_of course) [] course.dumps.items c.args.machine.now c.run_repeated.new.self c.in_ok-end.ensures.mode c.in_ok-end.end
-    (ending_of c.told.result) told course.watches.items none is memory
+    c.told.result told course.watches.items none is memory

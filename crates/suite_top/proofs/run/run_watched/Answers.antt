@@ -3,7 +3,6 @@ use Rattle.std.proofs.Common.{refl}
 use Rattle.flat_machine.specs.Hits.{hits, hits_in_memory}
 use Rattle.flat_machine.specs.State.{world, one_memory}
 use Rattle.watch_points.specs.Points.{kind_of_point}
-use Rattle.file_commands.specs.Answer.{ending_of}
 use Rattle.suite_top.specs.Running.{turns_of}
 use Rattle.suite_top.specs.Telling.{watch_of}
 use Rattle.suite_top.specs.Watched.{found_text}
@@ -27,7 +26,7 @@ returns-clause-halt g c =
     let some = some_told (watch_of c.args.telling) (kind_of_point c.args.point.now) course.watches.items (λ kind spans. hits kind spans (turns_of course) (world c.args.machine.now))
     c.in_ok-spans.spans.items c.in_ok-hits.hits found (found_text found) c.requires.some spans c.in_ok-hits.ensures (follow (record { halts = is; quiet = c.requires.quiet })) refl in
     halts_with c.args.telling (turns_of course) (found_text found) course.dumps.items c.args.machine.now c.run_repeated_watched.new.self c.in_ok-end.ensures.mode c.in_ok-end.end
-    (ending_of c.told.result) told course.watches.items some is c.requires.quiet turns
+    c.told.result told course.watches.items some is c.requires.quiet turns
 
 pub returns-clause-go_on : goal.returns-clause-go_on
 returns-clause-go_on g c =
@@ -41,4 +40,4 @@ returns-clause-go_on g c =
     let some = some_told (watch_of c.args.telling) (kind_of_point c.args.point.now) course.watches.items (λ kind spans. hits_in_memory kind spans (turns_of course) (one_memory c.args.machine.now))
     c.in_ok-spans.spans.items c.in_ok-hits.hits found (found_text found) c.requires.some spans c.in_ok-hits.ensures (follow is) refl in
     goes_on_with c.args.telling (turns_of course) (found_text found) course.dumps.items c.args.machine.now c.run_repeated_watched.new.self c.in_ok-end.ensures.mode c.in_ok-end.end
-    (ending_of c.told.result) told course.watches.items some is memory
+    c.told.result told course.watches.items some is memory

@@ -27,4 +27,4 @@ pub returns-in-None : goal.returns-in-None
 returns-in-None g c = ends_with_usage _ (map string_bytes c.args.arguments.now) _ c.in-None.ensures (ends_with_line status.Usage c.usage.result usage_line _ c.usage.ensures c.early.ensures)
 
 pub returns-in-Some-Demo : goal.returns-in-Some-Demo
-returns-in-Some-Demo g c = performs_demo _ (map string_bytes c.args.arguments.now) c.in-Some-Demo.programs _ (rw c.in-Some-Demo.field-0-is at c.in-Some-Demo.ensures) c.run_demo.ensures
+returns-in-Some-Demo g c = performs_demo _ _ (map string_bytes c.args.arguments.now) c.in-Some-Demo.programs _ (rw c.in-Some-Demo.field-0-is at c.in-Some-Demo.ensures) c.run_demo.ensures

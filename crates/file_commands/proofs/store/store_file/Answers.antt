@@ -2,9 +2,15 @@
 use Rattle.file_commands.specs.declared.status.Status.TheVariants as status
 use Rattle.file_commands.specs.Texts.{cannot_write_line}
 use Rattle.file_commands.proofs.Lines.{ends_with_line}
-use Rattle.file_commands.proofs.HostSteps.{fails_to_store, runs_out_at_store}
+use Rattle.file_commands.proofs.HostSteps.{stores, fails_to_store, runs_out_at_store}
 use Rattle.std.proofs.Common.{refl}
-use Rattle.file_commands.proofs.convert.store_file.Goals as goal
+use Rattle.file_commands.proofs.store.store_file.Goals as goal
+
+pub returns-in-Ok : goal.returns-in-Ok
+returns-in-Ok g c =
+    let told = rw c.in-Ok.is at c.store.ensures.told in
+    let cause = rw c.in-Ok.is at c.store.ensures.cause in
+    stores _ _ _ _ _ c.requires told cause
 
 pub returns-in-Err-Failed : goal.returns-in-Err-Failed
 returns-in-Err-Failed g c =

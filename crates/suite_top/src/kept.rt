@@ -1,0 +1,53 @@
+//! The items that a run keeps.
+ghost use Rattle.std.specs.Prelude.{◌≡◌, ◌≢◌, IfOk};
+ghost use Rattle.flat_machine.specs.State.{world};
+ghost use Rattle.file_commands.specs.Answer.{ending_in, ending_of};
+ghost use Rattle.file_commands.specs.Observed.{observed};
+ghost use Rattle.file_commands.specs.HostCourse.{Performs};
+ghost use Rattle.suite_top.specs.Kept.{keep_of, kept_text, kept_outcome, kept_in};
+
+use file_commands::{Answer, Kept, Status, store_file};
+use flat_machine::Machine;
+use host_io::Host;
+use items_text::items_text;
+use std::alloc::{AllocError, Global};
+
+/// The load note whose space is recorded, or 0 where no items are kept.
+pub fn keep_of(kept: Option<Kept<'_>>) -> u32
+    ensures { result ≡ keep_of (kept_in kept) }
+{
+    match kept {
+        Some(kept) => kept.number,
+        None => 0,
+    }
+}
+
+/// Stores the items of the space that a machine recorded, if they are kept, and then has this answer.
+pub fn keep_items<H: Host>(
+    alloc: Global,
+    machine: &Machine,
+    kept: Option<Kept<'_>>,
+    answer: Answer,
+    host: &mut H,
+) -> Result<Answer, AllocError>
+    requires { answer.status ≢ Status.HostRead }
+    ensures { Performs (observed H.told H.faults host.old) (observed H.told H.faults host.new) (kept_outcome (kept_in kept) (world machine.now) (ending_in answer)) (ending_of result) }
+{
+    match kept {
+        Some(kept) => {
+            let text = kept_text(alloc, machine)?;
+            store_file(alloc, kept.file, &text, answer, host)
+        }
+        None => Ok(answer),
+    }
+}
+
+/// The text of these items, or the line `none` where no program was loaded into such a space.
+fn kept_text(alloc: Global, machine: &Machine) -> Result<Vec<u8>, AllocError>
+    ensures { IfOk result (λ text. text.items ≡ kept_text (world machine.now)) }
+{
+    match machine.items(alloc)? {
+        Some(items) => items_text(alloc, &items),
+        None => Vec::from_slice(alloc, b"none\n"),
+    }
+}
