@@ -113,11 +113,10 @@ items_are_stored c t t_after manifest log kind kept watch is stop =
     let stops = subst IsStop (told.status ∙ ap (λ (x : Outcome). x.ending.status) same) stop in
     let opens : Opens c.inputs manifest kept.number kind = opens_where_it_stops c.inputs manifest (Some kept) (Report log watch) Halt kind stops in
     let opened : outcome_of c ≡ opened_outcome (Some kept) (Report log watch) Halt opens = same ∙ runs_where_it_opens c.inputs manifest (Some kept) (Report log watch) Halt kind opens in
-    let requests = load manifest ∷ map (λ (i : Item). load i.name) (filter (λ (i : Item). has_file i.kind) opens.manifest.items) in
-    (
+    let requests = load manifest ∷ map (λ (i : Item). load i.name) (filter (λ (i : Item). has_file i.kind) opens.manifest.items) in (
       opens,
       ap (λ (u : Told). u.files) told.told
-      ∙ ap (λ (x : Outcome). (after_answers t x.requests).files) opened
-      ∙ stored_last requests kept.file (kept_text (halting opens).world) t (all_loads (filter (λ (i : Item). has_file i.kind) opens.manifest.items))
-      ∙ ap (insert t.files kept.file) (texts_are_of_stays c.inputs manifest kept.number kind opens),
+          ∙ ap (λ (x : Outcome). (after_answers t x.requests).files) opened
+          ∙ stored_last requests kept.file (kept_text (halting opens).world) t (all_loads (filter (λ (i : Item). has_file i.kind) opens.manifest.items))
+          ∙ ap (insert t.files kept.file) (texts_are_of_stays c.inputs manifest kept.number kind opens),
     )

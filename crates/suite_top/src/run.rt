@@ -22,14 +22,15 @@ ghost use Rattle.suite_top.specs.Run.{brought_outcome, files_outcome, items_outc
 ghost use Rattle.file_commands.specs.HostCourse.{Performs, PerformsCommand};
 
 use crate::course::Course;
-use crate::kept::{keep_of, keep_items};
+use crate::kept::{keep_items, keep_of};
 use crate::points::Points;
 use crate::report::dumps_text;
 use crate::telling::{Telling, told, watch_of};
 use crate::watched::{found_text, spans_of};
 use file_commands::texts::refusals::refused_manifest;
 use file_commands::{
-    Answer, FileLoad, ItemsLoad, Kept, MANIFEST_LIMIT, Status, load_items, load_limited, refuse_line,
+    Answer, FileLoad, ItemsLoad, Kept, MANIFEST_LIMIT, Status, load_items, load_limited,
+    refuse_line,
 };
 use flat_machine::{BootRefusal, Machine, Setup};
 use host_io::Host;
@@ -60,7 +61,9 @@ where
     ensures { PerformsCommand (observed H.told H.faults host.old) (observed H.told H.faults host.new) (run_outcome manifest.now (kept_in kept.entry) telling mode (kind_of chooser.now)) (ending_of result) }
 {
     match load_limited(alloc, manifest, MANIFEST_LIMIT, None, host) {
-        FileLoad::Whole(bytes) => run_manifest(alloc, &bytes, kept, telling, mode, chooser, points, host),
+        FileLoad::Whole(bytes) => run_manifest(
+            alloc, &bytes, kept, telling, mode, chooser, points, host,
+        ),
         FileLoad::Ended(ends) => ends,
     }
 }
@@ -116,7 +119,9 @@ where
 {
     match load_items(alloc, &manifest.items, host) {
         ItemsLoad::Whole(files) => {
-            run_files(alloc, manifest, files, kept, telling, mode, chooser, points, host)
+            run_files(
+                alloc, manifest, files, kept, telling, mode, chooser, points, host,
+            )
         }
         ItemsLoad::Ended(ends) => ends,
     }
@@ -145,7 +150,9 @@ where
     ensures { Performs (observed H.told H.faults host.old) (observed H.told H.faults host.new) (files_outcome (kept_in kept.entry) telling mode (kind_of chooser.now) (manifest_value manifest) (vec_texts files.items)) (ending_of result) }
 {
     match bring(alloc, &manifest.items, files) {
-        Ok(files) => run_brought(alloc, manifest, files, kept, telling, mode, chooser, points, host),
+        Ok(files) => run_brought(
+            alloc, manifest, files, kept, telling, mode, chooser, points, host,
+        ),
         Err(at) => refuse_line(alloc, &at),
     }
 }
@@ -190,7 +197,16 @@ where
         dumps: manifest.dumps,
     };
     match Machine::boot(alloc, setup, chooser) {
-        Ok(mut machine) => run_booted(alloc, &mut machine, &course, kept, telling, chooser, points, host),
+        Ok(mut machine) => run_booted(
+            alloc,
+            &mut machine,
+            &course,
+            kept,
+            telling,
+            chooser,
+            points,
+            host,
+        ),
         Err(refusal) => refuse_line(alloc, &boot_fault(refusal)),
     }
 }

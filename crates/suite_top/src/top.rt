@@ -49,9 +49,36 @@ where
     ensures { PerformsCommand (observed H.told H.faults host.old) (observed H.told H.faults host.new) (run_outcome manifest.now (kept_in kept.entry) telling mode kind) (ending_of result) }
 {
     match kind {
-        Kind::First => run_file(alloc, manifest, kept, telling, mode, &place.first, points, host),
-        Kind::Best => run_file(alloc, manifest, kept, telling, mode, &place.best, points, host),
-        Kind::Last => run_file(alloc, manifest, kept, telling, mode, &place.last, points, host),
+        Kind::First => run_file(
+            alloc,
+            manifest,
+            kept,
+            telling,
+            mode,
+            &place.first,
+            points,
+            host,
+        ),
+        Kind::Best => run_file(
+            alloc,
+            manifest,
+            kept,
+            telling,
+            mode,
+            &place.best,
+            points,
+            host,
+        ),
+        Kind::Last => run_file(
+            alloc,
+            manifest,
+            kept,
+            telling,
+            mode,
+            &place.last,
+            points,
+            host,
+        ),
     }
 }
 
