@@ -14,7 +14,7 @@ use std::alloc::{AllocError, Global};
 
 /// The load note whose space is recorded, or 0 where no items are kept.
 pub fn keep_of(kept: Option<Kept<'_>>) -> u32
-    ensures { result ≡ keep_of (kept_in kept) }
+    ensures { result ≡ keep_of (kept_in kept.entry) }
 {
     match kept {
         Some(kept) => kept.number,
@@ -31,7 +31,7 @@ pub fn keep_items<H: Host>(
     host: &mut H,
 ) -> Result<Answer, AllocError>
     requires { answer.status ≢ Status.HostRead }
-    ensures { Performs (observed H.told H.faults host.old) (observed H.told H.faults host.new) (kept_outcome (kept_in kept) (world machine.now) (ending_in answer)) (ending_of result) }
+    ensures { Performs (observed H.told H.faults host.old) (observed H.told H.faults host.new) (kept_outcome (kept_in kept.entry) (world machine.now) (ending_in answer)) (ending_of result) }
 {
     match kept {
         Some(kept) => {

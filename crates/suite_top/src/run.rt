@@ -58,7 +58,7 @@ where
     Q: Fn(&[Span], u32, u32) -> bool,
     requires chooser { IsChooser F.pre F.post chooser.now }
     requires points { ArePoints P.pre P.post Q.pre Q.post points.now }
-    ensures { PerformsCommand (observed H.told H.faults host.old) (observed H.told H.faults host.new) (run_outcome manifest.now (kept_in kept) telling mode (kind_of chooser.now)) (ending_of result) }
+    ensures { PerformsCommand (observed H.told H.faults host.old) (observed H.told H.faults host.new) (run_outcome manifest.now (kept_in kept.entry) telling mode (kind_of chooser.now)) (ending_of result) }
 {
     match load_limited(alloc, manifest, MANIFEST_LIMIT, None, host) {
         FileLoad::Whole(bytes) => run_manifest(
@@ -85,7 +85,7 @@ where
     Q: Fn(&[Span], u32, u32) -> bool,
     requires chooser { IsChooser F.pre F.post chooser.now }
     requires points { ArePoints P.pre P.post Q.pre Q.post points.now }
-    ensures { PerformsCommand (observed H.told H.faults host.old) (observed H.told H.faults host.new) (manifest_outcome (kept_in kept) telling mode (kind_of chooser.now) (manifest_of bytes.now)) (ending_of result) }
+    ensures { PerformsCommand (observed H.told H.faults host.old) (observed H.told H.faults host.new) (manifest_outcome (kept_in kept.entry) telling mode (kind_of chooser.now) (manifest_of bytes.now)) (ending_of result) }
 {
     match manifest_text::read(alloc, bytes) {
         Ok(manifest) => run_items(alloc, manifest, kept, telling, mode, chooser, points, host),
@@ -115,7 +115,7 @@ where
     requires chooser { IsChooser F.pre F.post chooser.now }
     requires points { ArePoints P.pre P.post Q.pre Q.post points.now }
     requires manifest { Reasonable (manifest_value manifest) }
-    ensures { PerformsCommand (observed H.told H.faults host.old) (observed H.told H.faults host.new) (items_outcome (kept_in kept) telling mode (kind_of chooser.now) (manifest_value manifest)) (ending_of result) }
+    ensures { PerformsCommand (observed H.told H.faults host.old) (observed H.told H.faults host.new) (items_outcome (kept_in kept.entry) telling mode (kind_of chooser.now) (manifest_value manifest)) (ending_of result) }
 {
     match load_items(alloc, &manifest.items, host) {
         ItemsLoad::Whole(files) => {
@@ -147,7 +147,7 @@ where
     requires points { ArePoints P.pre P.post Q.pre Q.post points.now }
     requires manifest { Reasonable (manifest_value manifest) }
     requires files { length files.items ≡ length manifest.items.items }
-    ensures { Performs (observed H.told H.faults host.old) (observed H.told H.faults host.new) (files_outcome (kept_in kept) telling mode (kind_of chooser.now) (manifest_value manifest) (vec_texts files.items)) (ending_of result) }
+    ensures { Performs (observed H.told H.faults host.old) (observed H.told H.faults host.new) (files_outcome (kept_in kept.entry) telling mode (kind_of chooser.now) (manifest_value manifest) (vec_texts files.items)) (ending_of result) }
 {
     match bring(alloc, &manifest.items, files) {
         Ok(files) => run_brought(
@@ -178,7 +178,7 @@ where
     requires manifest { Reasonable (manifest_value manifest) }
     requires paths { HasPaths files }
     requires unchanged { AreChanged 0 files.tree }
-    ensures { Performs (observed H.told H.faults host.old) (observed H.told H.faults host.new) (brought_outcome (kept_in kept) telling mode (kind_of chooser.now) (manifest_value manifest) (Ok (brought_value files))) (ending_of result) }
+    ensures { Performs (observed H.told H.faults host.old) (observed H.told H.faults host.new) (brought_outcome (kept_in kept.entry) telling mode (kind_of chooser.now) (manifest_value manifest) (Ok (brought_value files))) (ending_of result) }
 {
     let setup = Setup {
         pages: manifest.pages,
@@ -256,8 +256,8 @@ where
     requires events { IsCounted course.now machine.old }
     requires quiet { has_stray (world machine.old).notes ≡ false }
     requires watches { AreWatches course.now.watches.items }
-    ensures halt { KeepsHalting (kept_in kept) telling course.now machine.old (observed H.told H.faults host.old) (observed H.told H.faults host.new) (ending_of result) }
-    ensures go_on { KeepsGoingOn (kept_in kept) telling course.now machine.old (observed H.told H.faults host.old) (observed H.told H.faults host.new) (ending_of result) }
+    ensures halt { KeepsHalting (kept_in kept.entry) telling course.now machine.old (observed H.told H.faults host.old) (observed H.told H.faults host.new) (ending_of result) }
+    ensures go_on { KeepsGoingOn (kept_in kept.entry) telling course.now machine.old (observed H.told H.faults host.old) (observed H.told H.faults host.new) (ending_of result) }
 {
     let answer = run_machine(alloc, machine, course, telling, chooser, points)?;
     keep_items(alloc, machine, kept, answer, host)

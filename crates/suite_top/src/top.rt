@@ -46,7 +46,7 @@ where
     Q: Fn(&[Span], u32, u32) -> bool,
     requires place { ArePlacements A.pre A.post B.pre B.post C.pre C.post place.now }
     requires points { ArePoints P.pre P.post Q.pre Q.post points.now }
-    ensures { PerformsCommand (observed H.told H.faults host.old) (observed H.told H.faults host.new) (run_outcome manifest.now (kept_in kept) telling mode kind) (ending_of result) }
+    ensures { PerformsCommand (observed H.told H.faults host.old) (observed H.told H.faults host.new) (run_outcome manifest.now (kept_in kept.entry) telling mode kind) (ending_of result) }
 {
     match kind {
         Kind::First => run_file(

@@ -1,9 +1,11 @@
 -- The made manifest and the made files are those of the demo.
-use Rattle.std.proofs.Common.{sym, subst, ◌∙◌}
+use Rattle.std.proofs.Common.{refl, sym, subst, ◌∙◌}
 use Rattle.std.proofs.lemmas.List.{length-map}
+use Rattle.std.proofs.lemmas.Result.{err_from_is_err_and}
 use Rattle.page_runs.specs.Choosers.{kind_of}
 use Rattle.manifest_text.specs.Values.{item_value, manifest_value, vec_texts}
 use Rattle.manifest_text.specs.Laws.{Reasonable}
+use Rattle.file_commands.proofs.HostCourses.{runs_out}
 use Rattle.suite_top.proofs.Demos.{reasonable, as_many, is_demo}
 use Rattle.suite_top.proofs.demo_run.run_demo.Goals as goal
 
@@ -22,3 +24,13 @@ pub returns : goal.returns
 returns g c =
     is_demo c.args.programs (kind_of c.args.chooser.now) (manifest_value c.in_ok-manifest.manifest) (vec_texts c.in_ok-files.files.items) _ _ _
     c.requires.first c.in_ok-manifest.ensures c.in_ok-files.ensures c.run_files.ensures
+
+pub returns-in_err-manifest : goal.returns-in_err-manifest
+returns-in_err-manifest g c =
+    let p = err_from_is_err_and c.from_residual.result c.from_residual.ensures.1 in
+    rw p.1 (runs_out _ _ _ refl refl)
+
+pub returns-in_err-files : goal.returns-in_err-files
+returns-in_err-files g c =
+    let p = err_from_is_err_and c.from_residual-in_err-files.result c.from_residual-in_err-files.ensures.1 in
+    rw p.1 (runs_out _ _ _ refl refl)

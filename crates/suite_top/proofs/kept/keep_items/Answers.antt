@@ -11,4 +11,4 @@ returns-in_err-text-in-Some g c =
     rw p.1 (runs_out _ _ _ refl refl)
 
 pub returns-in-None : goal.returns-in-None
-returns-in-None g c = ends_at_once _ (ending_in c.args.answer) _ c.requires (inl refl)
+returns-in-None g c = rw c.in-None.is (ends_at_once _ (ending_in c.args.answer) _ c.requires (inl refl))

@@ -6,7 +6,7 @@ use Rattle.suite_top.proofs.Shown.{is_no_failed_load, keeps_with}
 use Rattle.suite_top.proofs.run.run_booted.Goals as goal
 
 pub keep_items-requires : goal.keep_items-requires
-keep_items-requires g c = is_no_failed_load c.args.telling c.args.course.now _ _ _ c.in_ok-answer.ensures.halt c.in_ok-answer.ensures.go_on
+keep_items-requires g c = is_no_failed_load c.args.telling c.args.course.now c.args.machine.now c.run_machine.new.machine c.in_ok-answer.answer c.in_ok-answer.ensures.halt c.in_ok-answer.ensures.go_on
 
 pub returns-clause-halt : goal.returns-clause-halt
 returns-clause-halt g c = λ is. keeps_with _ _ _ _ _ _ _ _ (c.in_ok-answer.ensures.halt is) c.keep_items.ensures
