@@ -85,17 +85,17 @@ module _ (w : World) where
 turn_adds : (count pid : ℕ) (w : World) → (turn count pid w).world.events ≤ w.events + count
 unfolding turn
 turn_adds zero pid w = none_more w 0
-turn_adds (suc count) pid w = by (event w pid) (event_adds w pid)
+turn_adds (suc count) pid w = by (λ v. turn_adds count pid v) (event w pid) (event_adds w pid)
   where
-    by : (o : Outcome) → Went (OneMore w) o → (turned (turn count pid) w pid o).world.events ≤ w.events + suc count
-    by (went now t) h = over t.over
+    by : ((v : World) → (turn count pid v).world.events ≤ v.events + count) → (o : Outcome) → Went (OneMore w) o → (turned (turn count pid) w pid o).world.events ≤ w.events + suc count
+    by rest (went now t) h = over t.over
       where
         over : (b : Bool) → (traced t (if b then stays_at now None else turn count pid now)).world.events ≤ w.events + suc count
         over true = let most : now.events ≤ w.events + suc count = omega (arith, h) in most
-        over false = let more = turn_adds count pid now in let most : (turn count pid now).world.events ≤ w.events + suc count = omega (arith, h, more) in most
-    by (strays access) h = none_more w (suc count)
-    by full h = none_more w (suc count)
-    by idle h = none_more w (suc count)
+        over false = let more = rest now in let most : (turn count pid now).world.events ≤ w.events + suc count = omega (arith, h, more) in most
+    by rest (strays access) h = none_more w (suc count)
+    by rest full h = none_more w (suc count)
+    by rest idle h = none_more w (suc count)
 
 abbrev pub counts : List Quantum → ℕ
 counts quanta = sum_by (λ q. q.count) quanta
@@ -103,14 +103,14 @@ counts quanta = sum_by (λ q. q.count) quanta
 turns_add : (quanta : List Quantum) (w : World) → (turns quanta w).world.events ≤ w.events + counts quanta
 unfolding turns
 turns_add [] w = none_more w (counts [])
-turns_add (q ∷ qs) w = by (picked q.pick (ready_pids w.procs))
+turns_add (q ∷ qs) w = by (λ v. turns_add qs v) (picked q.pick (ready_pids w.procs))
   where
     sum : counts (q ∷ qs) ≡ q.count + counts qs
     sum = sum_by-cons (λ (x : Quantum). x.count) q qs
 
-    by : (chosen : Option ℕ) → (quantum_turn (turns qs) w q.count chosen).world.events ≤ w.events + counts (q ∷ qs)
-    by None = none_more w (counts (q ∷ qs))
-    by (Some pid) = goes (turn q.count pid w) (turn_adds q.count pid w)
+    by : ((v : World) → (turns qs v).world.events ≤ v.events + counts qs) → (chosen : Option ℕ) → (quantum_turn (turns qs) w q.count chosen).world.events ≤ w.events + counts (q ∷ qs)
+    by rest None = none_more w (counts (q ∷ qs))
+    by rest (Some pid) = goes (turn q.count pid w) (turn_adds q.count pid w)
       where
         goes : (walk : Walk) → walk.world.events ≤ w.events + q.count → (going_on (turns qs) walk).world.events ≤ w.events + counts (q ∷ qs)
         goes walk less = at walk.end
@@ -118,7 +118,7 @@ turns_add (q ∷ qs) w = by (picked q.pick (ready_pids w.procs))
             at : (end : Option End) → (going_on (turns qs) (record walk { end = end })).world.events ≤ w.events + counts (q ∷ qs)
             at (Some end) = let most : walk.world.events ≤ w.events + counts (q ∷ qs) = omega (arith, less, sum) in most
             at None =
-                let more = turns_add qs walk.world in
+                let more = rest walk.world in
                 let most : (turns qs walk.world).world.events ≤ w.events + counts (q ∷ qs) = omega (arith, less, more, sum) in
                 most
 
