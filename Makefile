@@ -1,4 +1,4 @@
-# make            the proved program, at build/flatc, by the gate; what that says is in build/check.log
+# make            the proved program, at build/flatc; what the proof says is in build/check.log
 # make try        a first look: runs the program's demo without any proof ('proved=no'); it isn't kept, and isn't for use
 # make demo       the main job: converts the shipped ELF file and shows the bytes of the flat file, and runs two programs in one memory
 # make check      the gate: every proof, must-fail edit, test, program and case, and the repository's papers
@@ -16,7 +16,7 @@ PREFIX ?= /usr/local
 SOURCES := crates.txt $(shell find crates -path '*/out' -prune -o -type f \( -name '*.rt' -o -name '*.antt' \) -print)
 
 build/flatc: $(SOURCES)
-	@echo 'flatc is proved before it is built, by the gate: 25 to 50 minutes on four cores the first time, and later what changed.'
+	@echo 'flatc is proved before it is built: 15 to 35 minutes on four cores the first time, and later what changed.'
 	@tools/build
 
 .PHONY: try demo check cases papers kit sdk kernel real install
