@@ -7,6 +7,7 @@ ghost use Rattle.region_watch.specs.Private.{own_bytes};
 ghost use Rattle.call_bytes.specs.Reading.{Reads, ReadsByte, Appends, AppendsNumber, ReadsOn};
 
 use byte_words::word;
+use call_log::numbers;
 use mmap_rules::Owners;
 use phys_mem::{BASE, PhysMem};
 use std::alloc::{AllocError, Global};
@@ -302,7 +303,7 @@ fn read_exec(
 fn has_path(number: u32) -> bool
     ensures { result ≡ has_path number }
 {
-    number == 34 || number == 35 || number == 56
+    number == numbers::MKDIRAT || number == numbers::UNLINKAT || number == numbers::OPENAT
 }
 
 /// The bytes that the call of this number reads, in the order read.
@@ -317,10 +318,10 @@ pub fn read_sent(
     ensures { Reads (sent number args.now (own_bytes owners.now mem.now)) result }
 {
     match number {
-        64 => read_write(alloc, mem, owners, args[1], args[2]),
-        66 => read_writev(alloc, mem, owners, args[1], args[2]),
-        65 => read_readv(alloc, mem, owners, args[1], args[2]),
-        221 => read_exec(alloc, mem, owners, args[0], args[1], args[2]),
+        numbers::WRITE => read_write(alloc, mem, owners, args[1], args[2]),
+        numbers::WRITEV => read_writev(alloc, mem, owners, args[1], args[2]),
+        numbers::READV => read_readv(alloc, mem, owners, args[1], args[2]),
+        numbers::EXECVE => read_exec(alloc, mem, owners, args[0], args[1], args[2]),
         number if has_path(number) => read_path(alloc, mem, owners, args[1]),
         _ => Ok(Vec::new(alloc)),
     }

@@ -5,6 +5,7 @@
 -- Inside    what a log's fields say
 -- Programs  the paths of programs, and the notes that have one
 -- Lines     the line of each note
+-- Numbers   the number of each system call that is served
 -- Sent      the bytes that a call reads from its caller's memory
 -- Strings   the path and the strings that an execve read
 -- Flags     a flag among others
@@ -15,6 +16,7 @@ pub mod Log
 pub mod Inside
 pub mod Programs
 pub mod Lines
+pub mod Numbers
 pub mod Sent
 pub mod Strings
 pub mod Flags

@@ -4,6 +4,7 @@ use Rattle.std.specs.Prelude.{ℕ, zero, suc, ◌+◌, ◌-◌, ◌*◌, ◌%◌
 use Rattle.std.specs.List.{range_with_len, list_any}
 use Rattle.byte_words.specs.Numbers.{low_first, number_at}
 use Rattle.byte_words.specs.ByteMap.{Bytes}
+use Rattle.call_log.specs.Numbers as numbers
 
 -- addresses that a call reads or writes
 pub record Span : Type 0 where
@@ -103,7 +104,7 @@ has_zero bytes = list_any (λ b. b == 0) bytes
 
 -- mkdirat, unlinkat and openat
 abbrev pub has_path : ℕ → Bool
-has_path number = number == 34 || number == 35 || number == 56
+has_path number = number == numbers.mkdirat || number == numbers.unlinkat || number == numbers.openat
 
 -- the most bytes of the arguments and the environment of a program: four for each pointer, and those of the strings with their zeros
 abbrev pub most_strings : ℕ
@@ -141,9 +142,9 @@ exec_sent m path args env = followed (path_sent m path) (λ bytes. if has_zero b
 -- of a call with this number and these arguments; the other calls read nothing
 unfoldable pub sent : ℕ → List ℕ → Bytes → Result (List ℕ) Span
 sent number args m =
-    if number == 64 then write_sent m (slice_index args 1) (slice_index args 2)
-    else if number == 66 then writev_sent m (slice_index args 1) (slice_index args 2)
-    else if number == 65 then readv_sent m (slice_index args 1) (slice_index args 2)
+    if number == numbers.write then write_sent m (slice_index args 1) (slice_index args 2)
+    else if number == numbers.writev then writev_sent m (slice_index args 1) (slice_index args 2)
+    else if number == numbers.readv then readv_sent m (slice_index args 1) (slice_index args 2)
     else if has_path number then path_sent m (slice_index args 1)
-    else if number == 221 then exec_sent m (slice_index args 0) (slice_index args 1) (slice_index args 2)
+    else if number == numbers.execve then exec_sent m (slice_index args 0) (slice_index args 1) (slice_index args 2)
     else Ok []

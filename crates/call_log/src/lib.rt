@@ -1,5 +1,6 @@
 //! What is kept of a run: the notes of calls, loads, ends and stray accesses, the errors that calls are refused with,
-//! and the line that each note is written as. Here stand these types, the limits of the log and the texts of its notes.
+//! and the line that each note is written as. Here stand these types, the limits of the log, the texts of its notes and the
+//! numbers of the calls that are served.
 //! No memory of a machine, no process list and no rule of any call.
 #![tactic(auto)]
 
@@ -11,12 +12,13 @@ mod laws;
 mod lines;
 mod log;
 mod note;
+pub mod numbers;
 
 pub use digits::{push_bytes, push_decimal, push_word};
 pub use errno::Errno;
 pub use flags::has_flag;
 pub use how::{How, Seen, SeenKind};
 pub use laws::refusals_are_words;
-pub use lines::{line, push_call_head, push_got, push_line, push_sent};
+pub use lines::{push_call_head, push_got, push_line, push_sent};
 pub use log::{Log, LogFault};
 pub use note::{Entry, Got, Note};

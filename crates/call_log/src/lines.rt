@@ -9,22 +9,12 @@ ghost use Rattle.call_log.specs.Programs.{IsProgramBelow, paths_of};
 use crate::digits::{push_bytes, push_decimal, push_word};
 use crate::how::{How, Seen, SeenKind};
 use crate::note::{Entry, Got, Note};
-use std::alloc::{AllocError, Global};
+use std::alloc::AllocError;
 
 /// The most bytes of a call's line, but for those that were sent and got.
 const CALL_ROOM: usize = 105;
 
-/// The line of a note, with its newline. `paths` are those of the programs, in their order.
-pub fn line(alloc: Global, note: &Note, paths: &[Vec<u8>]) -> Result<Vec<u8>, AllocError>
-    requires { IsProgramBelow (length paths.now) (note_value note.now) }
-    ensures { IfOk result (λ text. text.items ≡ line (paths_of paths.now) (note_value note.now)) }
-{
-    let mut text = Vec::new(alloc);
-    push_line(&mut text, note, paths)?;
-    Ok(text)
-}
-
-/// The same behind a text.
+/// Adds the line of a note, with its newline. `paths` are those of the programs, in their order.
 pub fn push_line(text: &mut Vec<u8>, note: &Note, paths: &[Vec<u8>]) -> Result<(), AllocError>
     requires { IsProgramBelow (length paths.now) (note_value note.now) }
     ensures { IfOk result (λ _. text.new.items ≡ text.old.items ++ line (paths_of paths.now) (note_value note.now)) }

@@ -2,6 +2,7 @@
 -- notes (POSIX.1-2017, write and writev).
 use Rattle.std.specs.Prelude.{◌≡◌, ℕ, zero, suc, ◌*◌, ◌==◌, Bool, true, false, ◌&&◌, ◌||◌, if◌then◌else◌, List, [], ◌∷◌, ◌++◌, map, length, drop, slice_index, Option, Some, None, Ok}
 use Rattle.call_log.specs.Notes.{CallEntry}
+use Rattle.call_log.specs.Numbers as numbers
 use Rattle.fd_tables.specs.declared.view.View.{View}
 use Rattle.fd_tables.specs.declared.view.Target.{Target}
 use Rattle.fd_tables.specs.declared.view.Target.TheVariants.{Console, Node, Pipe}
@@ -21,11 +22,11 @@ use Rattle.stays_laws.specs.Stays.{kept_calls_of}
 
 -- write and writev
 abbrev pub is_write : ℕ → Bool
-is_write number = number == 64 || number == 66
+is_write number = number == numbers.write || number == numbers.writev
 
 -- the data of a write; that of writev stands behind its pieces, of eight bytes each
 abbrev pub data_of : CallEntry → List ℕ
-data_of e = if e.call == 64 then e.sent else drop (8 * slice_index e.args 2) e.sent
+data_of e = if e.call == numbers.write then e.sent else drop (8 * slice_index e.args 2) e.sent
 
 abbrev pub is_console : Target → Bool
 is_console Console = true

@@ -3,6 +3,7 @@ use Rattle.std.specs.Prelude.{◌≡◌, ℕ, ◌==◌, Bool, true, ◌||◌, Li
 use Rattle.std.specs.declared.alloc.AllocError.{AllocError}
 use Rattle.call_log.specs.Notes.{Written}
 use Rattle.call_log.specs.Values.{written_value}
+use Rattle.call_log.specs.Numbers as numbers
 use Rattle.mem_files.specs.Inodes.{Inodes}
 use Rattle.fd_tables.specs.Files.{OpenFiles}
 use Rattle.fd_tables.specs.Kept.{Kept}
@@ -29,14 +30,14 @@ pub record MadeBy (call : Call) (a : Ask) : Type 0 where
 -- dup, dup3, mkdirat, unlinkat, openat, close, write and writev
 abbrev pub is_change : ℕ → Bool
 is_change number =
-    number == 23 || number == 24 || number == 34 || number == 35 || number == 56 || number == 57 || number == 64 || number == 66
+    number == numbers.dup || number == numbers.dup3 || number == numbers.mkdirat || number == numbers.unlinkat || number == numbers.openat || number == numbers.close || number == numbers.write || number == numbers.writev
 
 abbrev pub IsChange : ℕ → Type 0
 IsChange number = is_change number ≡ true
 
 -- pipe2, getdents64, llseek, read and readv
 abbrev pub is_output : ℕ → Bool
-is_output number = number == 59 || number == 61 || number == 62 || number == 63 || number == 65
+is_output number = number == numbers.pipe2 || number == numbers.getdents64 || number == numbers.llseek || number == numbers.read || number == numbers.readv
 
 abbrev pub IsOutput : ℕ → Type 0
 IsOutput number = is_output number ≡ true

@@ -12,6 +12,7 @@ use crate::descriptors::{close, dup, dup3};
 use crate::opening::openat;
 use crate::paths::{mkdirat, unlinkat};
 use crate::writing::{write, writev};
+use call_log::numbers;
 use fd_tables::Files;
 use mem_files::{FileFault, Tree};
 use std::alloc::AllocError;
@@ -48,13 +49,13 @@ fn carry_out(
     ensures ready { OnErr result (KeepsSpare files.old files.new) }
 {
     match call.number {
-        23 => dup(files, call),
-        24 => dup3(tree, files, call),
-        34 => mkdirat(tree, call),
-        35 => unlinkat(tree, call),
-        56 => openat(tree, files, call),
-        57 => close(tree, files, call),
-        64 => write(tree, files, console, call, &call.sent),
+        numbers::DUP => dup(files, call),
+        numbers::DUP3 => dup3(tree, files, call),
+        numbers::MKDIRAT => mkdirat(tree, call),
+        numbers::UNLINKAT => unlinkat(tree, call),
+        numbers::OPENAT => openat(tree, files, call),
+        numbers::CLOSE => close(tree, files, call),
+        numbers::WRITE => write(tree, files, console, call, &call.sent),
         _ => writev(tree, files, console, call),
     }
 }

@@ -11,6 +11,7 @@ use crate::outcome::Outcome;
 use crate::piping::pipe2;
 use crate::reading::{read, readv};
 use crate::seeking::llseek;
+use call_log::numbers;
 use fd_tables::Files;
 use mem_files::Tree;
 use std::alloc::{AllocError, Global};
@@ -25,10 +26,10 @@ pub fn output(alloc: Global, tree: &Tree, files: &Files, call: &Call) -> Result<
     ensures ends { IfOk result (λ o. HasEnds files.now.open_files call.now.table o.then) }
 {
     match call.number {
-        59 => pipe2(alloc, files, call),
-        61 => getdents64(alloc, tree, files, call),
-        62 => llseek(alloc, tree, files, call),
-        63 => read(alloc, tree, files, call),
+        numbers::PIPE2 => pipe2(alloc, files, call),
+        numbers::GETDENTS64 => getdents64(alloc, tree, files, call),
+        numbers::LLSEEK => llseek(alloc, tree, files, call),
+        numbers::READ => read(alloc, tree, files, call),
         _ => readv(alloc, tree, files, call),
     }
 }

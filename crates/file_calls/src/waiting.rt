@@ -14,6 +14,7 @@ ghost use Rattle.file_calls.specs.Ends.{shown_end};
 use crate::call::Call;
 use crate::reading::{MOST_PIECES, word_in};
 use crate::writing::{behind_pieces, must_wait};
+use call_log::numbers;
 use fd_tables::{Files, PipeView, Target, Way};
 
 /// An end of a pipe, as a descriptor shows it.
@@ -47,10 +48,18 @@ pub fn wait_of(files: &Files, call: &Call) -> Option<u32>
 {
     let count = call.args[2];
     match call.number {
-        63 => read_wait(files, call, count > 0),
-        64 => write_wait(files, call, &call.sent),
-        65 if count <= MOST_PIECES => read_wait(files, call, have_room(&call.sent, count)),
-        66 if count <= MOST_PIECES => write_wait(files, call, behind_pieces(&call.sent, count)),
+        numbers::READ => read_wait(files, call, count > 0),
+        numbers::WRITE => write_wait(files, call, &call.sent),
+        numbers::READV if count <= MOST_PIECES => read_wait(
+            files,
+            call,
+            have_room(&call.sent, count),
+        ),
+        numbers::WRITEV if count <= MOST_PIECES => write_wait(
+            files,
+            call,
+            behind_pieces(&call.sent, count),
+        ),
         _ => None,
     }
 }

@@ -10,6 +10,7 @@ use Rattle.rv32im_step.specs.Meaning.{Meaning, next, call, trap, refused, meanin
 use Rattle.call_log.specs.Flags.{has_flag}
 use Rattle.call_log.specs.Notes.{Written, CallEntry}
 use Rattle.call_log.specs.Sent.{Span, sent}
+use Rattle.call_log.specs.Numbers as numbers
 use Rattle.mmap_rules.specs.declared.mapping.Range.{Range}
 use Rattle.mmap_rules.specs.declared.mapping.Mapping.{Mapping}
 use Rattle.mmap_rules.specs.Space.{Space, memory_base, page_size, in_range, may_use}
@@ -190,7 +191,7 @@ with_memory s (Some m) = Some (record s { memory = m })
 
 -- exit, exit_group, and an execve that isn't refused
 abbrev pub leaves_space : CallEntry → Bool
-leaves_space e = e.call == 93 || e.call == 94 || (e.call == 221 && e.reply == 0)
+leaves_space e = e.call == numbers.exit || e.call == numbers.exit_group || (e.call == numbers.execve && e.reply == 0)
 
 -- mmap2
 abbrev pub solo_mapped : Solo → Item → Option Solo
@@ -210,9 +211,9 @@ solo_forked s regs e = record s { stack = record { pid = e.reply; regs = child_r
 -- what a call that isn't refused changes beside the caller's registers, which were `regs` at the call
 abbrev pub solo_effect : Solo → Regs → Item → Option Solo
 solo_effect s regs i =
-    if i.entry.call == 222 then solo_mapped s i
-    else if i.entry.call == 215 then solo_unmapped s i.entry
-    else if i.entry.call == 220 then Some (solo_forked s regs i.entry)
+    if i.entry.call == numbers.mmap2 then solo_mapped s i
+    else if i.entry.call == numbers.munmap then solo_unmapped s i.entry
+    else if i.entry.call == numbers.clone then Some (solo_forked s regs i.entry)
     else Some s
 
 -- the top process has its reply, over these bytes

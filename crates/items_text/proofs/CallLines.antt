@@ -5,8 +5,9 @@ use Rattle.std.specs.List.{AllByRecursion}
 use Rattle.std.proofs.lemmas.Bool.{cases_Bool, eqb-true, eqb-false}
 use Rattle.call_log.specs.Notes.{Written}
 use Rattle.call_log.specs.Lines.{joined, sent_text, got_text}
+use Rattle.call_log.specs.Numbers as numbers
 use Rattle.items_text.specs.declared.heads.CallHead.{CallHead}
-use Rattle.items_text.specs.Items.{ItemValue, IsItem, HoldsWritten, HoldsItem, map_call}
+use Rattle.items_text.specs.Items.{ItemValue, IsItem, HoldsWritten, HoldsItem}
 use Rattle.items_text.specs.Lines.{item_line}
 use Rattle.items_text.specs.Pieces.{behind, cut_at, number_at, bytes_at}
 use Rattle.items_text.specs.Reading.{head_text, head_at, range_of, ranges_at, may_bring, item_from, item_at}
@@ -34,16 +35,16 @@ some_of (w ∷ ws) all = (all.0.1, some_of ws all.1)
 
 -- ---- what was brought
 
-brings : (call : ℕ) (brought : List ℕ) → (call ≢ map_call → brought ≡ []) → may_bring call brought ≡ true
+brings : (call : ℕ) (brought : List ℕ) → (call ≢ numbers.mmap2 → brought ≡ []) → may_bring call brought ≡ true
 brings call [] h = refl
-brings call (b ∷ bs) h = elim (cases_Bool (call == map_call)) [
+brings call (b ∷ bs) h = elim (cases_Bool (call == numbers.mmap2)) [
   | inl is ↦ is
-  | inr other ↦ let none : b ∷ bs ≡ [] = h (eqb-false call map_call other) in absurd cc
+  | inr other ↦ let none : b ∷ bs ≡ [] = h (eqb-false call numbers.mmap2 other) in absurd cc
 ]
 
-brought_by : (call : ℕ) (brought : List ℕ) → may_bring call brought ≡ true → call ≢ map_call → brought ≡ []
+brought_by : (call : ℕ) (brought : List ℕ) → may_bring call brought ≡ true → call ≢ numbers.mmap2 → brought ≡ []
 brought_by call [] h other = refl
-brought_by call (b ∷ bs) h other = absurd (other (eqb-true call map_call h))
+brought_by call (b ∷ bs) h other = absurd (other (eqb-true call numbers.mmap2 h))
 
 -- ---- the line
 

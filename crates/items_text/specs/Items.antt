@@ -2,6 +2,7 @@
 use Rattle.std.specs.Prelude.{◌≡◌, ◌≢◌, ℕ, ◌%◌, ◌^◌, ◌<◌, ◌≤◌, Bool, true, not, ◌==◌, List, [], length}
 use Rattle.std.specs.List.{list_all, AllByRecursion}
 use Rattle.call_log.specs.Notes.{Written, CallEntry}
+use Rattle.call_log.specs.Numbers as numbers
 
 -- a call as it was answered, and the bytes that its mapping of a file brought
 pub record ItemValue : Type 0 where
@@ -43,15 +44,11 @@ is_string bytes = list_all (λ b. not (b == 0)) bytes
 abbrev pub IsString : List ℕ → Type 0
 IsString bytes = is_string bytes ≡ true
 
--- the call that maps pages, mmap2
-abbrev pub map_call : ℕ
-map_call = 222
-
 -- six arguments, no range of output that is empty, and bytes brought by mmap2 alone
 pub record IsItem (i : ItemValue) : Type 0 where
   pub args : length i.entry.args ≡ 6
   pub got : AllByRecursion (λ (w : Written). w.bytes ≢ []) i.entry.got
-  pub brought : i.entry.call ≢ map_call → i.brought ≡ []
+  pub brought : i.entry.call ≢ numbers.mmap2 → i.brought ≡ []
 
 -- such items have a text
 pub record AreSpelled (i : ItemsValue) : Type 0 where

@@ -2,12 +2,13 @@
 use Rattle.std.specs.Prelude.{◌≡◌, ℕ, ◌+◌, ◌%◌, ◌==◌, Bool, true, ◌&&◌, nat_le, if◌then◌else◌, List, [], ◌∷◌, ◌++◌, length, codes, Option, Some, None, option_map, Result, Ok, Err}
 use Rattle.call_log.specs.Notes.{Written}
 use Rattle.call_log.specs.Lines.{word_digits}
+use Rattle.call_log.specs.Numbers as numbers
 use Rattle.items_text.specs.declared.fault.ItemsFault.{ItemsFault}
 use Rattle.items_text.specs.declared.fault.ItemsFault.TheVariants.{At, Memory}
 use Rattle.items_text.specs.declared.items.Items.{Items}
 use Rattle.items_text.specs.declared.heads.SpaceHead.{SpaceHead}
 use Rattle.items_text.specs.declared.heads.CallHead.{CallHead}
-use Rattle.items_text.specs.Items.{ItemValue, ItemsValue, page_size, lowest_base, highest_base, is_string, map_call}
+use Rattle.items_text.specs.Items.{ItemValue, ItemsValue, page_size, lowest_base, highest_base, is_string}
 use Rattle.items_text.specs.Values.{items_value}
 use Rattle.items_text.specs.Lines.{space_line, call_head, end_line}
 use Rattle.items_text.specs.Pieces.{◌>>=◌, Front, behind, cut_at, number_at, most_word, most_count, hex_of, bytes_at, many}
@@ -102,7 +103,7 @@ ranges_at text = or_none (many range_at text)
 -- bytes were brought by mmap2 alone
 abbrev pub may_bring : (call : ℕ) → (brought : List ℕ) → Bool
 may_bring call [] = true
-may_bring call (b ∷ bs) = call == map_call
+may_bring call (b ∷ bs) = call == numbers.mmap2
 
 abbrev pub item_from : CallHead → (sent : List ℕ) → (got : List Written) → (brought : List ℕ) → ItemValue
 item_from h sent got brought = record {

@@ -10,11 +10,8 @@ use crate::heads::CallHead;
 use crate::items::Item;
 use crate::pieces::{behind, bytes_at, cut_at, hex_of, word_at};
 use crate::writing::{addr_text, call_head};
-use call_log::{Entry, Got};
+use call_log::{Entry, Got, numbers};
 use std::alloc::{AllocError, Global};
-
-/// The call that maps pages, mmap2.
-const MAP_CALL: u32 = 222;
 
 /// The call whose line the text begins with, and what is behind it.
 #[tactic(auto, unfolding(crate::specs::Reading::item_at))]
@@ -120,7 +117,7 @@ fn call_numbers(text: &[u8]) -> Option<CallHead>
 fn may_bring(call: u32, brought: &[u8]) -> bool
     ensures { result ≡ may_bring call brought.now }
 {
-    brought.is_empty() || call == MAP_CALL
+    brought.is_empty() || call == numbers::MMAP2
 }
 
 /// The ranges that were written, or `- `, and what is behind them.

@@ -4,6 +4,7 @@ use Rattle.std.specs.declared.alloc.AllocError.{AllocError}
 use Rattle.byte_words.specs.ByteMap.{Bytes}
 use Rattle.call_log.specs.Notes.{Written, CallEntry, Note, call_note, end_note}
 use Rattle.call_log.specs.Sent.{sent}
+use Rattle.call_log.specs.Numbers as numbers
 use Rattle.call_log.specs.declared.how.How.{How}
 use Rattle.call_log.specs.declared.how.How.TheVariants.{Exit}
 use Rattle.fd_tables.specs.Files.{free_number}
@@ -86,9 +87,9 @@ brk_of next brk (Break to) = next to
 
 -- it would map a file
 abbrev pub maps_by : Call → Effect → Bool
-maps_by call (Answer value) = call.number == 222 && not (is_errno value)
-maps_by call Yield = call.number == 222
-maps_by call (Break to) = call.number == 222
+maps_by call (Answer value) = call.number == numbers.mmap2 && not (is_errno value)
+maps_by call Yield = call.number == numbers.mmap2
+maps_by call (Break to) = call.number == numbers.mmap2
 
 -- what comes of it, where the process lives
 abbrev pub served_by : Effect → Served

@@ -10,6 +10,7 @@ use Rattle.mmap_rules.specs.declared.want.Want.{Want}
 use Rattle.mmap_rules.specs.declared.want.Want.TheVariants.{Anon, File}
 use Rattle.mmap_rules.specs.Want.{pages_for, map_anonymous}
 use Rattle.call_log.specs.Flags.{has_flag}
+use Rattle.call_log.specs.Numbers as numbers
 use Rattle.file_calls.specs.declared.call.Call.{Call}
 use Rattle.mmap_rules.specs.declared.maps.MapFault.{MapFault}
 use Rattle.mmap_rules.specs.declared.maps.MapFault.TheVariants.{Enomem, Memory}
@@ -18,7 +19,7 @@ use Rattle.mmap_rules.specs.Sides.{sides, mapped, Maps, freed, unmapped, Unmaps}
 
 -- munmap and mmap2
 abbrev pub is_mapping : ℕ → Bool
-is_mapping number = number == 215 || number == 222
+is_mapping number = number == numbers.munmap || number == numbers.mmap2
 
 -- pages of a file are wanted
 abbrev pub is_file : Want → Bool
@@ -29,7 +30,7 @@ is_file (File pages first write id change) = true
 abbrev pub IsAsked : Call → Want → Type 0
 IsAsked call (Anon pages) = has_flag (slice_index call.args 3) map_anonymous ≡ true
 IsAsked call (File pages first write id change) =
-    (call.number ≡ 222) × (has_flag (slice_index call.args 3) map_anonymous ≡ false) × (pages ≡ pages_for (slice_index call.args 1))
+    (call.number ≡ numbers.mmap2) × (has_flag (slice_index call.args 3) map_anonymous ≡ false) × (pages ≡ pages_for (slice_index call.args 1))
 
 -- the space of a number, after what is wanted was mapped in it
 pub record MapsIn (kind : Kind) (bytes : List ℕ) (want : Want) (number : ℕ) (h : Held) (old new : List (Option Held)) (rs now : List Region) (mem after : List ℕ) (result : Result ℕ MapFault) : Type 0 where

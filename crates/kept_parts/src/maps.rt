@@ -1,6 +1,7 @@
 //! Pages that are mapped and unmapped (Linux, mmap(2), munmap(2), in this project's profile).
 
 ghost use Rattle.std.specs.Prelude.{◌≡◌, ℕ, ◌*◌, ◌^◌, ◌<◌, ◌++◌, [], ◌∷◌, ◌&&◌, if◌then◌else◌, true, List, length, take, drop, slice_get, slice_index, Some, is_some, is_ok, IfOk, OnErr};
+ghost use Rattle.call_log.specs.Numbers as numbers;
 ghost use Rattle.page_runs.specs.Choosers.{IsChooser, kind_of};
 ghost use Rattle.page_runs.specs.declared.place.Kind.{Kind};
 ghost use Rattle.mem_files.specs.Inodes.{bytes_of};
@@ -232,7 +233,7 @@ impl KeptParts {
     pub fn unmap(&mut self, call: Call) -> Result<(), AllocError>
         requires lives { Lives self.old.procs call.pid }
         requires room { room_beside self.old (length call.sent.items) ≡ true }
-        requires munmap { call.number ≡ 215 }
+        requires munmap { call.number ≡ numbers.munmap }
         ensures memory { self.new.mem ≡ self.old.mem }
         ensures holds { HoldsFiles self.old → HoldsFiles self.new }
         ensures changes { (a : About) → (e : Entry Task) → (h : Held) → RunsIn self.old call.pid e h → IsCall e call →

@@ -2,6 +2,7 @@
 
 ghost use Rattle.std.specs.Prelude.{◌≡◌, ◌==◌, ◌-◌, ◌≤◌, ◌∷◌, All, None, Some, false, true, length, map, slice_get, slice_set};
 ghost use Rattle.call_log.specs.Notes.{has_room, weight_of};
+ghost use Rattle.call_log.specs.Numbers as numbers;
 ghost use Rattle.call_log.specs.Values.{written_value};
 ghost use Rattle.mmap_rules.specs.Held.{Held, next_brk};
 ghost use Rattle.mmap_rules.specs.Space.{writable_in};
@@ -142,7 +143,7 @@ impl KeptParts {
     pub fn give(&mut self, call: Call, outcome: Outcome) -> Result<(), AllocError>
         requires lives { Lives self.old.procs call.pid }
         requires room { room_beside self.old (weight_of call.sent.items (written_of outcome)) ≡ true }
-        requires plain { (call.number == 222) ≡ false }
+        requires plain { (call.number == numbers.mmap2) ≡ false }
         requires fits { CanTake self.old.files outcome.then }
         requires ends { HasEnds self.old.files call.table outcome.then }
         requires ranges { All IsRange (written_of outcome) }

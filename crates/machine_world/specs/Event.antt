@@ -16,6 +16,7 @@ use Rattle.call_log.specs.Notes.{Written, CallEntry, Note, call_note, load_note,
 use Rattle.call_log.specs.Strings.{ProgramStrings, program_strings}
 use Rattle.call_log.specs.Flags.{has_flag}
 use Rattle.call_log.specs.Sent.{Span, bytes_from, has_zero, sent}
+use Rattle.call_log.specs.Numbers as numbers
 use Rattle.vfork_exec.specs.declared.family.Who.{Who}
 use Rattle.vfork_exec.specs.declared.family.State.{State}
 use Rattle.vfork_exec.specs.declared.family.State.TheVariants.{Ready, Waiting, Lent}
@@ -136,7 +137,7 @@ call_access p span = record { pc = p.regs.pc; addr = span.addr; len = span.len; 
 
 -- an mmap2 of a file that isn't refused
 abbrev pub maps_file : CallEntry → Bool
-maps_file e = e.call == 222 && not (is_errno e.reply) && not (has_flag (slice_index e.args 3) map_anonymous)
+maps_file e = e.call == numbers.mmap2 && not (is_errno e.reply) && not (has_flag (slice_index e.args 3) map_anonymous)
 
 -- the bytes that it brings: those of its mapping
 abbrev pub brought : CallEntry → Bytes → List ℕ
@@ -208,7 +209,7 @@ exited w a =
     else full
 
 abbrev pub is_exit : ℕ → Bool
-is_exit number = number == 93 || number == 94
+is_exit number = number == numbers.exit || number == numbers.exit_group
 
 -- ---- waitid
 
@@ -321,9 +322,9 @@ exec w a =
 abbrev pub classed : World → Ask → Outcome
 classed w a =
     if is_exit a.number then exited w a
-    else if a.number == 95 then waitid w a
-    else if a.number == 220 then cloned w a
-    else if a.number == 221 then exec w a
+    else if a.number == numbers.waitid then waitid w a
+    else if a.number == numbers.clone then cloned w a
+    else if a.number == numbers.execve then exec w a
     else answered w a (row a)
 
 abbrev pub asked : World → Process → Space → Result (List ℕ) Span → Outcome

@@ -4,6 +4,7 @@ use Rattle.page_runs.specs.Place.{place, first_of}
 use Rattle.call_log.specs.declared.errno.Errno.TheVariants.{Enomem}
 use Rattle.call_log.specs.Sent.{has_zero}
 use Rattle.call_log.specs.Strings.{ProgramStrings, program_strings}
+use Rattle.call_log.specs.Numbers as numbers
 use Rattle.mmap_rules.specs.declared.mapping.Mapping.{Mapping}
 use Rattle.mmap_rules.specs.declared.want.Want.{Want}
 use Rattle.mmap_rules.specs.Held.{page_address}
@@ -35,7 +36,7 @@ pub record MapsExactly (a : Ask) (want : Want) : Type 0 where
 
 abbrev pub MapsAreExact : Type 0
 MapsAreExact =
-    (a : Ask) (want : Want) → a.number ≡ 222 → wanted (arg a 0) (arg a 1) (arg a 2) (arg a 3) (arg a 5) (file_side a) ≡ Ok want → MapsExactly a want
+    (a : Ask) (want : Want) → a.number ≡ numbers.mmap2 → wanted (arg a 0) (arg a 1) (arg a 2) (arg a 3) (arg a 5) (file_side a) ≡ Ok want → MapsExactly a want
 
 -- a start line with a program whose frame fits has its block at that page, or finds no run
 pub record StartsExactly (w : World) (s : StartLine) (f : Found) : Type 0 where

@@ -1,5 +1,6 @@
 -- What each system call answers (Linux, include/uapi/asm-generic/unistd.h, in this project's profile).
 use Rattle.std.specs.Prelude.{ℕ, ◌==◌, Bool, true, ◌&&◌, ◌||◌, nat_le, if◌then◌else◌, []}
+use Rattle.call_log.specs.Numbers as numbers
 use Rattle.call_log.specs.declared.errno.Errno.TheVariants.{Enosys}
 use Rattle.mmap_rules.specs.Space.{Space}
 use Rattle.machine_world.specs.Asks.{Ask, arg, Row, replies, leaves, answers, refuses}
@@ -19,29 +20,29 @@ brk_row a = leaves a (next_brk a.space (arg a 0)) (record a.space { brk = next_b
 
 -- set_tid_address, getpid and gettid
 abbrev pub asks_pid : ℕ → Bool
-asks_pid number = number == 96 || number == 172 || number == 178
+asks_pid number = number == numbers.set_tid_address || number == numbers.getpid || number == numbers.gettid
 
 -- any other number is ENOSYS
 unfoldable pub row : Ask → Row
 row a =
-    if a.number == 23 then dup_row a
-    else if a.number == 24 then dup3_row a
-    else if a.number == 29 then ioctl_row a
-    else if a.number == 34 then mkdirat_row a
-    else if a.number == 35 then unlinkat_row a
-    else if a.number == 56 then openat_row a
-    else if a.number == 57 then close_row a
-    else if a.number == 59 then pipe2_row a
-    else if a.number == 61 then getdents_row a
-    else if a.number == 62 then llseek_row a
-    else if a.number == 63 then read_row a
-    else if a.number == 64 then write_row a a.sent
-    else if a.number == 65 then readv_row a
-    else if a.number == 66 then writev_row a
+    if a.number == numbers.dup then dup_row a
+    else if a.number == numbers.dup3 then dup3_row a
+    else if a.number == numbers.ioctl then ioctl_row a
+    else if a.number == numbers.mkdirat then mkdirat_row a
+    else if a.number == numbers.unlinkat then unlinkat_row a
+    else if a.number == numbers.openat then openat_row a
+    else if a.number == numbers.close then close_row a
+    else if a.number == numbers.pipe2 then pipe2_row a
+    else if a.number == numbers.getdents64 then getdents_row a
+    else if a.number == numbers.llseek then llseek_row a
+    else if a.number == numbers.read then read_row a
+    else if a.number == numbers.write then write_row a a.sent
+    else if a.number == numbers.readv then readv_row a
+    else if a.number == numbers.writev then writev_row a
     else if asks_pid a.number then answers a a.process.pid
-    else if a.number == 124 then yield_row a
-    else if a.number == 173 then answers a a.process.parent
-    else if a.number == 214 then brk_row a
-    else if a.number == 215 then munmap_row a
-    else if a.number == 222 then mmap2_row a
+    else if a.number == numbers.sched_yield then yield_row a
+    else if a.number == numbers.getppid then answers a a.process.parent
+    else if a.number == numbers.brk then brk_row a
+    else if a.number == numbers.munmap then munmap_row a
+    else if a.number == numbers.mmap2 then mmap2_row a
     else refuses a Enosys

@@ -8,6 +8,7 @@ use Rattle.rv32im_step.specs.Meaning.{Meaning, next, call, trap, refused, meanin
 use Rattle.call_log.specs.declared.errno.Errno.{Errno}
 use Rattle.call_log.specs.Notes.{Note, call_note, load_note, end_note, stray_note}
 use Rattle.call_log.specs.Sent.{Span, sent}
+use Rattle.call_log.specs.Numbers as numbers
 use Rattle.quantum_sched.specs.declared.Quantum.{Quantum}
 use Rattle.quantum_sched.specs.Picked.{picked}
 use Rattle.vfork_exec.specs.declared.family.Who.{Who}
@@ -147,12 +148,12 @@ waitid_in p a = waitid_behind_in p a (waitid_fault a)
 
 -- exit, clone and execve write nothing into their caller's memory
 abbrev pub writes_nothing : ℕ → Bool
-writes_nothing number = is_exit number || number == 220 || number == 221
+writes_nothing number = is_exit number || number == numbers.clone || number == numbers.execve
 
 abbrev pub classed_in : Physical → Ask → After
 classed_in p a =
     if writes_nothing a.number then carried p p.memory (classed p.world a)
-    else if a.number == 95 then waitid_in p a
+    else if a.number == numbers.waitid then waitid_in p a
     else answered_in p a (row a)
 
 -- it reads from all of memory; a range outside memory ends its process

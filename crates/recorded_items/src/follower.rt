@@ -12,12 +12,9 @@ ghost use Rattle.recorded_items.specs.Followed.{HasFollowed};
 
 use crate::copies::{copied_bytes, copied_entry};
 use crate::members::{Members, is_errno};
-use call_log::{Entry, Note, has_flag};
+use call_log::{Entry, Note, has_flag, numbers};
 use items_text::Item;
 use std::alloc::{AllocError, Global};
-
-/// The call that maps pages, mmap2.
-const MAP_CALL: u32 = 222;
 
 /// The bit of MAP_ANONYMOUS among its flags.
 const ANONYMOUS: u32 = 5;
@@ -108,5 +105,5 @@ fn item_with<'a>(
 fn maps_file(entry: &Entry) -> bool
     ensures { result ≡ maps_file (entry_value entry.now) }
 {
-    entry.call == MAP_CALL && !is_errno(entry.reply) && !has_flag(entry.args[3], ANONYMOUS)
+    entry.call == numbers::MMAP2 && !is_errno(entry.reply) && !has_flag(entry.args[3], ANONYMOUS)
 }

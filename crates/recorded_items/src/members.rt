@@ -7,12 +7,9 @@ ghost use Rattle.flat_loader.specs.Alone.{is_errno};
 ghost use Rattle.recording_laws.specs.Homes.{forks};
 ghost use Rattle.recorded_items.specs.Members.{AreMembers, is_member, Puts};
 
-use call_log::{Entry, Note};
+use call_log::{Entry, Note, numbers};
 use indexmap::IndexSet;
 use std::alloc::{AllocError, Global};
-
-/// The call that makes a process, clone.
-const CLONE_CALL: u32 = 220;
 
 /// The first reply that is a refusal.
 const FIRST_ERRNO: u32 = 0xffff_f001;
@@ -86,7 +83,7 @@ fn put(pids: &mut IndexSet<u32>, pid: u32, inside: bool) -> Result<(), AllocErro
 fn forks(entry: &Entry) -> bool
     ensures { result ≡ forks (entry_value entry.now) }
 {
-    entry.call == CLONE_CALL && !is_errno(entry.reply)
+    entry.call == numbers::CLONE && !is_errno(entry.reply)
 }
 
 /// The last 4,095 words are refusals.

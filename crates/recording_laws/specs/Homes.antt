@@ -1,6 +1,7 @@
 -- In which space a process runs, and which calls were made in a space, as the notes tell it.
 use Rattle.std.specs.Prelude.{◌≡◌, ℕ, ◌+◌, ◌==◌, Bool, false, not, ◌&&◌, if◌then◌else◌, List, [], ◌∷◌, ◌++◌, map, length, Option, Some, None, slice_get}
 use Rattle.call_log.specs.Notes.{CallEntry, Note, call_note, load_note, end_note, stray_note}
+use Rattle.call_log.specs.Numbers as numbers
 use Rattle.vfork_exec.specs.Keyed.{find}
 use Rattle.flat_loader.specs.Alone.{Item, is_errno}
 use Rattle.machine_world.specs.World.{Process, World, pid_of}
@@ -8,7 +9,7 @@ use Rattle.stays_laws.specs.Stays.{Stay}
 
 -- a clone that wasn't refused: its reply is the child's pid
 abbrev pub forks : CallEntry → Bool
-forks e = e.call == 220 && not (is_errno e.reply)
+forks e = e.call == numbers.clone && not (is_errno e.reply)
 
 -- how many load notes there are, among notes that stand newest first
 unfoldable pub loads_in : List Note → ℕ

@@ -3,6 +3,7 @@
 use Rattle.std.specs.Prelude.{◌≡◌, ℕ, ◌⊎◌, true, [], List, ◌∷◌, ◌++◌, Some, None, Ok}
 use Rattle.call_log.specs.Sent.{has_zero}
 use Rattle.call_log.specs.Strings.{ProgramStrings, program_strings}
+use Rattle.call_log.specs.Numbers as numbers
 use Rattle.mmap_rules.specs.declared.want.Want.{Want}
 use Rattle.mmap_rules.specs.Want.{wanted}
 use Rattle.flat_loader.specs.Original.{block_pages}
@@ -37,7 +38,7 @@ pub record LacksRunToExec (w : World) (a : Ask) : Type 0 where
 
 -- no other call needs one
 abbrev pub LacksRun : World → Ask → Type 0
-LacksRun w a = ((a.number ≡ 222) × LacksRunToMap a) ⊎ ((a.number ≡ 221) × LacksRunToExec w a)
+LacksRun w a = ((a.number ≡ numbers.mmap2) × LacksRunToMap a) ⊎ ((a.number ≡ numbers.execve) × LacksRunToExec w a)
 
 -- a start line's path leads to a program, the frame fits into its stack, and the placement gives no run for the block
 pub record LacksRunToStart (w : World) (s : StartLine) : Type 0 where

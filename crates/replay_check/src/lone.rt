@@ -9,7 +9,7 @@ ghost use Rattle.replay_check.specs.Solos.{runner_value, solo_of, item_of, RunsO
 
 use crate::memory::LoneMemory;
 use call_bytes::Unread;
-use call_log::Entry;
+use call_log::{Entry, numbers};
 use region_watch::Progress;
 use rv32im_step::Regs;
 use std::alloc::{AllocError, Global};
@@ -87,7 +87,9 @@ fn is_errno(reply: u32) -> bool
 fn leaves_space(entry: &Entry) -> bool
     ensures { result ≡ leaves_space (entry_value entry.now) }
 {
-    entry.call == 93 || entry.call == 94 || entry.call == 221 && entry.reply == 0
+    entry.call == numbers::EXIT
+        || entry.call == numbers::EXIT_GROUP
+        || entry.call == numbers::EXECVE && entry.reply == 0
 }
 
 impl Runner {
@@ -147,9 +149,9 @@ impl Lone {
         ensures { IfOk result (λ right. Leaves (solo_effect (solo_of self.old) regs.now (item_of entry.now brought.now)) right (solo_of self.new)) }
     {
         match entry.call {
-            222 => self.memory.map_new(entry, brought),
-            215 if entry.reply == 0 => self.memory.unmap(entry.args[0], entry.args[1]),
-            220 => {
+            numbers::MMAP2 => self.memory.map_new(entry, brought),
+            numbers::MUNMAP if entry.reply == 0 => self.memory.unmap(entry.args[0], entry.args[1]),
+            numbers::CLONE => {
                 let regs = child_regs(regs, entry.args[1]);
                 self.stack.push(Runner {
                     pid: entry.reply,

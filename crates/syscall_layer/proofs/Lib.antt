@@ -3,6 +3,7 @@
 -- ToldMemory  what a waitid leaves of the one memory
 -- OutputRanges  the ranges that a call gives are ranges that an access can have
 -- CallRows  the row of each call, and the effect that the code gives it
+-- ByClass    what the class of a call says of its number
 -- MapRows   the rows of mmap2 and munmap, and the file that an mmap2 asks for
 -- Leaves     what an answer alone tells of the parts
 -- CallsOn    a call of a run that goes on
@@ -11,6 +12,7 @@
 pub mod CallsKeep
 pub mod OutputRanges
 pub mod CallRows
+mod ByClass
 mod MapRows
 mod ToldMemory
 mod Leaves

@@ -40,7 +40,7 @@ ghost use Rattle.kept_parts.specs.Calls.{RunsIn, IsCall, maps_by, ask_in, reply_
 ghost use Rattle.kept_parts.specs.Flats.{AreFlats};
 
 use crate::call::call_of;
-use crate::classes::{is_change, is_exit, is_output};
+use crate::classes::{Class, class_of};
 use crate::effects::effect_of;
 use crate::family::{answer_clone, answer_exec, answer_waitid};
 use crate::parts::Parts;
@@ -385,25 +385,19 @@ fn answer<F: Fn(&[Run], u32) -> Option<usize>>(
     ensures holds { reach ≡ Own → HoldsFiles parts.old → HoldsFiles parts.new }
     ensures leaves { IfOk result (Tells parts.old parts.new call.pid) }
 {
-    if is_exit(call.number) {
-        return answer_exit(parts, call);
-    }
     if let Some(pipe) = wait_of(&parts.files, &call) {
         return Ok(answer_wait(parts, &call, pipe));
     }
-    if is_change(call.number) {
-        return answer_change(parts, call);
-    }
-    if is_output(call.number) {
-        return answer_output(parts, call, reach, whole);
-    }
-    match call.number {
-        95 => answer_waitid(parts, call, reach, whole),
-        215 => answer_unmap(parts, call),
-        220 => answer_clone(parts, call),
-        221 => answer_exec(parts, call, programs, chooser),
-        222 => answer_map(parts, call, chooser),
-        _ => {
+    match class_of(call.number) {
+        Class::Exit => answer_exit(parts, call),
+        Class::Change => answer_change(parts, call),
+        Class::Output => answer_output(parts, call, reach, whole),
+        Class::Waitid => answer_waitid(parts, call, reach, whole),
+        Class::Munmap => answer_unmap(parts, call),
+        Class::Clone => answer_clone(parts, call),
+        Class::Execve => answer_exec(parts, call, programs, chooser),
+        Class::Mmap2 => answer_map(parts, call, chooser),
+        Class::Effect => {
             let effect = effect_of(&call, &parts.files);
             answer_effect(parts, call, effect)
         }

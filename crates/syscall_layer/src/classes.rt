@@ -1,33 +1,48 @@
 //! The classes of system calls.
 
-ghost use Rattle.std.specs.Prelude.{◌≡◌};
-ghost use Rattle.machine_world.specs.Event.{is_exit};
-ghost use Rattle.file_calls.specs.Calls.{is_change, is_output};
+ghost use Rattle.syscall_layer.specs.Classes.{IsOf};
 
-/// exit and exit_group.
-pub fn is_exit(number: u32) -> bool
-    ensures { result ≡ is_exit number }
-{
-    number == 93 || number == 94
+use call_log::numbers;
+
+/// What a system call is, by what it touches.
+#[derive(Clone, Copy)]
+pub(crate) enum Class {
+    /// Ends its process.
+    Exit,
+    /// Changes files, descriptors or the console, and writes nothing into memory.
+    Change,
+    /// Gives its caller bytes of files or pipes, once all of their ranges are tested.
+    Output,
+    Waitid,
+    Munmap,
+    Clone,
+    Execve,
+    Mmap2,
+    /// Touches neither files nor memory; or isn't served.
+    Effect,
 }
 
-/// dup, dup3, mkdirat, unlinkat, openat, close, write and writev.
-pub fn is_change(number: u32) -> bool
-    ensures { result ≡ is_change number }
+/// The class of the calls with this number.
+pub(crate) fn class_of(number: u32) -> Class
+    ensures { IsOf result number }
 {
-    number == 23
-        || number == 24
-        || number == 34
-        || number == 35
-        || number == 56
-        || number == 57
-        || number == 64
-        || number == 66
-}
-
-/// pipe2, getdents64, llseek, read and readv.
-pub fn is_output(number: u32) -> bool
-    ensures { result ≡ is_output number }
-{
-    number == 59 || number == 61 || number == 62 || number == 63 || number == 65
+    match number {
+        numbers::EXIT | numbers::EXIT_GROUP => Class::Exit,
+        numbers::DUP
+        | numbers::DUP3
+        | numbers::MKDIRAT
+        | numbers::UNLINKAT
+        | numbers::OPENAT
+        | numbers::CLOSE
+        | numbers::WRITE
+        | numbers::WRITEV => Class::Change,
+        numbers::PIPE2 | numbers::GETDENTS64 | numbers::LLSEEK | numbers::READ | numbers::READV =>
+            Class::Output,
+        numbers::WAITID => Class::Waitid,
+        numbers::MUNMAP => Class::Munmap,
+        numbers::CLONE => Class::Clone,
+        numbers::EXECVE => Class::Execve,
+        numbers::MMAP2 => Class::Mmap2,
+        _ => Class::Effect,
+    }
 }

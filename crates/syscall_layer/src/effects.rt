@@ -9,7 +9,7 @@ ghost use Rattle.file_calls.specs.Calls.{MadeBy, is_change, is_output};
 ghost use Rattle.kept_parts.specs.Calls.{reply_of};
 ghost use Rattle.kept_parts.specs.MapsIn.{is_mapping};
 
-use call_log::Errno;
+use call_log::{Errno, numbers};
 use fd_tables::Files;
 use file_calls::Call;
 use kept_parts::Effect;
@@ -28,7 +28,7 @@ fn ioctl_reply(files: &Files, table: u32, fd: u32) -> u32
 fn asks_pid(number: u32) -> bool
     ensures { result ≡ asks_pid number }
 {
-    number == 96 || number == 172 || number == 178
+    number == numbers::SET_TID_ADDRESS || number == numbers::GETPID || number == numbers::GETTID
 }
 
 /// What a call does that is neither a call on files, but for ioctl, nor one that maps or unmaps.
@@ -39,10 +39,10 @@ pub fn effect_of(call: &Call, files: &Files) -> Effect
     ensures { (a : Ask) → MadeBy call.now a → a.rest.files ≡ files.now.open_files → row a ≡ replies (reply_of a result) }
 {
     match call.number {
-        29 => Effect::Answer(ioctl_reply(files, call.table, call.args[0])),
-        124 => Effect::Yield,
-        173 => Effect::Answer(call.parent),
-        214 => Effect::Break(call.args[0]),
+        numbers::IOCTL => Effect::Answer(ioctl_reply(files, call.table, call.args[0])),
+        numbers::SCHED_YIELD => Effect::Yield,
+        numbers::GETPPID => Effect::Answer(call.parent),
+        numbers::BRK => Effect::Break(call.args[0]),
         number if asks_pid(number) => Effect::Answer(call.pid),
         _ => Effect::Answer(Errno::Enosys.refusal()),
     }

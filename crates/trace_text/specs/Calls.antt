@@ -1,36 +1,37 @@
 -- The system calls that are served, by their numbers and names in Linux (include/uapi/asm-generic/unistd.h).
 use Rattle.std.specs.Prelude.{ℕ, ◌==◌, Bool, true, false, List, [], ◌∷◌, find, codes, Option, Some, None}
+use Rattle.call_log.specs.Numbers as numbers
 use Rattle.trace_text.specs.declared.call.Call.{Call}
 use Rattle.trace_text.specs.declared.call.Call.TheVariants.{Dup, Dup3, Ioctl, Mkdirat, Unlinkat, Openat, Close, Pipe2, Getdents64, Llseek, Read, Write, Readv, Writev, Exit, ExitGroup, Waitid, SetTidAddress, SchedYield, Getpid, Getppid, Gettid, Brk, Munmap, Clone, Execve, Mmap2}
 
 abbrev pub call_number : Call → ℕ
-call_number Dup = 23
-call_number Dup3 = 24
-call_number Ioctl = 29
-call_number Mkdirat = 34
-call_number Unlinkat = 35
-call_number Openat = 56
-call_number Close = 57
-call_number Pipe2 = 59
-call_number Getdents64 = 61
-call_number Llseek = 62
-call_number Read = 63
-call_number Write = 64
-call_number Readv = 65
-call_number Writev = 66
-call_number Exit = 93
-call_number ExitGroup = 94
-call_number Waitid = 95
-call_number SetTidAddress = 96
-call_number SchedYield = 124
-call_number Getpid = 172
-call_number Getppid = 173
-call_number Gettid = 178
-call_number Brk = 214
-call_number Munmap = 215
-call_number Clone = 220
-call_number Execve = 221
-call_number Mmap2 = 222
+call_number Dup = numbers.dup
+call_number Dup3 = numbers.dup3
+call_number Ioctl = numbers.ioctl
+call_number Mkdirat = numbers.mkdirat
+call_number Unlinkat = numbers.unlinkat
+call_number Openat = numbers.openat
+call_number Close = numbers.close
+call_number Pipe2 = numbers.pipe2
+call_number Getdents64 = numbers.getdents64
+call_number Llseek = numbers.llseek
+call_number Read = numbers.read
+call_number Write = numbers.write
+call_number Readv = numbers.readv
+call_number Writev = numbers.writev
+call_number Exit = numbers.exit
+call_number ExitGroup = numbers.exit_group
+call_number Waitid = numbers.waitid
+call_number SetTidAddress = numbers.set_tid_address
+call_number SchedYield = numbers.sched_yield
+call_number Getpid = numbers.getpid
+call_number Getppid = numbers.getppid
+call_number Gettid = numbers.gettid
+call_number Brk = numbers.brk
+call_number Munmap = numbers.munmap
+call_number Clone = numbers.clone
+call_number Execve = numbers.execve
+call_number Mmap2 = numbers.mmap2
 
 abbrev pub call_name : Call → List ℕ
 call_name Dup = codes "dup"

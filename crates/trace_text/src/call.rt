@@ -3,6 +3,8 @@
 ghost use Rattle.std.specs.Prelude.{◌≡◌};
 ghost use Rattle.trace_text.specs.Calls.{call_of, call_name, replies_address};
 
+use call_log::numbers;
+
 /// A system call that is served, named as in Linux (`include/uapi/asm-generic/unistd.h`).
 #[derive(Clone, Copy, PartialEq, Eq)]
 pub enum Call {
@@ -42,33 +44,33 @@ impl Call {
         ensures { result ≡ call_of number }
     {
         Some(match number {
-            23 => Call::Dup,
-            24 => Call::Dup3,
-            29 => Call::Ioctl,
-            34 => Call::Mkdirat,
-            35 => Call::Unlinkat,
-            56 => Call::Openat,
-            57 => Call::Close,
-            59 => Call::Pipe2,
-            61 => Call::Getdents64,
-            62 => Call::Llseek,
-            63 => Call::Read,
-            64 => Call::Write,
-            65 => Call::Readv,
-            66 => Call::Writev,
-            93 => Call::Exit,
-            94 => Call::ExitGroup,
-            95 => Call::Waitid,
-            96 => Call::SetTidAddress,
-            124 => Call::SchedYield,
-            172 => Call::Getpid,
-            173 => Call::Getppid,
-            178 => Call::Gettid,
-            214 => Call::Brk,
-            215 => Call::Munmap,
-            220 => Call::Clone,
-            221 => Call::Execve,
-            222 => Call::Mmap2,
+            numbers::DUP => Call::Dup,
+            numbers::DUP3 => Call::Dup3,
+            numbers::IOCTL => Call::Ioctl,
+            numbers::MKDIRAT => Call::Mkdirat,
+            numbers::UNLINKAT => Call::Unlinkat,
+            numbers::OPENAT => Call::Openat,
+            numbers::CLOSE => Call::Close,
+            numbers::PIPE2 => Call::Pipe2,
+            numbers::GETDENTS64 => Call::Getdents64,
+            numbers::LLSEEK => Call::Llseek,
+            numbers::READ => Call::Read,
+            numbers::WRITE => Call::Write,
+            numbers::READV => Call::Readv,
+            numbers::WRITEV => Call::Writev,
+            numbers::EXIT => Call::Exit,
+            numbers::EXIT_GROUP => Call::ExitGroup,
+            numbers::WAITID => Call::Waitid,
+            numbers::SET_TID_ADDRESS => Call::SetTidAddress,
+            numbers::SCHED_YIELD => Call::SchedYield,
+            numbers::GETPID => Call::Getpid,
+            numbers::GETPPID => Call::Getppid,
+            numbers::GETTID => Call::Gettid,
+            numbers::BRK => Call::Brk,
+            numbers::MUNMAP => Call::Munmap,
+            numbers::CLONE => Call::Clone,
+            numbers::EXECVE => Call::Execve,
+            numbers::MMAP2 => Call::Mmap2,
             _ => return None,
         })
     }

@@ -1,28 +1,77 @@
 -- Each class of calls, in the world of private spaces and in the one memory.
-use Rattle.std.proofs.Common.{◌≡◌, ◌≢◌, refl, sym, ap, subst, ◌∙◌, arith}
+use Rattle.std.proofs.Common.{◌≡◌, true, refl, sym, ap, subst, ◌∙◌}
 use Rattle.std.specs.Prelude.{Ok}
 use Rattle.machine_world.specs.Asks.{Ask, replies}
 use Rattle.machine_world.specs.Rows.{row}
 use Rattle.mmap_rules.specs.Held.{Held}
 use Rattle.vfork_exec.specs.declared.entry.Entry.{Entry}
-use Rattle.file_calls.specs.Calls.{WaitsOn, is_change}
+use Rattle.machine_world.specs.Event.{is_exit}
+use Rattle.file_calls.specs.Calls.{WaitsOn, is_change, is_output}
 use Rattle.kept_parts.specs.declared.task.Task.{Task}
 use Rattle.kept_parts.specs.Kept.{Kept}
 use Rattle.kept_parts.specs.Stands.{About}
 use Rattle.kept_parts.specs.Calls.{RunsIn, IsCall, ask_in, reply_of}
 use Rattle.kept_parts.specs.InMemory.{headers_of}
 use Rattle.kept_parts.proofs.QuietRows.{mute_row, quiet_mute}
+use Rattle.syscall_layer.specs.declared.classes.Class.TheVariants.{Exit, Change, Output, Waitid, Munmap, Clone, Execve, Mmap2, Effect}
+use Rattle.syscall_layer.specs.Classes.{IsEffect}
+use Rattle.syscall_layer.proofs.ByClass.{of_class, change_goes, output_goes, wait_goes}
 use Rattle.syscall_layer.proofs.MapRows.{quiet_munmap, quiet_mmap2}
 use Rattle.kept_parts.proofs.Outcomes.{IsRow, made_by, files_in, change_row, output_row, number_row, plain_row, exit_classed, row_classed, wait_classed, effect_classed, waitid_classed, clone_classed, exec_classed}
 use Rattle.kept_parts.proofs.CallsIn.{exit_reach, wait_reach, mute_reach, row_reach, carried_reach, effect_reach, waitid_reach, clone_reach, exec_reach}
 use Rattle.syscall_layer.proofs.answer.answer.Given.{Over}
 use Rattle.syscall_layer.proofs.answer.answer.Goals as goal
 
+-- ---- what the class of each says of its number
+
+module _ (g : Over) (c : goal.After-answer_change g) where
+  change : is_change c.args.call.number ≡ true
+  change = of_class c.args.call.number c.class_of.result Change c.class_of.ensures c.in-Change.is
+
+  is_change_row : IsRow c.args.call.number
+  is_change_row = change_row c.args.call.number (change_goes c.args.call.number change) change
+
+module _ (g : Over) (c : goal.After-answer_output g) where
+  is_output_row : IsRow c.args.call.number
+  is_output_row =
+      let output : is_output c.args.call.number ≡ true = of_class c.args.call.number c.class_of.result Output c.class_of.ensures c.in-Output.is in
+      output_row c.args.call.number (output_goes c.args.call.number output) output
+
+module _ (g : Over) (c : goal.After-answer_exit g) where
+  exits : is_exit c.args.call.number ≡ true
+  exits = of_class c.args.call.number c.class_of.result Exit c.class_of.ensures c.in-Exit.is
+
+module _ (g : Over) (c : goal.After-answer_waitid g) where
+  is_waitid : c.args.call.number ≡ 95
+  is_waitid = of_class c.args.call.number c.class_of.result Waitid c.class_of.ensures c.in-Waitid.is
+
+module _ (g : Over) (c : goal.After-answer_clone g) where
+  is_clone : c.args.call.number ≡ 220
+  is_clone = of_class c.args.call.number c.class_of.result Clone c.class_of.ensures c.in-Clone.is
+
+module _ (g : Over) (c : goal.After-answer_exec g) where
+  is_execve : c.args.call.number ≡ 221
+  is_execve = of_class c.args.call.number c.class_of.result Execve c.class_of.ensures c.in-Execve.is
+
+module _ (g : Over) (c : goal.After-answer_unmap g) where
+  is_munmap : c.args.call.number ≡ 215
+  is_munmap = of_class c.args.call.number c.class_of.result Munmap c.class_of.ensures c.in-Munmap.is
+
+  is_munmap_row : IsRow c.args.call.number
+  is_munmap_row = number_row c.args.call.number (ap is_exit is_munmap) 215 is_munmap refl refl refl
+
+module _ (g : Over) (c : goal.After-answer_map g) where
+  is_mmap2 : c.args.call.number ≡ 222
+  is_mmap2 = of_class c.args.call.number c.class_of.result Mmap2 c.class_of.ensures c.in-Mmap2.is
+
+  is_mmap2_row : IsRow c.args.call.number
+  is_mmap2_row = number_row c.args.call.number (ap is_exit is_mmap2) 222 is_mmap2 refl refl refl
+
 -- ---- in the world of private spaces
 
-pub returns-then-is_exit-clause-serves : goal.returns-then-is_exit-clause-serves
-returns-then-is_exit-clause-serves g c = λ own a kind flats holding e h runs is.
-    exit_classed a c.args.parts.now e h c.args.call runs is c.answer_exit.new.parts c.answer_exit.result (sym c.is_exit.ensures ∙ c.if-is_exit.true) (c.answer_exit.ensures.serves a e h runs is)
+pub returns-in-Exit-clause-serves : goal.returns-in-Exit-clause-serves
+returns-in-Exit-clause-serves g c = λ own a kind flats holding e h runs is.
+    exit_classed a c.args.parts.now e h c.args.call runs is c.answer_exit.new.parts c.answer_exit.result (exits g c) (c.answer_exit.ensures.serves a e h runs is)
 
 pub returns-in-Some-clause-serves : goal.returns-in-Some-clause-serves
 returns-in-Some-clause-serves g c = λ own a kind flats holding e h runs is.
@@ -30,49 +79,47 @@ returns-in-Some-clause-serves g c = λ own a kind flats holding e h runs is.
     let call = c.args.call in
     let files = files_in a k e h call (ap (λ (x : Kept). x.files) (sym c.parts.view_is)) in
     let waits = subst (WaitsOn (row (ask_in a k e h call))) c.in-Some.is (c.wait_of.ensures (ask_in a k e h call) (made_by a k e h call runs is) files) in
-    wait_classed a k e h call runs is c.answer_wait.new.parts (Ok c.answer_wait.result) c.in-Some.pipe (sym c.is_exit.ensures ∙ c.if-is_exit.false) waits (c.answer_wait.ensures.waits a e h runs is)
+    wait_classed a k e h call runs is c.answer_wait.new.parts (Ok c.answer_wait.result) c.in-Some.pipe (ap is_exit is.number ∙ wait_goes (ask_in a k e h call) c.in-Some.pipe waits) waits (c.answer_wait.ensures.waits a e h runs is)
 
-pub returns-then-is_change-clause-serves : goal.returns-then-is_change-clause-serves
-returns-then-is_change-clause-serves g c = λ own a kind flats holding e h runs is.
+pub returns-in-Change-clause-serves : goal.returns-in-Change-clause-serves
+returns-in-Change-clause-serves g c = λ own a kind flats holding e h runs is.
     row_classed a c.args.parts.now e h c.args.call runs is c.answer_change.new.parts c.answer_change.result
-    (change_row c.args.call.number (sym c.is_exit.ensures ∙ c.if-is_exit.false) (sym c.is_change.ensures ∙ c.if-is_change.true)) (c.answer_change.ensures.serves a e h runs is)
+    (is_change_row g c) (c.answer_change.ensures.serves a e h runs is)
 
-pub returns-then-is_output-clause-serves : goal.returns-then-is_output-clause-serves
-returns-then-is_output-clause-serves g c = λ own a kind flats holding e h runs is.
+pub returns-in-Output-clause-serves : goal.returns-in-Output-clause-serves
+returns-in-Output-clause-serves g c = λ own a kind flats holding e h runs is.
     row_classed a c.args.parts.now e h c.args.call runs is c.answer_output.new.parts c.answer_output.result
-    (output_row c.args.call.number (sym c.is_exit.ensures ∙ c.if-is_exit.false) (sym c.is_output.ensures ∙ c.if-is_output.true)) (c.answer_output.ensures.serves own a e h runs is)
+    (is_output_row g c) (c.answer_output.ensures.serves own a e h runs is)
 
-pub returns-in-95-clause-serves : goal.returns-in-95-clause-serves
-returns-in-95-clause-serves g c = λ own a kind flats holding e h runs is.
-    waitid_classed a c.args.parts.now e h c.args.call runs is c.answer_waitid.new.parts c.answer_waitid.result c.in-95.is (c.answer_waitid.ensures.serves own a e h runs is)
+pub returns-in-Waitid-clause-serves : goal.returns-in-Waitid-clause-serves
+returns-in-Waitid-clause-serves g c = λ own a kind flats holding e h runs is.
+    waitid_classed a c.args.parts.now e h c.args.call runs is c.answer_waitid.new.parts c.answer_waitid.result (is_waitid g c) (c.answer_waitid.ensures.serves own a e h runs is)
 
-pub returns-in-215-clause-serves : goal.returns-in-215-clause-serves
-returns-in-215-clause-serves g c = λ own a kind flats holding e h runs is.
+pub returns-in-Munmap-clause-serves : goal.returns-in-Munmap-clause-serves
+returns-in-Munmap-clause-serves g c = λ own a kind flats holding e h runs is.
     row_classed a c.args.parts.now e h c.args.call runs is c.answer_unmap.new.parts c.answer_unmap.result
-    (number_row c.args.call.number (sym c.is_exit.ensures ∙ c.if-is_exit.false) 215 c.in-215.is refl refl refl) (c.answer_unmap.ensures.serves a e h runs is)
+    (is_munmap_row g c) (c.answer_unmap.ensures.serves a e h runs is)
 
-pub returns-in-220-clause-serves : goal.returns-in-220-clause-serves
-returns-in-220-clause-serves g c = λ own a kind flats holding e h runs is.
-    clone_classed a c.args.parts.now e h c.args.call runs is c.answer_clone.new.parts c.answer_clone.result c.in-220.is (c.answer_clone.ensures.serves a e h runs is)
+pub returns-in-Clone-clause-serves : goal.returns-in-Clone-clause-serves
+returns-in-Clone-clause-serves g c = λ own a kind flats holding e h runs is.
+    clone_classed a c.args.parts.now e h c.args.call runs is c.answer_clone.new.parts c.answer_clone.result (is_clone g c) (c.answer_clone.ensures.serves a e h runs is)
 
-pub returns-in-221-clause-serves : goal.returns-in-221-clause-serves
-returns-in-221-clause-serves g c = λ own a kind flats holding e h runs is.
-    exec_classed a c.args.parts.now e h c.args.call runs is c.answer_exec.new.parts c.answer_exec.result c.in-221.is (c.answer_exec.ensures.serves a kind flats e h runs is)
+pub returns-in-Execve-clause-serves : goal.returns-in-Execve-clause-serves
+returns-in-Execve-clause-serves g c = λ own a kind flats holding e h runs is.
+    exec_classed a c.args.parts.now e h c.args.call runs is c.answer_exec.new.parts c.answer_exec.result (is_execve g c) (c.answer_exec.ensures.serves a kind flats e h runs is)
 
-pub returns-in-222-clause-serves : goal.returns-in-222-clause-serves
-returns-in-222-clause-serves g c = λ own a kind flats holding e h runs is.
+pub returns-in-Mmap2-clause-serves : goal.returns-in-Mmap2-clause-serves
+returns-in-Mmap2-clause-serves g c = λ own a kind flats holding e h runs is.
     row_classed a c.args.parts.now e h c.args.call runs is c.answer_map.new.parts c.answer_map.result
-    (number_row c.args.call.number (sym c.is_exit.ensures ∙ c.if-is_exit.false) 222 c.in-222.is refl refl refl) (c.answer_map.ensures.serves a kind holding e h runs is)
+    (is_mmap2_row g c) (c.answer_map.ensures.serves a kind holding e h runs is)
 
 -- ---- a call that touches neither files nor memory
 
 module _ (g : Over) (c : goal.After-answer_effect g) where
   plain : IsRow c.args.call.number
   plain =
-      let n95 : c.args.call.number ≢ 95 = omega arith in
-      let n220 : c.args.call.number ≢ 220 = omega arith in
-      let n221 : c.args.call.number ≢ 221 = omega arith in
-      plain_row c.args.call.number (sym c.is_exit.ensures ∙ c.if-is_exit.false) n95 n220 n221
+      let of : IsEffect c.args.call.number = of_class c.args.call.number c.class_of.result Effect c.class_of.ensures c.in-Effect.is in
+      plain_row c.args.call.number of.exit of.waitid of.clone of.execve
 
   rows : (a : About) (e : Entry Task) (h : Held) → RunsIn c.args.parts.now c.args.call.pid e h → IsCall e c.args.call →
       row (ask_in a c.args.parts.now e h c.args.call) ≡ replies (reply_of (ask_in a c.args.parts.now e h c.args.call) c.effect_of-effect.result)
@@ -81,16 +128,16 @@ module _ (g : Over) (c : goal.After-answer_effect g) where
       let call = c.args.call in
       c.effect_of-effect.ensures (ask_in a k e h call) (made_by a k e h call runs is) (files_in a k e h call (ap (λ (x : Kept). x.files) (sym c.parts.view_is)))
 
-pub returns-in_default-number-clause-serves : goal.returns-in_default-number-clause-serves
-returns-in_default-number-clause-serves g c = λ own a kind flats holding e h runs is.
+pub returns-in-Effect-clause-serves : goal.returns-in-Effect-clause-serves
+returns-in-Effect-clause-serves g c = λ own a kind flats holding e h runs is.
     effect_classed a c.args.parts.now e h c.args.call runs is c.answer_effect.new.parts c.answer_effect.result c.effect_of-effect.result (plain g c) (rows g c a e h runs is) (c.answer_effect.ensures.serves a e h runs is)
 
 -- ---- in the one memory
 
-pub returns-then-is_exit-clause-memory : goal.returns-then-is_exit-clause-memory
-returns-then-is_exit-clause-memory g c = λ a kind flats e h runs is.
+pub returns-in-Exit-clause-memory : goal.returns-in-Exit-clause-memory
+returns-in-Exit-clause-memory g c = λ a kind flats e h runs is.
     exit_reach (headers_of c.args.programs.now) a c.args.parts.now e h c.args.call is c.args.reach c.answer_exit.new.parts c.answer_exit.result
-    (sym c.is_exit.ensures ∙ c.if-is_exit.true) c.answer_exit.ensures.memory (c.answer_exit.ensures.serves a e h runs is)
+    (exits g c) c.answer_exit.ensures.memory (c.answer_exit.ensures.serves a e h runs is)
 
 pub returns-in-Some-clause-memory : goal.returns-in-Some-clause-memory
 returns-in-Some-clause-memory g c = λ a kind flats e h runs is.
@@ -99,91 +146,90 @@ returns-in-Some-clause-memory g c = λ a kind flats e h runs is.
     let files = files_in a k e h call (ap (λ (x : Kept). x.files) (sym c.parts.view_is)) in
     let waits = subst (WaitsOn (row (ask_in a k e h call))) c.in-Some.is (c.wait_of.ensures (ask_in a k e h call) (made_by a k e h call runs is) files) in
     wait_reach (headers_of c.args.programs.now) a k e h call is c.args.reach c.answer_wait.new.parts c.answer_wait.result c.in-Some.pipe
-    (sym c.is_exit.ensures ∙ c.if-is_exit.false) waits c.answer_wait.ensures.memory (c.answer_wait.ensures.waits a e h runs is)
+    (ap is_exit is.number ∙ wait_goes (ask_in a k e h call) c.in-Some.pipe waits) waits c.answer_wait.ensures.memory (c.answer_wait.ensures.waits a e h runs is)
 
-pub returns-then-is_change-clause-memory : goal.returns-then-is_change-clause-memory
-returns-then-is_change-clause-memory g c = λ a kind flats e h runs is.
+pub returns-in-Change-clause-memory : goal.returns-in-Change-clause-memory
+returns-in-Change-clause-memory g c = λ a kind flats e h runs is.
     let k = c.args.parts.now in
     let call = c.args.call in
-    let change = sym c.is_change.ensures ∙ c.if-is_change.true in
     mute_reach (headers_of c.args.programs.now) a k e h call is c.args.reach c.answer_change.new.parts c.answer_change.result
-    (change_row call.number (sym c.is_exit.ensures ∙ c.if-is_exit.false) change) (mute_row (ask_in a k e h call) (ap is_change (sym is.number) ∙ change))
+    (is_change_row g c) (mute_row (ask_in a k e h call) (ap is_change (sym is.number) ∙ change g c))
     c.answer_change.ensures.memory (c.answer_change.ensures.serves a e h runs is)
 
-pub returns-then-is_output-clause-memory : goal.returns-then-is_output-clause-memory
-returns-then-is_output-clause-memory g c = λ a kind flats e h runs is.
+pub returns-in-Output-clause-memory : goal.returns-in-Output-clause-memory
+returns-in-Output-clause-memory g c = λ a kind flats e h runs is.
     row_reach (headers_of c.args.programs.now) a c.args.parts.now e h c.args.call is c.args.reach c.answer_output.new.parts c.answer_output.result
-    (output_row c.args.call.number (sym c.is_exit.ensures ∙ c.if-is_exit.false) (sym c.is_output.ensures ∙ c.if-is_output.true))
+    (is_output_row g c)
     (c.answer_output.ensures.memory (headers_of c.args.programs.now) a e h runs is)
 
-pub returns-in-95-clause-memory : goal.returns-in-95-clause-memory
-returns-in-95-clause-memory g c = λ a kind flats e h runs is.
-    waitid_reach (headers_of c.args.programs.now) a c.args.parts.now e h c.args.call is c.args.reach c.answer_waitid.new.parts c.answer_waitid.result c.in-95.is
+pub returns-in-Waitid-clause-memory : goal.returns-in-Waitid-clause-memory
+returns-in-Waitid-clause-memory g c = λ a kind flats e h runs is.
+    waitid_reach (headers_of c.args.programs.now) a c.args.parts.now e h c.args.call is c.args.reach c.answer_waitid.new.parts c.answer_waitid.result (is_waitid g c)
     (c.answer_waitid.ensures.memory (headers_of c.args.programs.now) a e h runs is)
 
-pub returns-in-215-clause-memory : goal.returns-in-215-clause-memory
-returns-in-215-clause-memory g c = λ a kind flats e h runs is.
+pub returns-in-Munmap-clause-memory : goal.returns-in-Munmap-clause-memory
+returns-in-Munmap-clause-memory g c = λ a kind flats e h runs is.
     let k = c.args.parts.now in
     let call = c.args.call in
     let ask : Ask = ask_in a k e h call in
     mute_reach (headers_of c.args.programs.now) a k e h call is c.args.reach c.answer_unmap.new.parts c.answer_unmap.result
-    (number_row call.number (sym c.is_exit.ensures ∙ c.if-is_exit.false) 215 c.in-215.is refl refl refl)
-    (quiet_mute (row ask) (quiet_munmap call ask (made_by a k e h call runs is) c.in-215.is))
+    (is_munmap_row g c)
+    (quiet_mute (row ask) (quiet_munmap call ask (made_by a k e h call runs is) (is_munmap g c)))
     c.answer_unmap.ensures.memory (c.answer_unmap.ensures.serves a e h runs is)
 
-pub returns-in-220-clause-memory : goal.returns-in-220-clause-memory
-returns-in-220-clause-memory g c = λ a kind flats e h runs is.
-    clone_reach (headers_of c.args.programs.now) a c.args.parts.now e h c.args.call is c.args.reach c.answer_clone.new.parts c.answer_clone.result c.in-220.is
+pub returns-in-Clone-clause-memory : goal.returns-in-Clone-clause-memory
+returns-in-Clone-clause-memory g c = λ a kind flats e h runs is.
+    clone_reach (headers_of c.args.programs.now) a c.args.parts.now e h c.args.call is c.args.reach c.answer_clone.new.parts c.answer_clone.result (is_clone g c)
     c.answer_clone.ensures.memory (c.answer_clone.ensures.serves a e h runs is)
 
-pub returns-in-221-clause-memory : goal.returns-in-221-clause-memory
-returns-in-221-clause-memory g c = λ a kind flats e h runs is.
-    exec_reach (headers_of c.args.programs.now) a c.args.parts.now e h c.args.call is c.args.reach c.answer_exec.new.parts c.answer_exec.result c.in-221.is
+pub returns-in-Execve-clause-memory : goal.returns-in-Execve-clause-memory
+returns-in-Execve-clause-memory g c = λ a kind flats e h runs is.
+    exec_reach (headers_of c.args.programs.now) a c.args.parts.now e h c.args.call is c.args.reach c.answer_exec.new.parts c.answer_exec.result (is_execve g c)
     (c.answer_exec.ensures.memory a kind flats e h runs is)
 
-pub returns-in-222-clause-memory : goal.returns-in-222-clause-memory
-returns-in-222-clause-memory g c = λ a kind flats e h runs is.
+pub returns-in-Mmap2-clause-memory : goal.returns-in-Mmap2-clause-memory
+returns-in-Mmap2-clause-memory g c = λ a kind flats e h runs is.
     let k = c.args.parts.now in
     let call = c.args.call in
     let ask : Ask = ask_in a k e h call in
     carried_reach (headers_of c.args.programs.now) a k e h call is c.args.reach c.answer_map.new.parts c.answer_map.result
-    (number_row call.number (sym c.is_exit.ensures ∙ c.if-is_exit.false) 222 c.in-222.is refl refl refl)
-    (quiet_mute (row ask) (quiet_mmap2 call ask (made_by a k e h call runs is) c.in-222.is))
+    (is_mmap2_row g c)
+    (quiet_mute (row ask) (quiet_mmap2 call ask (made_by a k e h call runs is) (is_mmap2 g c)))
     (c.answer_map.ensures.memory (headers_of c.args.programs.now) a kind e h runs is)
 
-pub returns-in_default-number-clause-memory : goal.returns-in_default-number-clause-memory
-returns-in_default-number-clause-memory g c = λ a kind flats e h runs is.
+pub returns-in-Effect-clause-memory : goal.returns-in-Effect-clause-memory
+returns-in-Effect-clause-memory g c = λ a kind flats e h runs is.
     effect_reach (headers_of c.args.programs.now) a c.args.parts.now e h c.args.call is c.args.reach c.answer_effect.new.parts c.answer_effect.result c.effect_of-effect.result
     (plain g c) (rows g c a e h runs is) c.answer_effect.ensures.memory (c.answer_effect.ensures.serves a e h runs is)
 
 -- ---- what each answer leaves
 
-pub returns-then-is_exit-clause-leaves : goal.returns-then-is_exit-clause-leaves
-returns-then-is_exit-clause-leaves g c = c.answer_exit.ensures.leaves
+pub returns-in-Exit-clause-leaves : goal.returns-in-Exit-clause-leaves
+returns-in-Exit-clause-leaves g c = c.answer_exit.ensures.leaves
 
 pub returns-in-Some-clause-leaves : goal.returns-in-Some-clause-leaves
 returns-in-Some-clause-leaves g c = c.answer_wait.ensures.leaves
 
-pub returns-then-is_change-clause-leaves : goal.returns-then-is_change-clause-leaves
-returns-then-is_change-clause-leaves g c = c.answer_change.ensures.leaves
+pub returns-in-Change-clause-leaves : goal.returns-in-Change-clause-leaves
+returns-in-Change-clause-leaves g c = c.answer_change.ensures.leaves
 
-pub returns-then-is_output-clause-leaves : goal.returns-then-is_output-clause-leaves
-returns-then-is_output-clause-leaves g c = c.answer_output.ensures.leaves
+pub returns-in-Output-clause-leaves : goal.returns-in-Output-clause-leaves
+returns-in-Output-clause-leaves g c = c.answer_output.ensures.leaves
 
-pub returns-in-95-clause-leaves : goal.returns-in-95-clause-leaves
-returns-in-95-clause-leaves g c = c.answer_waitid.ensures.leaves
+pub returns-in-Waitid-clause-leaves : goal.returns-in-Waitid-clause-leaves
+returns-in-Waitid-clause-leaves g c = c.answer_waitid.ensures.leaves
 
-pub returns-in-215-clause-leaves : goal.returns-in-215-clause-leaves
-returns-in-215-clause-leaves g c = c.answer_unmap.ensures.leaves
+pub returns-in-Munmap-clause-leaves : goal.returns-in-Munmap-clause-leaves
+returns-in-Munmap-clause-leaves g c = c.answer_unmap.ensures.leaves
 
-pub returns-in-220-clause-leaves : goal.returns-in-220-clause-leaves
-returns-in-220-clause-leaves g c = c.answer_clone.ensures.leaves
+pub returns-in-Clone-clause-leaves : goal.returns-in-Clone-clause-leaves
+returns-in-Clone-clause-leaves g c = c.answer_clone.ensures.leaves
 
-pub returns-in-221-clause-leaves : goal.returns-in-221-clause-leaves
-returns-in-221-clause-leaves g c = c.answer_exec.ensures.leaves
+pub returns-in-Execve-clause-leaves : goal.returns-in-Execve-clause-leaves
+returns-in-Execve-clause-leaves g c = c.answer_exec.ensures.leaves
 
-pub returns-in-222-clause-leaves : goal.returns-in-222-clause-leaves
-returns-in-222-clause-leaves g c = c.answer_map.ensures.leaves c.requires.ready
+pub returns-in-Mmap2-clause-leaves : goal.returns-in-Mmap2-clause-leaves
+returns-in-Mmap2-clause-leaves g c = c.answer_map.ensures.leaves c.requires.ready
 
-pub returns-in_default-number-clause-leaves : goal.returns-in_default-number-clause-leaves
-returns-in_default-number-clause-leaves g c = c.answer_effect.ensures.leaves c.requires.ready
+pub returns-in-Effect-clause-leaves : goal.returns-in-Effect-clause-leaves
+returns-in-Effect-clause-leaves g c = c.answer_effect.ensures.leaves c.requires.ready
