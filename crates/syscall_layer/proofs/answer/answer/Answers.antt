@@ -3,13 +3,10 @@ use Rattle.std.proofs.Common.{◌≡◌, ◌≢◌, refl, sym, ap, subst, ◌∙
 use Rattle.std.specs.Prelude.{Ok}
 use Rattle.machine_world.specs.Asks.{Ask, replies}
 use Rattle.machine_world.specs.Rows.{row}
-use Rattle.mmap_rules.specs.Held.{Held}
-use Rattle.vfork_exec.specs.declared.entry.Entry.{Entry}
 use Rattle.file_calls.specs.Calls.{WaitsOn, is_change}
-use Rattle.kept_parts.specs.declared.task.Task.{Task}
 use Rattle.kept_parts.specs.Kept.{Kept}
 use Rattle.kept_parts.specs.Stands.{About}
-use Rattle.kept_parts.specs.Calls.{RunsIn, IsCall, ask_in, reply_of}
+use Rattle.kept_parts.specs.Calls.{Caller, asked_by, reply_of}
 use Rattle.kept_parts.specs.InMemory.{headers_of}
 use Rattle.kept_parts.proofs.QuietRows.{mute_row, quiet_mute}
 use Rattle.syscall_layer.proofs.MapRows.{quiet_munmap, quiet_mmap2}
@@ -21,48 +18,48 @@ use Rattle.syscall_layer.proofs.answer.answer.Goals as goal
 -- ---- in the world of private spaces
 
 pub returns-then-is_exit-clause-serves : goal.returns-then-is_exit-clause-serves
-returns-then-is_exit-clause-serves g c = λ own a kind flats holding e h runs is.
-    exit_classed a c.args.parts.now e h c.args.call runs is c.answer_exit.new.parts c.answer_exit.result (sym c.is_exit.ensures ∙ c.if-is_exit.true) (c.answer_exit.ensures.serves a e h runs is)
+returns-then-is_exit-clause-serves g c = λ own a kind flats holding caller.
+    exit_classed a c.args.parts.now caller.entry caller.held c.args.call caller.runs caller.stands c.answer_exit.new.parts c.answer_exit.result (sym c.is_exit.ensures ∙ c.if-is_exit.true) (c.answer_exit.ensures.serves a caller)
 
 pub returns-in-Some-clause-serves : goal.returns-in-Some-clause-serves
-returns-in-Some-clause-serves g c = λ own a kind flats holding e h runs is.
+returns-in-Some-clause-serves g c = λ own a kind flats holding caller.
     let k = c.args.parts.now in
     let call = c.args.call in
-    let files = files_in a k e h call (ap (λ (x : Kept). x.files) (sym c.parts.view_is)) in
-    let waits = subst (WaitsOn (row (ask_in a k e h call))) c.in-Some.is (c.wait_of.ensures (ask_in a k e h call) (made_by a k e h call runs is) files) in
-    wait_classed a k e h call runs is c.answer_wait.new.parts (Ok c.answer_wait.result) c.in-Some.pipe (sym c.is_exit.ensures ∙ c.if-is_exit.false) waits (c.answer_wait.ensures.waits a e h runs is)
+    let files = files_in a k caller.entry caller.held call (ap (λ (x : Kept). x.files) (sym c.parts.view_is)) in
+    let waits = subst (WaitsOn (row (asked_by a caller))) c.in-Some.is (c.wait_of.ensures (asked_by a caller) (made_by a k caller.entry caller.held call caller.runs caller.stands) files) in
+    wait_classed a k caller.entry caller.held call caller.runs caller.stands c.answer_wait.new.parts (Ok c.answer_wait.result) c.in-Some.pipe (sym c.is_exit.ensures ∙ c.if-is_exit.false) waits (c.answer_wait.ensures.waits a caller)
 
 pub returns-then-is_change-clause-serves : goal.returns-then-is_change-clause-serves
-returns-then-is_change-clause-serves g c = λ own a kind flats holding e h runs is.
-    row_classed a c.args.parts.now e h c.args.call runs is c.answer_change.new.parts c.answer_change.result
-    (change_row c.args.call.number (sym c.is_exit.ensures ∙ c.if-is_exit.false) (sym c.is_change.ensures ∙ c.if-is_change.true)) (c.answer_change.ensures.serves a e h runs is)
+returns-then-is_change-clause-serves g c = λ own a kind flats holding caller.
+    row_classed a c.args.parts.now caller.entry caller.held c.args.call caller.runs caller.stands c.answer_change.new.parts c.answer_change.result
+    (change_row c.args.call.number (sym c.is_exit.ensures ∙ c.if-is_exit.false) (sym c.is_change.ensures ∙ c.if-is_change.true)) (c.answer_change.ensures.serves a caller)
 
 pub returns-then-is_output-clause-serves : goal.returns-then-is_output-clause-serves
-returns-then-is_output-clause-serves g c = λ own a kind flats holding e h runs is.
-    row_classed a c.args.parts.now e h c.args.call runs is c.answer_output.new.parts c.answer_output.result
-    (output_row c.args.call.number (sym c.is_exit.ensures ∙ c.if-is_exit.false) (sym c.is_output.ensures ∙ c.if-is_output.true)) (c.answer_output.ensures.serves own a e h runs is)
+returns-then-is_output-clause-serves g c = λ own a kind flats holding caller.
+    row_classed a c.args.parts.now caller.entry caller.held c.args.call caller.runs caller.stands c.answer_output.new.parts c.answer_output.result
+    (output_row c.args.call.number (sym c.is_exit.ensures ∙ c.if-is_exit.false) (sym c.is_output.ensures ∙ c.if-is_output.true)) (c.answer_output.ensures.serves own a caller)
 
 pub returns-in-95-clause-serves : goal.returns-in-95-clause-serves
-returns-in-95-clause-serves g c = λ own a kind flats holding e h runs is.
-    waitid_classed a c.args.parts.now e h c.args.call runs is c.answer_waitid.new.parts c.answer_waitid.result c.in-95.is (c.answer_waitid.ensures.serves own a e h runs is)
+returns-in-95-clause-serves g c = λ own a kind flats holding caller.
+    waitid_classed a c.args.parts.now caller.entry caller.held c.args.call caller.runs caller.stands c.answer_waitid.new.parts c.answer_waitid.result c.in-95.is (c.answer_waitid.ensures.serves own a caller)
 
 pub returns-in-215-clause-serves : goal.returns-in-215-clause-serves
-returns-in-215-clause-serves g c = λ own a kind flats holding e h runs is.
-    row_classed a c.args.parts.now e h c.args.call runs is c.answer_unmap.new.parts c.answer_unmap.result
-    (number_row c.args.call.number (sym c.is_exit.ensures ∙ c.if-is_exit.false) 215 c.in-215.is refl refl refl) (c.answer_unmap.ensures.serves a e h runs is)
+returns-in-215-clause-serves g c = λ own a kind flats holding caller.
+    row_classed a c.args.parts.now caller.entry caller.held c.args.call caller.runs caller.stands c.answer_unmap.new.parts c.answer_unmap.result
+    (number_row c.args.call.number (sym c.is_exit.ensures ∙ c.if-is_exit.false) 215 c.in-215.is refl refl refl) (c.answer_unmap.ensures.serves a caller)
 
 pub returns-in-220-clause-serves : goal.returns-in-220-clause-serves
-returns-in-220-clause-serves g c = λ own a kind flats holding e h runs is.
-    clone_classed a c.args.parts.now e h c.args.call runs is c.answer_clone.new.parts c.answer_clone.result c.in-220.is (c.answer_clone.ensures.serves a e h runs is)
+returns-in-220-clause-serves g c = λ own a kind flats holding caller.
+    clone_classed a c.args.parts.now caller.entry caller.held c.args.call caller.runs caller.stands c.answer_clone.new.parts c.answer_clone.result c.in-220.is (c.answer_clone.ensures.serves a caller)
 
 pub returns-in-221-clause-serves : goal.returns-in-221-clause-serves
-returns-in-221-clause-serves g c = λ own a kind flats holding e h runs is.
-    exec_classed a c.args.parts.now e h c.args.call runs is c.answer_exec.new.parts c.answer_exec.result c.in-221.is (c.answer_exec.ensures.serves a kind flats e h runs is)
+returns-in-221-clause-serves g c = λ own a kind flats holding caller.
+    exec_classed a c.args.parts.now caller.entry caller.held c.args.call caller.runs caller.stands c.answer_exec.new.parts c.answer_exec.result c.in-221.is (c.answer_exec.ensures.serves a kind flats caller)
 
 pub returns-in-222-clause-serves : goal.returns-in-222-clause-serves
-returns-in-222-clause-serves g c = λ own a kind flats holding e h runs is.
-    row_classed a c.args.parts.now e h c.args.call runs is c.answer_map.new.parts c.answer_map.result
-    (number_row c.args.call.number (sym c.is_exit.ensures ∙ c.if-is_exit.false) 222 c.in-222.is refl refl refl) (c.answer_map.ensures.serves a kind holding e h runs is)
+returns-in-222-clause-serves g c = λ own a kind flats holding caller.
+    row_classed a c.args.parts.now caller.entry caller.held c.args.call caller.runs caller.stands c.answer_map.new.parts c.answer_map.result
+    (number_row c.args.call.number (sym c.is_exit.ensures ∙ c.if-is_exit.false) 222 c.in-222.is refl refl refl) (c.answer_map.ensures.serves a kind holding caller)
 
 -- ---- a call that touches neither files nor memory
 
@@ -74,87 +71,87 @@ module _ (g : Over) (c : goal.After-answer_effect g) where
       let n221 : c.args.call.number ≢ 221 = omega arith in
       plain_row c.args.call.number (sym c.is_exit.ensures ∙ c.if-is_exit.false) n95 n220 n221
 
-  rows : (a : About) (e : Entry Task) (h : Held) → RunsIn c.args.parts.now c.args.call.pid e h → IsCall e c.args.call →
-      row (ask_in a c.args.parts.now e h c.args.call) ≡ replies (reply_of (ask_in a c.args.parts.now e h c.args.call) c.effect_of-effect.result)
-  rows a e h runs is =
+  rows : (a : About) (caller : Caller c.args.parts.now c.args.call) → row (asked_by a caller) ≡ replies (reply_of (asked_by a caller) c.effect_of-effect.result)
+  rows a caller =
       let k = c.args.parts.now in
       let call = c.args.call in
-      c.effect_of-effect.ensures (ask_in a k e h call) (made_by a k e h call runs is) (files_in a k e h call (ap (λ (x : Kept). x.files) (sym c.parts.view_is)))
+      c.effect_of-effect.ensures (asked_by a caller) (made_by a k caller.entry caller.held call caller.runs caller.stands)
+      (files_in a k caller.entry caller.held call (ap (λ (x : Kept). x.files) (sym c.parts.view_is)))
 
 pub returns-in_default-number-clause-serves : goal.returns-in_default-number-clause-serves
-returns-in_default-number-clause-serves g c = λ own a kind flats holding e h runs is.
-    effect_classed a c.args.parts.now e h c.args.call runs is c.answer_effect.new.parts c.answer_effect.result c.effect_of-effect.result (plain g c) (rows g c a e h runs is) (c.answer_effect.ensures.serves a e h runs is)
+returns-in_default-number-clause-serves g c = λ own a kind flats holding caller.
+    effect_classed a c.args.parts.now caller.entry caller.held c.args.call caller.runs caller.stands c.answer_effect.new.parts c.answer_effect.result c.effect_of-effect.result (plain g c) (rows g c a caller) (c.answer_effect.ensures.serves a caller)
 
 -- ---- in the one memory
 
 pub returns-then-is_exit-clause-memory : goal.returns-then-is_exit-clause-memory
-returns-then-is_exit-clause-memory g c = λ a kind flats e h runs is.
-    exit_reach (headers_of c.args.programs.now) a c.args.parts.now e h c.args.call is c.args.reach c.answer_exit.new.parts c.answer_exit.result
-    (sym c.is_exit.ensures ∙ c.if-is_exit.true) c.answer_exit.ensures.memory (c.answer_exit.ensures.serves a e h runs is)
+returns-then-is_exit-clause-memory g c = λ a kind flats caller.
+    exit_reach (headers_of c.args.programs.now) a c.args.parts.now caller.entry caller.held c.args.call caller.stands c.args.reach c.answer_exit.new.parts c.answer_exit.result
+    (sym c.is_exit.ensures ∙ c.if-is_exit.true) c.answer_exit.ensures.memory (c.answer_exit.ensures.serves a caller)
 
 pub returns-in-Some-clause-memory : goal.returns-in-Some-clause-memory
-returns-in-Some-clause-memory g c = λ a kind flats e h runs is.
+returns-in-Some-clause-memory g c = λ a kind flats caller.
     let k = c.args.parts.now in
     let call = c.args.call in
-    let files = files_in a k e h call (ap (λ (x : Kept). x.files) (sym c.parts.view_is)) in
-    let waits = subst (WaitsOn (row (ask_in a k e h call))) c.in-Some.is (c.wait_of.ensures (ask_in a k e h call) (made_by a k e h call runs is) files) in
-    wait_reach (headers_of c.args.programs.now) a k e h call is c.args.reach c.answer_wait.new.parts c.answer_wait.result c.in-Some.pipe
-    (sym c.is_exit.ensures ∙ c.if-is_exit.false) waits c.answer_wait.ensures.memory (c.answer_wait.ensures.waits a e h runs is)
+    let files = files_in a k caller.entry caller.held call (ap (λ (x : Kept). x.files) (sym c.parts.view_is)) in
+    let waits = subst (WaitsOn (row (asked_by a caller))) c.in-Some.is (c.wait_of.ensures (asked_by a caller) (made_by a k caller.entry caller.held call caller.runs caller.stands) files) in
+    wait_reach (headers_of c.args.programs.now) a k caller.entry caller.held call caller.stands c.args.reach c.answer_wait.new.parts c.answer_wait.result c.in-Some.pipe
+    (sym c.is_exit.ensures ∙ c.if-is_exit.false) waits c.answer_wait.ensures.memory (c.answer_wait.ensures.waits a caller)
 
 pub returns-then-is_change-clause-memory : goal.returns-then-is_change-clause-memory
-returns-then-is_change-clause-memory g c = λ a kind flats e h runs is.
+returns-then-is_change-clause-memory g c = λ a kind flats caller.
     let k = c.args.parts.now in
     let call = c.args.call in
     let change = sym c.is_change.ensures ∙ c.if-is_change.true in
-    mute_reach (headers_of c.args.programs.now) a k e h call is c.args.reach c.answer_change.new.parts c.answer_change.result
-    (change_row call.number (sym c.is_exit.ensures ∙ c.if-is_exit.false) change) (mute_row (ask_in a k e h call) (ap is_change (sym is.number) ∙ change))
-    c.answer_change.ensures.memory (c.answer_change.ensures.serves a e h runs is)
+    mute_reach (headers_of c.args.programs.now) a k caller.entry caller.held call caller.stands c.args.reach c.answer_change.new.parts c.answer_change.result
+    (change_row call.number (sym c.is_exit.ensures ∙ c.if-is_exit.false) change) (mute_row (asked_by a caller) (ap is_change (sym caller.stands.number) ∙ change))
+    c.answer_change.ensures.memory (c.answer_change.ensures.serves a caller)
 
 pub returns-then-is_output-clause-memory : goal.returns-then-is_output-clause-memory
-returns-then-is_output-clause-memory g c = λ a kind flats e h runs is.
-    row_reach (headers_of c.args.programs.now) a c.args.parts.now e h c.args.call is c.args.reach c.answer_output.new.parts c.answer_output.result
+returns-then-is_output-clause-memory g c = λ a kind flats caller.
+    row_reach (headers_of c.args.programs.now) a c.args.parts.now caller.entry caller.held c.args.call caller.stands c.args.reach c.answer_output.new.parts c.answer_output.result
     (output_row c.args.call.number (sym c.is_exit.ensures ∙ c.if-is_exit.false) (sym c.is_output.ensures ∙ c.if-is_output.true))
-    (c.answer_output.ensures.memory (headers_of c.args.programs.now) a e h runs is)
+    (c.answer_output.ensures.memory (headers_of c.args.programs.now) a caller)
 
 pub returns-in-95-clause-memory : goal.returns-in-95-clause-memory
-returns-in-95-clause-memory g c = λ a kind flats e h runs is.
-    waitid_reach (headers_of c.args.programs.now) a c.args.parts.now e h c.args.call is c.args.reach c.answer_waitid.new.parts c.answer_waitid.result c.in-95.is
-    (c.answer_waitid.ensures.memory (headers_of c.args.programs.now) a e h runs is)
+returns-in-95-clause-memory g c = λ a kind flats caller.
+    waitid_reach (headers_of c.args.programs.now) a c.args.parts.now caller.entry caller.held c.args.call caller.stands c.args.reach c.answer_waitid.new.parts c.answer_waitid.result c.in-95.is
+    (c.answer_waitid.ensures.memory (headers_of c.args.programs.now) a caller)
 
 pub returns-in-215-clause-memory : goal.returns-in-215-clause-memory
-returns-in-215-clause-memory g c = λ a kind flats e h runs is.
+returns-in-215-clause-memory g c = λ a kind flats caller.
     let k = c.args.parts.now in
     let call = c.args.call in
-    let ask : Ask = ask_in a k e h call in
-    mute_reach (headers_of c.args.programs.now) a k e h call is c.args.reach c.answer_unmap.new.parts c.answer_unmap.result
+    let ask : Ask = asked_by a caller in
+    mute_reach (headers_of c.args.programs.now) a k caller.entry caller.held call caller.stands c.args.reach c.answer_unmap.new.parts c.answer_unmap.result
     (number_row call.number (sym c.is_exit.ensures ∙ c.if-is_exit.false) 215 c.in-215.is refl refl refl)
-    (quiet_mute (row ask) (quiet_munmap call ask (made_by a k e h call runs is) c.in-215.is))
-    c.answer_unmap.ensures.memory (c.answer_unmap.ensures.serves a e h runs is)
+    (quiet_mute (row ask) (quiet_munmap call ask (made_by a k caller.entry caller.held call caller.runs caller.stands) c.in-215.is))
+    c.answer_unmap.ensures.memory (c.answer_unmap.ensures.serves a caller)
 
 pub returns-in-220-clause-memory : goal.returns-in-220-clause-memory
-returns-in-220-clause-memory g c = λ a kind flats e h runs is.
-    clone_reach (headers_of c.args.programs.now) a c.args.parts.now e h c.args.call is c.args.reach c.answer_clone.new.parts c.answer_clone.result c.in-220.is
-    c.answer_clone.ensures.memory (c.answer_clone.ensures.serves a e h runs is)
+returns-in-220-clause-memory g c = λ a kind flats caller.
+    clone_reach (headers_of c.args.programs.now) a c.args.parts.now caller.entry caller.held c.args.call caller.stands c.args.reach c.answer_clone.new.parts c.answer_clone.result c.in-220.is
+    c.answer_clone.ensures.memory (c.answer_clone.ensures.serves a caller)
 
 pub returns-in-221-clause-memory : goal.returns-in-221-clause-memory
-returns-in-221-clause-memory g c = λ a kind flats e h runs is.
-    exec_reach (headers_of c.args.programs.now) a c.args.parts.now e h c.args.call is c.args.reach c.answer_exec.new.parts c.answer_exec.result c.in-221.is
-    (c.answer_exec.ensures.memory a kind flats e h runs is)
+returns-in-221-clause-memory g c = λ a kind flats caller.
+    exec_reach (headers_of c.args.programs.now) a c.args.parts.now caller.entry caller.held c.args.call caller.stands c.args.reach c.answer_exec.new.parts c.answer_exec.result c.in-221.is
+    (c.answer_exec.ensures.memory a kind flats caller)
 
 pub returns-in-222-clause-memory : goal.returns-in-222-clause-memory
-returns-in-222-clause-memory g c = λ a kind flats e h runs is.
+returns-in-222-clause-memory g c = λ a kind flats caller.
     let k = c.args.parts.now in
     let call = c.args.call in
-    let ask : Ask = ask_in a k e h call in
-    carried_reach (headers_of c.args.programs.now) a k e h call is c.args.reach c.answer_map.new.parts c.answer_map.result
+    let ask : Ask = asked_by a caller in
+    carried_reach (headers_of c.args.programs.now) a k caller.entry caller.held call caller.stands c.args.reach c.answer_map.new.parts c.answer_map.result
     (number_row call.number (sym c.is_exit.ensures ∙ c.if-is_exit.false) 222 c.in-222.is refl refl refl)
-    (quiet_mute (row ask) (quiet_mmap2 call ask (made_by a k e h call runs is) c.in-222.is))
-    (c.answer_map.ensures.memory (headers_of c.args.programs.now) a kind e h runs is)
+    (quiet_mute (row ask) (quiet_mmap2 call ask (made_by a k caller.entry caller.held call caller.runs caller.stands) c.in-222.is))
+    (c.answer_map.ensures.memory (headers_of c.args.programs.now) a kind caller)
 
 pub returns-in_default-number-clause-memory : goal.returns-in_default-number-clause-memory
-returns-in_default-number-clause-memory g c = λ a kind flats e h runs is.
-    effect_reach (headers_of c.args.programs.now) a c.args.parts.now e h c.args.call is c.args.reach c.answer_effect.new.parts c.answer_effect.result c.effect_of-effect.result
-    (plain g c) (rows g c a e h runs is) c.answer_effect.ensures.memory (c.answer_effect.ensures.serves a e h runs is)
+returns-in_default-number-clause-memory g c = λ a kind flats caller.
+    effect_reach (headers_of c.args.programs.now) a c.args.parts.now caller.entry caller.held c.args.call caller.stands c.args.reach c.answer_effect.new.parts c.answer_effect.result c.effect_of-effect.result
+    (plain g c) (rows g c a caller) c.answer_effect.ensures.memory (c.answer_effect.ensures.serves a caller)
 
 -- ---- what each answer leaves
 
