@@ -8,7 +8,7 @@ ghost use Rattle.machine_world.specs.Courses.{StandsAt};
 ghost use Rattle.rv32im_step.specs.declared.access.Access.{Access};
 ghost use Rattle.physical_turns.specs.Physical.{outside, has_stray, died_in};
 ghost use Rattle.kept_parts.specs.declared.reach.Reach.TheVariants.{Own, Whole};
-ghost use Rattle.kept_parts.specs.Flats.{AreFlats};
+ghost use Rattle.kept_parts.specs.Flats.{ForRuns};
 ghost use Rattle.kept_parts.specs.InMemory.{headers_of, physical_of, without_newest};
 ghost use Rattle.kept_parts.specs.Copies.{HoldsFiles, KnowsFiles};
 ghost use Rattle.kept_parts.specs.Reach.{reach_of, whole_table};
@@ -98,10 +98,10 @@ fn next_event<F: Fn(&[Run], u32) -> Option<usize>>(
     requires strayed { has_stray parts.old.notes ≡ is_whole reach }
     requires stands { reach ≡ Own → (a : About) → StandsAt (world_of a parts.old) pid stop }
     requires stands_in { (headers : List (List ℕ)) → (a : About) → StandsWithin reach (physical_of headers a parts.old) pid stop }
-    ensures carried { reach ≡ Own → (a : About) → a.kind ≡ kind_of chooser.now → AreFlats a.programs programs.now →
-        Carried a (event (world_of a parts.old) pid) parts.old parts.new pid result }
-    ensures memory { (a : About) → a.kind ≡ kind_of chooser.now → AreFlats a.programs programs.now →
-        CarriedWithin reach (headers_of programs.now) a parts.old parts.new pid result }
+    ensures carried { reach ≡ Own → ForRuns (kind_of chooser.now) programs.now (λ a.
+        Carried a (event (world_of a parts.old) pid) parts.old parts.new pid result) }
+    ensures memory { ForRuns (kind_of chooser.now) programs.now (λ a.
+        CarriedWithin reach (headers_of programs.now) a parts.old parts.new pid result) }
     ensures sound { (seen : Access) → result ≡ Ok (RunEnds (Stray seen)) → IsRegular (without_newest parts.new) }
     ensures marks { parts.old.files.changed ≡ [] → parts.new.files.changed ≡ [] }
 {
@@ -155,14 +155,14 @@ fn turn_within<F: Fn(&[Run], u32) -> Option<usize>, G: Fn(&[Span], u32, u32) -> 
     ensures sound { (access : Access) → result.end ≡ Ok (Some (Stray access)) → IsRegular (without_newest parts.new) }
     ensures still { OnErr result.end (result.events ≡ 0 → parts.new ≡ parts.old) }
     ensures marks { parts.old.files.changed ≡ [] → parts.new.files.changed ≡ [] }
-    ensures leaves { reach ≡ Own → (a : About) → a.kind ≡ kind_of chooser.now → AreFlats a.programs programs.now →
-        TurnLeaves pid count (world_of a parts.old) result.events (world_of (later result.events a) parts.new) result.end }
-    ensures memory { (a : About) → a.kind ≡ kind_of chooser.now → AreFlats a.programs programs.now →
-        TurnLeavesIn reach pid count (physical_of (headers_of programs.now) a parts.old) result.events (physical_of (headers_of programs.now) (later result.events a) parts.new) result.end }
-    ensures hits { reach ≡ Own → (a : About) → a.kind ≡ kind_of chooser.now → AreFlats a.programs programs.now →
-        TurnHits (turn_hits (kind_of_point watcher.now.point.now) watcher.now.spans.now pid) hits.old hits.new count (world_of a parts.old) result.events result.end }
-    ensures hits_in { (a : About) → a.kind ≡ kind_of chooser.now → AreFlats a.programs programs.now →
-        TurnHitsIn (turn_hits_in (kind_of_point watcher.now.point.now) watcher.now.spans.now pid) hits.old hits.new count (physical_of (headers_of programs.now) a parts.old) result.events (physical_of (headers_of programs.now) (later result.events a) parts.new) result.end }
+    ensures leaves { reach ≡ Own → ForRuns (kind_of chooser.now) programs.now (λ a.
+        TurnLeaves pid count (world_of a parts.old) result.events (world_of (later result.events a) parts.new) result.end) }
+    ensures memory { ForRuns (kind_of chooser.now) programs.now (λ a.
+        TurnLeavesIn reach pid count (physical_of (headers_of programs.now) a parts.old) result.events (physical_of (headers_of programs.now) (later result.events a) parts.new) result.end) }
+    ensures hits { reach ≡ Own → ForRuns (kind_of chooser.now) programs.now (λ a.
+        TurnHits (turn_hits (kind_of_point watcher.now.point.now) watcher.now.spans.now pid) hits.old hits.new count (world_of a parts.old) result.events result.end) }
+    ensures hits_in { ForRuns (kind_of chooser.now) programs.now (λ a.
+        TurnHitsIn (turn_hits_in (kind_of_point watcher.now.point.now) watcher.now.spans.now pid) hits.old hits.new count (physical_of (headers_of programs.now) a parts.old) result.events (physical_of (headers_of programs.now) (later result.events a) parts.new) result.end) }
 {
     let mut events = 0;
     while events < count {
@@ -244,14 +244,14 @@ pub(crate) fn turn<F: Fn(&[Run], u32) -> Option<usize>, G: Fn(&[Span], u32, u32)
     ensures sound { (access : Access) → result.end ≡ Ok (Some (Stray access)) → IsRegular (without_newest parts.new.kept) }
     ensures still { OnErr result.end (result.events ≡ 0 → parts.new.kept ≡ parts.old.kept) }
     ensures copies { has_stray parts.new.kept.notes ≡ false → HoldsFiles parts.new.kept }
-    ensures leaves { reach_of parts.old.noted ≡ Own → (a : About) → a.kind ≡ kind_of chooser.now → AreFlats a.programs parts.old.programs →
-        TurnLeaves pid count (world_of a parts.old.kept) result.events (world_of (later result.events a) parts.new.kept) result.end }
-    ensures memory { (a : About) → a.kind ≡ kind_of chooser.now → AreFlats a.programs parts.old.programs →
-        TurnLeavesIn (reach_of parts.old.noted) pid count (physical_of (headers_of parts.old.programs) a parts.old.kept) result.events (physical_of (headers_of parts.old.programs) (later result.events a) parts.new.kept) result.end }
-    ensures hits { reach_of parts.old.noted ≡ Own → (a : About) → a.kind ≡ kind_of chooser.now → AreFlats a.programs parts.old.programs →
-        TurnHits (turn_hits (kind_of_point watcher.now.point.now) watcher.now.spans.now pid) hits.old hits.new count (world_of a parts.old.kept) result.events result.end }
-    ensures hits_in { (a : About) → a.kind ≡ kind_of chooser.now → AreFlats a.programs parts.old.programs →
-        TurnHitsIn (turn_hits_in (kind_of_point watcher.now.point.now) watcher.now.spans.now pid) hits.old hits.new count (physical_of (headers_of parts.old.programs) a parts.old.kept) result.events (physical_of (headers_of parts.old.programs) (later result.events a) parts.new.kept) result.end }
+    ensures leaves { reach_of parts.old.noted ≡ Own → ForRuns (kind_of chooser.now) parts.old.programs (λ a.
+        TurnLeaves pid count (world_of a parts.old.kept) result.events (world_of (later result.events a) parts.new.kept) result.end) }
+    ensures memory { ForRuns (kind_of chooser.now) parts.old.programs (λ a.
+        TurnLeavesIn (reach_of parts.old.noted) pid count (physical_of (headers_of parts.old.programs) a parts.old.kept) result.events (physical_of (headers_of parts.old.programs) (later result.events a) parts.new.kept) result.end) }
+    ensures hits { reach_of parts.old.noted ≡ Own → ForRuns (kind_of chooser.now) parts.old.programs (λ a.
+        TurnHits (turn_hits (kind_of_point watcher.now.point.now) watcher.now.spans.now pid) hits.old hits.new count (world_of a parts.old.kept) result.events result.end) }
+    ensures hits_in { ForRuns (kind_of chooser.now) parts.old.programs (λ a.
+        TurnHitsIn (turn_hits_in (kind_of_point watcher.now.point.now) watcher.now.spans.now pid) hits.old hits.new count (physical_of (headers_of parts.old.programs) a parts.old.kept) result.events (physical_of (headers_of parts.old.programs) (later result.events a) parts.new.kept) result.end) }
 {
     let reach = parts.reach();
     let TurnEnd { events, end } = turn_within(

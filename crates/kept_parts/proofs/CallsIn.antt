@@ -34,7 +34,7 @@ use Rattle.kept_parts.specs.Regular.{Regular}
 use Rattle.kept_parts.specs.Stands.{About, later, private_bytes, private_of, process_of, world_of}
 use Rattle.kept_parts.specs.Awake.{awake_in}
 use Rattle.kept_parts.specs.Serves.{went_by, Answered, Serves, Died}
-use Rattle.kept_parts.specs.Calls.{RunsIn, IsCall, ask_in, reply_of, Made}
+use Rattle.kept_parts.specs.Calls.{RunsIn, IsCall, ask_in, reply_of, Made, Caller, asked_by}
 use Rattle.kept_parts.specs.Reach.{readable}
 use Rattle.kept_parts.specs.InMemory.{physical_of, Over, GoesIn, ServesIn, UnlessStray, InReach, DiedIn}
 use Rattle.kept_parts.proofs.QuietRows.{IsMute}
@@ -281,8 +281,7 @@ own_made k pid reach own r made e h runs = subst (λ (x : Reach). Made (only (re
 module _ (headers : List (List ℕ)) (a : About) (k : Kept) (pid : ℕ) (regular : Regular k) (lives : Lives k.procs pid) (reach : Reach) where
   -- what is read within reach is read of all of memory
   pub call_goes : (call : Call) → call.pid ≡ pid → MadeAs k pid reach (Ok call) → (new : Kept) (r : Result Served AllocError) →
-      ((e : Entry Task) → (h : Held) → RunsIn k call.pid e h → IsCall e call →
-      InReach reach headers a (settled_in (classed_in (physical_of headers a k) (ask_in a k e h call))) k new call.pid r) →
+      ((caller : Caller k call) → InReach reach headers a (settled_in (classed_in (physical_of headers a k) (asked_by a caller))) k new call.pid r) →
       InReach reach headers a (called_in (physical_of headers a k) pid) k new pid r
   call_goes call same made new r goes =
       let there = runs_in k pid regular lives in
@@ -293,7 +292,7 @@ module _ (headers : List (List ℕ)) (a : About) (k : Kept) (pid : ℕ) (regular
       let reads = sent_sub (readable reach (length k.regions) h) (physical k.mem) (number_of e.value.regs) (args_of e.value.regs) call.sent.items at.1 in
       same_reach headers a reach _ _ (called_is headers a k pid e h runs call reads) k new pid r
       (subst (λ (n : ℕ). InReach reach headers a (settled_in (classed_in (physical_of headers a k) (ask_in a k e h call))) k new n r) same
-      (goes e h (subst (λ (n : ℕ). RunsIn k n e h) (sym same) runs) at.0))
+      (goes (record { entry = e; held = h; runs = subst (λ (n : ℕ). RunsIn k n e h) (sym same) runs; stands = at.0 })))
 
   -- a range outside memory
   called_outside : reach ≡ Whole → (addr len : ℕ) → MadeAs k pid reach (Err (Stray addr len)) → called_in (physical_of headers a k) pid ≡ died_in (physical_of headers a k) pid outside

@@ -38,7 +38,7 @@ use Rattle.kept_parts.specs.Serves.{Answered, Serves}
 use Rattle.kept_parts.specs.InMemory.{header_of, headers_of, physical_of, GoesIn, ServesIn}
 use Rattle.kept_parts.specs.Gone.{without_space, space_left}
 use Rattle.kept_parts.specs.Recorded.{room_beside}
-use Rattle.kept_parts.specs.Calls.{RunsIn, IsCall, ask_in}
+use Rattle.kept_parts.specs.Calls.{RunsIn, IsCall, ask_in, Caller, asked_by}
 use Rattle.kept_parts.proofs.Shows.{showing_of}
 use Rattle.kept_parts.proofs.PlainMemory.{answered_never, plain_in}
 use Rattle.kept_parts.proofs.FreeBytes.{bytes_none, beside_run, without_none}
@@ -122,9 +122,9 @@ module _ (headers : List (List ℕ)) (a : About) (k : Kept) (regular : Regular k
 
 abbrev pub ExecServesIn : Kind → ℕ → Values → (args env : List (List ℕ)) → Call → (old new : Kept) → Result Served AllocError → Type 0
 ExecServesIn kind index f args env call old new result =
-    (headers : List (List ℕ)) → (a : About) → a.kind ≡ kind → slice_get headers index ≡ Some (header_of f) → (e : Entry Task) → (h : Held) → RunsIn old call.pid e h → IsCall e call →
+    (headers : List (List ℕ)) → (a : About) → a.kind ≡ kind → slice_get headers index ≡ Some (header_of f) → (caller : Caller old call) →
     ServesIn headers a (carried (physical_of headers a old) (physical old.mem)
-    (exec_fitting (world_of a old) (ask_in a old e h call) (record { index = index; original = flat_original f }) (record { args = args; env = env }) (frame_fits (flat_original f) args env)))
+    (exec_fitting (world_of a old) (asked_by a caller) (record { index = index; original = flat_original f }) (record { args = args; env = env }) (frame_fits (flat_original f) args env)))
     old new call.pid result
 
 module _ (k n : Kept) (regular : Regular k) (call : Call) (task : Task) (kind : Kind) (index : ℕ) (f : Values) (args env : List (List ℕ)) (b : Begun k n call task kind index f args env)
@@ -144,20 +144,20 @@ module _ (k n : Kept) (regular : Regular k) (call : Call) (task : Task) (kind : 
 
   -- the old space stays with who lent it
   pub memory_lent : entry_borrows k.procs call.pid ≡ true → ExecServesIn kind index f args env call k n (Ok Replied)
-  memory_lent lends = λ headers a same listed e h runs is.
-      subst (λ (x : Kept). GoesIn headers a (comes headers a same listed e h runs is) k x call.pid Replied)
-      (sym (running_is k n regular call task kind index f args env b e runs.lives)) (goes_by headers a same listed e h runs is true lends)
+  memory_lent lends = λ headers a same listed caller.
+      subst (λ (x : Kept). GoesIn headers a (comes headers a same listed caller.entry caller.held caller.runs caller.stands) k x call.pid Replied)
+      (sym (running_is k n regular call task kind index f args env b caller.entry caller.runs.lives)) (goes_by headers a same listed caller.entry caller.held caller.runs caller.stands true lends)
 
   -- or it goes
   pub memory_own : (new : Kept) → ((g : Held) → slice_get n.spaces task.space ≡ Some (Some g) → new ≡ without_space n task.space g) → entry_borrows k.procs call.pid ≡ false →
       ExecServesIn kind index f args env call k new (Ok Replied)
-  memory_own new goes none = λ headers a same listed e h runs is.
-      let number : task.space ≡ e.value.space = ap (λ (t : Task). t.space) (task_is k n regular call task kind index f args env b e runs.lives) in
-      let now : n ≡ running k call e.value f args env b.is.page index n.mem = running_is k n regular call task kind index f args env b e runs.lives in
-      let home : slice_get n.spaces task.space ≡ Some (Some h) =
-      (λ i. slice_get (now i).spaces (number i)) ∙ old_home k regular e h call runs f args env b.is.page index n.mem in
-      let left : new ≡ without_space (running k call e.value f args env b.is.page index n.mem) e.value.space h = goes h home ∙ (λ i. without_space (now i) (number i) h) in
-      subst (λ (x : Kept). GoesIn headers a (comes headers a same listed e h runs is) k x call.pid Replied) (sym left) (goes_by headers a same listed e h runs is false none)
+  memory_own new goes none = λ headers a same listed caller.
+      let number : task.space ≡ caller.entry.value.space = ap (λ (t : Task). t.space) (task_is k n regular call task kind index f args env b caller.entry caller.runs.lives) in
+      let now : n ≡ running k call caller.entry.value f args env b.is.page index n.mem = running_is k n regular call task kind index f args env b caller.entry caller.runs.lives in
+      let home : slice_get n.spaces task.space ≡ Some (Some caller.held) =
+      (λ i. slice_get (now i).spaces (number i)) ∙ old_home k regular caller.entry caller.held call caller.runs f args env b.is.page index n.mem in
+      let left : new ≡ without_space (running k call caller.entry.value f args env b.is.page index n.mem) caller.entry.value.space caller.held = goes caller.held home ∙ (λ i. without_space (now i) (number i) caller.held) in
+      subst (λ (x : Kept). GoesIn headers a (comes headers a same listed caller.entry caller.held caller.runs caller.stands) k x call.pid Replied) (sym left) (goes_by headers a same listed caller.entry caller.held caller.runs caller.stands false none)
 
 -- ---- a refusal
 
@@ -167,11 +167,11 @@ module _ (k n new : Kept) (regular : Regular k) (call : Call) (kind : Kind) (ind
       ((a : About) → a.kind ≡ kind → (e : Entry Task) → (h : Held) →
       exec_fitting (world_of a k) (ask_in a k e h call) (record { index = index; original = flat_original f }) (record { args = args; env = env }) (frame_fits (flat_original f) args env)
       ≡ answered (world_of a k) (ask_in a k e h call) (refuses (ask_in a k e h call) errno)) → ExecServesIn kind index f args env call k new result
-  refused_in errno is refused goes = λ headers a same listed e h runs is_call.
-      let ask = ask_in a k e h call in
-      subst (λ (o : Outcome). ServesIn headers a (carried (physical_of headers a k) (physical k.mem) o) k new call.pid result) (sym (goes a same e h))
+  refused_in errno is refused goes = λ headers a same listed caller.
+      let ask = asked_by a caller in
+      subst (λ (o : Outcome). ServesIn headers a (carried (physical_of headers a k) (physical k.mem) o) k new call.pid result) (sym (goes a same caller.entry caller.held))
       (plain_in headers a k new (stays ∙ ap (λ (x : Kept). x.mem) is) call.pid (answered (world_of a k) ask (refuses ask errno)) result
-      (subst (λ (x : Kept). RefusalServes errno call x new result) is refused a e h runs is_call)
+      (subst (λ (x : Kept). RefusalServes errno call x new result) is refused a caller)
       (answered_begins (world_of a k) ask (refuses ask errno)) (answered_never (world_of a k) ask (refuses ask errno) refl))
 
   pub refused_big_in : Loads kind f args env k.regions k.mem n.regions n.mem (Err load_refusal.E2big) → RefusalServes E2big call n new result → ExecServesIn kind index f args env call k new result

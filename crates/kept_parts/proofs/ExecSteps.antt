@@ -35,7 +35,7 @@ use Rattle.kept_parts.specs.Stands.{About, world_of}
 use Rattle.kept_parts.specs.Serves.{Answered, Serves}
 use Rattle.kept_parts.specs.Gone.{without_space, space_left}
 use Rattle.kept_parts.specs.Recorded.{event_recorded, program_recorded, room_beside}
-use Rattle.kept_parts.specs.Calls.{RunsIn, IsCall, ask_in, noted_call}
+use Rattle.kept_parts.specs.Calls.{RunsIn, IsCall, ask_in, noted_call, Caller, asked_by}
 use Rattle.call_bytes.proofs.Places.{get_before}
 use Rattle.kept_parts.proofs.Runs.{runs_in, value_found, has_space}
 use Rattle.kept_parts.proofs.Families.{can_run_lives, own_pid, state_ready}
@@ -183,25 +183,25 @@ holds_refused k kind f args env rs mem loaded is why same holds = by_why why (su
 
 abbrev pub ExecServes : Kind → ℕ → Values → (args env : List (List ℕ)) → Call → (old new : Kept) → Result Served AllocError → Type 0
 ExecServes kind index f args env call old new result =
-    (a : About) → a.kind ≡ kind → (e : Entry Task) → (h : Held) → RunsIn old call.pid e h → IsCall e call →
-    Serves a (exec_fitting (world_of a old) (ask_in a old e h call) (record { index = index; original = flat_original f }) (record { args = args; env = env }) (frame_fits (flat_original f) args env))
+    (a : About) → a.kind ≡ kind → (caller : Caller old call) →
+    Serves a (exec_fitting (world_of a old) (asked_by a caller) (record { index = index; original = flat_original f }) (record { args = args; env = env }) (frame_fits (flat_original f) args env))
     old new call.pid result
 
 abbrev pub RefusalServes : Errno → Call → (old new : Kept) → Result Served AllocError → Type 0
 RefusalServes errno call old new result =
-    (a : About) → (e : Entry Task) → (h : Held) → RunsIn old call.pid e h → IsCall e call →
-    Serves a (answered (world_of a old) (ask_in a old e h call) (refuses (ask_in a old e h call) errno)) old new call.pid result
+    (a : About) → (caller : Caller old call) →
+    Serves a (answered (world_of a old) (asked_by a caller) (refuses (asked_by a caller) errno)) old new call.pid result
 
 module _ (k n new : Kept) (regular : Regular k) (call : Call) (kind : Kind) (index : ℕ) (f : Values) (args env : List (List ℕ)) (result : Result Served AllocError)
     (all : n.regions ≡ k.regions → n.mem ≡ k.mem → n ≡ k) where
   pub refused_big : Loads kind f args env k.regions k.mem n.regions n.mem (Err load_refusal.E2big) → RefusalServes E2big call n new result → ExecServes kind index f args env call k new result
-  refused_big why refused = λ a same e h runs is.
-      let goes = too_big a k regular kind same (ask_in a k e h call) (record { index = index; original = flat_original f }) (record { args = args; env = env })
+  refused_big why refused = λ a same caller.
+      let goes = too_big a k regular kind same (asked_by a caller) (record { index = index; original = flat_original f }) (record { args = args; env = env })
       (frame_fits (flat_original f) args env) why.0 in
-      subst (λ (o : Outcome). Serves a o k new call.pid result) (sym goes) (subst (λ (x : Kept). RefusalServes E2big call x new result) (all why.1.0 why.1.1) refused a e h runs is)
+      subst (λ (o : Outcome). Serves a o k new call.pid result) (sym goes) (subst (λ (x : Kept). RefusalServes E2big call x new result) (all why.1.0 why.1.1) refused a caller)
 
   pub refused_run : Loads kind f args env k.regions k.mem n.regions n.mem (Err load_refusal.NoRun) → RefusalServes Enomem call n new result → ExecServes kind index f args env call k new result
-  refused_run why refused = λ a same e h runs is.
-      let goes = no_run a k regular kind same (ask_in a k e h call) (record { index = index; original = flat_original f }) (record { args = args; env = env })
+  refused_run why refused = λ a same caller.
+      let goes = no_run a k regular kind same (asked_by a caller) (record { index = index; original = flat_original f }) (record { args = args; env = env })
       (frame_fits (flat_original f) args env) why.0 why.1.0 in
-      subst (λ (o : Outcome). Serves a o k new call.pid result) (sym goes) (subst (λ (x : Kept). RefusalServes Enomem call x new result) (all why.1.1.0 why.1.1.1) refused a e h runs is)
+      subst (λ (o : Outcome). Serves a o k new call.pid result) (sym goes) (subst (λ (x : Kept). RefusalServes Enomem call x new result) (all why.1.1.0 why.1.1.1) refused a caller)

@@ -40,7 +40,7 @@ use Rattle.kept_parts.specs.Serves.{Went, Answered, Serves, Died}
 use Rattle.kept_parts.specs.Gone.{gone}
 use Rattle.kept_parts.specs.Recorded.{event_recorded, call_recorded, room_beside}
 use Rattle.call_bytes.specs.declared.reading.Unread.TheVariants as unread
-use Rattle.kept_parts.specs.Calls.{RunsIn, IsCall, Made, Changed, given, Gave, RoomFor, reply_of, ask_in, value_of, maps_by, served_by, noted_entry, noted_call, held_as, after_reply, exit_of, after_exit}
+use Rattle.kept_parts.specs.Calls.{RunsIn, IsCall, Made, Changed, given, Gave, RoomFor, reply_of, ask_in, value_of, maps_by, served_by, noted_entry, noted_call, held_as, after_reply, exit_of, after_exit, Caller, asked_by}
 use Rattle.std.proofs.lemmas.Option.{same_Some}
 use Rattle.call_bytes.proofs.Puts.{put_all, put_strays}
 use Rattle.kept_parts.proofs.QuietRows.{Quiet}
@@ -508,7 +508,7 @@ module _ (a : About) (k : Kept) (e : Entry Task) (h : Held) (call : Call) (runs 
 
 module _ (a : About) (k : Kept) (pid : ℕ) (regular : Regular k) (lives : Lives k.procs pid) where
   pub serve_call : (call : Call) → call.pid ≡ pid → ((e : Entry Task) → (h : Held) → RunsIn k pid e h → Made (private_bytes k.mem h) e (Ok call)) → (new : Kept) (result : Result Served AllocError) →
-      ((e : Entry Task) → (h : Held) → RunsIn k call.pid e h → IsCall e call → Serves a (settled (classed (world_of a k) (ask_in a k e h call))) k new call.pid result) →
+      ((caller : Caller k call) → Serves a (settled (classed (world_of a k) (asked_by a caller))) k new call.pid result) →
       Serves a (called (world_of a k) pid) k new pid result
   serve_call call same made new result serves =
       let r = runs_in k pid regular lives in
@@ -516,7 +516,7 @@ module _ (a : About) (k : Kept) (pid : ℕ) (regular : Regular k) (lives : Lives
       let h : Held = r.1.0 in
       let at = made e h r.1.1 in
       let runs : RunsIn k call.pid e h = subst (λ (p : ℕ). RunsIn k p e h) (sym same) r.1.1 in
-      let done = subst (λ (o : Outcome). Serves a o k new call.pid result) (sym (call_answer a k e h call runs at.0 at.1)) (serves e h runs at.0) in
+      let done = subst (λ (o : Outcome). Serves a o k new call.pid result) (sym (call_answer a k e h call runs at.0 at.1)) (serves (record { entry = e; held = h; runs = runs; stands = at.0 })) in
       subst (λ (p : ℕ). Serves a (called (world_of a k) p) k new p result) same done
 
   pub serve_stray : (t : Task) → value_at k.procs pid ≡ Some t → (span : Span) →

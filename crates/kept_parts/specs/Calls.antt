@@ -52,6 +52,13 @@ pub record IsCall (e : Entry Task) (call : Call) : Type 0 where
   pub number : call.number ≡ number_of e.value.regs
   pub args : call.args ≡ args_of e.value.regs
 
+-- the caller of a call: a process that lives, in a live space, and stands at it
+pub record Caller (k : Kept) (call : Call) : Type 0 where
+  pub entry : Entry Task
+  pub held : Held
+  pub runs : RunsIn k call.pid entry held
+  pub stands : IsCall entry call
+
 -- with what it reads of these bytes, or the range of which it may not read each byte; out of memory says nothing
 abbrev pub Made : Bytes → Entry Task → Result Call Unread → Type 0
 Made bytes e (Ok call) = IsCall e call × (sent (number_of e.value.regs) (args_of e.value.regs) bytes ≡ Ok call.sent.items)
@@ -61,6 +68,10 @@ Made bytes e (Err Memory) = Unit {0}
 -- the call as the world has it
 abbrev pub ask_in : About → Kept → Entry Task → Held → Call → Ask
 ask_in a k e h call = ask_of (world_of a k) (process_of e) (private_of k.mem h) call.sent.items
+
+-- what its caller asks for by it
+abbrev pub asked_by : {k : Kept} {call : Call} → About → Caller k call → Ask
+asked_by {k} {call} a c = ask_in a k c.entry c.held call
 
 -- the log has room for a call with this row, and for what its mapping brings
 abbrev pub RoomFor : World → Ask → Row → Type 0

@@ -9,7 +9,7 @@
 -- Inside   the fields of `KeptParts` as what is kept
 -- Awake    the parts once those go on that wait on a pipe which changed
 -- Gone     the parts without a process, and without a space
--- Flats    the programs that can be run are flat files
+-- Flats    the programs that can be run are flat files, and what is so in every run that has them
 -- Families  what a process is told of its children, and which program a path leads to
 -- Calls    a system call by its parts, and what is kept after it
 -- MapsIn   what mmap2 and munmap leave of the spaces

@@ -3,10 +3,8 @@
 ghost use Rattle.std.specs.Prelude.{◌≡◌, ◌-◌, ◌≤◌, ℕ, ◌∷◌, [], true, IfOk, List, length, slice_get, Some};
 ghost use Rattle.page_runs.specs.Choosers.{IsChooser, kind_of};
 ghost use Rattle.call_log.specs.Notes.{has_room, load_note};
-ghost use Rattle.mmap_rules.specs.Held.{Held};
 ghost use Rattle.flat_loader.specs.Frame.{frame_fits, texts};
 ghost use Rattle.flat_loader.specs.Original.{flat_original};
-ghost use Rattle.vfork_exec.specs.declared.entry.Entry.{Entry as Listed};
 ghost use Rattle.vfork_exec.specs.Procs.{CanRun, Lives, value_at, with_exec, with_value_at};
 ghost use Rattle.machine_world.specs.Asks.{refuses};
 ghost use Rattle.recordings.specs.Inside.{launch_value};
@@ -20,7 +18,7 @@ ghost use Rattle.kept_parts.specs.declared.served.Served.TheVariants.{Replied};
 ghost use Rattle.kept_parts.specs.Copies.{HoldsFiles};
 ghost use Rattle.kept_parts.specs.Recorded.{room_beside, program_recorded};
 ghost use Rattle.kept_parts.specs.Serves.{Serves};
-ghost use Rattle.kept_parts.specs.Calls.{RunsIn, IsCall, ask_in, noted_call};
+ghost use Rattle.kept_parts.specs.Calls.{Caller, asked_by, noted_call};
 
 use crate::effect::Effect;
 use crate::keep::{keep, or_unreserve};
@@ -111,14 +109,14 @@ impl KeptParts {
         requires chooser { IsChooser F.pre F.post chooser.now }
         requires ready { CanRun self.old.procs call.pid }
         requires room { room_beside self.old (length call.sent.items) ≡ true }
-        ensures serves { (a : About) → a.kind ≡ kind_of chooser.now → (e : Listed Task) → (h : Held) → RunsIn self.old call.pid e h → IsCall e call →
+        ensures serves { (a : About) → a.kind ≡ kind_of chooser.now → (c : Caller self.old call) →
             Serves a
-            (exec_fitting (world_of a self.old) (ask_in a self.old e h call) (record { index = index; original = flat_original flat.now }) (record { args = texts strings.args.items; env = texts strings.env.items })
+            (exec_fitting (world_of a self.old) (asked_by a c) (record { index = index; original = flat_original flat.now }) (record { args = texts strings.args.items; env = texts strings.env.items })
             (frame_fits (flat_original flat.now) (texts strings.args.items) (texts strings.env.items)))
             self.old self.new call.pid result }
-        ensures memory { (headers : List (List ℕ)) → (a : About) → a.kind ≡ kind_of chooser.now → slice_get headers index ≡ Some (header_of flat.now) → (e : Listed Task) → (h : Held) → RunsIn self.old call.pid e h → IsCall e call →
+        ensures memory { (headers : List (List ℕ)) → (a : About) → a.kind ≡ kind_of chooser.now → slice_get headers index ≡ Some (header_of flat.now) → (c : Caller self.old call) →
             ServesIn headers a (carried (physical_of headers a self.old) (physical self.old.mem)
-            (exec_fitting (world_of a self.old) (ask_in a self.old e h call) (record { index = index; original = flat_original flat.now }) (record { args = texts strings.args.items; env = texts strings.env.items })
+            (exec_fitting (world_of a self.old) (asked_by a c) (record { index = index; original = flat_original flat.now }) (record { args = texts strings.args.items; env = texts strings.env.items })
             (frame_fits (flat_original flat.now) (texts strings.args.items) (texts strings.env.items))))
             self.old self.new call.pid result }
         ensures holds { HoldsFiles self.old → HoldsFiles self.new }
@@ -177,8 +175,8 @@ impl KeptParts {
         requires lives { Lives self.old.procs call.pid }
         requires room { room_beside self.old (length call.sent.items) ≡ true }
         ensures memory { self.new.mem ≡ self.old.mem }
-        ensures serves { (a : About) → (e : Listed Task) → (h : Held) → RunsIn self.old call.pid e h → IsCall e call →
-            Serves a (answered (world_of a self.old) (ask_in a self.old e h call) (refuses (ask_in a self.old e h call) errno)) self.old self.new call.pid result }
+        ensures serves { (a : About) → (c : Caller self.old call) →
+            Serves a (answered (world_of a self.old) (asked_by a c) (refuses (asked_by a c) errno)) self.old self.new call.pid result }
         ensures holds { HoldsFiles self.old → HoldsFiles self.new }
         ensures replied { IfOk result (λ served. served ≡ Replied) }
     {

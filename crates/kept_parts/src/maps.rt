@@ -10,18 +10,16 @@ ghost use Rattle.mmap_rules.specs.Want.{wanted, AsksPages};
 ghost use Rattle.mmap_rules.specs.Copies.{IsKnown};
 ghost use Rattle.mmap_rules.specs.Sides.{Sides, NameRegions, AreFew, file_in};
 ghost use Rattle.mmap_rules.specs.Sides.{mapped as mapped_in};
-ghost use Rattle.vfork_exec.specs.declared.entry.Entry.{Entry};
 ghost use Rattle.vfork_exec.specs.Procs.{Lives};
 ghost use Rattle.mmap_rules.specs.Mappings.{hit, file_pages};
 ghost use Rattle.machine_world.specs.MapCalls.{first_bytes, mapped, unmaps};
 ghost use Rattle.machine_world.specs.Recordings.{is_recorded, with_brought};
-ghost use Rattle.kept_parts.specs.declared.task.Task.{Task};
 ghost use Rattle.kept_parts.specs.Regular.{HasSpace};
 ghost use Rattle.machine_world.specs.Event.{answered};
 ghost use Rattle.kept_parts.specs.Copies.{HoldsFiles, StillHolds};
 ghost use Rattle.kept_parts.specs.InMemory.{ChangesIn};
 ghost use Rattle.kept_parts.specs.Stands.{About, world_of};
-ghost use Rattle.kept_parts.specs.Calls.{RunsIn, IsCall, RoomFor, ask_in, Changes};
+ghost use Rattle.kept_parts.specs.Calls.{Caller, RoomFor, asked_by, Changes};
 ghost use Rattle.kept_parts.specs.Recorded.{room_beside};
 ghost use Rattle.kept_parts.specs.MapsIn.{MapsIn, UnmapsIn, IsAddress, IsAsked, is_file, status_of};
 
@@ -188,15 +186,15 @@ impl KeptParts {
         requires chooser { IsChooser F.pre F.post chooser.now }
         requires lives { Lives self.old.procs call.pid }
         requires room { room_beside self.old (length call.sent.items) ≡ true }
-        requires brings { (a : About) → a.kind ≡ kind_of chooser.now → (e : Entry Task) → (h : Held) → RunsIn self.old call.pid e h → IsCall e call →
-            RoomFor (world_of a self.old) (ask_in a self.old e h call) (mapped (ask_in a self.old e h call) want) }
+        requires brings { (a : About) → a.kind ≡ kind_of chooser.now → (c : Caller self.old call) →
+            RoomFor (world_of a self.old) (asked_by a c) (mapped (asked_by a c) want) }
         requires known { IsKnown self.old.tree want }
         requires pages { AsksPages want }
         requires asked { IsAsked call want }
-        ensures changes { (a : About) → a.kind ≡ kind_of chooser.now → StillHolds self.old → (e : Entry Task) → (h : Held) → RunsIn self.old call.pid e h → IsCall e call →
-            Changes a self.old e h call (mapped (ask_in a self.old e h call) want) self.new result }
-        ensures memory { (headers : List (List ℕ)) → (a : About) → a.kind ≡ kind_of chooser.now → (e : Entry Task) → (h : Held) → RunsIn self.old call.pid e h → IsCall e call →
-            ChangesIn headers a (answered (world_of a self.old) (ask_in a self.old e h call) (mapped (ask_in a self.old e h call) want)) self.old self.new result }
+        ensures changes { (a : About) → a.kind ≡ kind_of chooser.now → StillHolds self.old → (c : Caller self.old call) →
+            Changes a self.old c.entry c.held call (mapped (asked_by a c) want) self.new result }
+        ensures memory { (headers : List (List ℕ)) → (a : About) → a.kind ≡ kind_of chooser.now → (c : Caller self.old call) →
+            ChangesIn headers a (answered (world_of a self.old) (asked_by a c) (mapped (asked_by a c) want)) self.old self.new result }
         ensures holds { HoldsFiles self.old → HoldsFiles self.new }
         ensures lives { Lives self.new.procs call.pid }
     {
@@ -236,8 +234,8 @@ impl KeptParts {
         requires munmap { call.number ≡ numbers.munmap }
         ensures memory { self.new.mem ≡ self.old.mem }
         ensures holds { HoldsFiles self.old → HoldsFiles self.new }
-        ensures changes { (a : About) → (e : Entry Task) → (h : Held) → RunsIn self.old call.pid e h → IsCall e call →
-            Changes a self.old e h call (unmaps (ask_in a self.old e h call) (hit h.maps (slice_index call.args 0) (slice_index call.args 1))) self.new result }
+        ensures changes { (a : About) → (c : Caller self.old call) →
+            Changes a self.old c.entry c.held call (unmaps (asked_by a c) (hit c.held.maps (slice_index call.args 0) (slice_index call.args 1))) self.new result }
     {
         self.log.reserve(1)?;
         let number = self.procs.get(call.pid).space;

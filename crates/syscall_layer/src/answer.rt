@@ -36,8 +36,8 @@ ghost use Rattle.kept_parts.specs.Regular.{Regular};
 ghost use Rattle.kept_parts.specs.Recorded.{room_beside};
 ghost use Rattle.kept_parts.specs.MapsIn.{IsAsked};
 ghost use Rattle.kept_parts.specs.Brings.{recorded_bytes};
-ghost use Rattle.kept_parts.specs.Calls.{RunsIn, IsCall, maps_by, ask_in, reply_of, given, served_by};
-ghost use Rattle.kept_parts.specs.Flats.{AreFlats};
+ghost use Rattle.kept_parts.specs.Calls.{RunsIn, Caller, maps_by, asked_by, reply_of, given, served_by};
+ghost use Rattle.kept_parts.specs.Flats.{AreFlats, ForRuns};
 
 use crate::call::call_of;
 use crate::classes::{Class, class_of};
@@ -109,8 +109,8 @@ fn has_room_to_map(parts: &KeptParts, call: &Call, want: Want) -> bool
     requires known { IsKnown parts.now.tree want }
     requires pages { AsksPages want }
     requires asked { IsAsked call.now want }
-    ensures room { (a : About) → (e : Entry Task) → (h : Held) → RunsIn parts.now call.now.pid e h → IsCall e call.now →
-        (reply : Reply) → mapped (ask_in a parts.now e h call.now) want ≡ replies reply → result ≡ room_for (world_of a parts.now) (ask_in a parts.now e h call.now) reply }
+    ensures room { (a : About) → (c : Caller parts.now call.now) →
+        (reply : Reply) → mapped (asked_by a c) want ≡ replies reply → result ≡ room_for (world_of a parts.now) (asked_by a c) reply }
     ensures alone { result ≡ true → room_beside parts.now (length call.now.sent.items) ≡ true }
 {
     let bytes = recorded_len(parts, call.pid, want).saturating_add(call.sent.len() as u64);
@@ -120,8 +120,8 @@ fn has_room_to_map(parts: &KeptParts, call: &Call, want: Want) -> bool
 /// Carries out an exit, where the log has room for it.
 fn answer_exit(parts: &mut KeptParts, call: Call) -> Result<Served, AllocError>
     requires { CanRun parts.old.procs call.pid }
-    ensures serves { (a : About) → (e : Entry Task) → (h : Held) → RunsIn parts.old call.pid e h → IsCall e call →
-        Serves a (exited (world_of a parts.old) (ask_in a parts.old e h call)) parts.old parts.new call.pid result }
+    ensures serves { (a : About) → (c : Caller parts.old call) →
+        Serves a (exited (world_of a parts.old) (asked_by a c)) parts.old parts.new call.pid result }
     ensures memory { parts.new.mem ≡ parts.old.mem }
     ensures holds { HoldsFiles parts.old → HoldsFiles parts.new }
     ensures leaves { IfOk result (Tells parts.old parts.new call.pid) }
@@ -141,8 +141,8 @@ pub(crate) fn answer_effect(
 ) -> Result<Served, AllocError>
     requires lives { Lives parts.old.procs call.pid }
     requires plain { maps_by call effect ≡ false }
-    ensures serves { (a : About) → (e : Entry Task) → (h : Held) → RunsIn parts.old call.pid e h → IsCall e call →
-        Serves a (answered (world_of a parts.old) (ask_in a parts.old e h call) (replies (reply_of (ask_in a parts.old e h call) effect))) parts.old parts.new call.pid result }
+    ensures serves { (a : About) → (c : Caller parts.old call) →
+        Serves a (answered (world_of a parts.old) (asked_by a c) (replies (reply_of (asked_by a c) effect))) parts.old parts.new call.pid result }
     ensures memory { parts.new.mem ≡ parts.old.mem }
     ensures holds { HoldsFiles parts.old → HoldsFiles parts.new }
     ensures leaves { CanRun parts.old.procs call.pid → IfOk result (Tells parts.old parts.new call.pid) }
@@ -159,8 +159,8 @@ fn answer_change(parts: &mut KeptParts, call: Call) -> Result<Served, AllocError
     requires lives { Lives parts.old.procs call.pid }
     requires change { IsChange call.number }
     requires replies { Replies call parts.old.files }
-    ensures serves { (a : About) → (e : Entry Task) → (h : Held) → RunsIn parts.old call.pid e h → IsCall e call →
-        Serves a (answered (world_of a parts.old) (ask_in a parts.old e h call) (row (ask_in a parts.old e h call))) parts.old parts.new call.pid result }
+    ensures serves { (a : About) → (c : Caller parts.old call) →
+        Serves a (answered (world_of a parts.old) (asked_by a c) (row (asked_by a c))) parts.old parts.new call.pid result }
     ensures memory { parts.new.mem ≡ parts.old.mem }
     ensures holds { HoldsFiles parts.old → HoldsFiles parts.new }
     ensures leaves { IfOk result (Tells parts.old parts.new call.pid) }
@@ -243,10 +243,10 @@ pub(crate) fn answer_given(
     requires ends { HasEnds parts.old.files call.table outcome.then }
     requires ranges { All IsRange (written_of outcome) }
     requires plain { (call.number == 222) ≡ false }
-    ensures serves { reach ≡ Own → (a : About) → (e : Entry Task) → (h : Held) → RunsIn parts.old call.pid e h → IsCall e call →
-        Serves a (answered (world_of a parts.old) (ask_in a parts.old e h call) (replies (given (ask_in a parts.old e h call) outcome))) parts.old parts.new call.pid result }
-    ensures memory { (headers : List (List ℕ)) → (a : About) → (e : Entry Task) → (h : Held) → RunsIn parts.old call.pid e h → IsCall e call →
-        InReach reach headers a (answered_in (physical_of headers a parts.old) (ask_in a parts.old e h call) (replies (given (ask_in a parts.old e h call) outcome))) parts.old parts.new call.pid result }
+    ensures serves { reach ≡ Own → (a : About) → (c : Caller parts.old call) →
+        Serves a (answered (world_of a parts.old) (asked_by a c) (replies (given (asked_by a c) outcome))) parts.old parts.new call.pid result }
+    ensures memory { (headers : List (List ℕ)) → (a : About) → (c : Caller parts.old call) →
+        InReach reach headers a (answered_in (physical_of headers a parts.old) (asked_by a c) (replies (given (asked_by a c) outcome))) parts.old parts.new call.pid result }
     ensures holds { reach ≡ Own → HoldsFiles parts.old → HoldsFiles parts.new }
     ensures lives { result ≡ Ok Replied → Lives parts.new.procs call.pid }
     ensures leaves { IfOk result (Tells parts.old parts.new call.pid) }
@@ -274,10 +274,10 @@ fn answer_output(
     requires output { IsOutput call.number }
     requires replies { Replies call parts.old.files }
     requires room { slice_index call.args 2 < 2 ^ 32 }
-    ensures serves { reach ≡ Own → (a : About) → (e : Entry Task) → (h : Held) → RunsIn parts.old call.pid e h → IsCall e call →
-        Serves a (answered (world_of a parts.old) (ask_in a parts.old e h call) (row (ask_in a parts.old e h call))) parts.old parts.new call.pid result }
-    ensures memory { (headers : List (List ℕ)) → (a : About) → (e : Entry Task) → (h : Held) → RunsIn parts.old call.pid e h → IsCall e call →
-        InReach reach headers a (answered_in (physical_of headers a parts.old) (ask_in a parts.old e h call) (row (ask_in a parts.old e h call))) parts.old parts.new call.pid result }
+    ensures serves { reach ≡ Own → (a : About) → (c : Caller parts.old call) →
+        Serves a (answered (world_of a parts.old) (asked_by a c) (row (asked_by a c))) parts.old parts.new call.pid result }
+    ensures memory { (headers : List (List ℕ)) → (a : About) → (c : Caller parts.old call) →
+        InReach reach headers a (answered_in (physical_of headers a parts.old) (asked_by a c) (row (asked_by a c))) parts.old parts.new call.pid result }
     ensures holds { reach ≡ Own → HoldsFiles parts.old → HoldsFiles parts.new }
     ensures leaves { IfOk result (Tells parts.old parts.new call.pid) }
 {
@@ -297,10 +297,10 @@ fn answer_want<F: Fn(&[Run], u32) -> Option<usize>>(
     requires known { IsKnown parts.old.tree want }
     requires pages { AsksPages want }
     requires asked { IsAsked call want }
-    ensures serves { (a : About) → a.kind ≡ kind_of chooser.now → StillHolds parts.old → (e : Entry Task) → (h : Held) → RunsIn parts.old call.pid e h → IsCall e call →
-        Serves a (answered (world_of a parts.old) (ask_in a parts.old e h call) (mapped (ask_in a parts.old e h call) want)) parts.old parts.new call.pid result }
-    ensures memory { (headers : List (List ℕ)) → (a : About) → a.kind ≡ kind_of chooser.now → (e : Entry Task) → (h : Held) → RunsIn parts.old call.pid e h → IsCall e call →
-        ServesIn headers a (carried (physical_of headers a parts.old) (physical parts.old.mem) (answered (world_of a parts.old) (ask_in a parts.old e h call) (mapped (ask_in a parts.old e h call) want))) parts.old parts.new call.pid result }
+    ensures serves { (a : About) → a.kind ≡ kind_of chooser.now → StillHolds parts.old → (c : Caller parts.old call) →
+        Serves a (answered (world_of a parts.old) (asked_by a c) (mapped (asked_by a c) want)) parts.old parts.new call.pid result }
+    ensures memory { (headers : List (List ℕ)) → (a : About) → a.kind ≡ kind_of chooser.now → (c : Caller parts.old call) →
+        ServesIn headers a (carried (physical_of headers a parts.old) (physical parts.old.mem) (answered (world_of a parts.old) (asked_by a c) (mapped (asked_by a c) want))) parts.old parts.new call.pid result }
     ensures holds { HoldsFiles parts.old → HoldsFiles parts.new }
     ensures leaves { IfOk result (Tells parts.old parts.new call.pid) }
 {
@@ -320,10 +320,10 @@ fn answer_map<F: Fn(&[Run], u32) -> Option<usize>>(
     requires chooser { IsChooser F.pre F.post chooser.now }
     requires lives { Lives parts.old.procs call.pid }
     requires mmap2 { call.number ≡ 222 }
-    ensures serves { (a : About) → a.kind ≡ kind_of chooser.now → StillHolds parts.old → (e : Entry Task) → (h : Held) → RunsIn parts.old call.pid e h → IsCall e call →
-        Serves a (answered (world_of a parts.old) (ask_in a parts.old e h call) (row (ask_in a parts.old e h call))) parts.old parts.new call.pid result }
-    ensures memory { (headers : List (List ℕ)) → (a : About) → a.kind ≡ kind_of chooser.now → (e : Entry Task) → (h : Held) → RunsIn parts.old call.pid e h → IsCall e call →
-        ServesIn headers a (carried (physical_of headers a parts.old) (physical parts.old.mem) (answered (world_of a parts.old) (ask_in a parts.old e h call) (row (ask_in a parts.old e h call)))) parts.old parts.new call.pid result }
+    ensures serves { (a : About) → a.kind ≡ kind_of chooser.now → StillHolds parts.old → (c : Caller parts.old call) →
+        Serves a (answered (world_of a parts.old) (asked_by a c) (row (asked_by a c))) parts.old parts.new call.pid result }
+    ensures memory { (headers : List (List ℕ)) → (a : About) → a.kind ≡ kind_of chooser.now → (c : Caller parts.old call) →
+        ServesIn headers a (carried (physical_of headers a parts.old) (physical parts.old.mem) (answered (world_of a parts.old) (asked_by a c) (row (asked_by a c)))) parts.old parts.new call.pid result }
     ensures holds { HoldsFiles parts.old → HoldsFiles parts.new }
     ensures leaves { CanRun parts.old.procs call.pid → IfOk result (Tells parts.old parts.new call.pid) }
 {
@@ -337,8 +337,8 @@ fn answer_map<F: Fn(&[Run], u32) -> Option<usize>>(
 fn answer_unmap(parts: &mut KeptParts, call: Call) -> Result<Served, AllocError>
     requires lives { Lives parts.old.procs call.pid }
     requires munmap { call.number ≡ 215 }
-    ensures serves { (a : About) → (e : Entry Task) → (h : Held) → RunsIn parts.old call.pid e h → IsCall e call →
-        Serves a (answered (world_of a parts.old) (ask_in a parts.old e h call) (row (ask_in a parts.old e h call))) parts.old parts.new call.pid result }
+    ensures serves { (a : About) → (c : Caller parts.old call) →
+        Serves a (answered (world_of a parts.old) (asked_by a c) (row (asked_by a c))) parts.old parts.new call.pid result }
     ensures memory { parts.new.mem ≡ parts.old.mem }
     ensures holds { HoldsFiles parts.old → HoldsFiles parts.new }
     ensures leaves { IfOk result (Tells parts.old parts.new call.pid) }
@@ -353,8 +353,8 @@ fn answer_unmap(parts: &mut KeptParts, call: Call) -> Result<Served, AllocError>
 /// The process of a call waits on a pipe, without a note.
 fn answer_wait(parts: &mut KeptParts, call: &Call, pipe: u32) -> Served
     requires { CanRun parts.old.procs call.now.pid }
-    ensures waits { (a : About) → (e : Entry Task) → (h : Held) → RunsIn parts.old call.now.pid e h → IsCall e call.now →
-        Answered a (waited (world_of a parts.old) (process_of e) (OnPipe pipe)) parts.old parts.new call.now.pid result }
+    ensures waits { (a : About) → (c : Caller parts.old call.now) →
+        Answered a (waited (world_of a parts.old) (process_of c.entry) (OnPipe pipe)) parts.old parts.new call.now.pid result }
     ensures memory { parts.new.mem ≡ parts.old.mem }
     ensures holds { HoldsFiles parts.old → HoldsFiles parts.new }
     ensures leaves { Tells parts.old parts.new call.now.pid result }
@@ -377,11 +377,10 @@ fn answer<F: Fn(&[Run], u32) -> Option<usize>>(
     requires whole { whole.now ≡ whole_table (length parts.old.regions) }
     requires strayed { reach ≡ Whole → has_stray parts.old.notes ≡ true }
     requires room { slice_index call.args 2 < 2 ^ 32 }
-    ensures serves { reach ≡ Own → (a : About) → a.kind ≡ kind_of chooser.now → AreFlats a.programs programs.now → StillHolds parts.old →
-        (e : Entry Task) → (h : Held) → RunsIn parts.old call.pid e h → IsCall e call →
-        Serves a (classed (world_of a parts.old) (ask_in a parts.old e h call)) parts.old parts.new call.pid result }
-    ensures memory { (a : About) → a.kind ≡ kind_of chooser.now → AreFlats a.programs programs.now → (e : Entry Task) → (h : Held) → RunsIn parts.old call.pid e h → IsCall e call →
-        InReach reach (headers_of programs.now) a (classed_in (physical_of (headers_of programs.now) a parts.old) (ask_in a parts.old e h call)) parts.old parts.new call.pid result }
+    ensures serves { reach ≡ Own → ForRuns (kind_of chooser.now) programs.now (λ a. StillHolds parts.old → (c : Caller parts.old call) →
+        Serves a (classed (world_of a parts.old) (asked_by a c)) parts.old parts.new call.pid result) }
+    ensures memory { ForRuns (kind_of chooser.now) programs.now (λ a. (c : Caller parts.old call) →
+        InReach reach (headers_of programs.now) a (classed_in (physical_of (headers_of programs.now) a parts.old) (asked_by a c)) parts.old parts.new call.pid result) }
     ensures holds { reach ≡ Own → HoldsFiles parts.old → HoldsFiles parts.new }
     ensures leaves { IfOk result (Tells parts.old parts.new call.pid) }
 {
@@ -428,11 +427,10 @@ fn answer_and_wake<F: Fn(&[Run], u32) -> Option<usize>>(
     requires whole { whole.now ≡ whole_table (length parts.old.regions) }
     requires strayed { reach ≡ Whole → has_stray parts.old.notes ≡ true }
     requires room { slice_index call.args 2 < 2 ^ 32 }
-    ensures serves { reach ≡ Own → (a : About) → a.kind ≡ kind_of chooser.now → AreFlats a.programs programs.now → StillHolds parts.old →
-        (e : Entry Task) → (h : Held) → RunsIn parts.old call.pid e h → IsCall e call →
-        Serves a (settled (classed (world_of a parts.old) (ask_in a parts.old e h call))) parts.old parts.new call.pid result }
-    ensures memory { (a : About) → a.kind ≡ kind_of chooser.now → AreFlats a.programs programs.now → (e : Entry Task) → (h : Held) → RunsIn parts.old call.pid e h → IsCall e call →
-        InReach reach (headers_of programs.now) a (settled_in (classed_in (physical_of (headers_of programs.now) a parts.old) (ask_in a parts.old e h call))) parts.old parts.new call.pid result }
+    ensures serves { reach ≡ Own → ForRuns (kind_of chooser.now) programs.now (λ a. StillHolds parts.old → (c : Caller parts.old call) →
+        Serves a (settled (classed (world_of a parts.old) (asked_by a c))) parts.old parts.new call.pid result) }
+    ensures memory { ForRuns (kind_of chooser.now) programs.now (λ a. (c : Caller parts.old call) →
+        InReach reach (headers_of programs.now) a (settled_in (classed_in (physical_of (headers_of programs.now) a parts.old) (asked_by a c))) parts.old parts.new call.pid result) }
     ensures holds { reach ≡ Own → HoldsFiles parts.old → HoldsFiles parts.new }
     ensures stray { (access : Access) → result ≡ Ok (Stray access) → parts.new ≡ parts.old }
     ensures yields { result ≡ Ok TurnEnds → WaitsAt parts.new.procs call.pid false }
@@ -461,10 +459,10 @@ pub fn serve_within<F: Fn(&[Run], u32) -> Option<usize>>(
     requires ready { CanRun parts.old.procs pid }
     requires whole { whole.now ≡ whole_table (length parts.old.regions) }
     requires strayed { reach ≡ Whole → has_stray parts.old.notes ≡ true }
-    ensures serves { reach ≡ Own → (a : About) → a.kind ≡ kind_of chooser.now → AreFlats a.programs programs.now → StillHolds parts.old →
-        Serves a (called (world_of a parts.old) pid) parts.old parts.new pid result }
-    ensures memory { (a : About) → a.kind ≡ kind_of chooser.now → AreFlats a.programs programs.now →
-        InReach reach (headers_of programs.now) a (called_in (physical_of (headers_of programs.now) a parts.old) pid) parts.old parts.new pid result }
+    ensures serves { reach ≡ Own → ForRuns (kind_of chooser.now) programs.now (λ a. StillHolds parts.old →
+        Serves a (called (world_of a parts.old) pid) parts.old parts.new pid result) }
+    ensures memory { ForRuns (kind_of chooser.now) programs.now (λ a.
+        InReach reach (headers_of programs.now) a (called_in (physical_of (headers_of programs.now) a parts.old) pid) parts.old parts.new pid result) }
     ensures holds { reach ≡ Own → HoldsFiles parts.old → HoldsFiles parts.new }
     ensures stray { (access : Access) → result ≡ Ok (Stray access) → parts.new ≡ parts.old }
     ensures unchanged { OnErr result (parts.new ≡ parts.old) }
@@ -509,8 +507,8 @@ fn serve_noted<F: Fn(&[Run], u32) -> Option<usize>>(
     requires chooser { IsChooser F.pre F.post chooser.now }
     requires ready { CanRun parts.old.procs pid }
     requires whole { whole.now ≡ whole_table (length parts.old.regions) }
-    ensures memory { has_stray parts.old.notes ≡ false → (a : About) → a.kind ≡ kind_of chooser.now → AreFlats a.programs programs.now → stray_in (called (world_of a parts.old) pid) ≡ Some access →
-        ServesOn (headers_of programs.now) a parts.old parts.new pid result }
+    ensures memory { has_stray parts.old.notes ≡ false → ForRuns (kind_of chooser.now) programs.now (λ a. stray_in (called (world_of a parts.old) pid) ≡ Some access →
+        ServesOn (headers_of programs.now) a parts.old parts.new pid result) }
     ensures unchanged { OnErr result (parts.new ≡ parts.old) }
     ensures yields { result ≡ Ok TurnEnds → WaitsAt parts.new.procs pid false }
     ensures waits { result ≡ Ok Waits → parts.old.files.changed ≡ [] → WaitsAt parts.new.procs pid true }

@@ -3,8 +3,6 @@
 ghost use Rattle.std.specs.Prelude.{◌≡◌, ℕ, false, true, IfOk, List, Ok, length, flat_map};
 ghost use Rattle.byteorder.specs.Endian.{little_bytes};
 ghost use Rattle.page_runs.specs.Choosers.{IsChooser, kind_of};
-ghost use Rattle.mmap_rules.specs.Held.{Held};
-ghost use Rattle.vfork_exec.specs.declared.entry.Entry.{Entry};
 ghost use Rattle.vfork_exec.specs.Procs.{CanRun};
 ghost use Rattle.vfork_exec.specs.Procs.{looked};
 ghost use Rattle.mem_files.specs.Paths.{lookup};
@@ -14,7 +12,6 @@ ghost use Rattle.machine_world.specs.Event.{waitid, reaped, cloned, exec};
 ghost use Rattle.file_calls.specs.Calls.{written_of};
 ghost use Rattle.file_calls.specs.declared.outcome.Then.TheVariants.{Nothing};
 ghost use Rattle.kept_parts.specs.Families.{info_of, mark_at};
-ghost use Rattle.kept_parts.specs.declared.task.Task.{Task};
 ghost use Rattle.kept_parts.specs.Stands.{About, world_of};
 ghost use Rattle.region_watch.specs.Private.{physical};
 ghost use Rattle.physical_turns.specs.Physical.{has_stray, carried, reaped_in, waitid_in};
@@ -23,8 +20,8 @@ ghost use Rattle.kept_parts.specs.InMemory.{headers_of, physical_of, ServesIn, I
 ghost use Rattle.kept_parts.specs.Reach.{whole_table};
 ghost use Rattle.kept_parts.specs.Copies.{HoldsFiles};
 ghost use Rattle.kept_parts.specs.Serves.{Serves, Tells};
-ghost use Rattle.kept_parts.specs.Flats.{AreFlats};
-ghost use Rattle.kept_parts.specs.Calls.{RunsIn, IsCall, ask_in};
+ghost use Rattle.kept_parts.specs.Flats.{ForRuns};
+ghost use Rattle.kept_parts.specs.Calls.{Caller, asked_by};
 
 use crate::answer::{answer_effect, answer_given, has_room};
 use bflt_format::Flat;
@@ -137,10 +134,10 @@ fn answer_told(
     requires strayed { reach ≡ Whole → has_stray parts.old.notes ≡ true }
     requires told { looked parts.old.procs call.pid who false ≡ Ok told }
     requires waitid { call.number ≡ 95 }
-    ensures serves { reach ≡ Own → (a : About) → (e : Entry Task) → (h : Held) → RunsIn parts.old call.pid e h → IsCall e call →
-        Serves a (reaped (world_of a parts.old) (ask_in a parts.old e h call) who (Ok told)) parts.old parts.new call.pid result }
-    ensures memory { (headers : List (List ℕ)) → (a : About) → (e : Entry Task) → (h : Held) → RunsIn parts.old call.pid e h → IsCall e call →
-        InReach reach headers a (reaped_in (physical_of headers a parts.old) (ask_in a parts.old e h call) who (Ok told)) parts.old parts.new call.pid result }
+    ensures serves { reach ≡ Own → (a : About) → (c : Caller parts.old call) →
+        Serves a (reaped (world_of a parts.old) (asked_by a c) who (Ok told)) parts.old parts.new call.pid result }
+    ensures memory { (headers : List (List ℕ)) → (a : About) → (c : Caller parts.old call) →
+        InReach reach headers a (reaped_in (physical_of headers a parts.old) (asked_by a c) who (Ok told)) parts.old parts.new call.pid result }
     ensures holds { reach ≡ Own → HoldsFiles parts.old → HoldsFiles parts.new }
     ensures leaves { IfOk result (Tells parts.old parts.new call.pid) }
 {
@@ -165,10 +162,10 @@ pub(crate) fn answer_waitid(
     requires whole { whole.now ≡ whole_table (length parts.old.regions) }
     requires strayed { reach ≡ Whole → has_stray parts.old.notes ≡ true }
     requires waitid { call.number ≡ 95 }
-    ensures serves { reach ≡ Own → (a : About) → (e : Entry Task) → (h : Held) → RunsIn parts.old call.pid e h → IsCall e call →
-        Serves a (waitid (world_of a parts.old) (ask_in a parts.old e h call)) parts.old parts.new call.pid result }
-    ensures memory { (headers : List (List ℕ)) → (a : About) → (e : Entry Task) → (h : Held) → RunsIn parts.old call.pid e h → IsCall e call →
-        InReach reach headers a (waitid_in (physical_of headers a parts.old) (ask_in a parts.old e h call)) parts.old parts.new call.pid result }
+    ensures serves { reach ≡ Own → (a : About) → (c : Caller parts.old call) →
+        Serves a (waitid (world_of a parts.old) (asked_by a c)) parts.old parts.new call.pid result }
+    ensures memory { (headers : List (List ℕ)) → (a : About) → (c : Caller parts.old call) →
+        InReach reach headers a (waitid_in (physical_of headers a parts.old) (asked_by a c)) parts.old parts.new call.pid result }
     ensures holds { reach ≡ Own → HoldsFiles parts.old → HoldsFiles parts.new }
     ensures leaves { IfOk result (Tells parts.old parts.new call.pid) }
 {
@@ -192,8 +189,8 @@ pub(crate) fn answer_waitid(
 pub(crate) fn answer_clone(parts: &mut KeptParts, call: Call) -> Result<Served, AllocError>
     requires { CanRun parts.old.procs call.pid }
     ensures memory { parts.new.mem ≡ parts.old.mem }
-    ensures serves { (a : About) → (e : Entry Task) → (h : Held) → RunsIn parts.old call.pid e h → IsCall e call →
-        Serves a (cloned (world_of a parts.old) (ask_in a parts.old e h call)) parts.old parts.new call.pid result }
+    ensures serves { (a : About) → (c : Caller parts.old call) →
+        Serves a (cloned (world_of a parts.old) (asked_by a c)) parts.old parts.new call.pid result }
     ensures holds { HoldsFiles parts.old → HoldsFiles parts.new }
     ensures leaves { IfOk result (Tells parts.old parts.new call.pid) }
 {
@@ -233,10 +230,10 @@ pub(crate) fn answer_exec<F: Fn(&[Run], u32) -> Option<usize>>(
 ) -> Result<Served, AllocError>
     requires chooser { IsChooser F.pre F.post chooser.now }
     requires ready { CanRun parts.old.procs call.pid }
-    ensures serves { (a : About) → a.kind ≡ kind_of chooser.now → AreFlats a.programs programs.now → (e : Entry Task) → (h : Held) → RunsIn parts.old call.pid e h → IsCall e call →
-        Serves a (exec (world_of a parts.old) (ask_in a parts.old e h call)) parts.old parts.new call.pid result }
-    ensures memory { (a : About) → a.kind ≡ kind_of chooser.now → AreFlats a.programs programs.now → (e : Entry Task) → (h : Held) → RunsIn parts.old call.pid e h → IsCall e call →
-        ServesIn (headers_of programs.now) a (carried (physical_of (headers_of programs.now) a parts.old) (physical parts.old.mem) (exec (world_of a parts.old) (ask_in a parts.old e h call))) parts.old parts.new call.pid result }
+    ensures serves { ForRuns (kind_of chooser.now) programs.now (λ a. (c : Caller parts.old call) →
+        Serves a (exec (world_of a parts.old) (asked_by a c)) parts.old parts.new call.pid result) }
+    ensures memory { ForRuns (kind_of chooser.now) programs.now (λ a. (c : Caller parts.old call) →
+        ServesIn (headers_of programs.now) a (carried (physical_of (headers_of programs.now) a parts.old) (physical parts.old.mem) (exec (world_of a parts.old) (asked_by a c))) parts.old parts.new call.pid result) }
     ensures holds { HoldsFiles parts.old → HoldsFiles parts.new }
     ensures leaves { IfOk result (Tells parts.old parts.new call.pid) }
 {

@@ -4,13 +4,12 @@ use Rattle.std.specs.Prelude.{Ok}
 use Rattle.machine_world.specs.Asks.{Ask, replies}
 use Rattle.machine_world.specs.Rows.{row}
 use Rattle.mmap_rules.specs.Held.{Held}
-use Rattle.vfork_exec.specs.declared.entry.Entry.{Entry}
 use Rattle.machine_world.specs.Event.{is_exit}
 use Rattle.file_calls.specs.Calls.{WaitsOn, is_change, is_output}
 use Rattle.kept_parts.specs.declared.task.Task.{Task}
 use Rattle.kept_parts.specs.Kept.{Kept}
 use Rattle.kept_parts.specs.Stands.{About}
-use Rattle.kept_parts.specs.Calls.{RunsIn, IsCall, ask_in, reply_of}
+use Rattle.kept_parts.specs.Calls.{Caller, asked_by, reply_of}
 use Rattle.kept_parts.specs.InMemory.{headers_of}
 use Rattle.kept_parts.proofs.QuietRows.{mute_row, quiet_mute}
 use Rattle.syscall_layer.specs.declared.classes.Class.TheVariants.{Exit, Change, Output, Waitid, Munmap, Clone, Execve, Mmap2, Effect}
@@ -70,48 +69,48 @@ module _ (g : Over) (c : goal.After-answer_map g) where
 -- ---- in the world of private spaces
 
 pub returns-in-Exit-clause-serves : goal.returns-in-Exit-clause-serves
-returns-in-Exit-clause-serves g c = λ own a kind flats holding e h runs is.
-    exit_classed a c.args.parts.now e h c.args.call runs is c.answer_exit.new.parts c.answer_exit.result (exits g c) (c.answer_exit.ensures.serves a e h runs is)
+returns-in-Exit-clause-serves g c = λ own a kind flats holding caller.
+    exit_classed a c.args.parts.now caller.entry caller.held c.args.call caller.runs caller.stands c.answer_exit.new.parts c.answer_exit.result (exits g c) (c.answer_exit.ensures.serves a caller)
 
 pub returns-in-Some-clause-serves : goal.returns-in-Some-clause-serves
-returns-in-Some-clause-serves g c = λ own a kind flats holding e h runs is.
+returns-in-Some-clause-serves g c = λ own a kind flats holding caller.
     let k = c.args.parts.now in
     let call = c.args.call in
-    let files = files_in a k e h call (ap (λ (x : Kept). x.files) (sym c.parts.view_is)) in
-    let waits = subst (WaitsOn (row (ask_in a k e h call))) c.in-Some.is (c.wait_of.ensures (ask_in a k e h call) (made_by a k e h call runs is) files) in
-    wait_classed a k e h call runs is c.answer_wait.new.parts (Ok c.answer_wait.result) c.in-Some.pipe (ap is_exit is.number ∙ wait_goes (ask_in a k e h call) c.in-Some.pipe waits) waits (c.answer_wait.ensures.waits a e h runs is)
+    let files = files_in a k caller.entry caller.held call (ap (λ (x : Kept). x.files) (sym c.parts.view_is)) in
+    let waits = subst (WaitsOn (row (asked_by a caller))) c.in-Some.is (c.wait_of.ensures (asked_by a caller) (made_by a k caller.entry caller.held call caller.runs caller.stands) files) in
+    wait_classed a k caller.entry caller.held call caller.runs caller.stands c.answer_wait.new.parts (Ok c.answer_wait.result) c.in-Some.pipe (ap is_exit caller.stands.number ∙ wait_goes (asked_by a caller) c.in-Some.pipe waits) waits (c.answer_wait.ensures.waits a caller)
 
 pub returns-in-Change-clause-serves : goal.returns-in-Change-clause-serves
-returns-in-Change-clause-serves g c = λ own a kind flats holding e h runs is.
-    row_classed a c.args.parts.now e h c.args.call runs is c.answer_change.new.parts c.answer_change.result
-    (is_change_row g c) (c.answer_change.ensures.serves a e h runs is)
+returns-in-Change-clause-serves g c = λ own a kind flats holding caller.
+    row_classed a c.args.parts.now caller.entry caller.held c.args.call caller.runs caller.stands c.answer_change.new.parts c.answer_change.result
+    (is_change_row g c) (c.answer_change.ensures.serves a caller)
 
 pub returns-in-Output-clause-serves : goal.returns-in-Output-clause-serves
-returns-in-Output-clause-serves g c = λ own a kind flats holding e h runs is.
-    row_classed a c.args.parts.now e h c.args.call runs is c.answer_output.new.parts c.answer_output.result
-    (is_output_row g c) (c.answer_output.ensures.serves own a e h runs is)
+returns-in-Output-clause-serves g c = λ own a kind flats holding caller.
+    row_classed a c.args.parts.now caller.entry caller.held c.args.call caller.runs caller.stands c.answer_output.new.parts c.answer_output.result
+    (is_output_row g c) (c.answer_output.ensures.serves own a caller)
 
 pub returns-in-Waitid-clause-serves : goal.returns-in-Waitid-clause-serves
-returns-in-Waitid-clause-serves g c = λ own a kind flats holding e h runs is.
-    waitid_classed a c.args.parts.now e h c.args.call runs is c.answer_waitid.new.parts c.answer_waitid.result (is_waitid g c) (c.answer_waitid.ensures.serves own a e h runs is)
+returns-in-Waitid-clause-serves g c = λ own a kind flats holding caller.
+    waitid_classed a c.args.parts.now caller.entry caller.held c.args.call caller.runs caller.stands c.answer_waitid.new.parts c.answer_waitid.result (is_waitid g c) (c.answer_waitid.ensures.serves own a caller)
 
 pub returns-in-Munmap-clause-serves : goal.returns-in-Munmap-clause-serves
-returns-in-Munmap-clause-serves g c = λ own a kind flats holding e h runs is.
-    row_classed a c.args.parts.now e h c.args.call runs is c.answer_unmap.new.parts c.answer_unmap.result
-    (is_munmap_row g c) (c.answer_unmap.ensures.serves a e h runs is)
+returns-in-Munmap-clause-serves g c = λ own a kind flats holding caller.
+    row_classed a c.args.parts.now caller.entry caller.held c.args.call caller.runs caller.stands c.answer_unmap.new.parts c.answer_unmap.result
+    (is_munmap_row g c) (c.answer_unmap.ensures.serves a caller)
 
 pub returns-in-Clone-clause-serves : goal.returns-in-Clone-clause-serves
-returns-in-Clone-clause-serves g c = λ own a kind flats holding e h runs is.
-    clone_classed a c.args.parts.now e h c.args.call runs is c.answer_clone.new.parts c.answer_clone.result (is_clone g c) (c.answer_clone.ensures.serves a e h runs is)
+returns-in-Clone-clause-serves g c = λ own a kind flats holding caller.
+    clone_classed a c.args.parts.now caller.entry caller.held c.args.call caller.runs caller.stands c.answer_clone.new.parts c.answer_clone.result (is_clone g c) (c.answer_clone.ensures.serves a caller)
 
 pub returns-in-Execve-clause-serves : goal.returns-in-Execve-clause-serves
-returns-in-Execve-clause-serves g c = λ own a kind flats holding e h runs is.
-    exec_classed a c.args.parts.now e h c.args.call runs is c.answer_exec.new.parts c.answer_exec.result (is_execve g c) (c.answer_exec.ensures.serves a kind flats e h runs is)
+returns-in-Execve-clause-serves g c = λ own a kind flats holding caller.
+    exec_classed a c.args.parts.now caller.entry caller.held c.args.call caller.runs caller.stands c.answer_exec.new.parts c.answer_exec.result (is_execve g c) (c.answer_exec.ensures.serves a kind flats caller)
 
 pub returns-in-Mmap2-clause-serves : goal.returns-in-Mmap2-clause-serves
-returns-in-Mmap2-clause-serves g c = λ own a kind flats holding e h runs is.
-    row_classed a c.args.parts.now e h c.args.call runs is c.answer_map.new.parts c.answer_map.result
-    (is_mmap2_row g c) (c.answer_map.ensures.serves a kind holding e h runs is)
+returns-in-Mmap2-clause-serves g c = λ own a kind flats holding caller.
+    row_classed a c.args.parts.now caller.entry caller.held c.args.call caller.runs caller.stands c.answer_map.new.parts c.answer_map.result
+    (is_mmap2_row g c) (c.answer_map.ensures.serves a kind holding caller)
 
 -- ---- a call that touches neither files nor memory
 
@@ -121,86 +120,86 @@ module _ (g : Over) (c : goal.After-answer_effect g) where
       let of : IsEffect c.args.call.number = of_class c.args.call.number c.class_of.result Effect c.class_of.ensures c.in-Effect.is in
       plain_row c.args.call.number of.exit of.waitid of.clone of.execve
 
-  rows : (a : About) (e : Entry Task) (h : Held) → RunsIn c.args.parts.now c.args.call.pid e h → IsCall e c.args.call →
-      row (ask_in a c.args.parts.now e h c.args.call) ≡ replies (reply_of (ask_in a c.args.parts.now e h c.args.call) c.effect_of-effect.result)
-  rows a e h runs is =
+  rows : (a : About) (caller : Caller c.args.parts.now c.args.call) → row (asked_by a caller) ≡ replies (reply_of (asked_by a caller) c.effect_of-effect.result)
+  rows a caller =
       let k = c.args.parts.now in
       let call = c.args.call in
-      c.effect_of-effect.ensures (ask_in a k e h call) (made_by a k e h call runs is) (files_in a k e h call (ap (λ (x : Kept). x.files) (sym c.parts.view_is)))
+      c.effect_of-effect.ensures (asked_by a caller) (made_by a k caller.entry caller.held call caller.runs caller.stands)
+      (files_in a k caller.entry caller.held call (ap (λ (x : Kept). x.files) (sym c.parts.view_is)))
 
 pub returns-in-Effect-clause-serves : goal.returns-in-Effect-clause-serves
-returns-in-Effect-clause-serves g c = λ own a kind flats holding e h runs is.
-    effect_classed a c.args.parts.now e h c.args.call runs is c.answer_effect.new.parts c.answer_effect.result c.effect_of-effect.result (plain g c) (rows g c a e h runs is) (c.answer_effect.ensures.serves a e h runs is)
+returns-in-Effect-clause-serves g c = λ own a kind flats holding caller.
+    effect_classed a c.args.parts.now caller.entry caller.held c.args.call caller.runs caller.stands c.answer_effect.new.parts c.answer_effect.result c.effect_of-effect.result (plain g c) (rows g c a caller) (c.answer_effect.ensures.serves a caller)
 
 -- ---- in the one memory
 
 pub returns-in-Exit-clause-memory : goal.returns-in-Exit-clause-memory
-returns-in-Exit-clause-memory g c = λ a kind flats e h runs is.
-    exit_reach (headers_of c.args.programs.now) a c.args.parts.now e h c.args.call is c.args.reach c.answer_exit.new.parts c.answer_exit.result
-    (exits g c) c.answer_exit.ensures.memory (c.answer_exit.ensures.serves a e h runs is)
+returns-in-Exit-clause-memory g c = λ a kind flats caller.
+    exit_reach (headers_of c.args.programs.now) a c.args.parts.now caller.entry caller.held c.args.call caller.stands c.args.reach c.answer_exit.new.parts c.answer_exit.result
+    (exits g c) c.answer_exit.ensures.memory (c.answer_exit.ensures.serves a caller)
 
 pub returns-in-Some-clause-memory : goal.returns-in-Some-clause-memory
-returns-in-Some-clause-memory g c = λ a kind flats e h runs is.
+returns-in-Some-clause-memory g c = λ a kind flats caller.
     let k = c.args.parts.now in
     let call = c.args.call in
-    let files = files_in a k e h call (ap (λ (x : Kept). x.files) (sym c.parts.view_is)) in
-    let waits = subst (WaitsOn (row (ask_in a k e h call))) c.in-Some.is (c.wait_of.ensures (ask_in a k e h call) (made_by a k e h call runs is) files) in
-    wait_reach (headers_of c.args.programs.now) a k e h call is c.args.reach c.answer_wait.new.parts c.answer_wait.result c.in-Some.pipe
-    (ap is_exit is.number ∙ wait_goes (ask_in a k e h call) c.in-Some.pipe waits) waits c.answer_wait.ensures.memory (c.answer_wait.ensures.waits a e h runs is)
+    let files = files_in a k caller.entry caller.held call (ap (λ (x : Kept). x.files) (sym c.parts.view_is)) in
+    let waits = subst (WaitsOn (row (asked_by a caller))) c.in-Some.is (c.wait_of.ensures (asked_by a caller) (made_by a k caller.entry caller.held call caller.runs caller.stands) files) in
+    wait_reach (headers_of c.args.programs.now) a k caller.entry caller.held call caller.stands c.args.reach c.answer_wait.new.parts c.answer_wait.result c.in-Some.pipe
+    (ap is_exit caller.stands.number ∙ wait_goes (asked_by a caller) c.in-Some.pipe waits) waits c.answer_wait.ensures.memory (c.answer_wait.ensures.waits a caller)
 
 pub returns-in-Change-clause-memory : goal.returns-in-Change-clause-memory
-returns-in-Change-clause-memory g c = λ a kind flats e h runs is.
+returns-in-Change-clause-memory g c = λ a kind flats caller.
     let k = c.args.parts.now in
     let call = c.args.call in
-    mute_reach (headers_of c.args.programs.now) a k e h call is c.args.reach c.answer_change.new.parts c.answer_change.result
-    (is_change_row g c) (mute_row (ask_in a k e h call) (ap is_change (sym is.number) ∙ change g c))
-    c.answer_change.ensures.memory (c.answer_change.ensures.serves a e h runs is)
+    mute_reach (headers_of c.args.programs.now) a k caller.entry caller.held call caller.stands c.args.reach c.answer_change.new.parts c.answer_change.result
+    (is_change_row g c) (mute_row (asked_by a caller) (ap is_change (sym caller.stands.number) ∙ change g c))
+    c.answer_change.ensures.memory (c.answer_change.ensures.serves a caller)
 
 pub returns-in-Output-clause-memory : goal.returns-in-Output-clause-memory
-returns-in-Output-clause-memory g c = λ a kind flats e h runs is.
-    row_reach (headers_of c.args.programs.now) a c.args.parts.now e h c.args.call is c.args.reach c.answer_output.new.parts c.answer_output.result
+returns-in-Output-clause-memory g c = λ a kind flats caller.
+    row_reach (headers_of c.args.programs.now) a c.args.parts.now caller.entry caller.held c.args.call caller.stands c.args.reach c.answer_output.new.parts c.answer_output.result
     (is_output_row g c)
-    (c.answer_output.ensures.memory (headers_of c.args.programs.now) a e h runs is)
+    (c.answer_output.ensures.memory (headers_of c.args.programs.now) a caller)
 
 pub returns-in-Waitid-clause-memory : goal.returns-in-Waitid-clause-memory
-returns-in-Waitid-clause-memory g c = λ a kind flats e h runs is.
-    waitid_reach (headers_of c.args.programs.now) a c.args.parts.now e h c.args.call is c.args.reach c.answer_waitid.new.parts c.answer_waitid.result (is_waitid g c)
-    (c.answer_waitid.ensures.memory (headers_of c.args.programs.now) a e h runs is)
+returns-in-Waitid-clause-memory g c = λ a kind flats caller.
+    waitid_reach (headers_of c.args.programs.now) a c.args.parts.now caller.entry caller.held c.args.call caller.stands c.args.reach c.answer_waitid.new.parts c.answer_waitid.result (is_waitid g c)
+    (c.answer_waitid.ensures.memory (headers_of c.args.programs.now) a caller)
 
 pub returns-in-Munmap-clause-memory : goal.returns-in-Munmap-clause-memory
-returns-in-Munmap-clause-memory g c = λ a kind flats e h runs is.
+returns-in-Munmap-clause-memory g c = λ a kind flats caller.
     let k = c.args.parts.now in
     let call = c.args.call in
-    let ask : Ask = ask_in a k e h call in
-    mute_reach (headers_of c.args.programs.now) a k e h call is c.args.reach c.answer_unmap.new.parts c.answer_unmap.result
+    let ask : Ask = asked_by a caller in
+    mute_reach (headers_of c.args.programs.now) a k caller.entry caller.held call caller.stands c.args.reach c.answer_unmap.new.parts c.answer_unmap.result
     (is_munmap_row g c)
-    (quiet_mute (row ask) (quiet_munmap call ask (made_by a k e h call runs is) (is_munmap g c)))
-    c.answer_unmap.ensures.memory (c.answer_unmap.ensures.serves a e h runs is)
+    (quiet_mute (row ask) (quiet_munmap call ask (made_by a k caller.entry caller.held call caller.runs caller.stands) (is_munmap g c)))
+    c.answer_unmap.ensures.memory (c.answer_unmap.ensures.serves a caller)
 
 pub returns-in-Clone-clause-memory : goal.returns-in-Clone-clause-memory
-returns-in-Clone-clause-memory g c = λ a kind flats e h runs is.
-    clone_reach (headers_of c.args.programs.now) a c.args.parts.now e h c.args.call is c.args.reach c.answer_clone.new.parts c.answer_clone.result (is_clone g c)
-    c.answer_clone.ensures.memory (c.answer_clone.ensures.serves a e h runs is)
+returns-in-Clone-clause-memory g c = λ a kind flats caller.
+    clone_reach (headers_of c.args.programs.now) a c.args.parts.now caller.entry caller.held c.args.call caller.stands c.args.reach c.answer_clone.new.parts c.answer_clone.result (is_clone g c)
+    c.answer_clone.ensures.memory (c.answer_clone.ensures.serves a caller)
 
 pub returns-in-Execve-clause-memory : goal.returns-in-Execve-clause-memory
-returns-in-Execve-clause-memory g c = λ a kind flats e h runs is.
-    exec_reach (headers_of c.args.programs.now) a c.args.parts.now e h c.args.call is c.args.reach c.answer_exec.new.parts c.answer_exec.result (is_execve g c)
-    (c.answer_exec.ensures.memory a kind flats e h runs is)
+returns-in-Execve-clause-memory g c = λ a kind flats caller.
+    exec_reach (headers_of c.args.programs.now) a c.args.parts.now caller.entry caller.held c.args.call caller.stands c.args.reach c.answer_exec.new.parts c.answer_exec.result (is_execve g c)
+    (c.answer_exec.ensures.memory a kind flats caller)
 
 pub returns-in-Mmap2-clause-memory : goal.returns-in-Mmap2-clause-memory
-returns-in-Mmap2-clause-memory g c = λ a kind flats e h runs is.
+returns-in-Mmap2-clause-memory g c = λ a kind flats caller.
     let k = c.args.parts.now in
     let call = c.args.call in
-    let ask : Ask = ask_in a k e h call in
-    carried_reach (headers_of c.args.programs.now) a k e h call is c.args.reach c.answer_map.new.parts c.answer_map.result
+    let ask : Ask = asked_by a caller in
+    carried_reach (headers_of c.args.programs.now) a k caller.entry caller.held call caller.stands c.args.reach c.answer_map.new.parts c.answer_map.result
     (is_mmap2_row g c)
-    (quiet_mute (row ask) (quiet_mmap2 call ask (made_by a k e h call runs is) (is_mmap2 g c)))
-    (c.answer_map.ensures.memory (headers_of c.args.programs.now) a kind e h runs is)
+    (quiet_mute (row ask) (quiet_mmap2 call ask (made_by a k caller.entry caller.held call caller.runs caller.stands) (is_mmap2 g c)))
+    (c.answer_map.ensures.memory (headers_of c.args.programs.now) a kind caller)
 
 pub returns-in-Effect-clause-memory : goal.returns-in-Effect-clause-memory
-returns-in-Effect-clause-memory g c = λ a kind flats e h runs is.
-    effect_reach (headers_of c.args.programs.now) a c.args.parts.now e h c.args.call is c.args.reach c.answer_effect.new.parts c.answer_effect.result c.effect_of-effect.result
-    (plain g c) (rows g c a e h runs is) c.answer_effect.ensures.memory (c.answer_effect.ensures.serves a e h runs is)
+returns-in-Effect-clause-memory g c = λ a kind flats caller.
+    effect_reach (headers_of c.args.programs.now) a c.args.parts.now caller.entry caller.held c.args.call caller.stands c.args.reach c.answer_effect.new.parts c.answer_effect.result c.effect_of-effect.result
+    (plain g c) (rows g c a caller) c.answer_effect.ensures.memory (c.answer_effect.ensures.serves a caller)
 
 -- ---- what each answer leaves
 

@@ -1,41 +1,57 @@
 -- Those go on that wait where the call was an event.
 use Rattle.std.proofs.Common.{sym, ◌∙◌}
-use Rattle.std.specs.Prelude.{Ok}
+use Rattle.std.specs.Prelude.{Ok, Err}
+use Rattle.std.proofs.lemmas.Result.{err_from_is_err_and}
 use Rattle.machine_world.specs.Event.{classed}
-use Rattle.physical_turns.specs.Physical.{classed_in}
+use Rattle.physical_turns.specs.Physical.{classed_in, settled_in}
 use Rattle.kept_parts.specs.Stands.{world_of}
-use Rattle.kept_parts.specs.Calls.{ask_in}
+use Rattle.kept_parts.specs.Calls.{asked_by}
 use Rattle.kept_parts.specs.InMemory.{headers_of, physical_of}
 use Rattle.kept_parts.proofs.Wakes.{settled_answers, unsettled_answers}
-use Rattle.kept_parts.proofs.CallsIn.{settled_reach, unsettled_reach}
+use Rattle.kept_parts.proofs.CallsIn.{in_reach, settled_reach, unsettled_reach}
+use Rattle.kept_parts.proofs.GivenMemory.{is_unchanged}
 use Rattle.syscall_layer.proofs.Leaves.{stray_keeps, stray_never, yield_goes, yield_goes_on, wait_goes, wait_goes_on, wait_unnoted, wait_leaves_notes}
 use Rattle.syscall_layer.proofs.answer.answer_and_wake.Goals as goal
 
-pub returns-then-went-clause-serves : goal.returns-then-went-clause-serves
-returns-then-went-clause-serves g c = λ own a kind flats holding e h runs is.
+pub returns-in_err-served-clause-serves : goal.returns-in_err-served-clause-serves
+returns-in_err-served-clause-serves g c = λ own a kind flats holding caller.
+    let p = err_from_is_err_and c.from_residual.result c.from_residual.ensures.1 in
+    rw p.1 (c.in_err-served.ensures.serves own a kind flats holding caller)
+
+pub returns-in_err-served-clause-memory : goal.returns-in_err-served-clause-memory
+returns-in_err-served-clause-memory g c = λ a kind flats caller.
+    let p = err_from_is_err_and c.from_residual.result c.from_residual.ensures.1 in
     let k = c.args.parts.now in
-    settled_answers a c.args.call.pid c.answer.new.parts c.wake_changed.new.self c.wake_changed.ensures.kept (classed (world_of a k) (ask_in a k e h c.args.call)) k c.in_ok-served.served
-    (sym c.went.ensures ∙ c.if-went.true) (c.in_ok-served.ensures.serves own a kind flats holding e h runs is)
+    let headers = headers_of c.args.programs.now in
+    let came = classed_in (physical_of headers a k) (asked_by a caller) in
+    let same = is_unchanged headers a came k c.answer.new.parts c.args.call.pid c.args.reach _ (c.in_err-served.ensures.memory a kind flats caller) in
+    rw p.1 (in_reach headers a (settled_in came) k c.answer.new.parts c.args.call.pid c.args.reach (Err p.0) same)
+
+pub returns-then-went-clause-serves : goal.returns-then-went-clause-serves
+returns-then-went-clause-serves g c = λ own a kind flats holding caller.
+    let k = c.args.parts.now in
+    settled_answers a c.args.call.pid c.answer.new.parts c.wake_changed.new.self c.wake_changed.ensures.kept (classed (world_of a k) (asked_by a caller)) k c.in_ok-served.served
+    (sym c.went.ensures ∙ c.if-went.true) (c.in_ok-served.ensures.serves own a kind flats holding caller)
 
 pub returns-else-went-clause-serves : goal.returns-else-went-clause-serves
-returns-else-went-clause-serves g c = λ own a kind flats holding e h runs is.
+returns-else-went-clause-serves g c = λ own a kind flats holding caller.
     let k = c.args.parts.now in
-    unsettled_answers a (classed (world_of a k) (ask_in a k e h c.args.call)) k c.answer.new.parts c.args.call.pid c.in_ok-served.served
-    (sym c.went.ensures ∙ c.if-went.false) (c.in_ok-served.ensures.serves own a kind flats holding e h runs is)
+    unsettled_answers a (classed (world_of a k) (asked_by a caller)) k c.answer.new.parts c.args.call.pid c.in_ok-served.served
+    (sym c.went.ensures ∙ c.if-went.false) (c.in_ok-served.ensures.serves own a kind flats holding caller)
 
 pub returns-then-went-clause-memory : goal.returns-then-went-clause-memory
-returns-then-went-clause-memory g c = λ a kind flats e h runs is.
+returns-then-went-clause-memory g c = λ a kind flats caller.
     let k = c.args.parts.now in
     let headers = headers_of c.args.programs.now in
-    settled_reach headers a c.args.call.pid c.answer.new.parts c.wake_changed.new.self c.wake_changed.ensures.kept c.args.reach (classed_in (physical_of headers a k) (ask_in a k e h c.args.call)) k
-    c.in_ok-served.served (sym c.went.ensures ∙ c.if-went.true) (c.in_ok-served.ensures.memory a kind flats e h runs is)
+    settled_reach headers a c.args.call.pid c.answer.new.parts c.wake_changed.new.self c.wake_changed.ensures.kept c.args.reach (classed_in (physical_of headers a k) (asked_by a caller)) k
+    c.in_ok-served.served (sym c.went.ensures ∙ c.if-went.true) (c.in_ok-served.ensures.memory a kind flats caller)
 
 pub returns-else-went-clause-memory : goal.returns-else-went-clause-memory
-returns-else-went-clause-memory g c = λ a kind flats e h runs is.
+returns-else-went-clause-memory g c = λ a kind flats caller.
     let k = c.args.parts.now in
     let headers = headers_of c.args.programs.now in
-    unsettled_reach headers a c.args.call.pid c.args.reach (classed_in (physical_of headers a k) (ask_in a k e h c.args.call)) k c.answer.new.parts
-    c.in_ok-served.served (sym c.went.ensures ∙ c.if-went.false) (c.in_ok-served.ensures.memory a kind flats e h runs is)
+    unsettled_reach headers a c.args.call.pid c.args.reach (classed_in (physical_of headers a k) (asked_by a caller)) k c.answer.new.parts
+    c.in_ok-served.served (sym c.went.ensures ∙ c.if-went.false) (c.in_ok-served.ensures.memory a kind flats caller)
 
 -- ---- by the answer
 

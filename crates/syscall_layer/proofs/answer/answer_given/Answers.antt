@@ -12,7 +12,7 @@ use Rattle.kept_parts.specs.Copies.{HoldsFiles}
 use Rattle.kept_parts.specs.Reach.{writable}
 use Rattle.call_bytes.specs.Puts.{first_stray, access_at}
 use Rattle.kept_parts.specs.InMemory.{physical_of, ServesIn}
-use Rattle.kept_parts.specs.Calls.{ask_in, given}
+use Rattle.kept_parts.specs.Calls.{asked_by, given}
 use Rattle.kept_parts.proofs.Runs.{runs_in}
 use Rattle.kept_parts.proofs.Families.{can_run_lives}
 use Rattle.kept_parts.proofs.Outcomes.{output_serves, output_full}
@@ -22,38 +22,38 @@ use Rattle.syscall_layer.proofs.answer.answer_given.Goals.{After-give}
 use Rattle.syscall_layer.proofs.answer.answer_given.Goals as goal
 
 pub returns-in-Some-clause-serves : goal.returns-in-Some-clause-serves
-returns-in-Some-clause-serves c = λ own a e h runs is.
+returns-in-Some-clause-serves c = λ own a caller.
     let k = c.args.parts.now in
     let o = c.args.outcome in
-    let found = subst (λ (r : Reach). Some c.in-Some.access ≡ option_map (access_at e.value.regs.pc) (first_stray (writable r (length k.regions) h) (written_of o))) own (sym c.in-Some.is ∙ found_by o _ c.deref.ensures.value c.args.reach k c.args.call.pid c.stray_of.result c.stray_of.ensures e h runs) in
+    let found = subst (λ (r : Reach). Some c.in-Some.access ≡ option_map (access_at caller.entry.value.regs.pc) (first_stray (writable r (length k.regions) caller.held) (written_of o))) own (sym c.in-Some.is ∙ found_by o _ c.deref.ensures.value c.args.reach k c.args.call.pid c.stray_of.result c.stray_of.ensures caller.entry caller.held caller.runs) in
     let strays = c.beyond_reach.ensures.strays own in
-    strays_serve a k e h c.args.call runs is o c.in-Some.access found c.beyond_reach.new.parts c.beyond_reach.result strays.0 strays.1
+    strays_serve a k caller.entry caller.held c.args.call caller.runs caller.stands o c.in-Some.access found c.beyond_reach.new.parts c.beyond_reach.result strays.0 strays.1
 
 pub returns-in-Some-clause-memory : goal.returns-in-Some-clause-memory
-returns-in-Some-clause-memory c = λ headers a e h runs is.
+returns-in-Some-clause-memory c = λ headers a caller.
     let k = c.args.parts.now in
     let o = c.args.outcome in
-    beyond headers a (answered_in (physical_of headers a k) (ask_in a k e h c.args.call) (replies (given (ask_in a k e h c.args.call) o))) k c.beyond_reach.new.parts c.args.call.pid
+    beyond headers a (answered_in (physical_of headers a k) (asked_by a caller) (replies (given (asked_by a caller) o))) k c.beyond_reach.new.parts c.args.call.pid
     c.args.reach c.in-Some.access c.beyond_reach.result c.beyond_reach.ensures.strays (λ whole.
-    let found = subst (λ (r : Reach). Some c.in-Some.access ≡ option_map (access_at e.value.regs.pc) (first_stray (writable r (length k.regions) h) (written_of o))) whole (sym c.in-Some.is ∙ found_by o _ c.deref.ensures.value c.args.reach k c.args.call.pid c.stray_of.result c.stray_of.ensures e h runs) in
-    subst (λ (x : After). ServesIn headers a x k c.beyond_reach.new.parts c.args.call.pid c.beyond_reach.result) (given_strays_in headers a k e h c.args.call runs is o c.in-Some.access found)
-    (c.beyond_reach.ensures.memory whole headers a e h runs))
+    let found = subst (λ (r : Reach). Some c.in-Some.access ≡ option_map (access_at caller.entry.value.regs.pc) (first_stray (writable r (length k.regions) caller.held) (written_of o))) whole (sym c.in-Some.is ∙ found_by o _ c.deref.ensures.value c.args.reach k c.args.call.pid c.stray_of.result c.stray_of.ensures caller.entry caller.held caller.runs) in
+    subst (λ (x : After). ServesIn headers a x k c.beyond_reach.new.parts c.args.call.pid c.beyond_reach.result) (given_strays_in headers a k caller.entry caller.held c.args.call caller.runs caller.stands o c.in-Some.access found)
+    (c.beyond_reach.ensures.memory whole headers a caller.entry caller.held caller.runs))
 
 pub returns-then-not-has_room_with-clause-serves : goal.returns-then-not-has_room_with-clause-serves
-returns-then-not-has_room_with-clause-serves c = λ own a e h runs is.
+returns-then-not-has_room_with-clause-serves c = λ own a caller.
     let k = c.args.parts.now in
     let o = c.args.outcome in
-    let fits = subst (λ (r : Reach). first_stray (writable r (length k.regions) h) (written_of o) ≡ None) own (none_beyond o _ c.deref.ensures.value c.args.reach k c.args.call.pid c.stray_of.result c.stray_of.ensures e h runs c.in_default.is) in
-    output_full a k e h c.args.call runs is o fits (room_by o _ c.deref-2.ensures.value k k refl c.args.call.sent.items c.has_room_with.result false c.has_room_with.ensures.room c.if-not-has_room_with.true)
+    let fits = subst (λ (r : Reach). first_stray (writable r (length k.regions) caller.held) (written_of o) ≡ None) own (none_beyond o _ c.deref.ensures.value c.args.reach k c.args.call.pid c.stray_of.result c.stray_of.ensures caller.entry caller.held caller.runs c.in_default.is) in
+    output_full a k caller.entry caller.held c.args.call caller.runs caller.stands o fits (room_by o _ c.deref-2.ensures.value k k refl c.args.call.sent.items c.has_room_with.result false c.has_room_with.ensures.room c.if-not-has_room_with.true)
 
 pub returns-then-not-has_room_with-clause-memory : goal.returns-then-not-has_room_with-clause-memory
-returns-then-not-has_room_with-clause-memory c = λ headers a e h runs is.
+returns-then-not-has_room_with-clause-memory c = λ headers a caller.
     let k = c.args.parts.now in
     let regular = c.has_room_with.ensures.regular in
     let o = c.args.outcome in
-    let fits = reach_inside k regular e.value.space h runs.home c.args.reach (written_of o) (none_beyond o _ c.deref.ensures.value c.args.reach k c.args.call.pid c.stray_of.result c.stray_of.ensures e h runs c.in_default.is) in
-    in_reach headers a (answered_in (physical_of headers a k) (ask_in a k e h c.args.call) (replies (given (ask_in a k e h c.args.call) o))) k k c.args.call.pid c.args.reach (Ok LogFull)
-    (given_full_in headers a k e h c.args.call runs is o fits (room_by o _ c.deref-2.ensures.value k k refl c.args.call.sent.items c.has_room_with.result false c.has_room_with.ensures.room c.if-not-has_room_with.true))
+    let fits = reach_inside k regular caller.entry.value.space caller.held caller.runs.home c.args.reach (written_of o) (none_beyond o _ c.deref.ensures.value c.args.reach k c.args.call.pid c.stray_of.result c.stray_of.ensures caller.entry caller.held caller.runs c.in_default.is) in
+    in_reach headers a (answered_in (physical_of headers a k) (asked_by a caller) (replies (given (asked_by a caller) o))) k k c.args.call.pid c.args.reach (Ok LogFull)
+    (given_full_in headers a k caller.entry caller.held c.args.call caller.runs caller.stands o fits (room_by o _ c.deref-2.ensures.value k k refl c.args.call.sent.items c.has_room_with.result false c.has_room_with.ensures.room c.if-not-has_room_with.true))
 
 pub give-requires-clause-inside : goal.give-requires-clause-inside
 give-requires-clause-inside c =
@@ -70,35 +70,35 @@ give-requires-clause-kept c = λ unstrayed e h runs.
     fits_unstrayed c.args.reach c.args.parts.now.notes (length c.args.parts.now.regions) h (written_of c.args.outcome) c.requires.strayed (none_beyond o _ c.deref.ensures.value c.args.reach k c.args.call.pid c.stray_of.result c.stray_of.ensures e h runs c.in_default.is) unstrayed
 
 pub returns-in_err-give-clause-serves : goal.returns-in_err-give-clause-serves
-returns-in_err-give-clause-serves c = λ own a e h runs is.
+returns-in_err-give-clause-serves c = λ own a caller.
     let k = c.args.parts.now in
     let o = c.args.outcome in
     let p = err_from_is_err_and c.from_residual.result c.from_residual.ensures.1 in
-    let fits = subst (λ (r : Reach). first_stray (writable r (length c.args.parts.now.regions) h) (written_of c.args.outcome) ≡ None) own (none_beyond o _ c.deref.ensures.value c.args.reach k c.args.call.pid c.stray_of.result c.stray_of.ensures e h runs c.in_default.is) in
-    rw p.1 (c.in_err-give.ensures.gives a e h runs is fits)
+    let fits = subst (λ (r : Reach). first_stray (writable r (length c.args.parts.now.regions) caller.held) (written_of c.args.outcome) ≡ None) own (none_beyond o _ c.deref.ensures.value c.args.reach k c.args.call.pid c.stray_of.result c.stray_of.ensures caller.entry caller.held caller.runs c.in_default.is) in
+    rw p.1 (c.in_err-give.ensures.gives a caller fits)
 
 pub returns-in_err-give-clause-memory : goal.returns-in_err-give-clause-memory
-returns-in_err-give-clause-memory c = λ headers a e h runs is.
+returns-in_err-give-clause-memory c = λ headers a caller.
     let p = err_from_is_err_and c.from_residual.result c.from_residual.ensures.1 in
     let k = c.args.parts.now in
     rw p.1
-    (in_reach headers a (answered_in (physical_of headers a k) (ask_in a k e h c.args.call) (replies (given (ask_in a k e h c.args.call) c.args.outcome))) k c.give.new.self c.args.call.pid
-    c.args.reach (Err p.0) (c.in_err-give.ensures.memory a e h runs is))
+    (in_reach headers a (answered_in (physical_of headers a k) (asked_by a caller) (replies (given (asked_by a caller) c.args.outcome))) k c.give.new.self c.args.call.pid
+    c.args.reach (Err p.0) (c.in_err-give.ensures.memory a caller))
 
 pub returns-clause-serves : goal.returns-clause-serves
-returns-clause-serves c = λ own a e h runs is.
+returns-clause-serves c = λ own a caller.
     let k = c.args.parts.now in
     let o = c.args.outcome in
-    let fits = subst (λ (r : Reach). first_stray (writable r (length k.regions) h) (written_of o) ≡ None) own (none_beyond o _ c.deref.ensures.value c.args.reach k c.args.call.pid c.stray_of.result c.stray_of.ensures e h runs c.in_default.is) in
-    output_serves a k e h c.args.call runs is o c.give.new.self (c.in_ok-give.ensures.gives a e h runs is fits) c.requires.plain (room_by o _ c.deref-2.ensures.value k k refl c.args.call.sent.items c.has_room_with.result true c.has_room_with.ensures.room c.if-not-has_room_with.false)
+    let fits = subst (λ (r : Reach). first_stray (writable r (length k.regions) caller.held) (written_of o) ≡ None) own (none_beyond o _ c.deref.ensures.value c.args.reach k c.args.call.pid c.stray_of.result c.stray_of.ensures caller.entry caller.held caller.runs c.in_default.is) in
+    output_serves a k caller.entry caller.held c.args.call caller.runs caller.stands o c.give.new.self (c.in_ok-give.ensures.gives a caller fits) c.requires.plain (room_by o _ c.deref-2.ensures.value k k refl c.args.call.sent.items c.has_room_with.result true c.has_room_with.ensures.room c.if-not-has_room_with.false)
 
 pub returns-clause-memory : goal.returns-clause-memory
-returns-clause-memory c = λ headers a e h runs is.
+returns-clause-memory c = λ headers a caller.
     let k = c.args.parts.now in
     let regular = c.has_room_with.ensures.regular in
     let o = c.args.outcome in
-    in_reach headers a (answered_in (physical_of headers a k) (ask_in a k e h c.args.call) (replies (given (ask_in a k e h c.args.call) o))) k c.give.new.self c.args.call.pid c.args.reach (Ok Replied)
-    (given_serves_in headers a k e h c.args.call runs is o regular c.give.new.self (c.in_ok-give.ensures.memory a e h runs is) c.requires.plain (room_by o _ c.deref-2.ensures.value k k refl c.args.call.sent.items c.has_room_with.result true c.has_room_with.ensures.room c.if-not-has_room_with.false) c.in_ok-give.ensures.lives)
+    in_reach headers a (answered_in (physical_of headers a k) (asked_by a caller) (replies (given (asked_by a caller) o))) k c.give.new.self c.args.call.pid c.args.reach (Ok Replied)
+    (given_serves_in headers a k caller.entry caller.held c.args.call caller.runs caller.stands o regular c.give.new.self (c.in_ok-give.ensures.memory a caller) c.requires.plain (room_by o _ c.deref-2.ensures.value k k refl c.args.call.sent.items c.has_room_with.result true c.has_room_with.ensures.room c.if-not-has_room_with.false) c.in_ok-give.ensures.lives)
 
 -- ---- copies hold their file
 

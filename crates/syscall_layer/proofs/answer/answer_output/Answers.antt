@@ -6,31 +6,31 @@ use Rattle.machine_world.specs.Asks.{Row}
 use Rattle.machine_world.specs.Rows.{row}
 use Rattle.physical_turns.specs.Physical.{answered_in}
 use Rattle.kept_parts.specs.InMemory.{physical_of, InReach}
-use Rattle.kept_parts.specs.Calls.{ask_in}
+use Rattle.kept_parts.specs.Calls.{asked_by}
 use Rattle.kept_parts.proofs.Outcomes.{made_by, files_in, tree_in, output_answers}
 use Rattle.kept_parts.proofs.CallsIn.{in_reach}
 use Rattle.syscall_layer.proofs.answer.answer_output.Goals as goal
 
 pub returns-in_err-outcome-clause-memory : goal.returns-in_err-outcome-clause-memory
-returns-in_err-outcome-clause-memory c = λ headers a e h runs is.
+returns-in_err-outcome-clause-memory c = λ headers a caller.
     let p = err_from_is_err_and c.from_residual.result c.from_residual.ensures.1 in
     let k = c.args.parts.now in
-    rw p.1 (in_reach headers a (answered_in (physical_of headers a k) (ask_in a k e h c.args.call) (row (ask_in a k e h c.args.call))) k k c.args.call.pid c.args.reach (Err p.0) refl)
+    rw p.1 (in_reach headers a (answered_in (physical_of headers a k) (asked_by a caller) (row (asked_by a caller))) k k c.args.call.pid c.args.reach (Err p.0) refl)
 
 pub returns-clause-serves : goal.returns-clause-serves
-returns-clause-serves c = λ own a e h runs is.
+returns-clause-serves c = λ own a caller.
     let k = c.args.parts.now in
     let call = c.args.call in
     let o = c.in_ok-outcome.outcome in
-    let gives = c.in_ok-outcome.ensures.gives (ask_in a k e h call) (made_by a k e h call runs is)
-    (tree_in a k e h call refl) (files_in a k e h call refl) in
-    output_answers a k e h call runs is o c.answer_given.result c.answer_given.new.parts gives (c.answer_given.ensures.serves own a e h runs is)
+    let gives = c.in_ok-outcome.ensures.gives (asked_by a caller) (made_by a k caller.entry caller.held call caller.runs caller.stands)
+    (tree_in a k caller.entry caller.held call refl) (files_in a k caller.entry caller.held call refl) in
+    output_answers a k caller.entry caller.held call caller.runs caller.stands o c.answer_given.result c.answer_given.new.parts gives (c.answer_given.ensures.serves own a caller)
 
 pub returns-clause-memory : goal.returns-clause-memory
-returns-clause-memory c = λ headers a e h runs is.
+returns-clause-memory c = λ headers a caller.
     let k = c.args.parts.now in
     let call = c.args.call in
-    let gives = c.in_ok-outcome.ensures.gives (ask_in a k e h call) (made_by a k e h call runs is)
-    (tree_in a k e h call refl) (files_in a k e h call refl) in
-    subst (λ (r : Row). InReach c.args.reach headers a (answered_in (physical_of headers a k) (ask_in a k e h call) r) k c.answer_given.new.parts call.pid c.answer_given.result) (sym gives)
-    (c.answer_given.ensures.memory headers a e h runs is)
+    let gives = c.in_ok-outcome.ensures.gives (asked_by a caller) (made_by a k caller.entry caller.held call caller.runs caller.stands)
+    (tree_in a k caller.entry caller.held call refl) (files_in a k caller.entry caller.held call refl) in
+    subst (λ (r : Row). InReach c.args.reach headers a (answered_in (physical_of headers a k) (asked_by a caller) r) k c.answer_given.new.parts call.pid c.answer_given.result) (sym gives)
+    (c.answer_given.ensures.memory headers a caller)

@@ -31,14 +31,14 @@ invariant_of-parts c =
     )
 
 pub returns-clause-waits : goal.returns-clause-waits
-returns-clause-waits c = λ a e h runs is.
+returns-clause-waits c = λ a caller.
     let k = c.args.parts.now in
     let old = kept_of c.parts.inside in
     let pid = c.args.call.now.pid in
     let pipe = c.args.pipe in
-    subst (λ (x : Kept). Answered a (waited (world_of a k) (process_of e) (OnPipe pipe)) k x pid Waits)
+    subst (λ (x : Kept). Answered a (waited (world_of a k) (process_of caller.entry) (OnPipe pipe)) k x pid Waits)
     (ap (λ (x : Kept). record x { procs = with_wait_on x.procs pid pipe }) (sym c.parts.view_is) ∙ (λ i. record old { procs = sym c.wait_on.ensures i }))
-    (waits_serve a k pid e runs.lives (OnPipe pipe))
+    (waits_serve a k pid caller.entry caller.runs.lives (OnPipe pipe))
 
 pub returns-clause-leaves : goal.returns-clause-leaves
 returns-clause-leaves c =

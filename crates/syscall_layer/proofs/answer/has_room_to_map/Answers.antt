@@ -19,13 +19,13 @@ room_is c =
     c.room.ensures ∙ ap (room_beside k) cut ∙ many_beside k bytes ∙ ap (λ (x : Kept). room_beside x bytes) c.parts.view_is
 
 pub returns-clause-room : goal.returns-clause-room
-returns-clause-room c = λ a e h runs is reply rows.
+returns-clause-room c = λ a caller reply rows.
     let k = c.args.parts.now in
     let call = c.args.call.now in
     let regular = subst Regular c.parts.view_is c.parts.invariant.0.0 in
     room_is (goal.at.returns-clause-room c).After-room
-    ∙ ap (λ n. room_beside k (n + length call.sent.items)) (c.recorded_len.ensures a e h runs)
-    ∙ sym (room_mapped a k regular e h call runs is c.args.want c.requires.pages c.requires.known c.requires.asked reply rows)
+    ∙ ap (λ n. room_beside k (n + length call.sent.items)) (c.recorded_len.ensures a caller.entry caller.held caller.runs)
+    ∙ sym (room_mapped a k regular caller.entry caller.held call caller.runs caller.stands c.args.want c.requires.pages c.requires.known c.requires.asked reply rows)
 
 pub returns-clause-alone : goal.returns-clause-alone
 returns-clause-alone c = λ has.

@@ -13,31 +13,31 @@ use Rattle.syscall_layer.proofs.Leaves.{fork_leaves}
 use Rattle.syscall_layer.proofs.family.answer_clone.Goals as goal
 
 pub returns-then-call-ne-VFORK_FLAGS-clause-serves : goal.returns-then-call-ne-VFORK_FLAGS-clause-serves
-returns-then-call-ne-VFORK_FLAGS-clause-serves c = λ a e h runs is.
-    flags_serve a c.args.parts.now e h c.args.call is c.if-call-ne-VFORK_FLAGS.true c.refusal.result c.refusal.ensures c.answer_effect.new.parts c.answer_effect.result
-    (c.answer_effect.ensures.serves a e h runs is)
+returns-then-call-ne-VFORK_FLAGS-clause-serves c = λ a caller.
+    flags_serve a c.args.parts.now caller.entry caller.held c.args.call caller.stands c.if-call-ne-VFORK_FLAGS.true c.refusal.result c.refusal.ensures c.answer_effect.new.parts c.answer_effect.result
+    (c.answer_effect.ensures.serves a caller)
 
 pub returns-then-full-clause-serves : goal.returns-then-full-clause-serves
-returns-then-full-clause-serves c = λ a e h runs is.
+returns-then-full-clause-serves c = λ a caller.
     let many = ap (λ (x : Kept). nat_le most_entries (count x.procs)) (sym c.parts.view_is) ∙ sym c.full.ensures.full ∙ c.if-full.true in
-    full_serves a c.args.parts.now e h c.args.call is c.if-call-ne-VFORK_FLAGS.false many c.refusal-then-full.result c.refusal-then-full.ensures
-    c.answer_effect-then-full.new.parts c.answer_effect-then-full.result (c.answer_effect-then-full.ensures.serves a e h runs is)
+    full_serves a c.args.parts.now caller.entry caller.held c.args.call caller.stands c.if-call-ne-VFORK_FLAGS.false many c.refusal-then-full.result c.refusal-then-full.ensures
+    c.answer_effect-then-full.new.parts c.answer_effect-then-full.result (c.answer_effect-then-full.ensures.serves a caller)
 
 pub returns-then-not-has_room-clause-serves : goal.returns-then-not-has_room-clause-serves
-returns-then-not-has_room-clause-serves c = λ a e h runs is.
+returns-then-not-has_room-clause-serves c = λ a caller.
     let k = c.args.parts.now in
     let call = c.args.call in
     let few = ap (λ (x : Kept). nat_le most_entries (count x.procs)) (sym c.parts.view_is) ∙ sym c.full.ensures.full ∙ c.if-full.false in
-    fork_has_no_room a k e h call is c.if-call-ne-VFORK_FLAGS.false few
+    fork_has_no_room a k caller.entry caller.held call caller.stands c.if-call-ne-VFORK_FLAGS.false few
     (sym c.has_room.ensures.room ∙ c.if-not-has_room.true)
 
 pub returns-clause-serves : goal.returns-clause-serves
-returns-clause-serves c = λ a e h runs is.
+returns-clause-serves c = λ a caller.
     let k = c.args.parts.now in
     let call = c.args.call in
     let few = ap (λ (x : Kept). nat_le most_entries (count x.procs)) (sym c.parts.view_is) ∙ sym c.full.ensures.full ∙ c.if-full.false in
     let room = sym c.has_room.ensures.room ∙ c.if-not-has_room.false in
-    fork_serves a k e h call is c.if-call-ne-VFORK_FLAGS.false few (subst IsRegular c.parts.view_is c.parts.invariant.0).0 runs.lives room c.fork.new.self (c.in_ok-fork.ensures.forks e h runs)
+    fork_serves a k caller.entry caller.held call caller.stands c.if-call-ne-VFORK_FLAGS.false few (subst IsRegular c.parts.view_is c.parts.invariant.0).0 caller.runs.lives room c.fork.new.self (c.in_ok-fork.ensures.forks caller.entry caller.held caller.runs)
 
 pub returns-clause-leaves : goal.returns-clause-leaves
 returns-clause-leaves c =

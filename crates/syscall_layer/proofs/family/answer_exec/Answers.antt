@@ -22,21 +22,21 @@ use Rattle.syscall_layer.proofs.family.answer_exec.Goals.{After-program_strings,
 use Rattle.syscall_layer.proofs.family.answer_exec.Goals as goal
 
 pub returns-in_default-clause-serves : goal.returns-in_default-clause-serves
-returns-in_default-clause-serves g c = λ a kind flats e h runs is.
+returns-in_default-clause-serves g c = λ a kind flats caller.
     let none : has_zero c.args.call.sent.items ≡ false = ap has_zero (sym c.deref.ensures.value) ∙ c.in_default.ensures in
-    by_refusal a c.args.parts.now e h c.args.call is c.answer_effect.new.parts c.answer_effect.result Enametoolong c.refusal.result c.refusal.ensures
-    (no_path a c.args.parts.now e h c.args.call is none) (c.answer_effect.ensures.serves a e h runs is)
+    by_refusal a c.args.parts.now caller.entry caller.held c.args.call caller.stands c.answer_effect.new.parts c.answer_effect.result Enametoolong c.refusal.result c.refusal.ensures
+    (no_path a c.args.parts.now caller.entry caller.held c.args.call caller.stands none) (c.answer_effect.ensures.serves a caller)
 
 zero_there : (g : Over) (c : After-program_strings g) → has_zero c.args.call.sent.items ≡ true
 zero_there g c = ap has_zero (sym c.deref.ensures.value) ∙ c.in-Some.ensures.0
 
 pub returns-in_default-2-clause-serves : goal.returns-in_default-2-clause-serves
-returns-in_default-2-clause-serves g c = λ a kind flats e h runs is.
+returns-in_default-2-clause-serves g c = λ a kind flats caller.
     let at = (goal.at.returns-in_default-2-clause-serves g c).After-program_strings in
     let call = c.args.call in
     let none : None ≡ program_strings call.sent.items (slice_index call.args 1) (slice_index call.args 2) = search rules in
-    by_refusal a c.args.parts.now e h call is c.answer_effect-in_default-2.new.parts c.answer_effect-in_default-2.result E2big c.refusal-in_default-2.result c.refusal-in_default-2.ensures
-    (no_strings a c.args.parts.now e h call is (zero_there g at) none) (c.answer_effect-in_default-2.ensures.serves a e h runs is)
+    by_refusal a c.args.parts.now caller.entry caller.held call caller.stands c.answer_effect-in_default-2.new.parts c.answer_effect-in_default-2.result E2big c.refusal-in_default-2.result c.refusal-in_default-2.ensures
+    (no_strings a c.args.parts.now caller.entry caller.held call caller.stands (zero_there g at) none) (c.answer_effect-in_default-2.ensures.serves a caller)
 
 -- ---- with its strings
 
@@ -53,91 +53,91 @@ marked : (g : Over) (c : After-program_at g) → c.program_at.result ≡ mark_at
 marked g c = c.program_at.ensures ∙ ap (λ (k : Kept). mark_at k.tree (lookup k.tree c.in-Some.path.now)) c.parts.view_is
 
 pub returns-in-Err-clause-serves : goal.returns-in-Err-clause-serves
-returns-in-Err-clause-serves g c = λ a kind flats e h runs is.
+returns-in-Err-clause-serves g c = λ a kind flats caller.
     let at = (goal.at.returns-in-Err-clause-serves g c).After-program_at in
     let zero = zero_there g (goal.at.returns-in-Err-clause-serves g c).After-program_strings in
     let k = c.args.parts.now in
     let call = c.args.call in
-    by_refusal a k e h call is c.answer_effect-in-Err.new.parts c.answer_effect-in-Err.result c.in-Err.errno c.refusal-in-Err.result c.refusal-in-Err.ensures
-    (no_program a k e h call is zero (strings g at) (strings_are g at) c.in-Some.path.now (path_is g at) c.in-Err.errno (sym (marked g at) ∙ c.in-Err.is))
-    (c.answer_effect-in-Err.ensures.serves a e h runs is)
+    by_refusal a k caller.entry caller.held call caller.stands c.answer_effect-in-Err.new.parts c.answer_effect-in-Err.result c.in-Err.errno c.refusal-in-Err.result c.refusal-in-Err.ensures
+    (no_program a k caller.entry caller.held call caller.stands zero (strings g at) (strings_are g at) c.in-Some.path.now (path_is g at) c.in-Err.errno (sym (marked g at) ∙ c.in-Err.is))
+    (c.answer_effect-in-Err.ensures.serves a caller)
 
 pub returns-in_default-get-clause-serves : goal.returns-in_default-get-clause-serves
-returns-in_default-get-clause-serves g c = λ a kind flats e h runs is.
+returns-in_default-get-clause-serves g c = λ a kind flats caller.
     let at = (goal.at.returns-in_default-get-clause-serves g c).After-program_at in
     let zero = zero_there g (goal.at.returns-in_default-get-clause-serves g c).After-program_strings in
     let past : length c.args.programs.now ≤ c.in-Ok.index = let e = c.in_default-get.ensures.lookup.0 in grind (arith, nat_tests, e) in
     let k = c.args.parts.now in
     let call = c.args.call in
-    by_refusal a k e h call is c.answer_effect-in_default-get.new.parts c.answer_effect-in_default-get.result Eacces c.refusal-in_default-get.result c.refusal-in_default-get.ensures
-    (no_flat a k e h call is zero (strings g at) (strings_are g at) c.in-Some.path.now (path_is g at) c.in-Ok.index (sym (marked g at) ∙ c.in-Ok.is)
+    by_refusal a k caller.entry caller.held call caller.stands c.answer_effect-in_default-get.new.parts c.answer_effect-in_default-get.result Eacces c.refusal-in_default-get.result c.refusal-in_default-get.ensures
+    (no_flat a k caller.entry caller.held call caller.stands zero (strings g at) (strings_are g at) c.in-Some.path.now (path_is g at) c.in-Ok.index (sym (marked g at) ∙ c.in-Ok.is)
     c.args.programs.now flats (slice_get_past c.args.programs.now c.in-Ok.index past))
-    (c.answer_effect-in_default-get.ensures.serves a e h runs is)
+    (c.answer_effect-in_default-get.ensures.serves a caller)
 
 pub returns-then-not-has_room-clause-serves : goal.returns-then-not-has_room-clause-serves
-returns-then-not-has_room-clause-serves g c = λ a kind flats e h runs is.
+returns-then-not-has_room-clause-serves g c = λ a kind flats caller.
     let k = c.args.parts.now in
     let call = c.args.call in
-    exec_full a k e h call is runs (sym c.has_room.ensures.room ∙ c.if-not-has_room.true)
+    exec_full a k caller.entry caller.held call caller.stands caller.runs (sym c.has_room.ensures.room ∙ c.if-not-has_room.true)
 
 pub returns-clause-serves : goal.returns-clause-serves
-returns-clause-serves g c = λ a kind flats e h runs is.
+returns-clause-serves g c = λ a kind flats caller.
     let at = (goal.at.returns-clause-serves g c).After-program_at in
     let zero = zero_there g (goal.at.returns-clause-serves g c).After-program_strings in
     let below : c.in-Ok.index < length c.args.programs.now = let e = c.in-Some-get.ensures.lookup.0 in grind (arith, nat_tests, e) in
     let k = c.args.parts.now in
     let call = c.args.call in
-    by_outcome a k e h call is c.exec.new.self c.exec.result _
-    (runs_flat a k e h call is zero (strings g at) (strings_are g at) c.in-Some.path.now (path_is g at) c.in-Ok.index (sym (marked g at) ∙ c.in-Ok.is)
+    by_outcome a k caller.entry caller.held call caller.stands c.exec.new.self c.exec.result _
+    (runs_flat a k caller.entry caller.held call caller.stands zero (strings g at) (strings_are g at) c.in-Some.path.now (path_is g at) c.in-Ok.index (sym (marked g at) ∙ c.in-Ok.is)
     c.args.programs.now flats c.in-Some-get.flat.now
     (slice_get_read c.args.programs.now (length c.args.programs.now) c.in-Ok.index c.in-Some-get.flat.now refl below c.in-Some-get.ensures.lookup.1))
-    (c.exec.ensures.serves a kind e h runs is)
+    (c.exec.ensures.serves a kind caller)
 
 pub returns-in_default-clause-memory : goal.returns-in_default-clause-memory
-returns-in_default-clause-memory g c = λ a kind flats e h runs is.
+returns-in_default-clause-memory g c = λ a kind flats caller.
     let none : has_zero c.args.call.sent.items ≡ false = ap has_zero (sym c.deref.ensures.value) ∙ c.in_default.ensures in
-    by_refusal_in (headers_of c.args.programs.now) a c.args.parts.now e h c.args.call c.answer_effect.new.parts c.answer_effect.result Enametoolong c.refusal.result c.refusal.ensures
-    (no_path a c.args.parts.now e h c.args.call is none) c.answer_effect.ensures.memory (c.answer_effect.ensures.serves a e h runs is)
+    by_refusal_in (headers_of c.args.programs.now) a c.args.parts.now caller.entry caller.held c.args.call c.answer_effect.new.parts c.answer_effect.result Enametoolong c.refusal.result c.refusal.ensures
+    (no_path a c.args.parts.now caller.entry caller.held c.args.call caller.stands none) c.answer_effect.ensures.memory (c.answer_effect.ensures.serves a caller)
 
 pub returns-in_default-2-clause-memory : goal.returns-in_default-2-clause-memory
-returns-in_default-2-clause-memory g c = λ a kind flats e h runs is.
+returns-in_default-2-clause-memory g c = λ a kind flats caller.
     let at = (goal.at.returns-in_default-2-clause-memory g c).After-program_strings in
     let call = c.args.call in
     let none : None ≡ program_strings call.sent.items (slice_index call.args 1) (slice_index call.args 2) = search rules in
-    by_refusal_in (headers_of c.args.programs.now) a c.args.parts.now e h call c.answer_effect-in_default-2.new.parts c.answer_effect-in_default-2.result E2big c.refusal-in_default-2.result c.refusal-in_default-2.ensures
-    (no_strings a c.args.parts.now e h call is (zero_there g at) none) c.answer_effect-in_default-2.ensures.memory (c.answer_effect-in_default-2.ensures.serves a e h runs is)
+    by_refusal_in (headers_of c.args.programs.now) a c.args.parts.now caller.entry caller.held call c.answer_effect-in_default-2.new.parts c.answer_effect-in_default-2.result E2big c.refusal-in_default-2.result c.refusal-in_default-2.ensures
+    (no_strings a c.args.parts.now caller.entry caller.held call caller.stands (zero_there g at) none) c.answer_effect-in_default-2.ensures.memory (c.answer_effect-in_default-2.ensures.serves a caller)
 
 pub returns-in-Err-clause-memory : goal.returns-in-Err-clause-memory
-returns-in-Err-clause-memory g c = λ a kind flats e h runs is.
+returns-in-Err-clause-memory g c = λ a kind flats caller.
     let at = (goal.at.returns-in-Err-clause-memory g c).After-program_at in
     let zero = zero_there g (goal.at.returns-in-Err-clause-memory g c).After-program_strings in
     let k = c.args.parts.now in
     let call = c.args.call in
-    by_refusal_in (headers_of c.args.programs.now) a k e h call c.answer_effect-in-Err.new.parts c.answer_effect-in-Err.result c.in-Err.errno c.refusal-in-Err.result c.refusal-in-Err.ensures
-    (no_program a k e h call is zero (strings g at) (strings_are g at) c.in-Some.path.now (path_is g at) c.in-Err.errno (sym (marked g at) ∙ c.in-Err.is))
-    c.answer_effect-in-Err.ensures.memory (c.answer_effect-in-Err.ensures.serves a e h runs is)
+    by_refusal_in (headers_of c.args.programs.now) a k caller.entry caller.held call c.answer_effect-in-Err.new.parts c.answer_effect-in-Err.result c.in-Err.errno c.refusal-in-Err.result c.refusal-in-Err.ensures
+    (no_program a k caller.entry caller.held call caller.stands zero (strings g at) (strings_are g at) c.in-Some.path.now (path_is g at) c.in-Err.errno (sym (marked g at) ∙ c.in-Err.is))
+    c.answer_effect-in-Err.ensures.memory (c.answer_effect-in-Err.ensures.serves a caller)
 
 pub returns-in_default-get-clause-memory : goal.returns-in_default-get-clause-memory
-returns-in_default-get-clause-memory g c = λ a kind flats e h runs is.
+returns-in_default-get-clause-memory g c = λ a kind flats caller.
     let at = (goal.at.returns-in_default-get-clause-memory g c).After-program_at in
     let zero = zero_there g (goal.at.returns-in_default-get-clause-memory g c).After-program_strings in
     let past : length c.args.programs.now ≤ c.in-Ok.index = let e = c.in_default-get.ensures.lookup.0 in grind (arith, nat_tests, e) in
     let k = c.args.parts.now in
     let call = c.args.call in
-    by_refusal_in (headers_of c.args.programs.now) a k e h call c.answer_effect-in_default-get.new.parts c.answer_effect-in_default-get.result Eacces c.refusal-in_default-get.result c.refusal-in_default-get.ensures
-    (no_flat a k e h call is zero (strings g at) (strings_are g at) c.in-Some.path.now (path_is g at) c.in-Ok.index (sym (marked g at) ∙ c.in-Ok.is)
+    by_refusal_in (headers_of c.args.programs.now) a k caller.entry caller.held call c.answer_effect-in_default-get.new.parts c.answer_effect-in_default-get.result Eacces c.refusal-in_default-get.result c.refusal-in_default-get.ensures
+    (no_flat a k caller.entry caller.held call caller.stands zero (strings g at) (strings_are g at) c.in-Some.path.now (path_is g at) c.in-Ok.index (sym (marked g at) ∙ c.in-Ok.is)
     c.args.programs.now flats (slice_get_past c.args.programs.now c.in-Ok.index past))
-    c.answer_effect-in_default-get.ensures.memory (c.answer_effect-in_default-get.ensures.serves a e h runs is)
+    c.answer_effect-in_default-get.ensures.memory (c.answer_effect-in_default-get.ensures.serves a caller)
 
 pub returns-then-not-has_room-clause-memory : goal.returns-then-not-has_room-clause-memory
-returns-then-not-has_room-clause-memory g c = λ a kind flats e h runs is.
+returns-then-not-has_room-clause-memory g c = λ a kind flats caller.
     let k = c.args.parts.now in
     let call = c.args.call in
     full_in (headers_of c.args.programs.now) a k call.pid _
-    (exec_full a k e h call is runs (sym c.has_room.ensures.room ∙ c.if-not-has_room.true))
+    (exec_full a k caller.entry caller.held call caller.stands caller.runs (sym c.has_room.ensures.room ∙ c.if-not-has_room.true))
 
 pub returns-clause-memory : goal.returns-clause-memory
-returns-clause-memory g c = λ a kind flats e h runs is.
+returns-clause-memory g c = λ a kind flats caller.
     let at = (goal.at.returns-clause-memory g c).After-program_at in
     let zero = zero_there g (goal.at.returns-clause-memory g c).After-program_strings in
     let programs = c.args.programs.now in
@@ -147,9 +147,9 @@ returns-clause-memory g c = λ a kind flats e h runs is.
     let there : slice_get programs index ≡ Some flat = slice_get_read programs (length programs) index flat refl below c.in-Some-get.ensures.lookup.1 in
     let k = c.args.parts.now in
     let call = c.args.call in
-    by_outcome_in (headers_of programs) a k e h call c.exec.new.self c.exec.result _
-    (runs_flat a k e h call is zero (strings g at) (strings_are g at) c.in-Some.path.now (path_is g at) index (sym (marked g at) ∙ c.in-Ok.is) programs flats flat there)
-    (c.exec.ensures.memory (headers_of programs) a kind (header_listed programs index flat there) e h runs is)
+    by_outcome_in (headers_of programs) a k caller.entry caller.held call c.exec.new.self c.exec.result _
+    (runs_flat a k caller.entry caller.held call caller.stands zero (strings g at) (strings_are g at) c.in-Some.path.now (path_is g at) index (sym (marked g at) ∙ c.in-Ok.is) programs flats flat there)
+    (c.exec.ensures.memory (headers_of programs) a kind (header_listed programs index flat there) caller)
 
 -- ---- what each answer leaves
 

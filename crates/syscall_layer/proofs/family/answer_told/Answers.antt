@@ -16,7 +16,7 @@ use Rattle.call_bytes.specs.Puts.{IsRange}
 use Rattle.physical_turns.specs.Physical.{answered_in, reaped_in}
 use Rattle.kept_parts.specs.InMemory.{physical_of, InReach}
 use Rattle.kept_parts.specs.Serves.{Answered, Tells}
-use Rattle.kept_parts.specs.Calls.{ask_in, given}
+use Rattle.kept_parts.specs.Calls.{asked_by, given}
 use Rattle.kept_parts.proofs.CallsIn.{in_reach}
 use Rattle.kept_parts.proofs.Holding.{holds_inside}
 use Rattle.kept_parts.proofs.GivenMemory.{is_unchanged}
@@ -28,23 +28,23 @@ pub answer_given-requires-clause-ranges : goal.answer_given-requires-clause-rang
 answer_given-requires-clause-ranges c = subst (All IsRange) (sym c.in_ok-outcome.ensures.got) (info_ranges _ c.args.told)
 
 pub returns-in_err-outcome-clause-memory : goal.returns-in_err-outcome-clause-memory
-returns-in_err-outcome-clause-memory c = λ headers a e h runs is.
+returns-in_err-outcome-clause-memory c = λ headers a caller.
     let p = err_from_is_err_and c.from_residual.result c.from_residual.ensures.1 in
     let k = c.args.parts.now in
-    rw p.1 (in_reach headers a (reaped_in (physical_of headers a k) (ask_in a k e h c.args.call) c.args.who (Ok c.args.told)) k k c.args.call.pid c.args.reach (Err p.0) refl)
+    rw p.1 (in_reach headers a (reaped_in (physical_of headers a k) (asked_by a caller) c.args.who (Ok c.args.told)) k k c.args.call.pid c.args.reach (Err p.0) refl)
 
 pub returns-in_err-served-clause-serves : goal.returns-in_err-served-clause-serves
-returns-in_err-served-clause-serves c = λ own a e h runs is.
+returns-in_err-served-clause-serves c = λ own a caller.
     let p = err_from_is_err_and c.from_residual-in_err-served.result c.from_residual-in_err-served.ensures.1 in
-    rw p.1 (c.in_err-served.ensures.serves own a e h runs is)
+    rw p.1 (c.in_err-served.ensures.serves own a caller)
 
 pub returns-in_err-served-clause-memory : goal.returns-in_err-served-clause-memory
-returns-in_err-served-clause-memory c = λ headers a e h runs is.
+returns-in_err-served-clause-memory c = λ headers a caller.
     let p = err_from_is_err_and c.from_residual-in_err-served.result c.from_residual-in_err-served.ensures.1 in
     let k = c.args.parts.now in
-    let ask = ask_in a k e h c.args.call in
+    let ask = asked_by a caller in
     let same = is_unchanged headers a (answered_in (physical_of headers a k) ask (replies (given ask c.in_ok-outcome.outcome))) k c.answer_given.new.parts c.args.call.pid c.args.reach _
-    (c.in_err-served.ensures.memory headers a e h runs is) in
+    (c.in_err-served.ensures.memory headers a caller) in
     rw p.1 (in_reach headers a (reaped_in (physical_of headers a k) ask c.args.who (Ok c.args.told)) k c.answer_given.new.parts c.args.call.pid c.args.reach (Err p.0) same)
 
 pub invariant_of-parts : goal.invariant_of-parts
@@ -59,50 +59,50 @@ invariant_of-parts c =
     )
 
 pub returns-in-Replied-clause-serves : goal.returns-in-Replied-clause-serves
-returns-in-Replied-clause-serves c = λ own a e h runs is.
+returns-in-Replied-clause-serves c = λ own a caller.
     let k = c.args.parts.now in
     let mid = kept_of c.parts-2.inside in
     let pid = c.args.call.pid in
     let o = c.in_ok-outcome.ensures in
-    let gave = λ (now : Kept) (s : Served). Answered a (answered (world_of a k) (ask_in a k e h c.args.call) (replies (given (ask_in a k e h c.args.call) c.in_ok-outcome.outcome))) k now pid s in
-    let tells = λ (now : Kept) (s : Served). Answered a (reaped (world_of a k) (ask_in a k e h c.args.call) c.args.who (Ok c.args.told)) k now pid s in
-    let served = subst (λ (now : Kept). gave now Replied) (sym c.parts-2.view_is) (subst (gave c.answer_given.new.parts) c.in-Replied.is (c.in_ok-served.ensures.serves own a e h runs is)) in
+    let gave = λ (now : Kept) (s : Served). Answered a (answered (world_of a k) (asked_by a caller) (replies (given (asked_by a caller) c.in_ok-outcome.outcome))) k now pid s in
+    let tells = λ (now : Kept) (s : Served). Answered a (reaped (world_of a k) (asked_by a caller) c.args.who (Ok c.args.told)) k now pid s in
+    let served = subst (λ (now : Kept). gave now Replied) (sym c.parts-2.view_is) (subst (gave c.answer_given.new.parts) c.in-Replied.is (c.in_ok-served.ensures.serves own a caller)) in
     subst (λ (s : Listed Task). tells (record mid { procs = s }) c.in_ok-served.served) (sym c.wait.ensures.after)
     (subst (tells _) (sym c.in-Replied.is)
-    (told_serves a k e h c.args.call is c.args.who c.args.told c.in_ok-outcome.outcome c.requires.told o.value o.got o.nothing mid c.wait.result c.wait.ensures.answer served))
+    (told_serves a k caller.entry caller.held c.args.call caller.stands c.args.who c.args.told c.in_ok-outcome.outcome c.requires.told o.value o.got o.nothing mid c.wait.result c.wait.ensures.answer served))
 
 pub returns-in-Replied-clause-memory : goal.returns-in-Replied-clause-memory
-returns-in-Replied-clause-memory c = λ headers a e h runs is.
+returns-in-Replied-clause-memory c = λ headers a caller.
     let k = c.args.parts.now in
     let mid = kept_of c.parts-2.inside in
     let pid = c.args.call.pid in
     let o = c.in_ok-outcome.ensures in
-    let ask = ask_in a k e h c.args.call in
+    let ask = asked_by a caller in
     let first = physical_of headers a k in
     let gives = answered_in first ask (replies (given ask c.in_ok-outcome.outcome)) in
     let tells = reaped_in first ask c.args.who (Ok c.args.told) in
     let served = subst (λ (now : Kept). InReach c.args.reach headers a gives k now pid (Ok Replied)) (sym c.parts-2.view_is)
-    (subst (λ (s : Served). InReach c.args.reach headers a gives k c.answer_given.new.parts pid (Ok s)) c.in-Replied.is (c.in_ok-served.ensures.memory headers a e h runs is)) in
+    (subst (λ (s : Served). InReach c.args.reach headers a gives k c.answer_given.new.parts pid (Ok s)) c.in-Replied.is (c.in_ok-served.ensures.memory headers a caller)) in
     subst (λ (s : Listed Task). InReach c.args.reach headers a tells k (record mid { procs = s }) pid (Ok c.in_ok-served.served)) (sym c.wait.ensures.after)
     (subst (λ (s : Served). InReach c.args.reach headers a tells k (record mid { procs = with_wait mid.procs pid c.args.who c.wait.result }) pid (Ok s)) (sym c.in-Replied.is)
     (reach_goes headers a gives tells k mid (record mid { procs = with_wait mid.procs pid c.args.who c.wait.result }) pid c.args.reach Replied
-    (told_goes headers a k e h c.args.call is c.args.who c.args.told c.in_ok-outcome.outcome c.requires.told o.value o.got o.nothing mid c.wait.result c.wait.ensures.answer) served))
+    (told_goes headers a k caller.entry caller.held c.args.call caller.stands c.args.who c.args.told c.in_ok-outcome.outcome c.requires.told o.value o.got o.nothing mid c.wait.result c.wait.ensures.answer) served))
 
 pub returns-in_default-clause-serves : goal.returns-in_default-clause-serves
-returns-in_default-clause-serves c = λ own a e h runs is.
+returns-in_default-clause-serves c = λ own a caller.
     let o = c.in_ok-outcome.ensures in
-    untold_serves a c.args.parts.now e h c.args.call is c.args.who c.args.told c.in_ok-outcome.outcome c.requires.told o.value o.got o.nothing
-    c.answer_given.new.parts c.in_ok-served.served c.in_default.not-Replied (c.in_ok-served.ensures.serves own a e h runs is)
+    untold_serves a c.args.parts.now caller.entry caller.held c.args.call caller.stands c.args.who c.args.told c.in_ok-outcome.outcome c.requires.told o.value o.got o.nothing
+    c.answer_given.new.parts c.in_ok-served.served c.in_default.not-Replied (c.in_ok-served.ensures.serves own a caller)
 
 pub returns-in_default-clause-memory : goal.returns-in_default-clause-memory
-returns-in_default-clause-memory c = λ headers a e h runs is.
+returns-in_default-clause-memory c = λ headers a caller.
     let k = c.args.parts.now in
     let o = c.in_ok-outcome.ensures in
-    let ask = ask_in a k e h c.args.call in
+    let ask = asked_by a caller in
     reach_goes headers a (answered_in (physical_of headers a k) ask (replies (given ask c.in_ok-outcome.outcome))) (reaped_in (physical_of headers a k) ask c.args.who (Ok c.args.told)) k
     c.answer_given.new.parts c.answer_given.new.parts c.args.call.pid c.args.reach c.in_ok-served.served
-    (untold_goes headers a k e h c.args.call is c.args.who c.args.told c.in_ok-outcome.outcome c.requires.told o.value o.got o.nothing
-    c.answer_given.new.parts c.in_ok-served.served c.in_default.not-Replied) (c.in_ok-served.ensures.memory headers a e h runs is)
+    (untold_goes headers a k caller.entry caller.held c.args.call caller.stands c.args.who c.args.told c.in_ok-outcome.outcome c.requires.told o.value o.got o.nothing
+    c.answer_given.new.parts c.in_ok-served.served c.in_default.not-Replied) (c.in_ok-served.ensures.memory headers a caller)
 
 pub returns-in-Replied-clause-leaves : goal.returns-in-Replied-clause-leaves
 returns-in-Replied-clause-leaves c =

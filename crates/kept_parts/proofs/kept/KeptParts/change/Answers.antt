@@ -10,7 +10,7 @@ use Rattle.machine_world.specs.Rows.{row}
 use Rattle.kept_parts.specs.Kept.{Kept}
 use Rattle.kept_parts.specs.Inside.{kept_of}
 use Rattle.kept_parts.specs.Regular.{IsRegular}
-use Rattle.kept_parts.specs.Calls.{RunsIn, IsCall, ask_in, noted_call, Changed, Changes}
+use Rattle.kept_parts.specs.Calls.{noted_call, Changed, Changes, Caller, asked_by}
 use Rattle.kept_parts.specs.declared.task.Task.{Task}
 use Rattle.kept_parts.specs.Recorded.{event_recorded}
 use Rattle.kept_parts.proofs.Recorded.{room_inside, room_left}
@@ -53,13 +53,13 @@ pub returns-in_err-value-clause-holds : goal.returns-in_err-value-clause-holds
 returns-in_err-value-clause-holds c = holds_inside (left c) c.args.self.now (sym (stays c) ∙ c.self.view_is)
 
 pub returns-in_err-value-clause-changes : goal.returns-in_err-value-clause-changes
-returns-in_err-value-clause-changes c = λ a e h.
+returns-in_err-value-clause-changes c = λ a.
     let k = kept_of c.self.inside in
     let call = c.args.call in
     let p = err_from_is_err_and c.from_residual-in_err-value.result c.from_residual-in_err-value.ensures.1 in
-    subst (λ (old : Kept). RunsIn old call.pid e h → IsCall e call → Changes a old e h call (row (ask_in a old e h call)) (left c) c.from_residual-in_err-value.result) c.self.view_is
-    (λ runs is.
-    let same = rw (← c.in_err-value.ensures.same) at (c.change-changed.ensures.changes (ask_in a k e h call) (made_by a k e h call runs is) (is_rest a k e h call runs is c.self.inside.files refl)) in
+    subst (λ (old : Kept). (caller : Caller old call) → Changes a old caller.entry caller.held call (row (asked_by a caller)) (left c) c.from_residual-in_err-value.result) c.self.view_is
+    (λ caller.
+    let same = rw (← c.in_err-value.ensures.same) at (c.change-changed.ensures.changes (asked_by a caller) (made_by a k caller.entry caller.held call caller.runs caller.stands) (is_rest a k caller.entry caller.held call caller.runs caller.stands c.self.inside.files refl)) in
     rw p.1 (λ i. record k { tree = same.0 i; files = same.1 i; console = same.2 i; notes = (c.or_unreserve.ensures.notes ∙ c.reserve.ensures.same) i }))
 
 pub invariant_of-self-2 : goal.invariant_of-self-2
@@ -81,15 +81,15 @@ invariant_of-self-2 c =
     )
 
 pub returns-clause-changes : goal.returns-clause-changes
-returns-clause-changes c = λ a e h.
+returns-clause-changes c = λ a.
     let k = kept_of c.self.inside in
     let call = c.args.call in
     let noted = c.finish.ensures.notes
     ∙ (λ i. noted_call call c.in_ok-value.value (map written_value (c.new-got.ensures.items i)) ∷ (c.or_unreserve.ensures.notes ∙ c.reserve.ensures.same) i) in
-    subst (λ (old : Kept). RunsIn old call.pid e h → IsCall e call → Changed a old e h call (row (ask_in a old e h call)) (new_parts c)) c.self.view_is
-    (λ runs is. changed_by a k e h call runs is c.change-changed.new.tree c.change-changed.new.files.open_files c.change-changed.new.console.items c.in_ok-value.value c.finish.new.procs c.finish.new.log.notes c.pass.new.self
-    (rw (← c.in_ok-value.ensures.same) at (c.change-changed.ensures.changes (ask_in a k e h call) (made_by a k e h call runs is) (is_rest a k e h call runs is c.self.inside.files refl)))
-    c.finish.ensures.procs noted (c.pass.ensures ∙ ap (λ (t : Task). event_recorded k.recording t.space) (value_found k.procs call.pid e runs.lives c.get.result.now c.get.ensures)) (maps_none_changed call c.requires.change))
+    subst (λ (old : Kept). (caller : Caller old call) → Changed a old caller.entry caller.held call (row (asked_by a caller)) (new_parts c)) c.self.view_is
+    (λ caller. changed_by a k caller.entry caller.held call caller.runs caller.stands c.change-changed.new.tree c.change-changed.new.files.open_files c.change-changed.new.console.items c.in_ok-value.value c.finish.new.procs c.finish.new.log.notes c.pass.new.self
+    (rw (← c.in_ok-value.ensures.same) at (c.change-changed.ensures.changes (asked_by a caller) (made_by a k caller.entry caller.held call caller.runs caller.stands) (is_rest a k caller.entry caller.held call caller.runs caller.stands c.self.inside.files refl)))
+    c.finish.ensures.procs noted (c.pass.ensures ∙ ap (λ (t : Task). event_recorded k.recording t.space) (value_found k.procs call.pid caller.entry caller.runs.lives c.get.result.now c.get.ensures)) (maps_none_changed call c.requires.change))
 
 pub returns-clause-holds : goal.returns-clause-holds
 returns-clause-holds c = λ holds.

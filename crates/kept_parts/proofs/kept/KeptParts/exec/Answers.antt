@@ -100,7 +100,7 @@ returns-then-not-lent-clause-serves g c =
     let kind = kind_of c.args.chooser.now in
     subst (λ (old : Kept). ExecServes kind c.args.index c.args.flat.now (texts c.args.strings.args.items) (texts c.args.strings.env.items) c.args.call old c.give_up.new.self (Ok Replied))
     c.self.view_is
-    (λ a same e h runs is. serves_own k (new_parts g at.After-note_exec) c.self.invariant.0.0 c.args.call c.get-task.result.now kind c.args.index c.args.flat.now _ _ (begun g at.After-note_exec) a same e h runs is
+    (λ a same caller. serves_own k (new_parts g at.After-note_exec) c.self.invariant.0.0 c.args.call c.get-task.result.now kind c.args.index c.args.flat.now _ _ (begun g at.After-note_exec) a same caller.entry caller.held caller.runs caller.stands
     (room_in g at.After-load-loaded) c.give_up.new.self c.give_up.ensures.goes (sym c.borrows-lent.ensures ∙ c.if-not-lent.true))
 
 pub returns-else-not-lent-clause-serves : goal.returns-else-not-lent-clause-serves
@@ -110,7 +110,7 @@ returns-else-not-lent-clause-serves g c =
     let kind = kind_of c.args.chooser.now in
     subst (λ (old : Kept). ExecServes kind c.args.index c.args.flat.now (texts c.args.strings.args.items) (texts c.args.strings.env.items) c.args.call old (new_parts g at.After-note_exec) (Ok Replied))
     c.self.view_is
-    (λ a same e h runs is. serves_lent k (new_parts g at.After-note_exec) c.self.invariant.0.0 c.args.call c.get-task.result.now kind c.args.index c.args.flat.now _ _ (begun g at.After-note_exec) a same e h runs is
+    (λ a same caller. serves_lent k (new_parts g at.After-note_exec) c.self.invariant.0.0 c.args.call c.get-task.result.now kind c.args.index c.args.flat.now _ _ (begun g at.After-note_exec) a same caller.entry caller.held caller.runs caller.stands
     (room_in g at.After-load-loaded) (sym c.borrows-lent.ensures ∙ c.if-not-lent.false))
 
 pub returns-then-not-lent-clause-memory : goal.returns-then-not-lent-clause-memory

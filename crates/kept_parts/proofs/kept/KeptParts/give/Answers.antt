@@ -14,7 +14,7 @@ use Rattle.kept_parts.specs.Kept.{Kept}
 use Rattle.kept_parts.specs.Inside.{kept_of}
 use Rattle.call_bytes.specs.Puts.{first_stray}
 use Rattle.region_watch.specs.Private.{in_pages}
-use Rattle.kept_parts.specs.Calls.{RunsIn, IsCall, noted_call, Gave, GaveIn}
+use Rattle.kept_parts.specs.Calls.{RunsIn, noted_call, Gave, GaveIn, Caller}
 use Rattle.kept_parts.specs.declared.task.Task.{Task}
 use Rattle.kept_parts.specs.Recorded.{event_recorded, room_beside}
 use Rattle.kept_parts.proofs.Recorded.{room_alone}
@@ -78,26 +78,26 @@ invariant_of-self-2 c =
     )
 
 pub returns-clause-gives : goal.returns-clause-gives
-returns-clause-gives c = λ a e h.
+returns-clause-gives c = λ a.
     let k = kept_of c.self.inside in
     let call = c.args.call in
     let o = c.args.outcome in
-    subst (λ (old : Kept). RunsIn old call.pid e h → IsCall e call → first_stray (writable_in h.maps) (written_of o) ≡ None → Gave a old e h call o (new_parts c)) c.self.view_is
-    (λ runs is fits.
-    gave_by a k e h call runs is o c.put.new.mem (puts_all c) c.follow-followed.new.files.open_files c.finish.new.procs c.finish.new.log.notes c.pass.new.self
+    subst (λ (old : Kept). (caller : Caller old call) → first_stray (writable_in caller.held.maps) (written_of o) ≡ None → Gave a old caller.entry caller.held call o (new_parts c)) c.self.view_is
+    (λ caller fits.
+    gave_by a k caller.entry caller.held call caller.runs caller.stands o c.put.new.mem (puts_all c) c.follow-followed.new.files.open_files c.finish.new.procs c.finish.new.log.notes c.pass.new.self
     (rw (← c.in_ok-or_unreserve.ensures.same) at c.follow-followed.ensures.after) c.finish.ensures.procs (noted_so c)
-    (c.pass.ensures ∙ ap (λ (t : Task). event_recorded k.recording t.space) (value_found k.procs call.pid e runs.lives c.get.result.now c.get.ensures)) c.requires.plain c.self.invariant.0.0 fits)
+    (c.pass.ensures ∙ ap (λ (t : Task). event_recorded k.recording t.space) (value_found k.procs call.pid caller.entry caller.runs.lives c.get.result.now c.get.ensures)) c.requires.plain c.self.invariant.0.0 fits)
 
 pub returns-clause-memory : goal.returns-clause-memory
-returns-clause-memory c = λ a e h.
+returns-clause-memory c = λ a.
     let k = kept_of c.self.inside in
     let call = c.args.call in
     let o = c.args.outcome in
-    subst (λ (old : Kept). RunsIn old call.pid e h → IsCall e call → GaveIn a old e h call o (new_parts c)) c.self.view_is
-    (λ runs is.
-    gave_in_by a k e h call runs is o c.put.new.mem (puts_all c) c.follow-followed.new.files.open_files c.finish.new.procs c.finish.new.log.notes c.pass.new.self
+    subst (λ (old : Kept). (caller : Caller old call) → GaveIn a old caller.entry caller.held call o (new_parts c)) c.self.view_is
+    (λ caller.
+    gave_in_by a k caller.entry caller.held call caller.runs caller.stands o c.put.new.mem (puts_all c) c.follow-followed.new.files.open_files c.finish.new.procs c.finish.new.log.notes c.pass.new.self
     (rw (← c.in_ok-or_unreserve.ensures.same) at c.follow-followed.ensures.after) c.finish.ensures.procs (noted_so c)
-    (c.pass.ensures ∙ ap (λ (t : Task). event_recorded k.recording t.space) (value_found k.procs call.pid e runs.lives c.get.result.now c.get.ensures)) c.requires.plain c.put.ensures.len)
+    (c.pass.ensures ∙ ap (λ (t : Task). event_recorded k.recording t.space) (value_found k.procs call.pid caller.entry caller.runs.lives c.get.result.now c.get.ensures)) c.requires.plain c.put.ensures.len)
 
 pub returns-clause-lives : goal.returns-clause-lives
 returns-clause-lives c =

@@ -23,7 +23,7 @@ use Rattle.kept_parts.specs.Copies.{StillHolds}
 use Rattle.kept_parts.specs.Stands.{later, world_of}
 use Rattle.kept_parts.specs.InMemory.{physical_of}
 use Rattle.mmap_rules.specs.Copies.{IsKnown}
-use Rattle.kept_parts.specs.Calls.{RunsIn, IsCall, RoomFor, ask_in, noted_call, Changed}
+use Rattle.kept_parts.specs.Calls.{RunsIn, RoomFor, noted_call, Changed, Caller, asked_by}
 use Rattle.kept_parts.specs.MapsIn.{MapsIn}
 use Rattle.kept_parts.specs.Recorded.{room_beside}
 use Rattle.kept_parts.proofs.Recorded.{room_inside, room_left, few_brought}
@@ -95,12 +95,12 @@ pub invariant_of-self-in_err-value : goal.invariant_of-self-in_err-value
 invariant_of-self-in_err-value g c = (subst IsRegular (stays g c) c.self.invariant.0, search rules)
 
 pub returns-in_err-value-clause-changes : goal.returns-in_err-value-clause-changes
-returns-in_err-value-clause-changes g c = λ a kind unstrayed e h runs is.
+returns-in_err-value-clause-changes g c = λ a kind unstrayed caller.
     let p = err_from_is_err_and c.from_residual-in_err-value.result c.from_residual-in_err-value.ensures.1 in
     rw p.1 (sym (stays g c) ∙ c.self.view_is)
 
 pub returns-in_err-value-clause-memory : goal.returns-in_err-value-clause-memory
-returns-in_err-value-clause-memory g c = λ headers a kind e h runs is.
+returns-in_err-value-clause-memory g c = λ headers a kind caller.
     let p = err_from_is_err_and c.from_residual-in_err-value.result c.from_residual-in_err-value.ensures.1 in
     rw p.1 (sym (stays g c) ∙ c.self.view_is)
 
@@ -187,33 +187,33 @@ left_at g c kind same e h runs =
     (left g c kind same h (ap (λ (t : Task). slice_get k.spaces t.space) task ∙ runs.home))
 
 pub returns-clause-changes : goal.returns-clause-changes
-returns-clause-changes g c = λ a kind holding e h.
+returns-clause-changes g c = λ a kind holding.
     let k = kept_of c.self.inside in
     let call = c.args.call in
     let want = c.args.want in
     let known = subst (λ (s : Kept). IsKnown s.tree want) (sym c.self.view_is) c.requires.known in
     let holds = still k c.self.invariant.0.1 (subst StillHolds (sym c.self.view_is) holding) in
-    subst (λ (old : Kept). RunsIn old call.pid e h → IsCall e call → Changed a old e h call (mapped (ask_in a old e h call) want) (new_parts g c)) c.self.view_is
-    (λ runs is_call. changed_ids a k e h call _ _ (
-    changed_mapped a k e h call runs is_call c.in_ok-value.value (new_parts g c).spaces c.map_in-mapped.new.regions.regions c.finish.new.procs c.finish.new.log.notes
+    subst (λ (old : Kept). (caller : Caller old call) → Changed a old caller.entry caller.held call (mapped (asked_by a caller) want) (new_parts g c)) c.self.view_is
+    (λ caller. changed_ids a k caller.entry caller.held call _ _ (
+    changed_mapped a k caller.entry caller.held call caller.runs caller.stands c.in_ok-value.value (new_parts g c).spaces c.map_in-mapped.new.regions.regions c.finish.new.procs c.finish.new.log.notes
     c.finish.ensures.procs (noted g c) c.pass.new.self c.self.invariant.0.0 holds want c.requires.pages known c.requires.asked c.map_in-mapped.new.mem c.map_in-mapped.result
-    (left_at g c a.kind kind e h runs) (rw (← c.in_ok-value.ensures.same) at c.address.ensures) (brought g c a.kind e h runs)) (new_parts g c).starts)
+    (left_at g c a.kind kind caller.entry caller.held caller.runs) (rw (← c.in_ok-value.ensures.same) at c.address.ensures) (brought g c a.kind caller.entry caller.held caller.runs)) (new_parts g c).starts)
 
 pub returns-clause-memory : goal.returns-clause-memory
-returns-clause-memory g c = λ headers a kind e h.
+returns-clause-memory g c = λ headers a kind.
     let k = kept_of c.self.inside in
     let call = c.args.call in
     let want = c.args.want in
     let known = subst (λ (s : Kept). IsKnown s.tree want) (sym c.self.view_is) c.requires.known in
-    let room = subst (λ (s : Kept). RunsIn s call.pid e h → IsCall e call → RoomFor (world_of a s) (ask_in a s e h call) (mapped (ask_in a s e h call) want)) (sym c.self.view_is)
-    (c.requires.brings a kind e h) in
-    subst (λ (old : Kept). RunsIn old call.pid e h → IsCall e call →
-    carried (physical_of headers a old) (physical old.mem) (answered (world_of a old) (ask_in a old e h call) (mapped (ask_in a old e h call) want)) ≡ after (physical_of headers (later 1 a) (new_parts g c)) false)
+    let room = subst (λ (s : Kept). (caller : Caller s call) → RoomFor (world_of a s) (asked_by a caller) (mapped (asked_by a caller) want)) (sym c.self.view_is)
+    (c.requires.brings a kind) in
+    subst (λ (old : Kept). (caller : Caller old call) →
+    carried (physical_of headers a old) (physical old.mem) (answered (world_of a old) (asked_by a caller) (mapped (asked_by a caller) want)) ≡ after (physical_of headers (later 1 a) (new_parts g c)) false)
     c.self.view_is
-    (λ runs is_call.
-    memory_mapped headers a k e h call runs is_call c.in_ok-value.value (new_parts g c).spaces c.map_in-mapped.new.regions.regions c.finish.new.procs c.finish.new.log.notes
+    (λ caller.
+    memory_mapped headers a k caller.entry caller.held call caller.runs caller.stands c.in_ok-value.value (new_parts g c).spaces c.map_in-mapped.new.regions.regions c.finish.new.procs c.finish.new.log.notes
     c.finish.ensures.procs (noted g c) c.pass.new.self c.self.invariant.0.0 want c.requires.pages known c.requires.asked c.map_in-mapped.new.mem c.map_in-mapped.result
-    (left_at g c a.kind kind e h runs) (rw (← c.in_ok-value.ensures.same) at c.address.ensures) (brought g c a.kind e h runs) (room runs is_call)
+    (left_at g c a.kind kind caller.entry caller.held caller.runs) (rw (← c.in_ok-value.ensures.same) at c.address.ensures) (brought g c a.kind caller.entry caller.held caller.runs) (room caller)
     ∙ ap (λ (x : Physical). after x false) (sym (physical_ids headers (later 1 a) _ (new_parts g c).starts)))
 
 pub returns-clause-lives : goal.returns-clause-lives

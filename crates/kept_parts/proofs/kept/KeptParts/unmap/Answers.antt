@@ -10,7 +10,7 @@ use Rattle.machine_world.specs.MapCalls.{unmaps}
 use Rattle.kept_parts.specs.declared.task.Task.{Task}
 use Rattle.kept_parts.specs.Kept.{Kept}
 use Rattle.kept_parts.specs.Inside.{kept_of}
-use Rattle.kept_parts.specs.Calls.{RunsIn, IsCall, ask_in, noted_call, Changed}
+use Rattle.kept_parts.specs.Calls.{noted_call, Changed, Caller, asked_by}
 use Rattle.kept_parts.specs.MapsIn.{UnmapsIn}
 use Rattle.kept_parts.specs.Recorded.{event_recorded}
 use Rattle.kept_parts.proofs.Recorded.{room_left}
@@ -80,18 +80,18 @@ invariant_of-self-2 c =
     )
 
 pub returns-clause-changes : goal.returns-clause-changes
-returns-clause-changes c = λ a e h.
+returns-clause-changes c = λ a.
     let k = kept_of c.self.inside in
     let call = c.args.call in
     let addr = slice_index call.args 0 in
     let len = slice_index call.args 1 in
-    subst (λ (old : Kept). RunsIn old call.pid e h → IsCall e call → Changed a old e h call (unmaps (ask_in a old e h call) (hit h.maps addr len)) (new_parts c)) c.self.view_is
-    (λ runs is_call.
-    let same : c.get.result.now ≡ e.value = value_found k.procs call.pid e runs.lives c.get.result.now c.get.ensures in
-    let is = left c h (ap (λ (t : Task). slice_get k.spaces t.space) same ∙ runs.home) in
-    let at : UnmapsIn addr len e.value.space h k.spaces (new_parts c).spaces k.regions c.unmap_in-unmapped.new.regions.regions c.unmap_in-unmapped.result =
-    subst (λ (t : Task). UnmapsIn addr len t.space h k.spaces (new_parts c).spaces k.regions c.unmap_in-unmapped.new.regions.regions c.unmap_in-unmapped.result) same is in
-    changed_ids a k e h call _ _ (changed_unmapped a k e h call runs is_call c.status-value.result (new_parts c).spaces c.unmap_in-unmapped.new.regions.regions c.finish.new.procs c.finish.new.log.notes
+    subst (λ (old : Kept). (caller : Caller old call) → Changed a old caller.entry caller.held call (unmaps (asked_by a caller) (hit caller.held.maps addr len)) (new_parts c)) c.self.view_is
+    (λ caller.
+    let same : c.get.result.now ≡ caller.entry.value = value_found k.procs call.pid caller.entry caller.runs.lives c.get.result.now c.get.ensures in
+    let is = left c caller.held (ap (λ (t : Task). slice_get k.spaces t.space) same ∙ caller.runs.home) in
+    let at : UnmapsIn addr len caller.entry.value.space caller.held k.spaces (new_parts c).spaces k.regions c.unmap_in-unmapped.new.regions.regions c.unmap_in-unmapped.result =
+    subst (λ (t : Task). UnmapsIn addr len t.space caller.held k.spaces (new_parts c).spaces k.regions c.unmap_in-unmapped.new.regions.regions c.unmap_in-unmapped.result) same is in
+    changed_ids a k caller.entry caller.held call _ _ (changed_unmapped a k caller.entry caller.held call caller.runs caller.stands c.status-value.result (new_parts c).spaces c.unmap_in-unmapped.new.regions.regions c.finish.new.procs c.finish.new.log.notes
     c.finish.ensures.procs (noted c) c.pass.new.self addr len c.unmap_in-unmapped.result at c.status-value.ensures
     (c.pass.ensures ∙ ap (λ (t : Task). event_recorded k.recording t.space) same) (ap (λ n. n == 222) c.requires.munmap)) (new_parts c).starts)
 
