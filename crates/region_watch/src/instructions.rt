@@ -48,6 +48,7 @@ fn steps_at(pc: &mut u32, x: &mut RegisterFile, watch: &mut Watch<'_>, count: u3
 }
 
 /// Carries out up to `count` instructions, and stops at the first that isn't carried out.
+#[inline(never)]
 pub fn run_steps(regs: &mut Regs, watch: &mut Watch<'_>, count: u32) -> Progress
     ensures leaves { ran regs.new (passed_bytes watch.old.mode watch.old.owners.now watch.new.mem.now) result.done result.stop
         ≡ instructions count (passes watch.old.mode watch.old.owners.now true) regs.old (passed_bytes watch.old.mode watch.old.owners.now watch.old.mem.now) }
