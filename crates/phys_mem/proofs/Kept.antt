@@ -19,26 +19,26 @@ use Rattle.phys_mem.specs.Slots.{slot_of, Says, AreSlots, IsDecoded, Loses, IsBe
 
 -- no word that a slot names has a byte in the range
 abbrev pub Clean : (mem : List ℕ) → (from to : ℕ) → List Slot → Type 0
-Clean mem from to slots = (i : ℕ) (s : Slot) → slice_get slots i ≡ Some s → s.at + 4 ≤ length mem → (s.at + 4 ≤ from) ⊎ (to ≤ s.at)
+Clean mem from to slots = (i : ℕ) (s : Slot) → slice_get slots i ≡ Some s → Within mem s.at 4 → (s.at + 4 ≤ from) ⊎ (to ≤ s.at)
 
 -- four bytes that are the same spell the same
 four_same : (old new : List ℕ) (at : ℕ) → ((k : ℕ) → at ≤ k → k < at + 4 → slice_index new k ≡ slice_index old k) → little new at 4 ≡ little old at 4
 four_same old new at same = rw (same at (omega arith) (omega arith), same (at + 1) (omega arith) (omega arith), same (at + 1 + 1) (omega arith) (omega arith), same (at + 1 + 1 + 1) (omega arith) (omega arith)) refl
 
-word_same : (from to : ℕ) (old new : List ℕ) (at : ℕ) → SameBeside from to old new → (at + 4 ≤ from) ⊎ (to ≤ at) → little new at 4 ≡ little old at 4
-word_same from to old new at b (inl before) = four_same old new at (λ k low high. b.before k (omega arith))
-word_same from to old new at b (inr behind) = four_same old new at (λ k low high. b.behind k (omega arith))
+word_same : (from to : ℕ) (old new : List ℕ) (at : ℕ) → 2 ^ 31 ≤ at → SameBeside (place from) (place to) old new → (at + 4 ≤ from) ⊎ (to ≤ at) → little new (place at) 4 ≡ little old (place at) 4
+word_same from to old new at above b (inl before) = four_same old new (place at) (λ k low high. b.before k (omega arith))
+word_same from to old new at above b (inr behind) = four_same old new (place at) (λ k low high. b.behind k (omega arith))
 
-pub clean_kept : (from to : ℕ) (old new : List ℕ) (slots : List Slot) → SameBeside from to old new → AreSlots old slots → Clean old from to slots → AreSlots new slots
+pub clean_kept : (from to : ℕ) (old new : List ℕ) (slots : List Slot) → SameBeside (place from) (place to) old new → AreSlots old slots → Clean old from to slots → AreSlots new slots
 clean_kept from to old new slots b are clean = record {
   count = are.count;
   say = λ i s is fits.
-      let inside : s.at + 4 ≤ length old = omega (arith, b.length) in
+      let inside : Within old s.at 4 = (fits.0, omega (arith, b.length, fits.1)) in
       let said = are.say i s is inside in
       record {
         whole = said.whole;
         index = said.index;
-        instr = ap decoded (word_same from to old new s.at b (clean i s is inside)) ∙ said.instr;
+        instr = ap decoded (word_same from to old new s.at fits.0 b (clean i s is inside)) ∙ said.instr;
         fields = said.fields;
       };
 }
@@ -48,12 +48,12 @@ pub none_kept : (at : ℕ) (old new : List ℕ) (slots : List Slot) → SameBesi
 none_kept at old new slots b are = record {
   count = are.count;
   say = λ i s is fits.
-      let inside : s.at + 4 ≤ length old = omega (arith, b.length) in
+      let inside : Within old s.at 4 = (fits.0, omega (arith, b.length, fits.1)) in
       let said = are.say i s is inside in
       record {
         whole = said.whole;
         index = said.index;
-        instr = ap decoded (four_same old new s.at (λ k low high. each k)) ∙ said.instr;
+        instr = ap decoded (four_same old new (place s.at) (λ k low high. each k)) ∙ said.instr;
         fields = said.fields;
       };
 }
@@ -71,14 +71,14 @@ loses_kept at mem old new small l are = record {
   count = l.count ∙ are.count;
   say = λ i s is fits. elim (l.kept i s is) [
     | inl there ↦ are.say i s there fits
-    | inr empty ↦ absurd (omega (arith, empty))
+    | inr empty ↦ absurd (omega (arith, empty, fits.1))
   ];
 }
 
 pub loses_clean_still : (at : ℕ) (mem : List ℕ) (from to : ℕ) (old new : List Slot) → length mem < 2 ^ 31 → Loses at old new → Clean mem from to old → Clean mem from to new
 loses_clean_still at mem from to old new small l clean i s is fits = elim (l.kept i s is) [
   | inl there ↦ clean i s there fits
-  | inr empty ↦ absurd (omega (arith, empty))
+  | inr empty ↦ absurd (omega (arith, empty, fits.1))
 ]
 
 pub loses_clean : (at : ℕ) (mem : List ℕ) (old new : List Slot) → length mem < 2 ^ 31 → at % 4 ≡ 0 → Loses at old new → AreSlots mem old → Clean mem at (at + 4) new
@@ -126,7 +126,7 @@ loses_all_kept first words n mem old new small l are = record {
   count = l.count ∙ are.count;
   say = λ i s is fits. elim (l.kept i s is) [
     | inl there ↦ are.say i s there fits
-    | inr empty ↦ absurd (omega (arith, empty))
+    | inr empty ↦ absurd (omega (arith, empty, fits.1))
   ];
 }
 
@@ -153,8 +153,8 @@ all_words at len words n old new some are_words visited l mem now small b are =
       ]
     ])
   where
-    outside : (s : Slot) → s.at + 4 ≤ length mem → length mem < 2 ^ 31 → at / 4 ≤ s.at / 4 → s.at / 4 < at / 4 + words → IsBeside (at / 4) words s → ⊥
-    outside s fits small from inside (inl empty) = omega (arith, empty)
+    outside : (s : Slot) → Within mem s.at 4 → length mem < 2 ^ 31 → at / 4 ≤ s.at / 4 → s.at / 4 < at / 4 + words → IsBeside (at / 4) words s → ⊥
+    outside s fits small from inside (inl empty) = omega (arith, empty, fits.1)
     outside s fits small from inside (inr (inl before)) = omega arith
     outside s fits small from inside (inr (inr past)) = omega arith
 
@@ -181,22 +181,22 @@ laid_beside mem at bytes fits = record {
 }
 
 -- a word that was decoded is kept in its slot
-pub decoded_kept : (mem : List ℕ) (slots : List Slot) (at : ℕ) (instr : Instr) → at % 4 ≡ 0 → decoded (little mem at 4) ≡ Some instr → FieldsFit instr
-    → AreSlots mem slots → AreSlots mem (slice_set slots (slot_of at) (record { at = at; instr = instr }))
+pub decoded_kept : (mem : List ℕ) (slots : List Slot) (at : ℕ) (instr : Instr) → at % 4 ≡ 0 → decoded (little mem (place at) 4) ≡ Some instr → FieldsFit instr
+    → AreSlots mem slots → AreSlots mem (slice_set slots (slot_of at) (record { at = at; spare = 0; instr = instr }))
 decoded_kept mem slots at instr whole is fields are = record {
-  count = length-set slots (slot_of at) (record { at = at; instr = instr }) ∙ are.count;
-  say = λ i s there fits. elim (in_set slots (slot_of at) i (record { at = at; instr = instr }) s there) [
+  count = length-set slots (slot_of at) (record { at = at; spare = 0; instr = instr }) ∙ are.count;
+  say = λ i s there fits. elim (in_set slots (slot_of at) i (record { at = at; spare = 0; instr = instr }) s there) [
     | inl (here, same) ↦ subst (Says mem i) same (record { whole = whole; index = sym here; instr = is; fields = fields })
     | inr other ↦ are.say i s other fits
   ];
 }
 
 -- a word that isn't kept stands in a slot that has no place
-pub apart_kept : (mem : List ℕ) (slots : List Slot) (at : ℕ) (instr : Instr) → length mem < 2 ^ 31 → AreSlots mem slots → AreSlots mem (slice_set slots at (record { at = 2 ^ 64 - 1; instr = instr }))
+pub apart_kept : (mem : List ℕ) (slots : List Slot) (at : ℕ) (instr : Instr) → length mem < 2 ^ 31 → AreSlots mem slots → AreSlots mem (slice_set slots at (record { at = 2 ^ 32 - 1; spare = 0; instr = instr }))
 apart_kept mem slots at instr small are = record {
-  count = length-set slots at (record { at = 2 ^ 64 - 1; instr = instr }) ∙ are.count;
-  say = λ i s there fits. elim (in_set slots at i (record { at = 2 ^ 64 - 1; instr = instr }) s there) [
-    | inl (here, same) ↦ absurd (omega (arith, ap (λ (x : Slot). x.at) same))
+  count = length-set slots at (record { at = 2 ^ 32 - 1; spare = 0; instr = instr }) ∙ are.count;
+  say = λ i s there fits. elim (in_set slots at i (record { at = 2 ^ 32 - 1; spare = 0; instr = instr }) s there) [
+    | inl (here, same) ↦ absurd (omega (arith, ap (λ (x : Slot). x.at) same, fits.1))
     | inr other ↦ are.say i s other fits
   ];
 }
@@ -208,31 +208,33 @@ in_array bytes mem at p len same is within =
     omega (arith, long, is, within.0, within.1)
 
 -- what is written, with the slots that forgot it
-pub set_kept : (mem : List ℕ) (at len : ℕ) (bytes : List ℕ) (old new : List Slot) → length bytes ≡ len → at + len ≤ length mem → IsMemory mem → AreSlots mem old
-    → Forgets at (at + len) old new → IsMemory (laid mem at bytes) × AreSlots (laid mem at bytes) new
-set_kept mem at len bytes old new is_len inside is are forgets =
-    let fits : at + length bytes ≤ length mem = omega (arith, is_len) in
-    let long = length-laid mem at bytes fits in
-    let beside : SameBeside at (at + len) mem (laid mem at bytes) = subst (λ n. SameBeside at (at + n) mem (laid mem at bytes)) is_len (laid_beside mem at bytes fits) in (
+pub set_kept : (mem : List ℕ) (at p len : ℕ) (bytes : List ℕ) (old new : List Slot) → p ≡ place at → 2 ^ 31 ≤ at → length bytes ≡ len → p + len ≤ length mem → IsMemory mem → AreSlots mem old
+    → Forgets at (at + len) old new → IsMemory (laid mem p bytes) × AreSlots (laid mem p bytes) new
+set_kept mem at p len bytes old new is_place above is_len inside is are forgets =
+    let fits : p + length bytes ≤ length mem = omega (arith, is_len) in
+    let end : p + length bytes ≡ place (at + len) = omega (arith, is_len, is_place) in
+    let long = length-laid mem p bytes fits in
+    let beside : SameBeside (place at) (place (at + len)) mem (laid mem p bytes) =
+    subst (λ n. SameBeside n (place (at + len)) mem (laid mem p bytes)) is_place (subst (λ n. SameBeside p n mem (laid mem p bytes)) end (laid_beside mem p bytes fits)) in (
       record { whole = long ∙ is.whole ∙ ap (λ n. 4096 * (n / 4096)) (sym long); some = subst (λ n. 1 ≤ n / 4096) (sym long) is.some; most = subst (λ n. n / 4096 ≤ 16384) (sym long) is.most },
-      forgets mem (laid mem at bytes) (omega (arith, is.whole, is.most)) beside are,
+      forgets mem (laid mem p bytes) (omega (arith, is.whole, is.most)) beside are,
     )
 
 -- all zero, with empty slots
 pub new_kept : (pages : ℕ) (mem : List ℕ) (slots : List Slot) → 1 ≤ pages → pages ≤ 16384 → mem ≡ replicate (4096 * pages) 0
-    → slots ≡ replicate 16384 (record { at = 2 ^ 64 - 1; instr = Fence }) → IsMemory mem × AreSlots mem slots
+    → slots ≡ replicate 16384 (record { at = 2 ^ 32 - 1; spare = 0; instr = Fence }) → IsMemory mem × AreSlots mem slots
 new_kept pages mem slots some most zeros are =
     let long = ap (length {A = ℕ}) zeros ∙ length-replicate (4096 * pages) 0 in (
       record { whole = omega (arith, long); some = omega (arith, long); most = omega (arith, long) },
       record {
-        count = ap (length {A = Slot}) are ∙ length-replicate {A = Slot} 16384 (record { at = 2 ^ 64 - 1; instr = Fence });
-        say = λ i s there fits. absurd (omega (arith, long, nowhere i s (ap (λ l. slice_get l i) (sym are) ∙ there)));
+        count = ap (length {A = Slot}) are ∙ length-replicate {A = Slot} 16384 (record { at = 2 ^ 32 - 1; spare = 0; instr = Fence });
+        say = λ i s there fits. absurd (omega (arith, long, fits.1, nowhere i s (ap (λ l. slice_get l i) (sym are) ∙ there)));
       },
     )
   where
-    nowhere : (i : ℕ) (s : Slot) → slice_get (replicate 16384 (record { at = 2 ^ 64 - 1; instr = Fence })) i ≡ Some s → s.at ≡ 2 ^ 64 - 1
+    nowhere : (i : ℕ) (s : Slot) → slice_get (replicate 16384 (record { at = 2 ^ 32 - 1; spare = 0; instr = Fence })) i ≡ Some s → s.at ≡ 2 ^ 32 - 1
     nowhere i s there =
-        let nothing : Slot = record { at = 2 ^ 64 - 1; instr = Fence } in
+        let nothing : Slot = record { at = 2 ^ 32 - 1; spare = 0; instr = Fence } in
         let within = slice_get_within (replicate 16384 nothing) i s there in
         let long = length-replicate 16384 nothing in
         let at = get_or_from_slice_get (replicate 16384 nothing) i s nothing there in

@@ -39,13 +39,13 @@ impl Model for PhysMem {
     ghost invariant = { λ m. IsMemory m.bytes.items × AreSlots m.bytes.items m.slots.items };
 }
 
-/// The place of an address in the array.
+/// The place of an address in the array. The remainder is one instruction of the host where a difference takes three.
 #[inline]
-fn place_of(at: u32) -> u32
+pub(crate) fn place_of(at: u32) -> u32
     requires { 2 ^ 31 ≤ at }
     ensures { result ≡ place at }
 {
-    at - BASE
+    at % BASE
 }
 
 impl PhysMem {
@@ -106,7 +106,7 @@ impl PhysMem {
         ensures { self.new ≡ laid self.old (place at) (little_bytes len value) }
     {
         let place = place_of(at);
-        forget_number(&mut self.slots, place, len);
+        forget_number(&mut self.slots, at, len);
         write(&mut self.bytes, place as usize, len, value);
     }
 
@@ -118,10 +118,9 @@ impl PhysMem {
         ensures fields { IfSome result FieldsFit }
         ensures same { self.new ≡ self.old }
     {
-        let place = place_of(at);
-        let slot = slot_of(place);
-        if self.slots[slot].at != u64::from(place) {
-            if !decoded_word(&mut self.slots, &self.bytes, place) {
+        let slot = slot_of(at);
+        if self.slots[slot].at != at {
+            if !decoded_word(&mut self.slots, &self.bytes, at) {
                 return None;
             }
         }
@@ -170,7 +169,7 @@ impl PhysMem {
         ensures { self.new ≡ laid self.old (place at) bytes.now }
     {
         let place = place_of(at);
-        forget(&mut self.slots, place, bytes.len() as u32);
+        forget(&mut self.slots, at, bytes.len() as u32);
         copy_over(&mut self.bytes, place as usize, bytes);
     }
 
@@ -189,7 +188,7 @@ impl PhysMem {
         ensures { self.new ≡ laid self.old (place at) (replicate len 0) }
     {
         let place = place_of(at);
-        forget(&mut self.slots, place, len);
+        forget(&mut self.slots, at, len);
         zero(&mut self.bytes, place as usize, len as usize);
     }
 }

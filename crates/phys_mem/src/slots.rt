@@ -3,8 +3,10 @@
 ghost use Rattle.std.specs.Prelude.{◌≡◌, ◌⊎◌, ◌+◌, ◌-◌, ◌<◌, ◌≤◌, ◌^◌, IfOk, length, replicate};
 ghost use Rattle.byte_words.specs.ByteMap.{little};
 ghost use Rattle.rv32im_table.specs.Table.{decoded};
+ghost use Rattle.phys_mem.specs.Memory.{Within, place};
 ghost use Rattle.phys_mem.specs.Slots.{slot_of, AreSlots, IsDecoded, IsBeside, Loses, Forgets};
 
+use crate::memory::place_of;
 use crate::words::read;
 use rv32im_table::{Instr, decode};
 use std::alloc::{AllocError, Global};
@@ -12,30 +14,33 @@ use std::alloc::{AllocError, Global};
 /// How many words are kept: those of 64 KiB that stand side by side.
 const SLOTS: usize = 16384;
 
-/// The place of an empty slot.
-const NOWHERE: u64 = u64::MAX;
+/// The address of an empty slot.
+const NOWHERE: u32 = u32::MAX;
 
-/// A word that was decoded. The one at a place is kept in the slot of its index, modulo the number of slots.
+/// A word that was decoded. The one at an address is kept in the slot of its index, modulo the number of slots.
 #[derive(Clone, Copy)]
 pub struct Slot {
-    /// Its place in memory, a multiple of 4. Of 8 bytes, so that a slot has 16, and is found by one shift.
-    pub at: u64,
+    /// Its address, a multiple of 4.
+    pub at: u32,
+    /// Nothing: by it a slot has 16 bytes, and is found by one shift.
+    pub spare: u32,
     /// The instruction that it is.
     pub instr: Instr,
 }
 
 /// Empty slots.
 pub fn no_words(alloc: Global) -> Result<Vec<Slot>, AllocError>
-    ensures { IfOk result (λ slots. slots.items ≡ replicate 16384 (record { at = 2 ^ 64 - 1; instr = Instr.Fence })) }
+    ensures { IfOk result (λ slots. slots.items ≡ replicate 16384 (record { at = 2 ^ 32 - 1; spare = 0; instr = Instr.Fence })) }
 {
     let empty = Slot {
         at: NOWHERE,
+        spare: 0,
         instr: Instr::Fence,
     };
     Ok(vec![in alloc; empty; SLOTS]?)
 }
 
-/// The slot of the word at a place.
+/// The slot of the word at an address.
 #[inline]
 pub fn slot_of(at: u32) -> usize
     ensures slot { result ≡ slot_of at }
@@ -44,40 +49,45 @@ pub fn slot_of(at: u32) -> usize
     (at / 4) as usize % SLOTS
 }
 
-/// Decodes the word at a place into its slot, and says whether it is an instruction. One at no multiple of 4 isn't kept: it stands there
+/// Decodes the word at an address into its slot, and says whether it is an instruction. One at no multiple of 4 isn't kept: it stands there
 /// for this once.
 #[inline(never)]
 pub fn decoded_word(slots: &mut Vec<Slot>, bytes: &[u8], at: u32) -> bool
     requires count { length slots.old.items ≡ 16384 }
-    requires within { at + 4 ≤ length bytes.now }
+    requires within { Within bytes.now at 4 }
     requires small { length bytes.now < 2 ^ 31 }
-    ensures slot { IsDecoded (decoded (little bytes.now at 4)) slots.new.items (slot_of at) result }
+    ensures slot { IsDecoded (decoded (little bytes.now (place at) 4)) slots.new.items (slot_of at) result }
     ensures kept { AreSlots bytes.now slots.old.items → AreSlots bytes.now slots.new.items }
 {
-    let Some(instr) = decode(read(bytes, at as usize, 4)) else {
+    let Some(instr) = decode(read(bytes, place_of(at) as usize, 4)) else {
         return false;
     };
     let slot = slot_of(at);
     if at % 4 == 0 {
         slots[slot] = Slot {
-            at: u64::from(at),
+            at,
+            spare: 0,
             instr,
         };
         return true;
     }
-    slots[slot] = Slot { at: NOWHERE, instr };
+    slots[slot] = Slot {
+        at: NOWHERE,
+        spare: 0,
+        instr,
+    };
     true
 }
 
-/// Forgets the word at a place.
+/// Forgets the word at an address.
 #[inline]
 fn forget_word(slots: &mut Vec<Slot>, at: u32)
     requires count { length slots.old.items ≡ 16384 }
-    requires small { at < 2 ^ 31 }
+    requires small { at < 2 ^ 32 - 1 }
     ensures { Loses at slots.old.items slots.new.items }
 {
     let slot = &mut slots[slot_of(at)];
-    if slot.at == u64::from(at) {
+    if slot.at == at {
         slot.at = NOWHERE;
     }
 }
@@ -88,7 +98,7 @@ pub fn forget_number(slots: &mut Vec<Slot>, at: u32, len: u32)
     requires count { length slots.old.items ≡ 16384 }
     requires some { 0 < len }
     requires few { len ≤ 4 }
-    requires range { at + len < 2 ^ 31 }
+    requires range { at + len < 2 ^ 32 }
     ensures { Forgets at (at + len) slots.old.items slots.new.items }
 {
     let word = at - at % 4;
@@ -100,13 +110,12 @@ pub fn forget_number(slots: &mut Vec<Slot>, at: u32, len: u32)
 
 /// Forgets the word in a slot if it is one of these, by their indices.
 fn forget_if_within(slot: &mut Slot, first: u32, words: u32)
-    requires { first + words < 2 ^ 31 }
+    requires { first + words < 2 ^ 32 }
     ensures beside { IsBeside first words slot.new }
-    ensures kept { (slot.new ≡ slot.old) ⊎ (slot.new.at ≡ 2 ^ 64 - 1) }
+    ensures kept { (slot.new ≡ slot.old) ⊎ (slot.new.at ≡ 2 ^ 32 - 1) }
 {
     let index = slot.at / 4;
-    let first = u64::from(first);
-    if first <= index && index - first < u64::from(words) {
+    if first <= index && index - first < words {
         slot.at = NOWHERE;
     }
 }
@@ -114,7 +123,7 @@ fn forget_if_within(slot: &mut Slot, first: u32, words: u32)
 /// Forgets the words that a range touches.
 pub fn forget(slots: &mut Vec<Slot>, at: u32, len: u32)
     requires count { length slots.old.items ≡ 16384 }
-    requires range { at + len < 2 ^ 31 }
+    requires range { at + len < 2 ^ 32 }
     ensures { Forgets at (at + len) slots.old.items slots.new.items }
 {
     if len == 0 {

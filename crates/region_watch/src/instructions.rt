@@ -1,6 +1,6 @@
 //! Instructions of one program, one after the other.
 
-ghost use Rattle.std.specs.Prelude.{◌≡◌, true, length};
+ghost use Rattle.std.specs.Prelude.{◌≡◌, ◌-◌, ◌≤◌, true, length};
 ghost use Rattle.rv32im_step.specs.Parts.{registers};
 ghost use Rattle.region_watch.specs.declared.mode.Mode.TheVariants.{Halt};
 ghost use Rattle.region_watch.specs.Private.{passes, passed_bytes, kept_bytes};
@@ -20,6 +20,16 @@ pub struct Progress {
     pub stop: Stop,
 }
 
+/// How many of `count` instructions were carried out where so many are left. It stands apart, so that the loop keeps the one number
+/// that it counts down.
+#[inline(never)]
+fn carried_out(count: u32, left: u32) -> u32
+    requires { left ≤ count }
+    ensures { result ≡ count - left }
+{
+    count - left
+}
+
 /// `run_steps` of registers that are taken apart, so that pc is a number by itself.
 #[inline]
 #[tactic(auto, using(crate::proofs::Runs::runs))]
@@ -35,11 +45,16 @@ fn steps_at(pc: &mut u32, x: &mut RegisterFile, watch: &mut Watch<'_>, count: u3
     ensures halts { watch.old.mode ≡ Halt → first_stray watch.new ≡ noted_stop (first_stray watch.old) result.stop }
     ensures same_reference { watch.new.mem.ghost_name ≡ watch.old.mem.ghost_name }
 {
-    for done in 0..count {
+    let mut left = count;
+    while left > 0 {
         let stop = step_at(pc, x, watch);
         if stop != Stop::Next {
-            return Progress { done, stop };
+            return Progress {
+                done: carried_out(count, left),
+                stop,
+            };
         }
+        left -= 1;
     }
     Progress {
         done: count,
@@ -48,6 +63,7 @@ fn steps_at(pc: &mut u32, x: &mut RegisterFile, watch: &mut Watch<'_>, count: u3
 }
 
 /// Carries out up to `count` instructions, and stops at the first that isn't carried out.
+#[inline(never)]
 pub fn run_steps(regs: &mut Regs, watch: &mut Watch<'_>, count: u32) -> Progress
     ensures leaves { ran regs.new (passed_bytes watch.old.mode watch.old.owners.now watch.new.mem.now) result.done result.stop
         ≡ instructions count (passes watch.old.mode watch.old.owners.now true) regs.old (passed_bytes watch.old.mode watch.old.owners.now watch.old.mem.now) }

@@ -16,7 +16,7 @@ use crate::near::Near;
 use crate::point::WatchPoint;
 use crate::probed::Probed;
 use crate::span::Span;
-use region_watch::{Progress, Watch};
+use region_watch::{Progress, Watch, run_steps};
 use rv32im_step::{Access, RegisterFile, Regs, Stop, step_at};
 
 /// How far a program came, and the access behind which it left the loop.
@@ -126,6 +126,9 @@ pub fn run_watched<F: Fn(&[Span], u32, u32) -> bool>(
     ensures hits { hits.new ≡ with_hits hits.old (hits_in (kind_of_point point.now) spans.now pid
         (all_asked count (passes watch.old.mode watch.old.owners.now true) regs.old (passed_bytes watch.old.mode watch.old.owners.now watch.old.mem.now))) }
 {
+    if spans.is_empty() {
+        return run_steps(regs, watch, count);
+    }
     let near = Near::of(spans);
     let mut done = 0;
     while done < count {

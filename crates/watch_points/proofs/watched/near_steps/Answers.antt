@@ -1,6 +1,5 @@
 -- A step more, and what it saw.
-use Rattle.std.proofs.Common.{rules, ◌≡◌, ◌<◌, ◌∙◌, true, inl, inr, refl, arith}
-use Rattle.std.specs.Prelude.{None}
+use Rattle.std.proofs.Common.{rules, ◌≡◌, ◌∙◌, true, inl, inr, refl, arith}
 use Rattle.rv32im_step.specs.declared.stop.Stop.TheVariants.{Next}
 use Rattle.rv32im_step.specs.Asked.{asked}
 use Rattle.rv32im_step.specs.Parts.{registers}

@@ -1,6 +1,7 @@
 -- A part more, and what is told of it.
-use Rattle.std.proofs.Common.{rules, ◌≡◌, ◌≢◌, ◌∙◌, refl, arith}
+use Rattle.std.proofs.Common.{rules, ◌≡◌, ◌≢◌, ◌∙◌, refl, sym, arith}
 use Rattle.rv32im_step.specs.declared.stop.Stop.TheVariants.{Next}
+use Rattle.watch_points.proofs.Kept.{unwatched}
 use Rattle.watch_points.proofs.Told.{seen_short}
 use Rattle.watch_points.proofs.Parts.{reached_all, reached_on, reached_next, reached_end, reached_told}
 use Rattle.watch_points.proofs.watched.run_watched.Goals as goal
@@ -37,6 +38,9 @@ loop-done-smaller g c =
 
 pub tell-requires-clause-range : goal.tell-requires-clause-range
 tell-requires-clause-range g c = seen_short c.run_near-run.result.seen _ _ _ _ _ _ c.run_near-run.ensures.left.told
+
+pub returns-then-is_empty-clause-hits : goal.returns-then-is_empty-clause-hits
+returns-then-is_empty-clause-hits g c = unwatched _ _ _ _ _ (sym c.is_empty.ensures ∙ c.if-is_empty.true)
 
 pub returns-then-ne : goal.returns-then-ne
 returns-then-ne g c =
