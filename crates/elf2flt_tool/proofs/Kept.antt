@@ -251,7 +251,7 @@ record PassesFrom (test : ℕ → Bool) (a n : ℕ) : Type 0 where
   below : number < a + n
   passes : test number ≡ true
 
-any_range : (test : ℕ → Bool) (a n k : ℕ) → a ≤ k → k < a + n → test k ≡ true → list_any test (range_with_len a n) ≡ true
+pub any_range : (test : ℕ → Bool) (a n k : ℕ) → a ≤ k → k < a + n → test k ≡ true → list_any test (range_with_len a n) ≡ true
 any_range test a zero k from to on = absurd (omega arith)
 any_range test a (suc n) k from to on = elim (cases_eq a k) [
   | inl here ↦ or_left (test a) (list_any test (range_with_len (a + 1) n)) (ap test here ∙ on)

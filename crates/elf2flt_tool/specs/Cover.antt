@@ -60,6 +60,14 @@ is_met c r =
     list_any (λ b. is_shared c.still.items r (r.place + b)) (range_with_len 0 4)
     || list_any (begins_near c.words.items r.place) (range_with_len 1 3)
 
+-- a recorded word begins at number q and, if it is no slot, has a byte in common with another entry
+unfoldable pub is_plain_met : Cover → ℕ → Bool
+is_plain_met c q = nat_lt 0 (slice_index c.words.items q) && is_met c (record { place = q; instruction = None })
+
+-- some recorded word was counted at the word's place
+abbrev pub is_counted : Cover → Recorded → Type 0
+is_counted c r = 0 < slice_index c.words.items r.place
+
 -- the recorded words of an entry; the word of a second span is a slot, and the first span its instruction
 abbrev pub recorded_of : Layout → List Span → List Recorded
 recorded_of l [] = []

@@ -13,7 +13,7 @@ ghost use Rattle.elf2flt_tool.specs.Walk.{IsPlaced};
 
 use crate::collect::find_all;
 use crate::image::{HEADER_LEN, linked_file, with_numbers};
-use crate::overlap::lowest_met;
+use crate::overlap::lowest_met_counted;
 use crate::places::{places_of, words_at};
 use crate::refusal::Refusal;
 use crate::target::lowest_outside;
@@ -53,7 +53,7 @@ fn find_places(alloc: Global, elf: &Elf<'_>, layout: &Layout) -> Result<Placed, 
         (λ refusal. (refusal ≡ Refusal.Memory) ⊎ (relocs_fault elf.now ≡ Some refusal)) }
 {
     let found = find_all(alloc, elf, layout)?;
-    let met = lowest_met(&found.cover, &found.words);
+    let met = lowest_met_counted(&found.cover, &found.words);
     let most = found.words.len();
     drop(found.words);
     let places = places_of(alloc, &found.cover.words, most)?;

@@ -1,9 +1,9 @@
 //! The test whether recorded words meet the bytes of other relocations.
 
-ghost use Rattle.std.specs.Prelude.{◌≡◌, ◌+◌, ◌<◌, ◌^◌, map, filter, slice_index};
-ghost use Rattle.std.specs.List.{list_any, range_with_len};
+ghost use Rattle.std.specs.Prelude.{◌≡◌, ◌+◌, ◌<◌, ◌^◌, map, filter, length, slice_index};
+ghost use Rattle.std.specs.List.{list_any, range_with_len, AllByRecursion};
 ghost use Rattle.elf2flt_tool.specs.Word.{lower, lowest};
-ghost use Rattle.elf2flt_tool.specs.Cover.{own_cover, is_shared, begins_near, is_met};
+ghost use Rattle.elf2flt_tool.specs.Cover.{own_cover, is_shared, begins_near, is_met, is_counted, is_plain_met};
 
 use crate::cover::Cover;
 
@@ -96,4 +96,41 @@ pub fn lowest_met(cover: &Cover, words: &[Recorded]) -> Option<u32>
         }
     }
     least
+}
+
+/// Whether a recorded word begins at a number and, if it is no slot, has a byte in common with the bytes of another entry.
+#[tactic(auto, unfolding(crate::specs::Cover::is_plain_met))]
+fn is_plain_met(cover: &Cover, number: u32) -> bool
+    ensures { result ≡ is_plain_met cover.now number }
+{
+    count_at(&cover.words, number as usize) > 0
+        && is_met(
+            cover,
+            &Recorded {
+                place: number,
+                instruction: None,
+            },
+        )
+}
+
+/// Whether there is such a number. The numbers are gone through ascending, whatever the order of the words.
+fn some_plain_met(cover: &Cover) -> bool
+    requires { length cover.now.words.items < 2 ^ 32 }
+    ensures { result ≡ list_any (is_plain_met cover.now) (range_with_len 0 (length cover.now.words.items)) }
+{
+    (0..cover.words.len() as u32).any(|number| is_plain_met(cover, number))
+}
+
+/// What `lowest_met` finds, of words that are counted in `cover`. In most files none meets another entry, even where slots are
+/// taken for plain words: then no word is looked at.
+pub fn lowest_met_counted(cover: &Cover, words: &[Recorded]) -> Option<u32>
+    requires small { length cover.now.words.items < 2 ^ 32 }
+    requires counted { AllByRecursion (is_counted cover.now) words.now }
+    ensures { result ≡ lowest (map (λ r. r.place) (filter (is_met cover.now) words.now)) }
+{
+    if some_plain_met(cover) {
+        lowest_met(cover, words)
+    } else {
+        None
+    }
 }

@@ -1,14 +1,15 @@
 -- Laws of what was noted first at an address.
-use Rattle.std.proofs.Common.{◌≡◌, ℕ, zero, suc, ◌<◌, ◌≤◌, ◌==◌, Bool, true, false, List, [], ◌∷◌, ◌++◌, drop, length, filter, Option, Some, None, if◌then◌else◌, sym, ◌∙◌, ap, refl, arith, slice_index_or}
+use Rattle.std.proofs.Common.{◌≡◌, ℕ, zero, suc, ◌+◌, ◌-◌, ◌<◌, ◌≤◌, ◌==◌, inl, inr, Bool, true, false, List, [], ◌∷◌, ◌++◌, take, drop, length, filter, Option, Some, None, if◌then◌else◌, sym, ◌∙◌, ap, refl, arith, slice_index_or, length-take, length-drop}
 use Rattle.std.specs.Ordering.{nat_cmp, is_lt, is_le, is_some_and}
 use Rattle.std.specs.Option.{option_or}
 use Rattle.std.specs.List.{IsAllAdjacentAnswer}
 use Rattle.std.specs.List.Sorted.{IsNonDecreasingBy, IsStableByKey, ties}
-use Rattle.std.proofs.lemmas.List.Sorted.{IsNonDecreasingBy-from_all_adjacent}
+use Rattle.std.proofs.lemmas.List.{get_or-take, get_or-drop}
+use Rattle.std.proofs.lemmas.List.Sorted.{IsNonDecreasingBy-from_all_adjacent, IsNonDecreasingBy-take, IsNonDecreasingBy-drop}
 use Rattle.std.proofs.lemmas.Map.Keys.{le_from_is_le}
-use Rattle.std.proofs.lemmas.Bool.{eqb-false, ne_eqb}
+use Rattle.std.proofs.lemmas.Bool.{cases_lt, eqb-false, ne_eqb}
 use Rattle.std.proofs.lemmas.Grind.{common_steps}
-use Rattle.psabi_relocs.specs.Noted.{noted, head_at}
+use Rattle.psabi_relocs.specs.Noted.{noted, head_at, IsAround}
 
 -- one more note
 pub noted_more : {X : Type 0} (ns : List (ℕ × X)) (more : ℕ × X) (q : ℕ) → noted (ns ++ more ∷ []) q ≡ option_or (noted ns q) (if more.0 == q then Some more.1 else None)
@@ -80,3 +81,51 @@ pub ascend_where : {X : Type 0} (ns : List (ℕ × X)) (r : Bool) → IsAllAdjac
     → IsNonDecreasingBy (λ n. n.0) ns
 ascend_where ns true all is = IsNonDecreasingBy-from_all_adjacent (λ n. n.0) ns (λ k d l. le_from_is_le _ _ (sym (all k d l)))
 ascend_where ns false all is = absurd cc
+
+-- ---- a search among some of the notes
+
+-- notes below the address say nothing of it
+noted_behind : {X : Type 0} (ns : List (ℕ × X)) (i q : ℕ) → ((k : ℕ) (d : ℕ × X) → k < i → k < length ns → (slice_index_or ns k d).0 < q) → noted (drop i ns) q ≡ noted ns q
+noted_behind [] zero q below = refl
+noted_behind [] (suc i) q below = refl
+noted_behind (n ∷ ns) zero q below = refl
+noted_behind (n ∷ ns) (suc i) q below =
+    let first = below 0 n (omega arith) (omega arith) in
+    rw (ne_eqb n.0 q (λ same. absurd (omega arith)))
+    (noted_behind ns i q (λ k d h in_list. below (suc k) d (omega arith) (omega arith)))
+
+-- the notes from i up to j
+abbrev pub between : {X : Type 0} → List (ℕ × X) → ℕ → ℕ → List (ℕ × X)
+between ns i j = take (j - i) (drop i ns)
+
+module _ {X : Type 0} (ns : List (ℕ × X)) (i j q : ℕ) (ascend : IsNonDecreasingBy (λ n. n.0) ns) (around : IsAround ns i j q) where
+  all_before : (k : ℕ) (d : ℕ × X) → k < i → k < length ns → (slice_index_or ns k d).0 < q
+  all_before k d low in_list =
+      let order = around.order in
+      let in_notes = around.in_list in
+      omega (arith, ascend k (i - 1) d (omega arith) (omega arith), around.before d (omega arith))
+
+  all_behind : (k : ℕ) (d : ℕ × X) → j ≤ k → k < length ns → q ≤ (slice_index_or ns k d).0
+  all_behind k d high in_list = omega (arith, ascend j k d high in_list, around.behind d (omega arith))
+
+  -- a search in the notes between i and j: of these, those before n are below the address, and the others aren't
+  pub search_near : (n : ℕ) → n ≤ length (between ns i j)
+      → ((k : ℕ) (d : ℕ × X) → k < n → k < length (between ns i j) → (slice_index_or (between ns i j) k d).0 < q)
+      → ((k : ℕ) (d : ℕ × X) → n ≤ k → k < length (between ns i j) → q ≤ (slice_index_or (between ns i j) k d).0)
+      → head_at (drop n (drop i ns)) q ≡ noted ns q
+  search_near n few below above =
+      let size = length-take (j - i) (drop i ns) in
+      let rest = length-drop i ns in
+      let order = around.order in
+      let in_notes = around.in_list in
+      search_noted (drop i ns) n q (IsNonDecreasingBy-drop (λ n. n.0) i ns ascend)
+      (λ k d h in_list. omega (arith, below k d h (omega arith), ap (λ (m : ℕ × X). m.0) (get_or-take (j - i) (drop i ns) k d (omega arith))))
+      (λ k d h in_list. elim (cases_lt k (j - i)) [
+        | inl near ↦ omega (arith, above k d h (omega arith), ap (λ (m : ℕ × X). m.0) (get_or-take (j - i) (drop i ns) k d (omega arith)))
+        | inr far ↦ omega (arith, all_behind (i + k) d (omega arith) (omega arith), ap (λ (m : ℕ × X). m.0) (get_or-drop i ns k d))
+      ])
+      ∙ noted_behind ns i q all_before
+
+-- some of the notes ascend too
+pub ascend_between : {X : Type 0} (ns : List (ℕ × X)) (i j : ℕ) → IsNonDecreasingBy (λ n. n.0) ns → IsNonDecreasingBy (λ n. n.0) (between ns i j)
+ascend_between ns i j ascend = IsNonDecreasingBy-take (λ n. n.0) (j - i) (drop i ns) (IsNonDecreasingBy-drop (λ n. n.0) i ns ascend)

@@ -1,9 +1,10 @@
 //! What was noted first at each address.
 
-ghost use Rattle.std.specs.Prelude.{◌≡◌, ℕ, ◌==◌, ◌++◌, [], ◌∷◌, if◌then◌else◌, None, Some, IfOk, OnOk};
+ghost use Rattle.std.specs.Prelude.{◌≡◌, ℕ, ◌<◌, ◌≤◌, ◌==◌, ◌++◌, [], ◌∷◌, length, slice_index_or, if◌then◌else◌, true, None, Some, IfOk, OnOk};
 ghost use Rattle.std.specs.Option.{option_or};
-ghost use Rattle.psabi_relocs.specs.Noted.{noted, head_at};
+ghost use Rattle.psabi_relocs.specs.Noted.{noted, head_at, IsAround};
 
+use crate::marks::Marks;
 use std::alloc::AllocError;
 use std::marker::Model;
 
@@ -11,6 +12,8 @@ use std::marker::Model;
 #[derive(Drop)]
 pub struct Firsts<T> {
     notes: Vec<(u32, T)>,
+    /// Where to look for an address.
+    marks: Marks,
 }
 
 impl<T> Model for Firsts<T> {
@@ -43,6 +46,16 @@ fn head_at<T: Copy>(notes: &[(u32, T)], address: u32) -> Option<T>
     }
 }
 
+/// Whether the notes before `from` are below the address, and those from `to` on aren't. The addresses ascend.
+fn is_around<T: Copy>(notes: &[(u32, T)], from: usize, to: usize, address: u32) -> bool
+    ensures { result ≡ true → IsAround notes.now from to address }
+{
+    from <= to
+        && to <= notes.len()
+        && (from == 0 || notes[from - 1].0 < address)
+        && (to == notes.len() || address <= notes[to].0)
+}
+
 impl<T: Copy> Firsts<T> {
     /// What was noted first at each address. Notes at one address keep their order; where all ascend, nothing is sorted.
     pub fn of(mut notes: Vec<(u32, T)>) -> Result<Firsts<T>, AllocError>
@@ -51,14 +64,32 @@ impl<T: Copy> Firsts<T> {
         if !notes.is_sorted_by_key(|note| note.0) {
             notes.sort_by_key(|note| note.0)?;
         }
-        Ok(Firsts { notes })
+        let marks = Marks::of(*notes.allocator(), &notes)?;
+        Ok(Firsts { notes, marks })
     }
 
-    /// What was noted first at the address. The time is the logarithm of the number of notes.
+    /// Numbers of notes between which the first one is that isn't below the address: those that the marks say, if they are
+    /// right, and else all.
+    fn around(&self, address: u32) -> (usize, usize)
+        ensures { IsAround self.now result.0 result.1 address }
+    {
+        let (from, to) = self.marks.around(address);
+        if is_around(&self.notes, from, to, address) {
+            (from, to)
+        } else {
+            (0, self.notes.len())
+        }
+    }
+
+    /// What was noted first at the address. The time is at most the logarithm of the number of notes; where addresses lie
+    /// evenly, it doesn't depend on it.
     pub fn get(&self, address: u32) -> Option<T>
         ensures { result ≡ noted self.now address }
     {
-        let below = self.notes.partition_point(|note| note.0 < address);
-        head_at(self.notes.split_at(below).1, address)
+        let (from, to) = self.around(address);
+        let (_, behind) = self.notes.split_at(from);
+        let (near, _) = behind.split_at(to - from);
+        let below = near.partition_point(|note| note.0 < address);
+        head_at(behind.split_at(below).1, address)
     }
 }

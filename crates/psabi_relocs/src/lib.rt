@@ -16,6 +16,7 @@ mod judged;
 mod judgement;
 mod kept;
 mod laws;
+mod marks;
 mod pairs;
 mod reloc;
 mod row;

@@ -171,9 +171,9 @@ impl Noted {
 
 impl Pairs {
     /// The index of the kept section `section`. It takes memory for the entries that pair or group alone: at most twelve
-    /// bytes for each that pairs, as much again while they are sorted, and one node for all steps of groups at one place. Where the
-    /// addresses ascend in the order of the entries, nothing is sorted; else the time is n log n in the entries. Only out
-    /// of memory is an `Err`.
+    /// bytes for each that pairs, as much again while they are sorted, half a byte for its mark, and one node for all steps of
+    /// groups at one place. Where the addresses ascend in the order of the entries, nothing is sorted; else the time is n log n
+    /// in the entries. Only out of memory is an `Err`.
     pub fn of(alloc: Global, elf: &Elf<'_>, section: u32) -> Result<Pairs, AllocError>
         requires kept { is_kept elf.now section ≡ true }
         ensures { IfOk result (λ pairs. IsPairs elf.now section pairs) }

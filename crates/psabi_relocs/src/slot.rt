@@ -1,7 +1,10 @@
 //! The slots of the global offset table.
 
-ghost use Rattle.std.specs.Prelude.{◌≡◌};
+ghost use Rattle.std.specs.Prelude.{◌≡◌, ◌<◌, true};
 ghost use Rattle.elf32_reader.specs.Accepted.{IsAccepted};
+ghost use Rattle.elf32_reader.specs.Relas.{rela_count};
+ghost use Rattle.psabi_relocs.specs.Reloc.{reloc, target_section};
+ghost use Rattle.psabi_relocs.specs.Bytes.{holds, word_in};
 ghost use Rattle.psabi_relocs.specs.Slot.{low_immediate, slot_of, slot_section, slot_word};
 
 use crate::bytes::{WORD_LEN, linked_word};
@@ -30,6 +33,18 @@ fn low_immediate(row: Row, word: u32) -> u32
 }
 
 impl KeptSection<'_, '_> {
+    /// The immediate of the low part that is entry `entry`. Its symbol isn't looked at.
+    #[tactic(auto, unfolding(crate::specs::Reloc::reloc))]
+    fn low_part(&self, entry: u32) -> u32
+        requires entry { entry < rela_count self.now.file self.now.section }
+        requires holds { holds (target_section self.now.file self.now.section) (reloc self.now.file self.now.section entry).place 4 ≡ true }
+        ensures { result ≡ low_immediate (reloc self.now.file self.now.section entry).row
+            (word_in self.now.file (target_section self.now.file self.now.section) (reloc self.now.file self.now.section entry).place) }
+    {
+        let rela = self.elf.rela(self.section, entry);
+        low_immediate(Row::of(rela.kind), self.word(rela.offset))
+    }
+
     /// G: the address of the slot of a GOT_HI20 at `place`. None if its instruction isn't in its section, or
     /// no low part names it.
     #[tactic(auto, using(crate::proofs::Partners::low_of_below, crate::proofs::Partners::low_of_holds), unfolding(crate::specs::Slot::slot_of, crate::specs::Slot::slot_by))]
@@ -39,9 +54,8 @@ impl KeptSection<'_, '_> {
         if !self.holds(place, WORD_LEN) {
             return None;
         }
-        let low = self.reloc(self.pairs.low.get(place)?);
+        let low = self.low_part(self.pairs.low.get(place)?);
         let high = imm_u(self.word(place));
-        let low = low_immediate(low.row, self.word(low.place));
         Some(place.wrapping_add(high).wrapping_add(low))
     }
 
