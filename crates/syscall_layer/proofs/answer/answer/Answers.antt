@@ -3,10 +3,8 @@ use Rattle.std.proofs.Common.{◌≡◌, true, refl, sym, ap, subst, ◌∙◌}
 use Rattle.std.specs.Prelude.{Ok}
 use Rattle.machine_world.specs.Asks.{Ask, replies}
 use Rattle.machine_world.specs.Rows.{row}
-use Rattle.mmap_rules.specs.Held.{Held}
 use Rattle.machine_world.specs.Event.{is_exit}
 use Rattle.file_calls.specs.Calls.{WaitsOn, is_change, is_output}
-use Rattle.kept_parts.specs.declared.task.Task.{Task}
 use Rattle.kept_parts.specs.Kept.{Kept}
 use Rattle.kept_parts.specs.Stands.{About}
 use Rattle.kept_parts.specs.Calls.{Caller, asked_by, reply_of}
