@@ -1,5 +1,5 @@
 -- A list that a loop goes through.
-use Rattle.std.proofs.Common.{◌≡◌, ℕ, zero, suc, ◌+◌, ◌-◌, ◌<◌, Bool, cond, List, [], ◌∷◌, ◌++◌, map, length, get_or, set, take, drop, Some, sym, ap, ◌∙◌, arith, add-one, drop-cons}
+use Rattle.std.proofs.Common.{◌≡◌, ℕ, zero, suc, ◌+◌, ◌-◌, ◌<◌, Bool, true, false, cond, List, [], ◌∷◌, ◌++◌, map, length, get_or, set, take, drop, Some, refl, sym, ap, ◌∙◌, arith, add-one, drop-cons}
 use Rattle.std.specs.Prelude.{filter, slice_get, reverse, option_map}
 use Rattle.std.proofs.lemmas.List.{get_or-reverse, length-reverse, length-map}
 use Rattle.std.proofs.lemmas.Option.{slice_get-get_or, slice_get-map, get_or_from_slice_get}
@@ -34,3 +34,21 @@ from_end f xs k x less is =
     let mapped : slice_get (map f xs) (length xs - 1 - k) ≡ Some (f x) = slice_get-map f xs (length xs - 1 - k) ∙ ap (option_map f) is in
     slice_get-get_or (reverse (map f xs)) k (f x) (omega (arith, length-reverse (map f xs), long, less))
     ∙ ap Some (get_or-reverse (map f xs) k (f x) (omega (arith, long, less)) ∙ ap (λ n. get_or (map f xs) (n - 1 - k) (f x)) long ∙ get_or_from_slice_get (map f xs) (length xs - 1 - k) (f x) (f x) mapped)
+
+-- the one behind which k others pass the test
+pub sought : {A : Type 0} (p : A → Bool) (xs : List A) (i k : ℕ) (x : A) → i < length xs → x ≡ get_or xs i x → p x ≡ true → k ≡ length (filter p (drop (i + 1) xs))
+    → (k < length (filter p xs)) × (slice_get (filter p xs) (length (filter p xs) - 1 - k) ≡ Some x)
+sought p [] i k x less is passes many = absurd (omega (arith, less))
+sought p (z ∷ zs) zero k x less is passes many =
+    let behind : k ≡ length (filter p zs) = many in
+    let first : suc (length (filter p zs)) - 1 - k ≡ 0 = omega (arith, behind) in
+    rw (filter_head p z zs true (ap p (sym is) ∙ passes)) (omega (arith, behind), ap (slice_get (z ∷ filter p zs)) first ∙ ap Some (sym is))
+sought {A = A} p (z ∷ zs) (suc i) k x less is passes many =
+    by (sought p zs i k x (omega (arith, less)) is passes (many ∙ ap (λ n. length (filter p (drop n (z ∷ zs)))) (add-one (suc i)) ∙ ap (λ n. length (filter p (drop n zs))) (sym (add-one i)))) (p z) refl
+  where
+    by : (k < length (filter p zs)) × (slice_get (filter p zs) (length (filter p zs) - 1 - k) ≡ Some x) → (b : Bool) → p z ≡ b
+        → (k < length (filter p (z ∷ zs))) × (slice_get (filter p (z ∷ zs)) (length (filter p (z ∷ zs)) - 1 - k) ≡ Some x)
+    by (few, rest) true e =
+        let one : suc (length (filter p zs)) - 1 - k ≡ suc (length (filter p zs) - 1 - k) = omega (arith, few) in
+        rw (filter_head p z zs true e) (omega (arith, few), ap (slice_get (z ∷ filter p zs)) one ∙ rest)
+    by (few, rest) false e = rw (filter_head p z zs false e) (few, rest)

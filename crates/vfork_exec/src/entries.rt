@@ -77,8 +77,11 @@ pub fn ready_at<P>(entries: &[Entry<P>], number: usize) -> u32
     requires { number < length (filter (λ e. is_ready e.state) entries.now) }
     ensures { slice_get (reverse (map pid_of (filter (λ e. is_ready e.state) entries.now))) number ≡ Some result }
 {
-    let mut before = ready_count(entries) - 1 - number;
-    for entry in entries {
+    let mut before = number;
+    let mut end = entries.len();
+    while end > 0 {
+        end -= 1;
+        let entry = &entries[end];
         if entry.state.is_ready() {
             if before == 0 {
                 return entry.pid;
