@@ -7,6 +7,9 @@ ghost use Rattle.elf2flt_tool.specs.Cover.{own_cover, is_shared, begins_near, is
 
 use crate::cover::Cover;
 
+/// Words are few where less than one of so many numbers has one.
+const FEW: usize = 8;
+
 /// A recorded word, by numbers of the image.
 #[derive(Clone, Copy)]
 pub struct Recorded {
@@ -79,6 +82,7 @@ fn meets_word(words: &[u8], number: u32) -> bool
 
 /// Whether a recorded word has a byte in common with the bytes of another entry.
 #[tactic(auto, unfolding(crate::specs::Cover::is_met))]
+#[inline(always)]
 fn is_met(cover: &Cover, word: &Recorded) -> bool
     ensures { result ≡ is_met cover.now word.now }
 {
@@ -122,12 +126,15 @@ fn some_plain_met(cover: &Cover) -> bool
 }
 
 /// What `lowest_met` finds, of words that are counted in `cover`. In most files none meets another entry, even where slots are
-/// taken for plain words: then no word is looked at.
+/// taken for plain words: then, unless words are few, none is looked at.
 pub fn lowest_met_counted(cover: &Cover, words: &[Recorded]) -> Option<u32>
     requires small { length cover.now.words.items < 2 ^ 32 }
     requires counted { AllByRecursion (is_counted cover.now) words.now }
     ensures { result ≡ lowest (map (λ r. r.place) (filter (is_met cover.now) words.now)) }
 {
+    if words.len() < cover.words.len() / FEW {
+        return lowest_met(cover, words);
+    }
     if some_plain_met(cover) {
         lowest_met(cover, words)
     } else {
