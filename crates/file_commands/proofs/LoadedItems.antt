@@ -1,5 +1,5 @@
 -- The loads of the item lines' files, one after the other.
-use Rattle.std.proofs.Common.{◌≡◌, ℕ, ◌+◌, ◌-◌, ◌≤◌, Bool, true, false, cond, min, List, [], ◌∷◌, ◌++◌, length, drop, Some, refl, sym, ap, subst, arith, append_assoc, length-append}
+use Rattle.std.proofs.Common.{◌≡◌, ℕ, ◌+◌, ◌-◌, ◌≤◌, Bool, true, false, cond, min, List, [], ◌∷◌, ◌++◌, length, drop, Some, Result, Ok, Err, Vec, refl, sym, ap, subst, arith, append_assoc, length-append}
 use Rattle.std.proofs.Math.Path.{fun_ext}
 use Rattle.std.proofs.Math.Nat.{min-le_right}
 use Rattle.std.proofs.lemmas.List.{append-nil, drop_all}
@@ -10,9 +10,8 @@ use Rattle.file_commands.specs.Outcome.{Outcome, Inputs}
 use Rattle.file_commands.specs.Load.{with_load}
 use Rattle.file_commands.specs.Observed.{Observed}
 use Rattle.file_commands.specs.HostCourse.{PerformsCommand}
-use Rattle.file_commands.specs.declared.file_load.FileLoad.{FileLoad}
-use Rattle.file_commands.specs.declared.file_load.FileLoad.TheVariants as file_load
-use Rattle.file_commands.specs.Answer.{ending_of}
+use Rattle.file_commands.specs.declared.ended.Ended.{Ended}
+use Rattle.file_commands.specs.Answer.{ending_at}
 use Rattle.file_commands.specs.FileLoad.{GaveFile, EndsWithout, LoadsFile}
 use Rattle.file_commands.specs.Items.{kind_limit, load_limit, files_limit, has_file, with_item, with_items}
 use Rattle.file_commands.specs.ItemLoads.{GaveItem, LoadsItem, GaveFiles, LoadsSoFar}
@@ -49,10 +48,10 @@ no_file_given : (old new : Observed Told) (item : Item) (left : ℕ) (ending : E
     → (rest : List ℕ → Inputs → Outcome) → PerformsCommand old new (with_item left item rest) ending
 no_file_given old new item left ending is ends rest = subst (λ (b : Bool). PerformsCommand old new (loads_if b item left rest) ending) (sym is) (ends rest)
 
-pub loads_item : (old new : Observed Told) (item : Item) (left : ℕ) (r : FileLoad) → has_file item.kind ≡ true → LoadsFile (load_limit item.kind left) (Some item.line) old new item.name r
+pub loads_item : {Y : Type 0} (old new : Observed Told) (item : Item) (left : ℕ) (r : Result (Vec ℕ Y) Ended) → has_file item.kind ≡ true → LoadsFile (load_limit item.kind left) (Some item.line) old new item.name r
     → LoadsItem old new item left r
-loads_item old new item left (file_load.Whole bytes) is loads = gave_file old new item left bytes.items is loads
-loads_item old new item left (file_load.Ended ends) is loads = no_file_given old new item left (ending_of ends) is loads
+loads_item old new item left (Ok bytes) is loads = gave_file old new item left bytes.items is loads
+loads_item old new item left (Err ended) is loads = no_file_given old new item left (ending_at ended) is loads
 
 -- ---- all lines
 

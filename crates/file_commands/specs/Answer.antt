@@ -4,6 +4,8 @@ use Rattle.std.specs.declared.alloc.Global.{Global}
 use Rattle.std.specs.declared.alloc.AllocError.{AllocError}
 use Rattle.file_commands.specs.declared.status.Status.{Status}
 use Rattle.file_commands.specs.declared.answer.Answer.{Answer}
+use Rattle.file_commands.specs.declared.ended.Ended.{Ended}
+use Rattle.file_commands.specs.declared.ended.Ended.TheVariants as ended
 use Rattle.file_commands.specs.Ending.{Ending, early_ending, memory_ending}
 
 abbrev pub ending_in : Answer → Ending
@@ -13,6 +15,16 @@ ending_in answer = record { status = answer.status; out = answer.out.items; repo
 abbrev pub ending_of : Result Answer AllocError → Ending
 ending_of (Ok answer) = ending_in answer
 ending_of (Err error) = memory_ending
+
+-- one of its steps ended the command
+abbrev pub ending_at : Ended → Ending
+ending_at (ended.Early answer) = ending_in answer
+ending_at ended.Memory = memory_ending
+
+-- it went through its steps, or was ended by one of them
+abbrev pub settled_ending : Result Answer Ended → Ending
+settled_ending (Ok answer) = ending_in answer
+settled_ending (Err at) = ending_at at
 
 -- the answer has this ending, if there was memory for it
 abbrev pub HasEnding : Ending → Result Answer AllocError → Type 0

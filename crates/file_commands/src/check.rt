@@ -8,7 +8,7 @@ ghost use Rattle.file_commands.specs.HostCourse.{PerformsCommand};
 use crate::answer::Answer;
 use crate::arguments::DEFAULT_STACK;
 use crate::convert::refuse;
-use crate::file_load::{FileLoad, load_file};
+use crate::file_load::load_file;
 use crate::texts;
 use elf2flt_tool::flat_file;
 use host_io::Host;
@@ -19,8 +19,8 @@ pub fn check_file<H: Host>(alloc: Global, elf: &str, host: &mut H) -> Result<Ans
     ensures { PerformsCommand (observed H.told H.faults host.old) (observed H.told H.faults host.new) (check_outcome elf.now) (ending_of result) }
 {
     match load_file(alloc, elf, host) {
-        FileLoad::Whole(bytes) => check_bytes(alloc, &bytes),
-        FileLoad::Ended(ends) => ends,
+        Ok(bytes) => check_bytes(alloc, &bytes),
+        Err(ended) => ended.answer(),
     }
 }
 

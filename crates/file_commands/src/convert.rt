@@ -11,7 +11,7 @@ ghost use Rattle.file_commands.specs.Convert.{stored_outcome, converted_outcome,
 ghost use Rattle.file_commands.specs.HostCourse.{Performs, PerformsCommand};
 
 use crate::answer::Answer;
-use crate::file_load::{FileLoad, load_file};
+use crate::file_load::load_file;
 use crate::status::Status;
 use crate::store::store_file;
 use crate::texts;
@@ -33,8 +33,8 @@ pub fn convert_file<H: Host>(
     ensures { PerformsCommand (observed H.told H.faults host.old) (observed H.told H.faults host.new) (convert_outcome elf.now flt.now stack) (ending_of result) }
 {
     match load_file(alloc, elf, host) {
-        FileLoad::Whole(bytes) => convert_bytes(alloc, &bytes, flt, stack, host),
-        FileLoad::Ended(ends) => ends,
+        Ok(bytes) => convert_bytes(alloc, &bytes, flt, stack, host),
+        Err(ended) => ended.answer(),
     }
 }
 

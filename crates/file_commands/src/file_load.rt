@@ -6,7 +6,7 @@ ghost use Rattle.file_commands.specs.OneFile.{file_limit};
 ghost use Rattle.file_commands.specs.Observed.{observed};
 ghost use Rattle.file_commands.specs.FileLoad.{LoadsFile};
 
-use crate::answer::Answer;
+use crate::ended::Ended;
 use crate::status::Status;
 use crate::texts;
 use crate::texts::refusals;
@@ -17,17 +17,8 @@ use std::alloc::{AllocError, Global};
 /// The most bytes of an ELF or flat file that is loaded.
 const FILE_LIMIT: u32 = 67_108_864;
 
-/// What the load of a file gives.
-#[derive(Drop)]
-pub enum FileLoad {
-    /// The whole file.
-    Whole(Vec<u8>),
-    /// No file, and how the command ends without it.
-    Ended(Result<Answer, AllocError>),
-}
-
 /// Loads a file of at most 64 MiB.
-pub fn load_file<H: Host>(alloc: Global, name: &str, host: &mut H) -> FileLoad
+pub fn load_file<H: Host>(alloc: Global, name: &str, host: &mut H) -> Result<Vec<u8>, Ended>
     ensures { LoadsFile file_limit None (observed H.told H.faults host.old) (observed H.told H.faults host.new) name.now result }
 {
     load_limited(alloc, name, FILE_LIMIT, None, host)
@@ -40,21 +31,21 @@ pub fn load_limited<H: Host>(
     limit: u32,
     line: Option<u32>,
     host: &mut H,
-) -> FileLoad
+) -> Result<Vec<u8>, Ended>
     ensures { LoadsFile limit line (observed H.told H.faults host.old) (observed H.told H.faults host.new) name.now result }
 {
     let mut bytes = Vec::new(alloc);
     match host.load(alloc, name, limit, &mut bytes) {
-        Ok(Loaded::All) => FileLoad::Whole(bytes),
+        Ok(Loaded::All) => Ok(bytes),
         Ok(Loaded::TooLong) => {
             let text = refused_too_long(alloc, line);
-            FileLoad::Ended(Answer::early(alloc, Status::Refused, text))
+            Err(Ended::early(alloc, Status::Refused, text))
         }
         Err(HostError::Failed) => {
             let text = texts::cannot_read(alloc, name);
-            FileLoad::Ended(Answer::early(alloc, Status::HostRead, text))
+            Err(Ended::early(alloc, Status::HostRead, text))
         }
-        Err(HostError::Memory) => FileLoad::Ended(Err(AllocError)),
+        Err(HostError::Memory) => Err(Ended::Memory),
     }
 }
 

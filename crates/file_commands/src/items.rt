@@ -8,11 +8,11 @@ ghost use Rattle.file_commands.specs.Observed.{observed};
 ghost use Rattle.file_commands.specs.Items.{has_file, load_limit};
 ghost use Rattle.file_commands.specs.ItemLoads.{LoadsItem, LoadsItems};
 
-use crate::answer::Answer;
-use crate::file_load::{FileLoad, load_limited};
+use crate::ended::Ended;
+use crate::file_load::load_limited;
 use host_io::Host;
 use manifest_text::{Item, ItemKind};
-use std::alloc::{AllocError, Global};
+use std::alloc::Global;
 
 /// The most bytes of all files together.
 const FILES_LIMIT: u32 = 268_435_456;
@@ -23,43 +23,32 @@ const ELF_LIMIT: u32 = 67_108_864;
 /// The most bytes of a file that stands in the machine as it is, and of the console's input.
 const FILE_LIMIT: u32 = 16_777_216;
 
-/// What the loads of all lines' files give.
-#[derive(Drop)]
-pub enum ItemsLoad {
-    /// All files, in the order of the lines; an empty one for a folder.
-    Whole(Vec<Vec<u8>>),
-    /// Not all files, and how the command ends without them.
-    Ended(Result<Answer, AllocError>),
-}
-
-/// Loads the files of these lines in order, up to the first load that fails or is too long.
-pub fn load_items<H: Host>(alloc: Global, items: &[Item], host: &mut H) -> ItemsLoad
+/// Loads the files of these lines in order, up to the first load that fails or is too long. That of a folder is empty.
+pub fn load_items<H: Host>(
+    alloc: Global,
+    items: &[Item],
+    host: &mut H,
+) -> Result<Vec<Vec<u8>>, Ended>
     requires { AllByRecursion IsItem (map item_value items.now) }
     ensures { LoadsItems (observed H.told H.faults host.old) (observed H.told H.faults host.new) (map item_value items.now) result }
 {
     let mut files = Vec::new(alloc);
     let mut left = FILES_LIMIT;
     for item in items {
-        match load_item(alloc, item, left, host) {
-            FileLoad::Whole(bytes) => {
-                left -= bytes.len() as u32;
-                if files.push(bytes).is_err() {
-                    return ItemsLoad::Ended(Err(AllocError));
-                }
-            }
-            FileLoad::Ended(ends) => return ItemsLoad::Ended(ends),
-        }
+        let bytes = load_item(alloc, item, left, host)?;
+        left -= bytes.len() as u32;
+        files.push(bytes)?;
     }
-    ItemsLoad::Whole(files)
+    Ok(files)
 }
 
 /// Loads the file of a line, where so many bytes are left of those of all files. A folder has none.
-fn load_item<H: Host>(alloc: Global, item: &Item, left: u32, host: &mut H) -> FileLoad
+fn load_item<H: Host>(alloc: Global, item: &Item, left: u32, host: &mut H) -> Result<Vec<u8>, Ended>
     requires { IsItem (item_value item.now) }
     ensures { LoadsItem (observed H.told H.faults host.old) (observed H.told H.faults host.new) (item_value item.now) left result }
 {
     if !has_file(item.kind) {
-        return FileLoad::Whole(Vec::new(alloc));
+        return Ok(Vec::new(alloc));
     }
     let limit = load_limit(item.kind, left);
     load_limited(alloc, name_of(item), limit, Some(item.line), host)

@@ -6,7 +6,7 @@ ghost use Rattle.file_commands.specs.List.{listed_ending, list_outcome};
 ghost use Rattle.file_commands.specs.HostCourse.{PerformsCommand};
 
 use crate::answer::Answer;
-use crate::file_load::{FileLoad, load_file};
+use crate::file_load::load_file;
 use crate::status::Status;
 use crate::texts::listing::{listing, refused_flat};
 use bflt_format::Flat;
@@ -18,8 +18,8 @@ pub fn list_file<H: Host>(alloc: Global, flt: &str, host: &mut H) -> Result<Answ
     ensures { PerformsCommand (observed H.told H.faults host.old) (observed H.told H.faults host.new) (list_outcome flt.now) (ending_of result) }
 {
     match load_file(alloc, flt, host) {
-        FileLoad::Whole(bytes) => list_bytes(alloc, &bytes),
-        FileLoad::Ended(ends) => ends,
+        Ok(bytes) => list_bytes(alloc, &bytes),
+        Err(ended) => ended.answer(),
     }
 }
 

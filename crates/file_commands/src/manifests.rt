@@ -3,23 +3,23 @@ ghost use Rattle.std.specs.Prelude.{◌≡◌};
 ghost use Rattle.run_setup.specs.Faults.{IsMemory};
 ghost use Rattle.run_setup.specs.Making.{fault_value};
 ghost use Rattle.file_commands.specs.Ending.{memory_ending, OrMemory};
-ghost use Rattle.file_commands.specs.Answer.{ending_of};
+ghost use Rattle.file_commands.specs.Answer.{ending_at};
 ghost use Rattle.file_commands.specs.Manifests.{fault_ending};
 
-use crate::answer::Answer;
+use crate::ended::Ended;
 use crate::status::Status;
 use crate::texts::refusals::refused_line;
 use run_setup::FaultAt;
-use std::alloc::{AllocError, Global};
+use std::alloc::Global;
 
 /// The most bytes of a manifest.
 pub const MANIFEST_LIMIT: u32 = 1_048_576;
 
-/// The answer for a line with a fault.
-pub fn refuse_line(alloc: Global, at: &FaultAt) -> Result<Answer, AllocError>
-    ensures ending { OrMemory (fault_ending (fault_value at.now)) (ending_of result) }
-    ensures memory { IsMemory at.now.fault → ending_of result ≡ memory_ending }
+/// A line with a fault ends the command.
+pub fn refuse_line(alloc: Global, at: &FaultAt) -> Ended
+    ensures ending { OrMemory (fault_ending (fault_value at.now)) (ending_at result) }
+    ensures memory { IsMemory at.now.fault → ending_at result ≡ memory_ending }
 {
     let text = refused_line(alloc, at.line, &at.fault);
-    Answer::early(alloc, Status::Refused, text)
+    Ended::early(alloc, Status::Refused, text)
 }

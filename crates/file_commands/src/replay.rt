@@ -13,7 +13,7 @@ ghost use Rattle.file_commands.specs.HostCourse.{PerformsCommand};
 
 use crate::answer::Answer;
 use crate::arguments::Format;
-use crate::file_load::{FileLoad, load_file, load_limited};
+use crate::file_load::{load_file, load_limited};
 use crate::status::Status;
 use crate::texts::listing::refused_flat;
 use crate::texts::replays::{no_line, refused_items, refused_replay, yes_line};
@@ -37,8 +37,8 @@ pub fn replay_file<H: Host>(
     ensures { PerformsCommand (observed H.told H.faults host.old) (observed H.told H.faults host.new) (replay_outcome format file.now items.now) (ending_of result) }
 {
     match load_file(alloc, file, host) {
-        FileLoad::Whole(program) => replay_items(alloc, format, &program, items, host),
-        FileLoad::Ended(ends) => ends,
+        Ok(program) => replay_items(alloc, format, &program, items, host),
+        Err(ended) => ended.answer(),
     }
 }
 
@@ -53,8 +53,8 @@ fn replay_items<H: Host>(
     ensures { PerformsCommand (observed H.told H.faults host.old) (observed H.told H.faults host.new) (loaded_outcome format program.now items.now) (ending_of result) }
 {
     match load_limited(alloc, items, ITEMS_LIMIT, None, host) {
-        FileLoad::Whole(text) => replay_text(alloc, format, program, &text),
-        FileLoad::Ended(ends) => ends,
+        Ok(text) => replay_text(alloc, format, program, &text),
+        Err(ended) => ended.answer(),
     }
 }
 

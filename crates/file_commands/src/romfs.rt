@@ -14,8 +14,8 @@ ghost use Rattle.file_commands.specs.Romfs.{imaged_outcome, filed_outcome, lined
 ghost use Rattle.file_commands.specs.HostCourse.{Performs, PerformsCommand};
 
 use crate::answer::Answer;
-use crate::file_load::{FileLoad, load_limited};
-use crate::items::{ItemsLoad, load_items};
+use crate::file_load::load_limited;
+use crate::items::load_items;
 use crate::manifests::{MANIFEST_LIMIT, refuse_line};
 use crate::status::Status;
 use crate::store::store_file;
@@ -40,8 +40,8 @@ pub fn romfs_file<H: Host>(
     ensures { PerformsCommand (observed H.told H.faults host.old) (observed H.told H.faults host.new) (romfs_outcome manifest.now image.now) (ending_of result) }
 {
     match load_limited(alloc, manifest, MANIFEST_LIMIT, None, host) {
-        FileLoad::Whole(bytes) => romfs_manifest(alloc, &bytes, image, host),
-        FileLoad::Ended(ends) => ends,
+        Ok(bytes) => romfs_manifest(alloc, &bytes, image, host),
+        Err(ended) => ended.answer(),
     }
 }
 
@@ -76,8 +76,8 @@ fn romfs_items<H: Host>(
     ensures { PerformsCommand (observed H.told H.faults host.old) (observed H.told H.faults host.new) (with_items files_limit (map item_value items.now) (filed_outcome image.now (map item_value items.now))) (ending_of result) }
 {
     match load_items(alloc, items, host) {
-        ItemsLoad::Whole(files) => romfs_files(alloc, items, files, image, host),
-        ItemsLoad::Ended(ends) => ends,
+        Ok(files) => romfs_files(alloc, items, files, image, host),
+        Err(ended) => ended.answer(),
     }
 }
 
@@ -96,7 +96,7 @@ fn romfs_files<H: Host>(
 {
     match bring(alloc, items, files) {
         Ok(run) => store_tree(alloc, &run.tree, image, host),
-        Err(at) => refuse_line(alloc, &at),
+        Err(at) => refuse_line(alloc, &at).answer(),
     }
 }
 

@@ -6,7 +6,7 @@ ghost use Rattle.file_commands.specs.Unromfs.{unmade_ending, unromfs_outcome};
 ghost use Rattle.file_commands.specs.HostCourse.{PerformsCommand};
 
 use crate::answer::Answer;
-use crate::file_load::{FileLoad, load_file};
+use crate::file_load::load_file;
 use crate::status::Status;
 use crate::texts::images::{image_listing, refused_rom};
 use host_io::Host;
@@ -18,8 +18,8 @@ pub fn unromfs_file<H: Host>(alloc: Global, image: &str, host: &mut H) -> Result
     ensures { PerformsCommand (observed H.told H.faults host.old) (observed H.told H.faults host.new) (unromfs_outcome image.now) (ending_of result) }
 {
     match load_file(alloc, image, host) {
-        FileLoad::Whole(bytes) => unromfs_bytes(alloc, &bytes),
-        FileLoad::Ended(ends) => ends,
+        Ok(bytes) => unromfs_bytes(alloc, &bytes),
+        Err(ended) => ended.answer(),
     }
 }
 

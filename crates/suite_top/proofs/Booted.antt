@@ -27,15 +27,14 @@ use Rattle.suite_top.specs.declared.telling.Telling.{Telling}
 use Rattle.host_io.specs.Host.{Told}
 use Rattle.file_commands.specs.Arguments.{Kept}
 use Rattle.file_commands.specs.Ending.{Ending, memory_ending, OrMemory}
-use Rattle.file_commands.specs.Outcome.{Outcome}
 use Rattle.file_commands.specs.Observed.{Observed}
 use Rattle.file_commands.specs.HostCourse.{Performs}
 use Rattle.run_setup.specs.Faults.{IsMemory}
 use Rattle.suite_top.specs.Refusing.{told_fault}
 use Rattle.file_commands.specs.Manifests.{fault_ending}
 use Rattle.suite_top.specs.Kept.{kept_outcome}
-use Rattle.suite_top.specs.Run.{start_line, boot_fault, world_ending, memory_run_ending, mode_outcome, booted_outcome}
-use Rattle.file_commands.proofs.HostCourses.{runs_out, ends_at_once}
+use Rattle.suite_top.specs.Run.{start_line, world_ending, memory_run_ending, mode_outcome}
+use Rattle.suite_top.specs.Steps.{EndsFor, boot_ending}
 
 -- ---- what no start line changes
 
@@ -105,12 +104,9 @@ booted (Ok w) machine is = ap Ok (sym is)
 booted (Err fault) machine is = absurd is
 
 -- what the machine was started with, as the definition has it
-pub boots_as : (rest : Rest) (starts : List StoredStart) (machine : State) (kept : Option Kept) (telling : Telling) (mode : Mode) (m : Manifest) (headers : List (List ℕ)) (old new : Observed Told) (ending : Ending) → m.starts ≡ map start_value starts
-    → Boots (boot rest (lines_of starts)) (Ok machine) → Performs old new (booted_outcome kept telling mode m headers (Ok (world machine))) ending
-    → Performs old new (booted_outcome kept telling mode m headers (boot rest (map start_line m.starts))) ending
-boots_as rest starts machine kept telling mode m headers old new ending are boots ends =
-    let same : boot rest (map start_line m.starts) ≡ Ok (world machine) = ap (λ ss. boot rest (map start_line ss)) are ∙ ap (boot rest) (sym (lines_are starts)) ∙ booted _ _ boots in
-    subst (λ (r : Result World BootFault). Performs old new (booted_outcome kept telling mode m headers r) ending) (sym same) ends
+pub boots_as : (rest : Rest) (starts : List StoredStart) (m : Manifest) (boots : Result World BootFault) → m.starts ≡ map start_value starts
+    → boot rest (lines_of starts) ≡ boots → boot rest (map start_line m.starts) ≡ boots
+boots_as rest starts m boots are is = ap (λ ss. boot rest (map start_line ss)) are ∙ ap (boot rest) (sym (lines_are starts)) ∙ is
 
 -- the machine's run as the definition has it
 pub ends_as : (machine : State) (kept : Option Kept) (telling : Telling) (mode : Mode) (quanta : List Quantum) (watches : List WatchLine) (dumps : List Dump) (headers : List (List ℕ)) (old new : Observed Told) (ending : Ending)
@@ -132,27 +128,15 @@ machine_kind machine = refl
 
 -- a machine that doesn't start
 refused_by : (fault : BootFault) (r : BootRefusal) (ending : Ending) → Boots (Err fault) (Err r)
-    → OrMemory (fault_ending (told_fault r)) ending → (IsMemory (told_fault r).fault → ending ≡ memory_ending) → OrMemory (fault_ending (boot_fault fault)) ending
+    → OrMemory (fault_ending (told_fault r)) ending → (IsMemory (told_fault r).fault → ending ≡ memory_ending) → OrMemory (boot_ending fault) ending
 refused_by fault refusal.Memory ending is ends memory = inr (memory tt)
-refused_by (bad_start number) (refusal.BadStart at) ending is ends memory = subst (λ n. OrMemory (fault_ending (boot_fault (bad_start n))) ending) is ends
-refused_by (args_too_big number) (refusal.E2big at) ending is ends memory = subst (λ n. OrMemory (fault_ending (boot_fault (args_too_big n))) ending) is ends
-refused_by (no_run number) (refusal.NoRun at) ending is ends memory = subst (λ n. OrMemory (fault_ending (boot_fault (no_run n))) ending) is ends
+refused_by (bad_start number) (refusal.BadStart at) ending is ends memory = subst (λ n. OrMemory (boot_ending (bad_start n)) ending) is ends
+refused_by (args_too_big number) (refusal.E2big at) ending is ends memory = subst (λ n. OrMemory (boot_ending (args_too_big n)) ending) is ends
+refused_by (no_run number) (refusal.NoRun at) ending is ends memory = subst (λ n. OrMemory (boot_ending (no_run n)) ending) is ends
 refused_by fault r ending is ends memory = absurd is
 
--- out of memory before the first request
-pub out_of_memory : (old : Observed Told) (outcome : Outcome) (ending : Ending) → ending ≡ memory_ending → Performs old old outcome ending
-out_of_memory old outcome ending is = subst (Performs old old outcome) (sym is) (runs_out old old outcome refl refl)
-
-module _ (kept : Option Kept) (telling : Telling) (mode : Mode) (m : Manifest) (headers : List (List ℕ)) (old : Observed Told) (ending : Ending) where
-  boot_refused : (b : Result World BootFault) (r : BootRefusal) → Boots b (Err r)
-      → OrMemory (fault_ending (told_fault r)) ending → (IsMemory (told_fault r).fault → ending ≡ memory_ending) → Performs old old (booted_outcome kept telling mode m headers b) ending
-  boot_refused (Ok w) refusal.Memory is ends memory = out_of_memory old _ ending (memory tt)
-  boot_refused (Ok w) r is ends memory = absurd is
-  boot_refused (Err fault) r is ends memory = ends_at_once old (fault_ending (boot_fault fault)) ending (λ h. cc) (refused_by fault r ending is ends memory)
-
-  pub refused_as : (rest : Rest) (starts : List StoredStart) (r : BootRefusal) → m.starts ≡ map start_value starts
-      → Boots (boot rest (lines_of starts)) (Err r) → OrMemory (fault_ending (told_fault r)) ending → (IsMemory (told_fault r).fault → ending ≡ memory_ending)
-      → Performs old old (booted_outcome kept telling mode m headers (boot rest (map start_line m.starts))) ending
-  refused_as rest starts r are boots ends memory =
-      let same : boot rest (map start_line m.starts) ≡ boot rest (lines_of starts) = ap (λ ss. boot rest (map start_line ss)) are ∙ ap (boot rest) (sym (lines_are starts)) in
-      subst (λ (b : Result World BootFault). Performs old old (booted_outcome kept telling mode m headers b) ending) (sym same) (boot_refused (boot rest (lines_of starts)) r boots ends memory)
+pub refuses_boot : (b : Result World BootFault) (r : BootRefusal) (ending : Ending) → Boots b (Err r)
+    → OrMemory (fault_ending (told_fault r)) ending → (IsMemory (told_fault r).fault → ending ≡ memory_ending) → EndsFor boot_ending b ending
+refuses_boot (Ok w) refusal.Memory ending is ends memory = memory tt
+refuses_boot (Ok w) r ending is ends memory = absurd is
+refuses_boot (Err fault) r ending is ends memory = refused_by fault r ending is ends memory

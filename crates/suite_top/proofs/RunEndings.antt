@@ -1,5 +1,5 @@
 -- How a run ends behind its loads.
-use Rattle.std.proofs.Common.{◌≡◌, ◌≢◌, ℕ, List, map, Option, None, Result, Ok, Err, sym, subst, inl, inr}
+use Rattle.std.proofs.Common.{◌≡◌, ◌≢◌, ℕ, List, map, Option, None, Result, Ok, Err, refl, sym, subst, inl, inr}
 use Rattle.std.specs.Prelude.{◌⊎◌}
 use Rattle.host_io.specs.Host.{Told}
 use Rattle.page_runs.specs.declared.place.Kind.{Kind}
@@ -7,7 +7,7 @@ use Rattle.quantum_sched.specs.declared.Quantum.{Quantum}
 use Rattle.manifest_text.specs.declared.manifest.Dump.{Dump}
 use Rattle.manifest_text.specs.declared.manifest.WatchLine.{WatchLine}
 use Rattle.manifest_text.specs.Values.{Manifest}
-use Rattle.manifest_text.specs.Manifest.{Fault}
+use Rattle.manifest_text.specs.Manifest.{Fault, manifest_of}
 use Rattle.machine_world.specs.World.{World}
 use Rattle.machine_world.specs.Turns.{End}
 use Rattle.machine_world.specs.Boot.{BootFault, boot}
@@ -16,20 +16,24 @@ use Rattle.region_watch.specs.declared.mode.Mode.TheVariants.{Halt, GoOn}
 use Rattle.flat_machine.specs.Runs.{repeated}
 use Rattle.file_commands.specs.declared.status.Status.TheVariants as status
 use Rattle.file_commands.specs.Arguments.{Kept}
-use Rattle.file_commands.specs.Ending.{Ending, refused_ending, memory_ending, OrMemory}
-use Rattle.file_commands.specs.Texts.Refusals.{manifest_tail}
+use Rattle.file_commands.specs.Ending.{Ending, memory_ending, OrMemory}
+use Rattle.file_commands.specs.Outcome.{Outcome}
+use Rattle.file_commands.specs.Load.{at_once}
+use Rattle.file_commands.specs.FileLoad.{GaveFile, EndsWithout}
+use Rattle.file_commands.specs.Items.{files_limit, with_items}
 use Rattle.file_commands.specs.Observed.{Observed}
 use Rattle.file_commands.specs.HostCourse.{Performs, PerformsCommand}
 use Rattle.suite_top.specs.declared.telling.Telling.{Telling}
 use Rattle.run_setup.specs.Brought.{Brought, FaultAt, nothing_brought, all_brought}
 use Rattle.run_setup.specs.Faults.{IsMemory}
 use Rattle.file_commands.specs.ItemLoads.{GaveFiles}
-use Rattle.file_commands.specs.Manifests.{fault_ending}
+use Rattle.file_commands.specs.Manifests.{manifest_limit, fault_ending}
 use Rattle.suite_top.specs.Telling.{told_ending}
-use Rattle.suite_top.specs.Run.{mode_ending, booted_outcome, brought_outcome, files_outcome, items_outcome, manifest_outcome, start_line, opening}
-use Rattle.file_commands.proofs.HostCourses.{ends_at_once}
-use Rattle.file_commands.proofs.HostSteps.{for_any_inputs, asks_nothing}
-use Rattle.suite_top.proofs.Booted.{out_of_memory}
+use Rattle.suite_top.specs.Kept.{keep_of}
+use Rattle.suite_top.specs.Run.{mode_ending, mode_outcome, booted_outcome, brought_outcome, files_outcome, items_outcome, manifest_outcome, run_outcome, start_line, opening}
+use Rattle.suite_top.specs.Steps.{EndsFor, manifest_ending, boot_ending}
+use Rattle.file_commands.proofs.HostCourses.{runs_out, ends_at_once}
+use Rattle.file_commands.proofs.HostSteps.{for_any_inputs, performs_rest}
 use Rattle.suite_top.proofs.RunOutcomes.{told_status}
 
 -- no end is that of a failed load
@@ -55,28 +59,83 @@ pub stop_is_told : (ending : Ending) (telling : Telling) (shown : List ℕ) (w :
 stop_is_told ending telling shown w end is =
     subst (λ (e : Ending). e.status ≢ status.HostRead) (sym is) (told_status (λ s. s ≢ status.HostRead) (λ h. cc) (λ h. cc) (λ h. cc) (λ h. cc) (λ h. cc) telling shown w end)
 
--- a manifest with a fault
-pub refuses_manifest : (old : Observed Told) (kept : Option Kept) (telling : Telling) (mode : Mode) (kind : Kind) (r : Result Manifest Fault) (first : Fault) (ending : Ending)
-    → r ≡ Err first → OrMemory (refused_ending (manifest_tail first.line first.fault)) ending → PerformsCommand old old (manifest_outcome kept telling mode kind r) ending
-refuses_manifest old kept telling mode kind r first ending is ends =
-    subst (λ (x : Result Manifest Fault). PerformsCommand old old (manifest_outcome kept telling mode kind x) ending) (sym is) (asks_nothing old (refused_ending (manifest_tail first.line first.fault)) ending (λ h. cc) ends)
+-- ---- a step that ends the run
 
--- behind all loads
-pub runs_files : (old now new : Observed Told) (kept : Option Kept) (telling : Telling) (mode : Mode) (kind : Kind) (m : Manifest) (files : List (List ℕ)) (ending : Ending)
-    → GaveFiles old now m.items files → Performs now new (files_outcome kept telling mode kind m files) ending → PerformsCommand old new (items_outcome kept telling mode kind m) ending
-runs_files old now new kept telling mode kind m files ending gave performs =
-    gave.goes_on (files_outcome kept telling mode kind m) new ending (for_any_inputs now new (λ inputs. files_outcome kept telling mode kind m files) ending (λ inputs. performs))
+-- out of memory before the first request
+pub out_of_memory : (old : Observed Told) (outcome : Outcome) (ending : Ending) → ending ≡ memory_ending → Performs old old outcome ending
+out_of_memory old outcome ending is = subst (Performs old old outcome) (sym is) (runs_out old old outcome refl refl)
 
-module _ (kept : Option Kept) (telling : Telling) (mode : Mode) (kind : Kind) (m : Manifest) (files : List (List ℕ)) (ending : Ending) where
-  pub brings_all : (old new : Observed Told) (b : Brought) → all_brought m.items files nothing_brought ≡ Ok b → Performs old new (brought_outcome kept telling mode kind m (Ok b)) ending
-      → Performs old new (files_outcome kept telling mode kind m files) ending
-  unfolding files_outcome
-  brings_all old new b brings ends = subst (λ (r : Result Brought FaultAt). Performs old new (brought_outcome kept telling mode kind m r) ending) (sym brings) ends
+module _ {A F : Type 0} (of : F → Ending) where
+  pub ends_of_memory : (wanted : Result A F) (ending : Ending) → ending ≡ memory_ending → EndsFor of wanted ending
+  ends_of_memory (Ok a) ending is = is
+  ends_of_memory (Err fault) ending is = inr is
 
-  pub refuses_line : (old : Observed Told) (at : FaultAt) → IsMemory at.fault ⊎ (all_brought m.items files nothing_brought ≡ Err at) → OrMemory (fault_ending at) ending → (IsMemory at.fault → ending ≡ memory_ending)
-      → Performs old old (files_outcome kept telling mode kind m files) ending
-  unfolding files_outcome
-  refuses_line old at why ends memory = elim why [
-    | inl is ↦ out_of_memory old _ ending (memory is)
-    | inr is ↦ subst (λ (r : Result Brought FaultAt). Performs old old (brought_outcome kept telling mode kind m r) ending) (sym is) (ends_at_once old (fault_ending at) ending (λ h. cc) ends)
-  ]
+  pub ends_of_fault : (wanted : Result A F) (fault : F) (ending : Ending) → wanted ≡ Err fault → OrMemory (of fault) ending → EndsFor of wanted ending
+  ends_of_fault wanted fault ending is ends = subst (λ (r : Result A F). EndsFor of r ending) (sym is) ends
+
+  -- nothing more is requested, where the outcome is that of the fault
+  ends_step : (outcome : Result A F → Outcome) → ((fault : F) → outcome (Err fault) ≡ at_once (of fault)) → ((fault : F) → (of fault).status ≢ status.HostRead)
+      → (old : Observed Told) (wanted : Result A F) (ending : Ending) → EndsFor of wanted ending → Performs old old (outcome wanted) ending
+  ends_step outcome at other old (Ok a) ending ends = out_of_memory old (outcome (Ok a)) ending ends
+  ends_step outcome at other old (Err fault) ending ends = subst (λ (o : Outcome). Performs old old o ending) (sym (at fault)) (ends_at_once old (of fault) ending (other fault) ends)
+
+-- a line with a fault
+pub refuses_line : (wanted : Result Brought FaultAt) (at : FaultAt) (ending : Ending) → IsMemory at.fault ⊎ (wanted ≡ Err at) → OrMemory (fault_ending at) ending → (IsMemory at.fault → ending ≡ memory_ending)
+    → EndsFor fault_ending wanted ending
+refuses_line wanted at ending why ends memory = elim why [
+  | inl is ↦ ends_of_memory fault_ending wanted ending (memory is)
+  | inr is ↦ ends_of_fault fault_ending wanted at ending is ends
+]
+
+module _ (kept : Option Kept) (telling : Telling) (mode : Mode) (kind : Kind) where
+  -- ---- behind the load of the manifest
+
+  pub behind_manifest : (name : List ℕ) (old now new : Observed Told) (bytes : List ℕ) (ending : Ending) → GaveFile manifest_limit old now name bytes
+      → PerformsCommand now new (manifest_outcome kept telling mode kind (manifest_of bytes)) ending → PerformsCommand old new (run_outcome name kept telling mode kind) ending
+  unfolding run_outcome
+  behind_manifest name old now new bytes ending gave performs =
+      performs_rest manifest_limit None name (λ text. manifest_outcome kept telling mode kind (manifest_of text)) old now new bytes ending gave performs
+
+  pub without_manifest : (name : List ℕ) (old new : Observed Told) (ending : Ending) → EndsWithout manifest_limit None old new name ending → PerformsCommand old new (run_outcome name kept telling mode kind) ending
+  unfolding run_outcome
+  without_manifest name old new ending ends = ends (λ text. manifest_outcome kept telling mode kind (manifest_of text))
+
+  pub refuses_manifest : (old : Observed Told) (wanted : Result Manifest Fault) (ending : Ending) → EndsFor manifest_ending wanted ending
+      → PerformsCommand old old (manifest_outcome kept telling mode kind wanted) ending
+  refuses_manifest old wanted ending ends =
+      for_any_inputs old old (manifest_outcome kept telling mode kind wanted) ending (λ inputs. ends_step manifest_ending (λ r. manifest_outcome kept telling mode kind r inputs) (λ first. refl) (λ first h. cc) old wanted ending ends)
+
+  module _ (wanted : Result Manifest Fault) (m : Manifest) (reads : wanted ≡ Ok m) where
+    as_read : (old new : Observed Told) (ending : Ending) → PerformsCommand old new (items_outcome kept telling mode kind m) ending → PerformsCommand old new (manifest_outcome kept telling mode kind wanted) ending
+    as_read old new ending performs = subst (λ (r : Result Manifest Fault). PerformsCommand old new (manifest_outcome kept telling mode kind r) ending) (sym reads) performs
+
+    pub without_files : (old new : Observed Told) (ending : Ending) → ((rest : List (List ℕ) → Outcome) → PerformsCommand old new (with_items files_limit m.items rest) ending)
+        → PerformsCommand old new (manifest_outcome kept telling mode kind wanted) ending
+    without_files old new ending ends = as_read old new ending (ends (files_outcome kept telling mode kind m))
+
+    pub behind_files : (old now new : Observed Told) (files : List (List ℕ)) (ending : Ending) → GaveFiles old now m.items files → Performs now new (files_outcome kept telling mode kind m files) ending
+        → PerformsCommand old new (manifest_outcome kept telling mode kind wanted) ending
+    behind_files old now new files ending gave performs =
+        as_read old new ending (gave.goes_on (files_outcome kept telling mode kind m) new ending (for_any_inputs now new (λ inputs. files_outcome kept telling mode kind m files) ending (λ inputs. performs)))
+
+  -- ---- behind all loads
+
+  module _ (m : Manifest) (files : List (List ℕ)) where
+    pub refuses_files : (old : Observed Told) (ending : Ending) → EndsFor fault_ending (all_brought m.items files nothing_brought) ending → Performs old old (files_outcome kept telling mode kind m files) ending
+    unfolding files_outcome
+    refuses_files old ending ends = ends_step fault_ending (brought_outcome kept telling mode kind m) (λ at. refl) (λ at h. cc) old (all_brought m.items files nothing_brought) ending ends
+
+    module _ (b : Brought) (brings : all_brought m.items files nothing_brought ≡ Ok b) where
+      abbrev started : Result World BootFault
+      started = boot (opening (keep_of kept) kind m b) (map start_line m.starts)
+
+      as_brought : (old new : Observed Told) (ending : Ending) → Performs old new (booted_outcome kept telling mode m b.headers started) ending → Performs old new (files_outcome kept telling mode kind m files) ending
+      unfolding files_outcome
+      as_brought old new ending performs = subst (λ (r : Result Brought FaultAt). Performs old new (brought_outcome kept telling mode kind m r) ending) (sym brings) performs
+
+      pub refuses_start : (old : Observed Told) (ending : Ending) → EndsFor boot_ending started ending → Performs old old (files_outcome kept telling mode kind m files) ending
+      refuses_start old ending ends = as_brought old old ending (ends_step boot_ending (booted_outcome kept telling mode m b.headers) (λ first. refl) (λ first h. cc) old started ending ends)
+
+      pub behind_start : (old new : Observed Told) (w : World) (ending : Ending) → started ≡ Ok w → Performs old new (mode_outcome kept telling mode (repeated m.repeat m.quanta) m.watches m.dumps b.headers w) ending
+          → Performs old new (files_outcome kept telling mode kind m files) ending
+      behind_start old new w ending starts performs = as_brought old new ending (subst (λ (r : Result World BootFault). Performs old new (booted_outcome kept telling mode m b.headers r) ending) (sym starts) performs)

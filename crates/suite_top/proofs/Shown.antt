@@ -6,7 +6,7 @@ use Rattle.manifest_text.specs.declared.manifest.Dump.{Dump}
 use Rattle.manifest_text.specs.declared.manifest.WatchLine.{WatchLine}
 use Rattle.machine_world.specs.World.{World}
 use Rattle.machine_world.specs.Turns.{turns}
-use Rattle.physical_turns.specs.Physical.{Physical, physical_turns, has_stray}
+use Rattle.physical_turns.specs.Physical.{Physical, physical_turns, has_stray, opening as memory_opening}
 use Rattle.kept_parts.specs.InMemory.{physical_of}
 use Rattle.region_watch.specs.declared.mode.Mode.{Mode}
 use Rattle.region_watch.specs.declared.mode.Mode.TheVariants.{Halt, GoOn}
@@ -29,8 +29,9 @@ use Rattle.file_commands.specs.HostCourse.{Performs}
 use Rattle.suite_top.specs.declared.course.Course.{Course}
 use Rattle.suite_top.specs.Kept.{kept_outcome}
 use Rattle.suite_top.specs.Running.{turns_of, Stopped, TellsHalting, TellsGoingOn}
-use Rattle.suite_top.specs.Run.{world_hits, memory_hits, walked_ending, world_ending, walked_on_ending, memory_run_ending}
+use Rattle.suite_top.specs.Run.{world_hits, memory_hits, walked_ending, world_ending, walked_on_ending, memory_run_ending, mode_outcome}
 use Rattle.suite_top.proofs.RunEndings.{stop_is_told}
+use Rattle.suite_top.proofs.Booted.{ends_as}
 
 abbrev in_mode : State → Mode → State
 in_mode s mode = record s { mode = mode }
@@ -114,3 +115,12 @@ pub keeps_with : (kept : Option Kept) (answer : Answer) (s : State) (ending : En
 keeps_with kept answer s ending w before after last is performs =
     let of_world = subst (λ (v : World). Performs before after (kept_outcome kept v (ending_in answer)) last) is.stands performs in
     subst (λ (e : Ending). Performs before after (kept_outcome kept w e) last) is.tells of_world
+
+-- and so is what is kept of the machine's run, by its mode
+pub keeps_all : (kept : Option Kept) (telling : Telling) (mode : Mode) (c : Course) (headers : List (List ℕ)) (old new : State) (answer : Answer) (before after : Observed Outside) (last : Ending)
+    → old.mode ≡ mode → one_memory old ≡ memory_opening headers (world old) → TellsHalting telling c old new (Ok answer) → TellsGoingOn telling c old new (Ok answer)
+    → Performs before after (kept_outcome kept (world new) (ending_in answer)) last → Performs before after (mode_outcome kept telling mode (turns_of c) c.watches.items c.dumps.items headers (world old)) last
+keeps_all kept telling mode c headers old new answer before after last is memory halt go_on performs =
+    ends_as old kept telling mode (turns_of c) c.watches.items c.dumps.items headers before after last is memory
+    (λ halts. keeps_with kept answer new _ _ before after last (halt halts) performs)
+    (λ goes. keeps_with kept answer new _ _ before after last (go_on goes) performs)

@@ -14,7 +14,7 @@
 -- Call        MeetsResult, the clause of `suite`: a course of the outcome, and a delivery of its ending
 -- StatusLaws, HostLaws   what holds of every call
 --
--- Refusing, Running    for private functions only: why a machine doesn't start, and what is told behind its run
+-- Steps, Refusing, Running    for private functions only: a step of a run, why a machine doesn't start, and what is told behind its run
 pub mod Report
 pub mod Telling
 pub mod Watched
@@ -27,5 +27,6 @@ pub mod Points
 pub mod Call
 pub mod StatusLaws
 pub mod HostLaws
+pub mod Steps
 pub mod Refusing
 pub mod Running

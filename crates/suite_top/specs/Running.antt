@@ -1,8 +1,7 @@
 -- For private functions only: a machine's run by the lines of its manifest.
-use Rattle.std.specs.Prelude.{◌≡◌, ◌+◌, ◌*◌, ◌^◌, ◌<◌, List, sum_by, Option, Result, IfOk}
+use Rattle.std.specs.Prelude.{◌≡◌, ◌+◌, ◌*◌, ◌^◌, ◌<◌, List, sum_by, Result, IfOk}
 use Rattle.std.specs.declared.alloc.AllocError.{AllocError}
 use Rattle.quantum_sched.specs.declared.Quantum.{Quantum}
-use Rattle.host_io.specs.Host.{Told}
 use Rattle.region_watch.specs.declared.mode.Mode.TheVariants.{Halt, GoOn}
 use Rattle.machine_world.specs.World.{World}
 use Rattle.machine_world.specs.Turns.{turns}
@@ -11,13 +10,9 @@ use Rattle.flat_machine.specs.State.{State, world, one_memory}
 use Rattle.flat_machine.specs.Runs.{repeated}
 use Rattle.file_commands.specs.declared.answer.Answer.{Answer}
 use Rattle.file_commands.specs.Answer.{ending_in}
-use Rattle.file_commands.specs.Arguments.{Kept}
 use Rattle.file_commands.specs.Ending.{Ending}
-use Rattle.file_commands.specs.Observed.{Observed}
-use Rattle.file_commands.specs.HostCourse.{Performs}
 use Rattle.suite_top.specs.declared.course.Course.{Course}
 use Rattle.suite_top.specs.declared.telling.Telling.{Telling}
-use Rattle.suite_top.specs.Kept.{kept_outcome}
 use Rattle.suite_top.specs.Run.{world_ending, memory_run_ending}
 
 -- its turns
@@ -41,13 +36,3 @@ TellsHalting telling c old new result =
 abbrev pub TellsGoingOn : Telling → Course → (old new : State) → Result Answer AllocError → Type 0
 TellsGoingOn telling c old new result =
     old.mode ≡ GoOn → IfOk result (Stopped (memory_run_ending telling (turns_of c) c.watches.items c.dumps.items (one_memory old)) (physical_turns (turns_of c) (one_memory old)).now.world new)
-
--- and the items are stored that are kept
-abbrev pub KeepsHalting : Option Kept → Telling → Course → State → (old new : Observed Told) → Ending → Type 0
-KeepsHalting kept telling c s old new ending =
-    s.mode ≡ Halt → Performs old new (kept_outcome kept (turns (turns_of c) (world s)).world (world_ending telling (turns_of c) c.watches.items c.dumps.items (world s))) ending
-
-abbrev pub KeepsGoingOn : Option Kept → Telling → Course → State → (old new : Observed Told) → Ending → Type 0
-KeepsGoingOn kept telling c s old new ending =
-    s.mode ≡ GoOn
-    → Performs old new (kept_outcome kept (physical_turns (turns_of c) (one_memory s)).now.world (memory_run_ending telling (turns_of c) c.watches.items c.dumps.items (one_memory s))) ending

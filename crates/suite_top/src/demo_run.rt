@@ -16,7 +16,7 @@ use crate::points::Points;
 use crate::run::run_files;
 use crate::telling::Telling;
 use elf_maker::demo;
-use file_commands::{Answer, DEFAULT_STACK};
+use file_commands::{Answer, DEFAULT_STACK, settled};
 use host_io::Host;
 use manifest_text::{Item, ItemKind, Manifest, Start};
 use page_runs::{Chooser, Run};
@@ -52,7 +52,7 @@ where
 {
     let manifest = demo_manifest(alloc, programs)?;
     let files = demo_files(alloc, programs)?;
-    run_files(
+    let steps = run_files(
         alloc,
         manifest,
         files,
@@ -62,7 +62,8 @@ where
         chooser,
         points,
         host,
-    )
+    );
+    settled(steps)
 }
 
 /// The manifest that the programs run by.

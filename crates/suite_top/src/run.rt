@@ -1,15 +1,22 @@
 //! The commands `run MANIFEST` and `trace MANIFEST`.
-ghost use Rattle.std.specs.Prelude.{◌≡◌, ◌++◌, false, length, string_bytes, IfOk, None, Some, Ok};
+ghost use Rattle.std.specs.Prelude.{◌≡◌, ◌++◌, ◌<◌, ◌≤◌, ℕ, false, length, map, string_bytes, slice_get, IfOk, None, Some};
+ghost use Rattle.std.specs.List.{AllByRecursion};
 ghost use Rattle.page_runs.specs.Choosers.{IsChooser, kind_of};
+ghost use Rattle.manifest_text.specs.declared.manifest.Start.{Start as StartItem};
 ghost use Rattle.manifest_text.specs.Manifest.{manifest_of};
-ghost use Rattle.manifest_text.specs.Values.{manifest_value, vec_texts};
-ghost use Rattle.manifest_text.specs.Laws.{AreWatches, Reasonable};
-ghost use Rattle.machine_world.specs.Ages.{AreChanged};
-ghost use Rattle.physical_turns.specs.Physical.{has_stray};
-ghost use Rattle.flat_machine.specs.State.{world};
+ghost use Rattle.manifest_text.specs.Values.{item_value, manifest_value, vec_texts};
+ghost use Rattle.manifest_text.specs.Laws.{AreWatches, IsItem, Reasonable};
+ghost use Rattle.machine_world.specs.Ages.{AreChanged, most_at_boot};
+ghost use Rattle.machine_world.specs.Boot.{boot};
+ghost use Rattle.kept_parts.specs.InMemory.{headers_of};
+ghost use Rattle.physical_turns.specs.Physical.{has_stray, opening};
+ghost use Rattle.flat_machine.specs.State.{world, one_memory, rest_of, lines_of};
 ghost use Rattle.watch_points.specs.Points.{IsPoint, kind_of_point};
 ghost use Rattle.file_commands.specs.Observed.{observed};
-ghost use Rattle.file_commands.specs.Answer.{ending_of};
+ghost use Rattle.file_commands.specs.Answer.{ending_of, settled_ending};
+ghost use Rattle.file_commands.specs.HostCourse.{Performs, PerformsCommand};
+ghost use Rattle.file_commands.specs.Manifests.{fault_ending};
+ghost use Rattle.run_setup.specs.Brought.{all_brought, nothing_brought};
 ghost use Rattle.run_setup.specs.Making.{fault_value, HasPaths, brought_value};
 ghost use Rattle.suite_top.specs.Refusing.{told_fault};
 ghost use Rattle.suite_top.specs.Points.{ArePoints};
@@ -17,9 +24,9 @@ ghost use Rattle.suite_top.specs.Kept.{kept_in};
 ghost use Rattle.suite_top.specs.Report.{dumps_of};
 ghost use Rattle.suite_top.specs.Telling.{watch_of};
 ghost use Rattle.suite_top.specs.Watched.{found_text};
-ghost use Rattle.suite_top.specs.Running.{IsCounted, TellsHalting, TellsGoingOn, KeepsHalting, KeepsGoingOn};
-ghost use Rattle.suite_top.specs.Run.{brought_outcome, files_outcome, items_outcome, manifest_outcome, run_outcome};
-ghost use Rattle.file_commands.specs.HostCourse.{Performs, PerformsCommand};
+ghost use Rattle.suite_top.specs.Running.{IsCounted, TellsHalting, TellsGoingOn};
+ghost use Rattle.suite_top.specs.Run.{files_outcome, run_outcome};
+ghost use Rattle.suite_top.specs.Steps.{Gives, manifest_ending, boot_ending};
 
 use crate::course::Course;
 use crate::kept::{keep_items, keep_of};
@@ -29,12 +36,11 @@ use crate::telling::{Telling, told, watch_of};
 use crate::watched::{found_text, spans_of};
 use file_commands::texts::refusals::refused_manifest;
 use file_commands::{
-    Answer, FileLoad, ItemsLoad, Kept, MANIFEST_LIMIT, Status, load_items, load_limited,
-    refuse_line,
+    Answer, Ended, Kept, MANIFEST_LIMIT, Status, load_items, load_limited, refuse_line, settled,
 };
 use flat_machine::{BootRefusal, Machine, Setup};
 use host_io::Host;
-use manifest_text::{Dump, Manifest, ManifestRefusal};
+use manifest_text::{Dump, Item, Manifest, ManifestRefusal};
 use page_runs::{Chooser, Run};
 use region_watch::Mode;
 use run_setup::{FaultAt, LineFault, RunFiles, bring};
@@ -60,74 +66,51 @@ where
     requires points { ArePoints P.pre P.post Q.pre Q.post points.now }
     ensures { PerformsCommand (observed H.told H.faults host.old) (observed H.told H.faults host.new) (run_outcome manifest.now (kept_in kept.entry) telling mode (kind_of chooser.now)) (ending_of result) }
 {
-    match load_limited(alloc, manifest, MANIFEST_LIMIT, None, host) {
-        FileLoad::Whole(bytes) => run_manifest(
-            alloc, &bytes, kept, telling, mode, chooser, points, host,
-        ),
-        FileLoad::Ended(ends) => ends,
-    }
+    let steps = run_manifest(alloc, manifest, kept, telling, mode, chooser, points, host);
+    settled(steps)
 }
 
-/// Goes on with a manifest that was loaded.
+/// The steps of a run, up to the first that ends it.
 fn run_manifest<H: Host, F, P, Q>(
     alloc: Global,
-    bytes: &[u8],
+    manifest: &str,
     kept: Option<Kept<'_>>,
     telling: Telling,
     mode: Mode,
     chooser: &Chooser<F>,
     points: &Points<P, Q>,
     host: &mut H,
-) -> Result<Answer, AllocError>
+) -> Result<Answer, Ended>
 where
     F: Fn(&[Run], u32) -> Option<usize>,
     P: Fn(&[Span], u32, u32) -> bool,
     Q: Fn(&[Span], u32, u32) -> bool,
     requires chooser { IsChooser F.pre F.post chooser.now }
     requires points { ArePoints P.pre P.post Q.pre Q.post points.now }
-    ensures { PerformsCommand (observed H.told H.faults host.old) (observed H.told H.faults host.new) (manifest_outcome (kept_in kept.entry) telling mode (kind_of chooser.now) (manifest_of bytes.now)) (ending_of result) }
+    ensures { PerformsCommand (observed H.told H.faults host.old) (observed H.told H.faults host.new) (run_outcome manifest.now (kept_in kept.entry) telling mode (kind_of chooser.now)) (settled_ending result) }
+{
+    let bytes = load_limited(alloc, manifest, MANIFEST_LIMIT, None, host)?;
+    let manifest = read_manifest(alloc, &bytes)?;
+    let files = load_items(alloc, &manifest.items, host)?;
+    run_files(
+        alloc, manifest, files, kept, telling, mode, chooser, points, host,
+    )
+}
+
+fn read_manifest(alloc: Global, bytes: &[u8]) -> Result<Manifest, Ended>
+    ensures { Gives manifest_value manifest_ending (manifest_of bytes.now) result }
 {
     match manifest_text::read(alloc, bytes) {
-        Ok(manifest) => run_items(alloc, manifest, kept, telling, mode, chooser, points, host),
+        Ok(manifest) => Ok(manifest),
         Err(ManifestRefusal::At { line, fault }) => {
             let text = refused_manifest(alloc, line, fault);
-            Answer::early(alloc, Status::Refused, text)
+            Err(Ended::early(alloc, Status::Refused, text))
         }
-        Err(ManifestRefusal::Memory) => Err(AllocError),
+        Err(ManifestRefusal::Memory) => Err(Ended::Memory),
     }
 }
 
-/// Loads the files of all lines, and goes on with them.
-fn run_items<H: Host, F, P, Q>(
-    alloc: Global,
-    manifest: Manifest,
-    kept: Option<Kept<'_>>,
-    telling: Telling,
-    mode: Mode,
-    chooser: &Chooser<F>,
-    points: &Points<P, Q>,
-    host: &mut H,
-) -> Result<Answer, AllocError>
-where
-    F: Fn(&[Run], u32) -> Option<usize>,
-    P: Fn(&[Span], u32, u32) -> bool,
-    Q: Fn(&[Span], u32, u32) -> bool,
-    requires chooser { IsChooser F.pre F.post chooser.now }
-    requires points { ArePoints P.pre P.post Q.pre Q.post points.now }
-    requires manifest { Reasonable (manifest_value manifest) }
-    ensures { PerformsCommand (observed H.told H.faults host.old) (observed H.told H.faults host.new) (items_outcome (kept_in kept.entry) telling mode (kind_of chooser.now) (manifest_value manifest)) (ending_of result) }
-{
-    match load_items(alloc, &manifest.items, host) {
-        ItemsLoad::Whole(files) => {
-            run_files(
-                alloc, manifest, files, kept, telling, mode, chooser, points, host,
-            )
-        }
-        ItemsLoad::Ended(ends) => ends,
-    }
-}
-
-/// Goes on with the files of all lines.
+/// The steps of a run behind all loads.
 pub fn run_files<H: Host, F, P, Q>(
     alloc: Global,
     manifest: Manifest,
@@ -138,7 +121,7 @@ pub fn run_files<H: Host, F, P, Q>(
     chooser: &Chooser<F>,
     points: &Points<P, Q>,
     host: &mut H,
-) -> Result<Answer, AllocError>
+) -> Result<Answer, Ended>
 where
     F: Fn(&[Run], u32) -> Option<usize>,
     P: Fn(&[Span], u32, u32) -> bool,
@@ -147,39 +130,9 @@ where
     requires points { ArePoints P.pre P.post Q.pre Q.post points.now }
     requires manifest { Reasonable (manifest_value manifest) }
     requires files { length files.items ≡ length manifest.items.items }
-    ensures { Performs (observed H.told H.faults host.old) (observed H.told H.faults host.new) (files_outcome (kept_in kept.entry) telling mode (kind_of chooser.now) (manifest_value manifest) (vec_texts files.items)) (ending_of result) }
+    ensures { Performs (observed H.told H.faults host.old) (observed H.told H.faults host.new) (files_outcome (kept_in kept.entry) telling mode (kind_of chooser.now) (manifest_value manifest) (vec_texts files.items)) (settled_ending result) }
 {
-    match bring(alloc, &manifest.items, files) {
-        Ok(files) => run_brought(
-            alloc, manifest, files, kept, telling, mode, chooser, points, host,
-        ),
-        Err(at) => refuse_line(alloc, &at),
-    }
-}
-
-/// Starts the machine, and goes on with it.
-fn run_brought<H: Host, F, P, Q>(
-    alloc: Global,
-    manifest: Manifest,
-    files: RunFiles,
-    kept: Option<Kept<'_>>,
-    telling: Telling,
-    mode: Mode,
-    chooser: &Chooser<F>,
-    points: &Points<P, Q>,
-    host: &mut H,
-) -> Result<Answer, AllocError>
-where
-    F: Fn(&[Run], u32) -> Option<usize>,
-    P: Fn(&[Span], u32, u32) -> bool,
-    Q: Fn(&[Span], u32, u32) -> bool,
-    requires chooser { IsChooser F.pre F.post chooser.now }
-    requires points { ArePoints P.pre P.post Q.pre Q.post points.now }
-    requires manifest { Reasonable (manifest_value manifest) }
-    requires paths { HasPaths files }
-    requires unchanged { AreChanged 0 files.tree }
-    ensures { Performs (observed H.told H.faults host.old) (observed H.told H.faults host.new) (brought_outcome (kept_in kept.entry) telling mode (kind_of chooser.now) (manifest_value manifest) (Ok (brought_value files))) (ending_of result) }
-{
+    let files = bring_files(alloc, &manifest.items, files)?;
     let setup = Setup {
         pages: manifest.pages,
         tree: files.tree,
@@ -196,18 +149,46 @@ where
         watches: manifest.watches,
         dumps: manifest.dumps,
     };
+    let mut machine = boot(alloc, setup, chooser)?;
+    let answer = run_machine(alloc, &mut machine, &course, telling, chooser, points)?;
+    Ok(keep_items(alloc, &machine, kept, answer, host)?)
+}
+
+/// What the lines bring in.
+fn bring_files(alloc: Global, items: &[Item], files: Vec<Vec<u8>>) -> Result<RunFiles, Ended>
+    requires items { AllByRecursion IsItem (map item_value items.now) }
+    requires files { length files.items ≡ length items.now }
+    ensures brought { Gives brought_value fault_ending (all_brought (map item_value items.now) (vec_texts files.items) nothing_brought) result }
+    ensures paths { IfOk result HasPaths }
+    ensures unchanged { IfOk result (λ run. AreChanged 0 run.tree) }
+{
+    match bring(alloc, items, files) {
+        Ok(run) => Ok(run),
+        Err(at) => Err(refuse_line(alloc, &at)),
+    }
+}
+
+/// Starts the machine.
+fn boot<F: Fn(&[Run], u32) -> Option<usize>>(
+    alloc: Global,
+    setup: Setup,
+    chooser: &Chooser<F>,
+) -> Result<Machine, Ended>
+    requires chooser { IsChooser F.pre F.post chooser.now }
+    requires some { 1 ≤ setup.pages }
+    requires most { setup.pages ≤ 16384 }
+    requires changes { AreChanged most_at_boot setup.tree }
+    requires paths { length setup.paths.items ≡ length setup.programs.items }
+    requires starts { length setup.starts.items ≤ 64 }
+    requires args { (i : ℕ) → (s : StartItem) → slice_get setup.starts.items i ≡ Some s → 0 < length s.args.items }
+    ensures world { Gives world boot_ending (boot (rest_of setup.pages (kind_of chooser.now) setup.paths.items setup.programs.items setup.tree setup.stdin.items setup.keep) (lines_of setup.starts.items)) result }
+    ensures memory { IfOk result (λ machine. one_memory machine ≡ opening (headers_of setup.programs.items) (world machine)) }
+    ensures mode { IfOk result (λ machine. machine.mode ≡ setup.mode) }
+    ensures quiet { IfOk result (λ machine. has_stray (world machine).notes ≡ false) }
+{
     match Machine::boot(alloc, setup, chooser) {
-        Ok(mut machine) => run_booted(
-            alloc,
-            &mut machine,
-            &course,
-            kept,
-            telling,
-            chooser,
-            points,
-            host,
-        ),
-        Err(refusal) => refuse_line(alloc, &boot_fault(refusal)),
+        Ok(machine) => Ok(machine),
+        Err(refusal) => Err(refuse_line(alloc, &boot_fault(refusal))),
     }
 }
 
@@ -233,34 +214,6 @@ fn boot_fault(refusal: BootRefusal) -> FaultAt
             fault: LineFault::Memory,
         },
     }
-}
-
-/// Runs the machine, stores the items that are kept, and tells of the run.
-fn run_booted<H: Host, F, P, Q>(
-    alloc: Global,
-    machine: &mut Machine,
-    course: &Course,
-    kept: Option<Kept<'_>>,
-    telling: Telling,
-    chooser: &Chooser<F>,
-    points: &Points<P, Q>,
-    host: &mut H,
-) -> Result<Answer, AllocError>
-where
-    F: Fn(&[Run], u32) -> Option<usize>,
-    P: Fn(&[Span], u32, u32) -> bool,
-    Q: Fn(&[Span], u32, u32) -> bool,
-    requires chooser { IsChooser F.pre F.post chooser.now }
-    requires points { ArePoints P.pre P.post Q.pre Q.post points.now }
-    requires kind { kind_of chooser.now ≡ machine.old.kind }
-    requires events { IsCounted course.now machine.old }
-    requires quiet { has_stray (world machine.old).notes ≡ false }
-    requires watches { AreWatches course.now.watches.items }
-    ensures halt { KeepsHalting (kept_in kept.entry) telling course.now machine.old (observed H.told H.faults host.old) (observed H.told H.faults host.new) (ending_of result) }
-    ensures go_on { KeepsGoingOn (kept_in kept.entry) telling course.now machine.old (observed H.told H.faults host.old) (observed H.told H.faults host.new) (ending_of result) }
-{
-    let answer = run_machine(alloc, machine, course, telling, chooser, points)?;
-    keep_items(alloc, machine, kept, answer, host)
 }
 
 /// Runs the machine, and tells of it.

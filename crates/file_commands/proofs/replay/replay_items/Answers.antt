@@ -4,10 +4,10 @@ use Rattle.file_commands.specs.Replay.{replay_ending}
 use Rattle.file_commands.proofs.Replayed.{replays_text}
 use Rattle.file_commands.proofs.replay.replay_items.Goals as goal
 
-pub returns-in-Whole : goal.returns-in-Whole
-returns-in-Whole g c =
+pub returns-in-Ok : goal.returns-in-Ok
+returns-in-Ok g c =
     let ends = rw c.deref.ensures.value at c.replay_text.ensures in
-    replays_text _ _ c.args.format c.args.program.now c.args.items.now _ _ c.in-Whole.ensures ends
+    replays_text _ _ c.args.format c.args.program.now c.args.items.now _ _ c.in-Ok.ensures ends
 
-pub returns-in-Ended : goal.returns-in-Ended
-returns-in-Ended g c = c.in-Ended.ensures (λ text more. at_once (replay_ending c.args.format c.args.program.now text))
+pub returns-in-Err : goal.returns-in-Err
+returns-in-Err g c = rw c.answer.ensures (c.in-Err.ensures (λ text more. at_once (replay_ending c.args.format c.args.program.now text)))

@@ -9,11 +9,11 @@ use Rattle.file_commands.proofs.HostCourses.{runs_out}
 use Rattle.suite_top.proofs.Demos.{reasonable, as_many, is_demo}
 use Rattle.suite_top.proofs.demo_run.run_demo.Goals as goal
 
-pub run_files-requires-clause-manifest : goal.run_files-requires-clause-manifest
-run_files-requires-clause-manifest g c = subst Reasonable (sym c.in_ok-manifest.ensures) (reasonable c.args.programs c.requires.few)
+pub run_files-steps-requires-clause-manifest : goal.run_files-steps-requires-clause-manifest
+run_files-steps-requires-clause-manifest g c = subst Reasonable (sym c.in_ok-manifest.ensures) (reasonable c.args.programs c.requires.few)
 
-pub run_files-requires-clause-files : goal.run_files-requires-clause-files
-run_files-requires-clause-files g c =
+pub run_files-steps-requires-clause-files : goal.run_files-steps-requires-clause-files
+run_files-steps-requires-clause-files g c =
     let manifest = c.in_ok-manifest.manifest in
     let files = c.in_ok-files.files in
     sym (length-map files.items (λ v. v.items))
@@ -22,8 +22,9 @@ run_files-requires-clause-files g c =
 
 pub returns : goal.returns
 returns g c =
-    is_demo c.args.programs (kind_of c.args.chooser.now) (manifest_value c.in_ok-manifest.manifest) (vec_texts c.in_ok-files.files.items) _ _ _
-    c.requires.first c.in_ok-manifest.ensures c.in_ok-files.ensures c.run_files.ensures
+    rw c.settled.ensures
+    (is_demo c.args.programs (kind_of c.args.chooser.now) (manifest_value c.in_ok-manifest.manifest) (vec_texts c.in_ok-files.files.items) _ _ _
+    c.requires.first c.in_ok-manifest.ensures c.in_ok-files.ensures c.run_files-steps.ensures)
 
 pub returns-in_err-manifest : goal.returns-in_err-manifest
 returns-in_err-manifest g c =
