@@ -3,12 +3,12 @@ use Rattle.std.specs.Prelude.{◌≡◌, ◌+◌, ◌≤◌, map, reverse, sum, 
 use Rattle.call_log.specs.declared.log.Log.TheInside.{Inside}
 use Rattle.call_log.specs.Notes.{Note, most_calls, most_bytes, calls_in, bytes_in}
 use Rattle.call_log.specs.Values.{note_value}
-use Rattle.call_log.specs.Log.{Kept}
+use Rattle.call_log.specs.Log.{KeptNotes}
 
 abbrev pub notes_of : Inside → List Note
 notes_of s = reverse (map note_value s.notes.items)
 
-abbrev pub kept : Inside → Kept
+abbrev pub kept : Inside → KeptNotes
 kept s = record { notes = notes_of s; spare = s.ready }
 
 -- the two counts are the sums that the limits are about, and there is memory for the notes that it is kept ready for

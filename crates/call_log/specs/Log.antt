@@ -5,7 +5,7 @@ use Rattle.call_log.specs.declared.log.LogFault.TheVariants.{Full, Memory}
 use Rattle.call_log.specs.Notes.{Note, call_note, load_note, end_note, stray_note, weight_of, has_room}
 
 -- the notes, newest first, and for how many more memory is kept ready
-pub record Kept : Type 0 where
+pub record KeptNotes : Type 0 where
   pub notes : List Note
   pub spare : ℕ
 
@@ -16,7 +16,7 @@ may_keep notes (load_note entry) = true
 may_keep notes (end_note pid how) = true
 may_keep notes (stray_note pid seen) = true
 
-abbrev pub Pushes : Kept → Note → Kept → Result ⊤ LogFault → Type 0
+abbrev pub Pushes : KeptNotes → Note → KeptNotes → Result ⊤ LogFault → Type 0
 Pushes old note new (Ok done) = (may_keep old.notes note ≡ true) × (new.notes ≡ note ∷ old.notes) × (new.spare ≡ old.spare - 1)
 Pushes old note new (Err Full) = (may_keep old.notes note ≡ false) × (new ≡ old)
 Pushes old note new (Err Memory) = (may_keep old.notes note ≡ true) × (old.spare ≡ 0) × (new ≡ old)

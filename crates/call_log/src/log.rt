@@ -35,9 +35,9 @@ pub struct Log {
 }
 
 impl Model for Log {
-    ghost use Rattle.call_log.specs.Log.{Kept};
+    ghost use Rattle.call_log.specs.Log.{KeptNotes};
 
-    ghost Value = { Kept };
+    ghost Value = { KeptNotes };
 
     ghost use Rattle.call_log.specs.Inside.{kept, Counted};
 

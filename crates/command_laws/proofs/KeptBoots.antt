@@ -9,7 +9,7 @@ use Rattle.flat_loader.specs.Original.{block_pages}
 use Rattle.machine_world.specs.World.{Recording, World}
 use Rattle.machine_world.specs.Found.{Found, found_node, found, address_of, taken}
 use Rattle.machine_world.specs.Free.{free}
-use Rattle.machine_world.specs.Boot.{StartLine, BootFault, path_of, placed, fitting, located, started, then_started, all_started, empty_world, boot}
+use Rattle.machine_world.specs.Boot.{StartLine, BootFault, start_path, placed, fitting, located, started, then_started, all_started, empty_world, boot}
 use Rattle.machine_world.specs.Recordings.{nothing_recorded, launched}
 use Rattle.region_watch.specs.declared.mode.Mode.TheVariants.{Halt}
 use Rattle.flat_machine.specs.Runs.{repeated}
@@ -59,7 +59,7 @@ module _ (k : ℕ) (r : Recording) (w : World) (s : StartLine) where
   started_alike : BootAlike (started w s) (started other s)
   unfolding started
   started_alike =
-      subst (λ (o : Option Found). BootAlike (located w s (found w.rest (path_of s))) (located other s o)) (sym (same_node (lookup w.rest.tree (path_of s)))) (located_alike (found w.rest (path_of s)))
+      subst (λ (o : Option Found). BootAlike (located w s (found w.rest (start_path s))) (located other s o)) (sym (same_node (lookup w.rest.tree (start_path s)))) (located_alike (found w.rest (start_path s)))
 
 then_alike : (one other : Result World BootFault) (more : World → Result World BootFault) → BootAlike one other
     → ((k : ℕ) (r : Recording) (w : World) → BootAlike (more w) (more (recording_as k r w))) → BootAlike (then_started one more) (then_started other more)

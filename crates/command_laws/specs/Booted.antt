@@ -12,7 +12,7 @@ use Rattle.waits_laws.specs.Waits.{WaitsWell}
 use Rattle.waits_laws.specs.Laws.{WaitsOrLent}
 use Rattle.stays_laws.specs.Stays.{Stay, AreRight, stays, first_stays}
 use Rattle.end_laws.specs.Laws.{EndsAreTold}
-use Rattle.refusal_laws.specs.Regular.{IsRegular}
+use Rattle.refusal_laws.specs.Regular.{IsRegularWorld}
 use Rattle.flat_machine.specs.Runs.{repeated}
 use Rattle.run_setup.specs.Brought.{Brought, nothing_brought, all_brought}
 use Rattle.suite_top.specs.Run.{start_line, opening}
@@ -64,4 +64,4 @@ HasWorldsInOrder b = (quanta : List Quantum) → IsInOrder (turns quanta b.world
 
 -- and every such world is one of which the laws of refusals, of ENOMEM and of waiting speak
 abbrev pub HasRegularWorlds : {keep : ℕ} {kind : Kind} {m : Manifest} {files : List (List ℕ)} → Booted keep kind m files → Type 0
-HasRegularWorlds b = (quanta : List Quantum) → IsRegular (turns quanta b.world).world
+HasRegularWorlds b = (quanta : List Quantum) → IsRegularWorld (turns quanta b.world).world

@@ -10,7 +10,7 @@ use Rattle.flat_loader.specs.Original.{block_pages}
 use Rattle.flat_loader.specs.Frame.{frame_len, frame, frame_start}
 use Rattle.flat_loader.specs.Begin.{begin_space, own_range, begin_byte}
 use Rattle.machine_world.specs.World.{LiveSpace, World}
-use Rattle.refusal_laws.specs.Regular.{memory_end, HasBreak, IsRegular}
+use Rattle.refusal_laws.specs.Regular.{memory_end, HasBreak, IsRegularWorld}
 use Rattle.refusal_laws.specs.Bounded.{IsBounded}
 use Rattle.physical_turns.specs.Physical.{Physical, or_below, over, zeros}
 use Rattle.physical_turns.specs.Courses.{IsShown}
@@ -28,7 +28,7 @@ breaks : HasBreak space
 unfolding begin_space block_pages
 breaks = record { brk = omega arith; high = omega arith }
 
-is-regular : IsRegular now
+is-regular : IsRegularWorld now
 is-regular = record {
   sound = is-sound 0x8000_0080 0 0;
   counted = is-counted;
@@ -38,11 +38,11 @@ is-regular = record {
 }
 
 -- a process that is its own parent
-refuted-parents : IsRegular (record now { procs = record (process 0x8000_0080 0) { parent = 1 } ∷ [] }) → ⊥
+refuted-parents : IsRegularWorld (record now { procs = record (process 0x8000_0080 0) { parent = 1 } ∷ [] }) → ⊥
 refuted-parents r = let less : 1 < 1 = r.parents.0 in omega (arith, less)
 
 -- a pipe that is marked
-refuted-marked : IsRegular (record now { rest = record now.rest { files = record now.rest.files { changed = 1 ∷ [] } } }) → ⊥
+refuted-marked : IsRegularWorld (record now { rest = record now.rest { files = record now.rest.files { changed = 1 ∷ [] } } }) → ⊥
 refuted-marked r = marked 1 r.unmarked
   where
     marked : (n : ℕ) → n ∷ [] ≡ [] → ⊥
@@ -52,7 +52,7 @@ refuted-marked r = marked 1 r.unmarked
 abbrev far : LiveSpace
 far = record space { space = record space.space { brk = 0x8400_0001 } }
 
-refuted-breaks : IsRegular (record now { spaces = far ∷ [] }) → ⊥
+refuted-breaks : IsRegularWorld (record now { spaces = far ∷ [] }) → ⊥
 refuted-breaks r = let within : 0x8400_0001 ≤ memory_end = r.breaks.0.brk in omega (arith, within)
 
 -- ---- bounded

@@ -6,7 +6,7 @@ use Rattle.bflt_format.specs.Spelling.{Spells}
 use Rattle.bflt_format.specs.Image.{flat_image}
 use Rattle.bflt_format.proofs.Spelled.{has_words}
 use Rattle.flat_layout.specs.Layout.{layout}
-use Rattle.linux_loader.specs.Laws.{Leaves}
+use Rattle.linux_loader.specs.Laws.{LoadsAs}
 use Rattle.linux_loader.proofs.Returns.{flat_loads}
 use Rattle.elf2flt_tool.specs.Image.{image}
 use Rattle.elf2flt_tool.specs.Converted.{converted, flat}
@@ -14,7 +14,7 @@ use Rattle.elf2flt_tool.specs.Laws.{LinuxLaw}
 use Rattle.elf2flt_tool.proofs.Spelled.{spells_converted}
 use Rattle.elf2flt_tool.proofs.ImageLaw.{values_of_flat, image_law, flat_law}
 
-leaves_same : (y : List ℕ) (args k : ℕ) (one other : ℕ → Option ℕ) (start begin : ℕ) → one ≡ other → start ≡ begin → Leaves y args k one start → Leaves y args k other begin
+leaves_same : (y : List ℕ) (args k : ℕ) (one other : ℕ → Option ℕ) (start begin : ℕ) → one ≡ other → start ≡ begin → LoadsAs y args k one start → LoadsAs y args k other begin
 leaves_same y args k one other start begin same starts left = record {
   process = left.process;
   loaded = left.loaded;

@@ -5,7 +5,7 @@ use Rattle.bflt_format.specs.Header.{flat_values}
 use Rattle.bflt_format.specs.Fault.{flat_fault}
 use Rattle.bflt_format.specs.Image.{flat_image}
 use Rattle.flat_layout.specs.Layout.{layout}
-use Rattle.linux_loader.specs.Laws.{IsPlaced, Leaves}
+use Rattle.linux_loader.specs.Laws.{IsPlaced, LoadsAs}
 use Rattle.elf2flt_tool.specs.Fault.{fault}
 use Rattle.elf2flt_tool.specs.Image.{image}
 use Rattle.elf2flt_tool.specs.Converted.{flat}
@@ -24,7 +24,7 @@ FlatLaw = (e : List ℕ) (stack : ℕ) → IsBytes e → fault e ≡ None → st
 abbrev pub LinuxLaw : Type 0
 LinuxLaw =
     (e : List ℕ) (stack args k : ℕ) → IsBytes e → fault e ≡ None → stack ≤ 1048576 → (layout e).entry < 2 ^ 24 - 64 → IsPlaced (flat e stack) args k →
-    Leaves (flat e stack) args k (image e (k + 64)) (k + 64 + (layout e).entry)
+    LoadsAs (flat e stack) args k (image e (k + 64)) (k + 64 + (layout e).entry)
 
 -- two accepted files that agree on the entry, the laid-out sections and the kept relocations become the same flat file, where
 -- one of them has no two sections with high parts at one place

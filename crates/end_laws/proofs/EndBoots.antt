@@ -5,7 +5,7 @@ use Rattle.flat_loader.specs.Original.{block_pages}
 use Rattle.flat_loader.specs.Frame.{frame_fits}
 use Rattle.machine_world.specs.World.{World}
 use Rattle.machine_world.specs.Free.{free}
-use Rattle.machine_world.specs.Boot.{StartLine, BootFault, Found, found, path_of, taken, placed, fitting, located, started, then_started, all_started, empty_world, boot}
+use Rattle.machine_world.specs.Boot.{StartLine, BootFault, Found, found, start_path, taken, placed, fitting, located, started, then_started, all_started, empty_world, boot}
 use Rattle.end_laws.specs.Laws.{BootsEndNone}
 use Rattle.end_laws.proofs.NewNotes.{AllEnds, end_at}
 
@@ -33,7 +33,7 @@ module _ (w : World) (none : NoneEnds w.notes) (s : StartLine) where
 
   starts_started : Starts (started w s)
   unfolding started
-  starts_started = starts_located (found w.rest (path_of s))
+  starts_started = starts_located (found w.rest (start_path s))
 
 starts_all : (ss : List StartLine) (w : World) → NoneEnds w.notes → Starts (all_started w ss)
 unfolding all_started

@@ -35,9 +35,9 @@ pub struct Files {
 }
 
 impl Model for Files {
-    ghost use Rattle.fd_tables.specs.Kept.{Kept};
+    ghost use Rattle.fd_tables.specs.Kept.{KeptFiles};
 
-    ghost Value = { Kept };
+    ghost Value = { KeptFiles };
 
     ghost use Rattle.fd_tables.specs.Inside.{kept, IsRight};
 

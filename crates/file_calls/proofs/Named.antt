@@ -8,7 +8,7 @@ use Rattle.mem_files.specs.declared.fault.FileFault.{FileFault}
 use Rattle.mem_files.specs.declared.fault.FileFault.TheVariants.{Errno, Memory}
 use Rattle.mem_files.specs.Inodes.{Inodes}
 use Rattle.mem_files.specs.Changes.{with_folder, unlinked}
-use Rattle.mem_files.specs.Calls.{Makes, Changes}
+use Rattle.mem_files.specs.Calls.{Makes, ChangesTree}
 use Rattle.machine_world.specs.Asks.{Ask, arg, Row, refuses, unless, with_ok, with_tree}
 use Rattle.machine_world.specs.PathCalls.{path_of, path_fault, with_path, changes_tree, mkdirat_row, unlinkat_row}
 use Rattle.file_calls.specs.Answers.{Answers, sent_path, IsPathOr}
@@ -49,7 +49,7 @@ makes a (Err fault) new (Ok id) h = absurd h
 makes a (Err fault) new (Err (Errno errno)) h = (rw h.0 refl, rw h.1 refl)
 makes a (Err fault) new (Err Memory) h = absurd h
 
-changes : (a : Ask) (w : Result Inodes log.Errno) (new : Inodes) (r : Result ⊤ log.Errno) → Changes w a.rest.tree new r → Answers a (with_ok a w (changes_tree a)) (with_tree a.rest new) (done 0 r)
+changes : (a : Ask) (w : Result Inodes log.Errno) (new : Inodes) (r : Result ⊤ log.Errno) → ChangesTree w a.rest.tree new r → Answers a (with_ok a w (changes_tree a)) (with_tree a.rest new) (done 0 r)
 changes a (Ok now) new (Ok d) h = rw h refl
 changes a (Ok now) new (Err errno) h = absurd h
 changes a (Err fault) new (Ok d) h = absurd h
@@ -81,7 +81,7 @@ unlinkat_refused a errno fine h =
 
 pub unlinkat_says : (a : Ask) (p : Bor (List ℕ)) (new : Inodes) (r : Result ⊤ log.Errno) → (arg a 2 == 0 || arg a 2 == 512) ≡ true →
     IsPathOr (path_fault (arg a 0) (sent_path a.sent)) (sent_path a.sent) (Ok p) →
-    Changes (unlinked a.rest.tree p.now (arg a 2 == 512)) a.rest.tree new r → Answers a (unlinkat_row a) (with_tree a.rest new) (done 0 r)
+    ChangesTree (unlinked a.rest.tree p.now (arg a 2 == 512)) a.rest.tree new r → Answers a (unlinkat_row a) (with_tree a.rest new) (done 0 r)
 unlinkat_says a p new r fine path h =
     subst (λ (row : Row). Answers a row (with_tree a.rest new) (done 0 r)) (sym (unlinkat_walks a fine))
     (subst (λ (row : Row). Answers a row (with_tree a.rest new) (done 0 r)) (sym (path_walked a (λ path. with_ok a (unlinked a.rest.tree path (arg a 2 == 512)) (changes_tree a)) p path))

@@ -11,7 +11,7 @@ use Rattle.machine_world.specs.Transfers.{read_row, readv_row}
 use Rattle.machine_world.specs.Rows.{row}
 use Rattle.file_calls.specs.declared.call.Call.{Call}
 use Rattle.file_calls.specs.declared.outcome.Outcome.{Outcome}
-use Rattle.file_calls.specs.Calls.{IsOutput, Replies}
+use Rattle.file_calls.specs.Calls.{IsOutput, DoesNotWait}
 use Rattle.file_calls.specs.Outcomes.{GivesRow, GivesUnlessWaits}
 use Rattle.file_calls.proofs.Transferred.{rows_same, replies_same}
 
@@ -39,10 +39,10 @@ module _ (call : Call) (tree : Inodes) (files : OpenFiles) (r : Result Outcome A
   unfolding row
   row_llseek is = rows_same row llseek_row call tree files r (λ a made. rw (made.number ∙ is) refl)
 
-  pub row_read : Replies call files → call.number ≡ 63 → IfOk r (GivesUnlessWaits read_row call tree files) → IfOk r (GivesRow row call tree files)
+  pub row_read : DoesNotWait call files → call.number ≡ 63 → IfOk r (GivesUnlessWaits read_row call tree files) → IfOk r (GivesRow row call tree files)
   unfolding row
   row_read quiet is = replies_same row read_row call tree files r (λ a made. rw (made.number ∙ is) refl) quiet
 
-  pub row_readv : Replies call files → call.number ≡ 65 → IfOk r (GivesUnlessWaits readv_row call tree files) → IfOk r (GivesRow row call tree files)
+  pub row_readv : DoesNotWait call files → call.number ≡ 65 → IfOk r (GivesUnlessWaits readv_row call tree files) → IfOk r (GivesRow row call tree files)
   unfolding row
   row_readv quiet is = replies_same row readv_row call tree files r (λ a made. rw (made.number ∙ is) refl) quiet

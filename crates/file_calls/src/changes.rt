@@ -5,7 +5,7 @@ ghost use Rattle.fd_tables.specs.Kept.{KeepsSpare};
 ghost use Rattle.machine_world.specs.Asks.{Ask};
 ghost use Rattle.machine_world.specs.Rows.{row};
 ghost use Rattle.file_calls.specs.Answers.{Answers};
-ghost use Rattle.file_calls.specs.Calls.{IsChange, MadeBy, Replies, IsRest, Changes, with_all};
+ghost use Rattle.file_calls.specs.Calls.{IsChange, MadeBy, DoesNotWait, IsRest, ChangesFiles, with_all};
 
 use crate::call::Call;
 use crate::descriptors::{close, dup, dup3};
@@ -26,8 +26,8 @@ pub fn change(
     call: &Call,
 ) -> Result<u32, AllocError>
     requires change { IsChange call.now.number }
-    requires replies { Replies call.now files.old.open_files }
-    ensures changes { (a : Ask) → MadeBy call.now a → IsRest a.rest tree.old files.old console.old.items → Changes a (row a) tree.old files.old console.old.items tree.new files.new console.new.items result }
+    requires replies { DoesNotWait call.now files.old.open_files }
+    ensures changes { (a : Ask) → MadeBy call.now a → IsRest a.rest tree.old files.old console.old.items → ChangesFiles a (row a) tree.old files.old console.old.items tree.new files.new console.new.items result }
     ensures ready { OnErr result (KeepsSpare files.old files.new) }
 {
     match carry_out(tree, files, console, call) {
@@ -44,7 +44,7 @@ fn carry_out(
     call: &Call,
 ) -> Result<u32, FileFault>
     requires change { IsChange call.now.number }
-    requires replies { Replies call.now files.old.open_files }
+    requires replies { DoesNotWait call.now files.old.open_files }
     ensures answers { (a : Ask) → MadeBy call.now a → IsRest a.rest tree.old files.old console.old.items → Answers a (row a) (with_all a.rest tree.new files.new.open_files console.new.items) result }
     ensures ready { OnErr result (KeepsSpare files.old files.new) }
 {

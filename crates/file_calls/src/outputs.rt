@@ -2,7 +2,7 @@
 
 ghost use Rattle.std.specs.Prelude.{IfOk};
 ghost use Rattle.machine_world.specs.Rows.{row};
-ghost use Rattle.file_calls.specs.Calls.{IsOutput, Replies};
+ghost use Rattle.file_calls.specs.Calls.{IsOutput, DoesNotWait};
 ghost use Rattle.file_calls.specs.Outcomes.{GivesRow, CanTake, HasEnds};
 
 use crate::call::Call;
@@ -20,7 +20,7 @@ use std::alloc::{AllocError, Global};
 /// is a reply without bytes.
 pub fn output(alloc: Global, tree: &Tree, files: &Files, call: &Call) -> Result<Outcome, AllocError>
     requires output { IsOutput call.now.number }
-    requires replies { Replies call.now files.now.open_files }
+    requires replies { DoesNotWait call.now files.now.open_files }
     ensures gives { IfOk result (GivesRow row call.now tree.now files.now.open_files) }
     ensures fits { IfOk result (λ o. CanTake files.now.open_files o.then) }
     ensures ends { IfOk result (λ o. HasEnds files.now.open_files call.now.table o.then) }

@@ -10,7 +10,7 @@ use Rattle.fd_tables.specs.Files.{OpenFiles}
 use Rattle.vfork_exec.specs.Procs.{count}
 use Rattle.machine_world.specs.World.{World, Rest}
 use Rattle.machine_world.specs.Free.{free}
-use Rattle.machine_world.specs.Boot.{StartLine, BootFault, bad_start, args_too_big, no_run, Found, found, path_of, taken, address_of, begun, placed, fitting, located, started, then_started, all_started, empty_world, boot}
+use Rattle.machine_world.specs.Boot.{StartLine, BootFault, bad_start, args_too_big, no_run, Found, found, start_path, taken, address_of, begun, placed, fitting, located, started, then_started, all_started, empty_world, boot}
 use Rattle.machine_world.specs.Programs.{LoadsPrograms}
 use Rattle.machine_world.proofs.Loads.{boot_loads_programs}
 use Rattle.machine_world.proofs.Marks.{boots_leave_no_mark}
@@ -61,7 +61,7 @@ module _ (w now : World) (s : StartLine) where
 
   one_more : started w s ≡ Ok now → OneMore w now
   unfolding started
-  one_more is = more_located (found w.rest (path_of s)) is
+  one_more is = more_located (found w.rest (start_path s)) is
 
 module _ (a : About) (old new : Kept) (s : StartLine) where
   begun_as : (r : Result World BootFault) (done : ⊤) → Begins a r new (Ok done) → r ≡ Ok (world_of a new)

@@ -13,7 +13,7 @@ use Rattle.flat_loader.specs.Original.{flat_original}
 use Rattle.flat_loader.specs.Frame.{frame_fits}
 use Rattle.machine_world.specs.World.{World, Program, Rest}
 use Rattle.machine_world.specs.Programs.{programs_of}
-use Rattle.machine_world.specs.Boot.{StartLine, BootFault, Found, found, found_node, found_mark, found_program, path_of, fitting, located, started}
+use Rattle.machine_world.specs.Boot.{StartLine, BootFault, Found, found, found_node, found_mark, found_program, start_path, fitting, located, started}
 use Rattle.kept_parts.specs.declared.start.StartRefusal.TheVariants as start
 use Rattle.kept_parts.specs.Kept.{Kept}
 use Rattle.kept_parts.specs.Stands.{About, world_of}
@@ -95,17 +95,17 @@ path_is args x path some at is = first_arg args x some ∙ ap (λ v. v.items) (s
 -- ---- its start
 
 module _ (a : About) (old new : Kept) (s : StartLine) where
-  starts_with : (f : Found) → found (world_of a old).rest (path_of s) ≡ Some f → started (world_of a old) s ≡ fitting (world_of a old) s f (frame_fits f.original s.args [])
+  starts_with : (f : Found) → found (world_of a old).rest (start_path s) ≡ Some f → started (world_of a old) s ≡ fitting (world_of a old) s f (frame_fits f.original s.args [])
   unfolding started
   starts_with f is = ap (located (world_of a old) s) is
 
-  pub no_program : (line : ℕ) → line ≡ s.line → found (world_of a old).rest (path_of s) ≡ None → Begins a (started (world_of a old) s) new (Err (refusal.BadStart line))
+  pub no_program : (line : ℕ) → line ≡ s.line → found (world_of a old).rest (start_path s) ≡ None → Begins a (started (world_of a old) s) new (Err (refusal.BadStart line))
   unfolding started
   no_program line same is =
       let P : Result World BootFault → Type 0 = λ r. Begins a r new (Err (refusal.BadStart line)) in
       subst P (sym (ap (located (world_of a old) s) is)) same
 
-  module _ (f : Found) (is : found (world_of a old).rest (path_of s) ≡ Some f) where
+  module _ (f : Found) (is : found (world_of a old).rest (start_path s) ≡ Some f) where
     begins : (r : Result ⊤ BootRefusal) → Begins a (fitting (world_of a old) s f (frame_fits f.original s.args [])) new r → Begins a (started (world_of a old) s) new r
     begins r x = subst (λ (w : Result World BootFault). Begins a w new r) (sym (starts_with f is)) x
 

@@ -17,7 +17,7 @@ use Rattle.vfork_exec.specs.Keyed.{find}
 use Rattle.vfork_exec.proofs.Keyed.{find_head}
 use Rattle.machine_world.specs.World.{LiveSpace, Rest, World, id_of}
 use Rattle.machine_world.specs.Free.{free}
-use Rattle.machine_world.specs.Boot.{StartLine, BootFault, Found, found, path_of, begun, address_of, taken, placed, fitting, located, started, all_started, then_started, empty_world, boot}
+use Rattle.machine_world.specs.Boot.{StartLine, BootFault, Found, found, start_path, begun, address_of, taken, placed, fitting, located, started, all_started, then_started, empty_world, boot}
 use Rattle.stays_laws.specs.Sound.{most_given, IsSound}
 use Rattle.stays_laws.specs.Laws.{CanBoot}
 use Rattle.stays_laws.proofs.SharedPages.{IsFree}
@@ -146,7 +146,7 @@ module _ (headers : List (List ℕ)) (are : AreHeaders headers) where
 
     begins_started : Begins left (started w s)
     unfolding started
-    begins_started = begins_located (found w.rest (path_of s))
+    begins_started = begins_located (found w.rest (start_path s))
 
   begins_all : (ss : List StartLine) (w : World) → Opens headers (length ss) w → Begins 0 (all_started w ss)
   unfolding all_started
@@ -208,7 +208,7 @@ module _ (w : World) (none : has_stray w.notes ≡ false) (s : StartLine) where
 
   started_unstrayed : (v : World) → started w s ≡ Ok v → has_stray v.notes ≡ false
   unfolding started
-  started_unstrayed v is = subst Unstrayed is (located_unstrayed (found w.rest (path_of s)))
+  started_unstrayed v is = subst Unstrayed is (located_unstrayed (found w.rest (start_path s)))
 
 all_unstrayed : (ss : List StartLine) (w now : World) → has_stray w.notes ≡ false → all_started w ss ≡ Ok now → has_stray now.notes ≡ false
 unfolding all_started

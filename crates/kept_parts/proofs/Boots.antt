@@ -5,7 +5,7 @@ use Rattle.page_runs.specs.declared.place.Kind.{Kind}
 use Rattle.mmap_rules.specs.Held.{Held, page_address}
 use Rattle.vfork_exec.specs.declared.family.State.TheVariants.{Ready}
 use Rattle.vfork_exec.specs.Procs.{most_entries, count, Listed, with_start, Starts as ProcsStart}
-use Rattle.call_log.specs.Log.{Kept as LogKept, Pushes}
+use Rattle.call_log.specs.Log.{KeptNotes as LogKept, Pushes}
 use Rattle.call_log.specs.declared.log.LogFault.{LogFault}
 use Rattle.std.proofs.lemmas.Option.{same_Some, none-some}
 use Rattle.kept_parts.specs.declared.task.Task.{Task}

@@ -34,7 +34,7 @@ use Rattle.kept_parts.specs.Regular.{Regular}
 use Rattle.kept_parts.specs.Stands.{About, later, private_bytes, private_of, process_of, world_of}
 use Rattle.kept_parts.specs.Awake.{awake_in}
 use Rattle.kept_parts.specs.Serves.{went_by, Answered, Serves, Died}
-use Rattle.kept_parts.specs.Calls.{RunsIn, IsCall, ask_in, reply_of, Made, Caller, asked_by}
+use Rattle.kept_parts.specs.Calls.{LivesIn, IsCall, ask_in, reply_of, Made, Caller, asked_by}
 use Rattle.kept_parts.specs.Reach.{readable}
 use Rattle.kept_parts.specs.InMemory.{physical_of, Over, GoesIn, ServesIn, UnlessStray, InReach, DiedIn}
 use Rattle.kept_parts.proofs.QuietRows.{IsMute}
@@ -239,7 +239,7 @@ module _ (headers : List (List ℕ)) (a : About) (k : Kept) (e : Entry Task) (h 
 
 -- ---- the whole call
 
-module _ (headers : List (List ℕ)) (a : About) (k : Kept) (pid : ℕ) (e : Entry Task) (h : Held) (runs : RunsIn k pid e h) where
+module _ (headers : List (List ℕ)) (a : About) (k : Kept) (pid : ℕ) (e : Entry Task) (h : Held) (runs : LivesIn k pid e h) where
   acts_in : (act : Process → Space → After) → at_process (physical_of headers a k) pid act ≡ act (process_of e) (private_of k.mem h)
   unfolding at_process physical_of
   acts_in act =
@@ -271,10 +271,10 @@ died_goes headers a nobody old new pid was = absurd was
 
 -- what is read within reach of a process
 abbrev pub MadeAs : Kept → ℕ → Reach → Result Call Unread → Type 0
-MadeAs k pid reach r = (e : Entry Task) → (h : Held) → RunsIn k pid e h → Made (only (readable reach (length k.regions) h) (physical k.mem)) e r
+MadeAs k pid reach r = (e : Entry Task) → (h : Held) → LivesIn k pid e h → Made (only (readable reach (length k.regions) h) (physical k.mem)) e r
 
 pub own_made : (k : Kept) (pid : ℕ) (reach : Reach) → reach ≡ Own → (r : Result Call Unread) → MadeAs k pid reach r →
-    (e : Entry Task) → (h : Held) → RunsIn k pid e h → Made (private_bytes k.mem h) e r
+    (e : Entry Task) → (h : Held) → LivesIn k pid e h → Made (private_bytes k.mem h) e r
 unfolding private_bytes
 own_made k pid reach own r made e h runs = subst (λ (x : Reach). Made (only (readable x (length k.regions) h) (physical k.mem)) e r) own (made e h runs)
 
@@ -287,12 +287,12 @@ module _ (headers : List (List ℕ)) (a : About) (k : Kept) (pid : ℕ) (regular
       let there = runs_in k pid regular lives in
       let e : Entry Task = there.0 in
       let h : Held = there.1.0 in
-      let runs : RunsIn k pid e h = there.1.1 in
+      let runs : LivesIn k pid e h = there.1.1 in
       let at = made e h runs in
       let reads = sent_sub (readable reach (length k.regions) h) (physical k.mem) (number_of e.value.regs) (args_of e.value.regs) call.sent.items at.1 in
       same_reach headers a reach _ _ (called_is headers a k pid e h runs call reads) k new pid r
       (subst (λ (n : ℕ). InReach reach headers a (settled_in (classed_in (physical_of headers a k) (ask_in a k e h call))) k new n r) same
-      (goes (record { entry = e; held = h; runs = subst (λ (n : ℕ). RunsIn k n e h) (sym same) runs; stands = at.0 })))
+      (goes (record { entry = e; held = h; runs = subst (λ (n : ℕ). LivesIn k n e h) (sym same) runs; stands = at.0 })))
 
   -- a range outside memory
   called_outside : reach ≡ Whole → (addr len : ℕ) → MadeAs k pid reach (Err (Stray addr len)) → called_in (physical_of headers a k) pid ≡ died_in (physical_of headers a k) pid outside

@@ -35,7 +35,7 @@ use Rattle.kept_parts.specs.Flats.{original_of, AreFlats}
 use Rattle.kept_parts.specs.Families.{or_eacces, mark_at}
 use Rattle.kept_parts.specs.Stands.{About, world_of}
 use Rattle.kept_parts.specs.Serves.{Answered, Serves}
-use Rattle.kept_parts.specs.Calls.{RunsIn, IsCall, ask_in}
+use Rattle.kept_parts.specs.Calls.{LivesIn, IsCall, ask_in}
 use Rattle.kept_parts.proofs.Outcomes.{effect_full}
 
 -- ---- the program of a number
@@ -158,7 +158,7 @@ module _ (a : About) (k : Kept) (e : Entry Task) (h : Held) (call : Call) (is : 
 
   -- ---- a log without room, whichever way it goes
 
-  module _ (runs : RunsIn k call.pid e h) (room : room_beside k (length call.sent.items) ≡ false) where
+  module _ (runs : LivesIn k call.pid e h) (room : room_beside k (length call.sent.items) ≡ false) where
     abbrev Full : Outcome → Type 0
     Full o = Answered a o k k call.pid LogFull
 

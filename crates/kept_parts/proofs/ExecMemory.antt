@@ -38,7 +38,7 @@ use Rattle.kept_parts.specs.Serves.{Answered, Serves}
 use Rattle.kept_parts.specs.InMemory.{header_of, headers_of, physical_of, GoesIn, ServesIn}
 use Rattle.kept_parts.specs.Gone.{without_space, space_left}
 use Rattle.kept_parts.specs.Recorded.{room_beside}
-use Rattle.kept_parts.specs.Calls.{RunsIn, IsCall, ask_in, Caller, asked_by}
+use Rattle.kept_parts.specs.Calls.{LivesIn, IsCall, ask_in, Caller, asked_by}
 use Rattle.kept_parts.proofs.Shows.{showing_of}
 use Rattle.kept_parts.proofs.PlainMemory.{answered_never, plain_in}
 use Rattle.kept_parts.proofs.FreeBytes.{bytes_none, beside_run, without_none}
@@ -52,7 +52,7 @@ use Rattle.kept_parts.proofs.ExecSteps.{Begun, running_is, task_is, RefusalServe
 
 -- ---- the program stands there
 
-module _ (headers : List (List ℕ)) (a : About) (k : Kept) (regular : Regular k) (e : Entry Task) (h : Held) (call : Call) (runs : RunsIn k call.pid e h) (is : IsCall e call)
+module _ (headers : List (List ℕ)) (a : About) (k : Kept) (regular : Regular k) (e : Entry Task) (h : Held) (call : Call) (runs : LivesIn k call.pid e h) (is : IsCall e call)
     (f : Values) (args env : List (List ℕ)) (page index : ℕ) (mem : List ℕ) (loaded : Placed k regular f args env page mem)
     (header : slice_range mem (place_of (page_address page)) (place_of (page_address page) + header_len) ≡ take header_len (spell f))
     (listed : slice_get headers index ≡ Some (header_of f)) where
@@ -129,7 +129,7 @@ ExecServesIn kind index f args env call old new result =
 
 module _ (k n : Kept) (regular : Regular k) (call : Call) (task : Task) (kind : Kind) (index : ℕ) (f : Values) (args env : List (List ℕ)) (b : Begun k n call task kind index f args env)
     (room : room_beside k (length call.sent.items) ≡ true) where
-  module _ (headers : List (List ℕ)) (a : About) (same : a.kind ≡ kind) (listed : slice_get headers index ≡ Some (header_of f)) (e : Entry Task) (h : Held) (runs : RunsIn k call.pid e h) (is : IsCall e call) where
+  module _ (headers : List (List ℕ)) (a : About) (same : a.kind ≡ kind) (listed : slice_get headers index ≡ Some (header_of f)) (e : Entry Task) (h : Held) (runs : LivesIn k call.pid e h) (is : IsCall e call) where
     abbrev comes : After
     comes = carried (physical_of headers a k) (physical k.mem)
         (exec_fitting (world_of a k) (ask_in a k e h call) (record { index = index; original = flat_original f }) (record { args = args; env = env }) (frame_fits (flat_original f) args env))

@@ -35,7 +35,7 @@ use Rattle.kept_parts.specs.Stands.{About, world_of}
 use Rattle.kept_parts.specs.Serves.{Answered, Serves}
 use Rattle.kept_parts.specs.Gone.{without_space, space_left}
 use Rattle.kept_parts.specs.Recorded.{event_recorded, program_recorded, room_beside}
-use Rattle.kept_parts.specs.Calls.{RunsIn, IsCall, ask_in, noted_call, Caller, asked_by}
+use Rattle.kept_parts.specs.Calls.{LivesIn, IsCall, ask_in, noted_call, Caller, asked_by}
 use Rattle.call_bytes.proofs.Places.{get_before}
 use Rattle.kept_parts.proofs.Runs.{runs_in, value_found, has_space}
 use Rattle.kept_parts.proofs.Families.{can_run_lives, own_pid, state_ready}
@@ -128,7 +128,7 @@ module _ (k n : Kept) (regular : Regular k) (call : Call) (task : Task) (kind : 
 
   -- ---- the world
 
-  module _ (a : About) (same : a.kind ≡ kind) (e : Entry Task) (h : Held) (runs : RunsIn k call.pid e h) (is : IsCall e call) (room : room_beside k (length call.sent.items) ≡ true) where
+  module _ (a : About) (same : a.kind ≡ kind) (e : Entry Task) (h : Held) (runs : LivesIn k call.pid e h) (is : IsCall e call) (room : room_beside k (length call.sent.items) ≡ true) where
     serves_by : (lent : Bool) → entry_borrows k.procs call.pid ≡ lent →
         Answered a (exec_fitting (world_of a k) (ask_in a k e h call) (record { index = index; original = flat_original f }) (record { args = args; env = env }) (frame_fits (flat_original f) args env))
         k (space_left (running k call e.value f args env b.is.page index n.mem) lent e.value.space h) call.pid Replied

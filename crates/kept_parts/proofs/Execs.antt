@@ -31,7 +31,7 @@ use Rattle.kept_parts.specs.Stands.{About, later, live_spaces, process_of, world
 use Rattle.kept_parts.specs.Serves.{Answered}
 use Rattle.kept_parts.specs.Gone.{space_left}
 use Rattle.kept_parts.specs.Recorded.{event_recorded, program_recorded, room_beside}
-use Rattle.kept_parts.specs.Calls.{RunsIn, IsCall, ask_in, noted_call}
+use Rattle.kept_parts.specs.Calls.{LivesIn, IsCall, ask_in, noted_call}
 use Rattle.call_bytes.proofs.Places.{get_before}
 use Rattle.kept_parts.proofs.Worlds
 use Rattle.kept_parts.proofs.Families.{borrows_is}
@@ -92,7 +92,7 @@ running k call t f args env page index mem = record (switched k call.pid t (bloc
       recording = recorded_behind k call t.space (page_loading f page args env);
     }
 
-module _ (k : Kept) (regular : Regular k) (e : Entry Task) (h : Held) (call : Call) (runs : RunsIn k call.pid e h) (f : Values) (args env : List (List ℕ)) (page index : ℕ) (mem : List ℕ) where
+module _ (k : Kept) (regular : Regular k) (e : Entry Task) (h : Held) (call : Call) (runs : LivesIn k call.pid e h) (f : Values) (args env : List (List ℕ)) (page index : ℕ) (mem : List ℕ) where
   abbrev now : Kept
   now = running k call e.value f args env page index mem
 

@@ -8,7 +8,7 @@ use Rattle.mmap_rules.specs.Held.{Held, next_brk}
 use Rattle.region_watch.specs.Private.{physical}
 use Rattle.mem_files.specs.Inodes.{Inodes}
 use Rattle.fd_tables.specs.Files.{OpenFiles}
-use Rattle.fd_tables.specs.Kept.{Kept as FilesKept}
+use Rattle.fd_tables.specs.Kept.{KeptFiles as FilesKept}
 use Rattle.vfork_exec.specs.declared.entry.Entry.{Entry}
 use Rattle.vfork_exec.specs.Procs.{Listed, Lives, value_at, with_value_at}
 use Rattle.machine_world.specs.World.{Rest, Recording}
@@ -28,7 +28,7 @@ use Rattle.kept_parts.specs.Recorded.{event_recorded, call_recorded}
 use Rattle.kept_parts.specs.Stands.{About, private_bytes, private_of, world_of, OthersSame}
 use Rattle.call_bytes.specs.Puts.{first_stray}
 use Rattle.region_watch.specs.Private.{in_pages}
-use Rattle.kept_parts.specs.Calls.{RunsIn, IsCall, ask_in, reply_of, value_of, brk_of, maps_by, noted_entry, noted_call, held_as, after_reply, Changed, given, Gave, GaveIn}
+use Rattle.kept_parts.specs.Calls.{LivesIn, IsCall, ask_in, reply_of, value_of, brk_of, maps_by, noted_entry, noted_call, held_as, after_reply, Changed, given, Gave, GaveIn}
 use Rattle.kept_parts.proofs.Apart.{others_keep}
 use Rattle.kept_parts.proofs.Recorded.{maps_by_none, maps_none, recorded_plain, regular_recorded}
 use Rattle.call_bytes.proofs.Puts.{part_put, part_frozen, writable_own}
@@ -62,7 +62,7 @@ regular_settled k pid regular lives t kept value brk spaces procs notes recordin
     regular_recorded _ (regular_replied k pid t h regular lives kept live.there (replied t.regs value) (brk h) k.mem spaces k.tree k.files procs notes k.console
     refl (moves h live.there) (finishes t kept) more) recording
 
-module _ (a : About) (k : Kept) (e : Entry Task) (h : Held) (call : Call) (runs : RunsIn k call.pid e h) where
+module _ (a : About) (k : Kept) (e : Entry Task) (h : Held) (call : Call) (runs : LivesIn k call.pid e h) where
   kept_value : value_at k.procs call.pid ≡ Some e.value
   kept_value = ap (option_map (λ (x : Entry Task). x.value)) runs.lives
 

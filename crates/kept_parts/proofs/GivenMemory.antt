@@ -39,7 +39,7 @@ use Rattle.region_watch.specs.Private.{in_pages}
 use Rattle.kept_parts.specs.InMemory.{physical_of, GoesIn, ServesIn, DiedIn, InReach}
 use Rattle.kept_parts.specs.Serves.{Answered, Serves, Died}
 use Rattle.kept_parts.specs.Recorded.{call_recorded, room_beside}
-use Rattle.kept_parts.specs.Calls.{RunsIn, IsCall, ask_in, given, noted_entry, noted_call, after_reply, GaveIn}
+use Rattle.kept_parts.specs.Calls.{LivesIn, IsCall, ask_in, given, noted_entry, noted_call, after_reply, GaveIn}
 use Rattle.call_bytes.proofs.Places.{any_at}
 use Rattle.kept_parts.proofs.Apart.{is_used}
 use Rattle.call_bytes.proofs.Puts.{put_all, put_strays, none_strays, stray_wider, writable_own, part_frozen}
@@ -96,7 +96,7 @@ module _ (k : Kept) (regular : Regular k) where
 
 -- ---- a call that gives bytes
 
-module _ (headers : List (List ℕ)) (a : About) (k : Kept) (e : Entry Task) (h : Held) (call : Call) (runs : RunsIn k call.pid e h) (is : IsCall e call) (o : Output) where
+module _ (headers : List (List ℕ)) (a : About) (k : Kept) (e : Entry Task) (h : Held) (call : Call) (runs : LivesIn k call.pid e h) (is : IsCall e call) (o : Output) where
   abbrev ask : Ask
   ask = ask_in a k e h call
 
@@ -182,7 +182,7 @@ module _ (headers : List (List ℕ)) (a : About) (k : Kept) (e : Entry Task) (h 
       by_span (Some span) there is = sym (put_is (Err span) (put_strays (physical k.mem) (in_pages (length k.regions)) (written_of o) span there))
 
 -- or it strays, and nothing is done
-pub strays_serve : (a : About) (k : Kept) (e : Entry Task) (h : Held) (call : Call) → RunsIn k call.pid e h → IsCall e call → (o : Output) (access : Access) →
+pub strays_serve : (a : About) (k : Kept) (e : Entry Task) (h : Held) (call : Call) → LivesIn k call.pid e h → IsCall e call → (o : Output) (access : Access) →
     Some access ≡ option_map (access_at e.value.regs.pc) (first_stray (writable_in h.maps) (written_of o)) → (new : Kept) (result : Result Served AllocError) →
     result ≡ Ok (Stray access) → new ≡ k → Serves a (answered (world_of a k) (ask_in a k e h call) (replies (given (ask_in a k e h call) o))) k new call.pid result
 strays_serve a k e h call runs is o access found new result strayed same =
@@ -197,7 +197,7 @@ dies_goes headers a (no_room p) old new pid died = absurd died
 dies_goes headers a nobody old new pid died = absurd died
 
 -- of a process that lives
-pub killed_by : (headers : List (List ℕ)) (a : About) (k new : Kept) → new.mem ≡ k.mem → (pid : ℕ) (e : Entry Task) (h : Held) → RunsIn k pid e h → (signal : ℕ) →
+pub killed_by : (headers : List (List ℕ)) (a : About) (k new : Kept) → new.mem ≡ k.mem → (pid : ℕ) (e : Entry Task) (h : Held) → LivesIn k pid e h → (signal : ℕ) →
     Died a (at_process (world_of a k) pid (λ p s. trapped (world_of a k) p signal)) new pid → GoesIn headers a (killed (physical_of headers a k) (process_of e) signal) k new pid Ended
 unfolding physical_of
 killed_by headers a k new stays pid e h runs signal died =
@@ -273,8 +273,8 @@ module _ (k : Kept) (regular : Regular k) (i : ℕ) (h : Held) (there : slice_ge
 module _ (o : Output) (xs : List Got) (seen : xs ≡ o.got.items) where
   -- the first range beyond reach
   module _ (reach : Reach) (k : Kept) (pid : ℕ) (found : Option Access)
-      (looks : (e : Entry Task) → (h : Held) → RunsIn k pid e h → found ≡ option_map (access_at e.value.regs.pc) (first_stray (writable reach (length k.regions) h) (map written_value xs)))
-      (e : Entry Task) (h : Held) (runs : RunsIn k pid e h) where
+      (looks : (e : Entry Task) → (h : Held) → LivesIn k pid e h → found ≡ option_map (access_at e.value.regs.pc) (first_stray (writable reach (length k.regions) h) (map written_value xs)))
+      (e : Entry Task) (h : Held) (runs : LivesIn k pid e h) where
     pub found_by : found ≡ option_map (access_at e.value.regs.pc) (first_stray (writable reach (length k.regions) h) (written_of o))
     found_by = looks e h runs ∙ ap (λ (ys : List Got). option_map (access_at e.value.regs.pc) (first_stray (writable reach (length k.regions) h) (map written_value ys))) seen
 

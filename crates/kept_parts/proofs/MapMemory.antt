@@ -48,7 +48,7 @@ use Rattle.kept_parts.specs.declared.task.Task.{Task}
 use Rattle.kept_parts.specs.Kept.{Kept}
 use Rattle.kept_parts.specs.Regular.{Regular}
 use Rattle.kept_parts.specs.Stands.{About, later, private_bytes, private_of, process_of, world_of, OthersSame}
-use Rattle.kept_parts.specs.Calls.{RunsIn, IsCall, RoomFor, ask_in, noted_entry, noted_call, with_task}
+use Rattle.kept_parts.specs.Calls.{LivesIn, IsCall, RoomFor, ask_in, noted_entry, noted_call, with_task}
 use Rattle.kept_parts.specs.Recorded.{call_recorded}
 use Rattle.kept_parts.specs.MapsIn.{MapsIn, IsAddress, IsAsked}
 use Rattle.kept_parts.specs.declared.served.Served.TheVariants.{Replied}
@@ -112,7 +112,7 @@ pub record Brings (a : About) (k : Kept) (space : Space) (mem : List ℕ) : Type
   pub free : (at : ℕ) → is_free_at (world_of a k) at ≡ true → or_below (space.bytes at) (physical k.mem at) ≡ physical mem at
   pub held : (at : ℕ) → is_free_at (world_of a k) at ≡ false → physical k.mem at ≡ physical mem at
 
-module _ (headers : List (List ℕ)) (a : About) (k : Kept) (regular : Regular k) (e : Entry Task) (h : Held) (call : Call) (runs : RunsIn k call.pid e h) (is_call : IsCall e call)
+module _ (headers : List (List ℕ)) (a : About) (k : Kept) (regular : Regular k) (e : Entry Task) (h : Held) (call : Call) (runs : LivesIn k call.pid e h) (is_call : IsCall e call)
     (value : ℕ) (spaces : List (Option Held)) (rs : List Region) (procs : Listed Task) (notes : List Note)
     (finishes : Finishes k call.pid value procs) (noted_is : notes ≡ noted_call call value [] ∷ k.notes) (recording : Recording) where
   abbrev ask : Ask
@@ -344,7 +344,7 @@ module _ (a : About) (k : Kept) (regular : Regular k) (number : ℕ) (h : Held) 
 
 -- ---- the reply
 
-module _ (headers : List (List ℕ)) (a : About) (k : Kept) (e : Entry Task) (h : Held) (call : Call) (runs : RunsIn k call.pid e h) (is_call : IsCall e call)
+module _ (headers : List (List ℕ)) (a : About) (k : Kept) (e : Entry Task) (h : Held) (call : Call) (runs : LivesIn k call.pid e h) (is_call : IsCall e call)
     (value : ℕ) (spaces : List (Option Held)) (rs : List Region) (procs : Listed Task) (notes : List Note)
     (finishes : Finishes k call.pid value procs) (noted_is : notes ≡ noted_call call value [] ∷ k.notes) (recording : Recording) where
   abbrev the_ask : Ask

@@ -31,7 +31,7 @@ use Rattle.kept_parts.specs.Recorded.{room_beside}
 use Rattle.kept_parts.specs.Stands.{About, private_bytes, private_of, world_of}
 use Rattle.kept_parts.specs.MapsIn.{IsAsked, is_file}
 use Rattle.kept_parts.specs.Brings.{recorded_bytes}
-use Rattle.kept_parts.specs.Calls.{RunsIn, IsCall, ask_in, noted_entry}
+use Rattle.kept_parts.specs.Calls.{LivesIn, IsCall, ask_in, noted_entry}
 use Rattle.kept_parts.proofs.Recorded.{room_plain}
 use Rattle.kept_parts.proofs.Brought.{lists_of, brings_back}
 use Rattle.kept_parts.proofs.MapChoice.{chosen}
@@ -61,7 +61,7 @@ length_lists nodes (File pages first write id change) = omega (arith, length-fil
 same_reply : (r s : Reply) → replies r ≡ replies s → r ≡ s
 same_reply r s is = cc
 
-module _ (a : About) (k : Kept) (regular : Regular k) (e : Entry Task) (h : Held) (call : Call) (runs : RunsIn k call.pid e h) (is_call : IsCall e call)
+module _ (a : About) (k : Kept) (regular : Regular k) (e : Entry Task) (h : Held) (call : Call) (runs : LivesIn k call.pid e h) (is_call : IsCall e call)
     (want : Want) (asks : AsksPages want) (known : IsKnown k.tree want) (asked : IsAsked call want) where
   abbrev ask : Ask
   ask = ask_in a k e h call

@@ -32,7 +32,7 @@ use Rattle.mmap_rules.specs.Copies.{IsKnown}
 use Rattle.machine_world.specs.World.{Recording}
 use Rattle.kept_parts.specs.Recorded.{event_recorded, call_recorded}
 use Rattle.kept_parts.specs.Stands.{About, private_bytes, private_of, OthersSame, world_of}
-use Rattle.kept_parts.specs.Calls.{RunsIn, IsCall, ask_in, noted_entry, noted_call, Changed}
+use Rattle.kept_parts.specs.Calls.{LivesIn, IsCall, ask_in, noted_entry, noted_call, Changed}
 use Rattle.kept_parts.specs.MapsIn.{MapsIn, UnmapsIn, IsAddress, IsAsked, status_of}
 use Rattle.kept_parts.proofs.Stays.{set_kept}
 use Rattle.kept_parts.proofs.Finishes.{Finishes, moved_by}
@@ -126,7 +126,7 @@ module _ (k : Kept) (regular : Regular k) (copies : CopiesHold k.regions k.mem k
 
 -- ---- the replies
 
-module _ (a : About) (k : Kept) (e : Entry Task) (h : Held) (call : Call) (runs : RunsIn k call.pid e h) (is_call : IsCall e call)
+module _ (a : About) (k : Kept) (e : Entry Task) (h : Held) (call : Call) (runs : LivesIn k call.pid e h) (is_call : IsCall e call)
     (value : ℕ) (spaces : List (Option Held)) (rs : List Region) (procs : Listed Task) (notes : List Note)
     (finishes : Finishes k call.pid value procs) (noted : notes ≡ noted_call call value [] ∷ k.notes) (recording : Recording) where
   abbrev ask : Ask

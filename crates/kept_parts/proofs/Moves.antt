@@ -22,7 +22,7 @@ use Rattle.kept_parts.specs.declared.task.Task.{Task}
 use Rattle.kept_parts.specs.Kept.{Kept}
 use Rattle.kept_parts.specs.Gone.{space_left, ended, gone}
 use Rattle.kept_parts.specs.Stands.{About, later, private_of, live_spaces, process_of, world_of, OthersSame}
-use Rattle.kept_parts.specs.Calls.{RunsIn, with_task}
+use Rattle.kept_parts.specs.Calls.{LivesIn, with_task}
 use Rattle.kept_parts.proofs.Worlds.{change_space, without_space}
 use Rattle.kept_parts.proofs.Families.{moved_is, left_is, borrows_is, dead_ended}
 use Rattle.kept_parts.proofs.Runs.{pid_found}
@@ -35,7 +35,7 @@ same_world : (ps qs : List Process) (ss ts : List LiveSpace) (m n pages more : �
     ≡ record w { procs = qs; spaces = ts; loads = n; rest = record w.rest { pages = more }; notes = ms }
 same_world ps qs ss ts m n pages more ns ms w p s l g t = λ i. record w { procs = p i; spaces = s i; loads = l i; rest = record w.rest { pages = g i }; notes = t i }
 
-module _ (k : Kept) (pid : ℕ) (e : Entry Task) (h : Held) (runs : RunsIn k pid e h) where
+module _ (k : Kept) (pid : ℕ) (e : Entry Task) (h : Held) (runs : LivesIn k pid e h) where
   -- ---- a process goes on
 
   module _ (regs : Regs) (g : Held) (now : List ℕ) where

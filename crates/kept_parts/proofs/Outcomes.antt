@@ -40,7 +40,7 @@ use Rattle.kept_parts.specs.Serves.{Went, Answered, Serves, Died}
 use Rattle.kept_parts.specs.Gone.{gone}
 use Rattle.kept_parts.specs.Recorded.{event_recorded, call_recorded, room_beside}
 use Rattle.call_bytes.specs.declared.reading.Unread.TheVariants as unread
-use Rattle.kept_parts.specs.Calls.{RunsIn, IsCall, Made, Changed, given, Gave, RoomFor, reply_of, ask_in, value_of, maps_by, served_by, noted_entry, noted_call, held_as, after_reply, exit_of, after_exit, Caller, asked_by}
+use Rattle.kept_parts.specs.Calls.{LivesIn, IsCall, Made, Changed, given, Gave, RoomFor, reply_of, ask_in, value_of, maps_by, served_by, noted_entry, noted_call, held_as, after_reply, exit_of, after_exit, Caller, asked_by}
 use Rattle.std.proofs.lemmas.Option.{same_Some}
 use Rattle.call_bytes.proofs.Puts.{put_all, put_strays}
 use Rattle.kept_parts.proofs.QuietRows.{Quiet}
@@ -54,7 +54,7 @@ use Rattle.kept_parts.proofs.Moves.{moved_world, moved_lives, gone_world, gone_d
 
 -- ---- the process and its space in the world
 
-module _ (a : About) (k : Kept) (pid : ℕ) (e : Entry Task) (h : Held) (runs : RunsIn k pid e h) where
+module _ (a : About) (k : Kept) (pid : ℕ) (e : Entry Task) (h : Held) (runs : LivesIn k pid e h) where
   pub process_there : find pid_of pid (world_of a k).procs ≡ Some (process_of e)
   unfolding world_of
   process_there = find_process pid k.procs.entries ∙ ap (option_map process_of) runs.lives
@@ -79,7 +79,7 @@ unfolding answer
 answer_is w p s found is = ap (asked w p s) is
 
 -- the call strays
-stray_serves : (a : About) (k : Kept) (pid : ℕ) (e : Entry Task) (h : Held) → RunsIn k pid e h → (span : Span) →
+stray_serves : (a : About) (k : Kept) (pid : ℕ) (e : Entry Task) (h : Held) → LivesIn k pid e h → (span : Span) →
     sent (number_of e.value.regs) (args_of e.value.regs) (private_bytes k.mem h) ≡ Err span → called (world_of a k) pid ≡ strays (call_access (process_of e) span)
 unfolding settled
 stray_serves a k pid e h runs span is = called_is a k pid e h runs ∙ ap settled (answer_is (world_of a k) (process_of e) (private_of k.mem h) (Err span) is)
@@ -202,7 +202,7 @@ pub tree_in : (a : About) (k : Kept) (e : Entry Task) (h : Held) (call : Call) {
 unfolding world_of
 tree_in a k e h call is = is
 
-module _ (a : About) (k : Kept) (e : Entry Task) (h : Held) (call : Call) (runs : RunsIn k call.pid e h) (is : IsCall e call) where
+module _ (a : About) (k : Kept) (e : Entry Task) (h : Held) (call : Call) (runs : LivesIn k call.pid e h) (is : IsCall e call) where
   -- a call without bytes weighs what it sends
   weighs : (bytes : List ℕ) (b : Bool) → room_beside k (length bytes) ≡ b → room_beside k (weight_of bytes []) ≡ b
   weighs bytes b room = ap (room_beside k) (add-zero (length bytes)) ∙ room
@@ -507,7 +507,7 @@ module _ (a : About) (k : Kept) (e : Entry Task) (h : Held) (call : Call) (runs 
 -- ---- the whole call
 
 module _ (a : About) (k : Kept) (pid : ℕ) (regular : Regular k) (lives : Lives k.procs pid) where
-  pub serve_call : (call : Call) → call.pid ≡ pid → ((e : Entry Task) → (h : Held) → RunsIn k pid e h → Made (private_bytes k.mem h) e (Ok call)) → (new : Kept) (result : Result Served AllocError) →
+  pub serve_call : (call : Call) → call.pid ≡ pid → ((e : Entry Task) → (h : Held) → LivesIn k pid e h → Made (private_bytes k.mem h) e (Ok call)) → (new : Kept) (result : Result Served AllocError) →
       ((caller : Caller k call) → Serves a (settled (classed (world_of a k) (asked_by a caller))) k new call.pid result) →
       Serves a (called (world_of a k) pid) k new pid result
   serve_call call same made new result serves =
@@ -515,12 +515,12 @@ module _ (a : About) (k : Kept) (pid : ℕ) (regular : Regular k) (lives : Lives
       let e : Entry Task = r.0 in
       let h : Held = r.1.0 in
       let at = made e h r.1.1 in
-      let runs : RunsIn k call.pid e h = subst (λ (p : ℕ). RunsIn k p e h) (sym same) r.1.1 in
+      let runs : LivesIn k call.pid e h = subst (λ (p : ℕ). LivesIn k p e h) (sym same) r.1.1 in
       let done = subst (λ (o : Outcome). Serves a o k new call.pid result) (sym (call_answer a k e h call runs at.0 at.1)) (serves (record { entry = e; held = h; runs = runs; stands = at.0 })) in
       subst (λ (p : ℕ). Serves a (called (world_of a k) p) k new p result) same done
 
   pub serve_stray : (t : Task) → value_at k.procs pid ≡ Some t → (span : Span) →
-      ((e : Entry Task) → (h : Held) → RunsIn k pid e h → Made (private_bytes k.mem h) e (Err (unread.Stray span.addr span.len))) →
+      ((e : Entry Task) → (h : Held) → LivesIn k pid e h → Made (private_bytes k.mem h) e (Err (unread.Stray span.addr span.len))) →
       Answered a (called (world_of a k) pid) k k pid (Stray (record { pc = t.regs.pc; addr = span.addr; len = span.len; kind = access_kind.Call }))
   serve_stray t kept span made =
       let r = runs_in k pid regular lives in
@@ -533,7 +533,7 @@ module _ (a : About) (k : Kept) (pid : ℕ) (regular : Regular k) (lives : Lives
 
 -- ---- an end by a signal
 
-module _ (a : About) (k : Kept) (pid : ℕ) (e : Entry Task) (h : Held) (runs : RunsIn k pid e h) (signal : ℕ) where
+module _ (a : About) (k : Kept) (pid : ℕ) (e : Entry Task) (h : Held) (runs : LivesIn k pid e h) (signal : ℕ) where
   abbrev after_end : Kept
   after_end = record (gone k e h (Signal signal)) { notes = end_note pid (Signal signal) ∷ k.notes; recording = event_recorded k.recording e.value.space }
 
@@ -559,14 +559,14 @@ exit_done k call e h new notes recording is_noted is_recorded departs =
 
 -- the same of the parts that are left, where the end was noted before the process went
 pub end_done : (a : About) (k : Kept) (pid signal : ℕ) → Regular k → Lives k.procs pid → (new : Kept) (notes : List Note) (recording : Recording) → notes ≡ end_note pid (Signal signal) ∷ k.notes →
-    ((e : Entry Task) → (h : Held) → RunsIn k pid e h → recording ≡ event_recorded k.recording e.value.space) →
-    ((e : Entry Task) → (h : Held) → RunsIn (record k { notes = notes; recording = recording }) pid e h → new ≡ gone (record k { notes = notes; recording = recording }) e h (Signal signal)) →
+    ((e : Entry Task) → (h : Held) → LivesIn k pid e h → recording ≡ event_recorded k.recording e.value.space) →
+    ((e : Entry Task) → (h : Held) → LivesIn (record k { notes = notes; recording = recording }) pid e h → new ≡ gone (record k { notes = notes; recording = recording }) e h (Signal signal)) →
     Died a (at_process (world_of a k) pid (λ p s. trapped (world_of a k) p signal)) new pid
 end_done a k pid signal regular lives new notes recording is_noted is_recorded departs =
     let r = runs_in k pid regular lives in
     let e : Entry Task = r.0 in
     let h : Held = r.1.0 in
-    let runs : RunsIn k pid e h = r.1.1 in
+    let runs : LivesIn k pid e h = r.1.1 in
     let is = departs e h (record { lives = runs.lives; home = runs.home }) ∙ gone_noted k e h (Signal signal) notes recording
     ∙ (λ i. record (gone k e h (Signal signal)) { notes = is_noted i; recording = is_recorded e h runs i }) in
     subst (λ (now : Kept). Died a (at_process (world_of a k) pid (λ p s. trapped (world_of a k) p signal)) now pid) (sym is) (end_serves a k pid e h runs signal)

@@ -30,7 +30,7 @@ use Rattle.kept_parts.specs.InMemory.{physical_of, Over, GoesIn, ServesIn, DiedI
 use Rattle.kept_parts.specs.declared.task.Task.{Task}
 use Rattle.kept_parts.specs.Regular.{Regular}
 use Rattle.kept_parts.specs.Gone.{space_left, ended, gone}
-use Rattle.kept_parts.specs.Calls.{RunsIn}
+use Rattle.kept_parts.specs.Calls.{LivesIn}
 use Rattle.kept_parts.proofs.Runs.{runs_in}
 use Rattle.kept_parts.proofs.QuietRows.{IsMute}
 use Rattle.kept_parts.proofs.Shows.{shows}
@@ -159,7 +159,7 @@ left_mem k true number h = refl
 left_mem k false number h = refl
 
 pub end_mem : (k : Kept) (pid : ℕ) → Regular k → Lives k.procs pid → (notes : List Note) (recording : Recording) (how : How) (new : Kept) →
-    ((e : Entry Task) → (h : Held) → RunsIn (record k { notes = notes; recording = recording }) pid e h → new ≡ gone (record k { notes = notes; recording = recording }) e h how) → new.mem ≡ k.mem
+    ((e : Entry Task) → (h : Held) → LivesIn (record k { notes = notes; recording = recording }) pid e h → new ≡ gone (record k { notes = notes; recording = recording }) e h how) → new.mem ≡ k.mem
 end_mem k pid regular lives notes recording how new departs =
     let r = runs_in k pid regular lives in
     let e : Entry Task = r.0 in

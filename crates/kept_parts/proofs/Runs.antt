@@ -17,7 +17,7 @@ use Rattle.machine_world.specs.Event.{number_of, args_of}
 use Rattle.kept_parts.specs.declared.task.Task.{Task}
 use Rattle.kept_parts.specs.Kept.{Kept}
 use Rattle.kept_parts.specs.Regular.{Regular, HasSpace}
-use Rattle.kept_parts.specs.Calls.{RunsIn, IsCall, Made}
+use Rattle.kept_parts.specs.Calls.{LivesIn, IsCall, Made}
 use Rattle.call_bytes.specs.Reading.{Reads}
 use Rattle.call_bytes.specs.declared.reading.Unread.{Unread}
 use Rattle.call_bytes.specs.declared.reading.Unread.TheVariants.{Stray, Memory}
@@ -47,7 +47,7 @@ module _ (s : Listed Task) (pid : ℕ) (e : Entry Task) (lives : process s pid �
   pid_found = sym (found_key pid_of pid s.entries e lives)
 
 -- a process that lives has a live space
-pub runs_in : (k : Kept) (pid : ℕ) → Regular k → Lives k.procs pid → (e : Entry Task) × ((h : Held) × RunsIn k pid e h)
+pub runs_in : (k : Kept) (pid : ℕ) → Regular k → Lives k.procs pid → (e : Entry Task) × ((h : Held) × LivesIn k pid e h)
 runs_in k pid regular lives =
     let f = found pid_of pid k.procs.entries lives in
     let home = regular.runs pid f.0 f.1 in
@@ -71,7 +71,7 @@ module _ (k : Kept) (reach : Reach) (whole : List PageOwner) (is : whole ≡ who
       ∙ ap (λ (pages : ℕ). only (readable reach pages h) (physical k.mem)) (whole_pages (length k.regions) whole is).0
 
 -- the space of a process is the one that stands at its number
-pub home_is : (k : Kept) (pid : ℕ) (e : Entry Task) (h : Held) → RunsIn k pid e h → (t : Task) → value_at k.procs pid ≡ Some t → (g : Held) → slice_get k.spaces t.space ≡ Some (Some g) → g ≡ h
+pub home_is : (k : Kept) (pid : ℕ) (e : Entry Task) (h : Held) → LivesIn k pid e h → (t : Task) → value_at k.procs pid ≡ Some t → (g : Held) → slice_get k.spaces t.space ≡ Some (Some g) → g ≡ h
 home_is k pid e h runs t kept g home =
     let both : Some (Some g) ≡ Some (Some h) = sym home ∙ ap (λ (x : Task). slice_get k.spaces x.space) (value_found k.procs pid e runs.lives t kept) ∙ runs.home in
     same_Some g h (same_Some (Some g) (Some h) both)
@@ -81,7 +81,7 @@ home_is k pid e h runs t kept g home =
 sent_same : (n m : ℕ) (xs ys : List ℕ) (b c : Bytes) → n ≡ m → xs ≡ ys → b ≡ c → sent n xs b ≡ sent m ys c
 sent_same n m xs ys b c p q r = cc
 
-module _ (k : Kept) (pid : ℕ) (e : Entry Task) (h : Held) (runs : RunsIn k pid e h) (t : Task) (kept : value_at k.procs pid ≡ Some t) where
+module _ (k : Kept) (pid : ℕ) (e : Entry Task) (h : Held) (runs : LivesIn k pid e h) (t : Task) (kept : value_at k.procs pid ≡ Some t) where
   same_task : t ≡ e.value
   same_task = value_found k.procs pid e runs.lives t kept
 

@@ -18,7 +18,7 @@ use Rattle.kept_parts.specs.declared.task.Task.{Task}
 use Rattle.kept_parts.specs.Kept.{Kept}
 use Rattle.kept_parts.specs.Recorded.{room_beside}
 use Rattle.kept_parts.specs.Regular.{Regular, IsRegular, HasSpace}
-use Rattle.kept_parts.specs.Calls.{RunsIn}
+use Rattle.kept_parts.specs.Calls.{LivesIn}
 use Rattle.machine_world.specs.Ages.{kept_calls}
 use Rattle.call_log.specs.declared.how.How.{How}
 use Rattle.kept_parts.specs.Gone.{ended, without_space, space_left, gone}
@@ -129,13 +129,13 @@ module _ (k : Kept) (pid : ℕ) (how : How) (t : Task) (runs : CanRun k.procs pi
       (sym (ap (λ (s : Listed Task). process s p) (left e lives)) ∙ there) (same ∙ ap (λ (x : Task). x.space) (value_found k.procs pid e lives t kept))
 
   -- the space stays where another one lent it
-  pub gone_lent : borrows k.procs pid ≡ true → (e : Entry Task) (h : Held) → RunsIn k pid e h → then_kept ≡ gone k e h how
+  pub gone_lent : borrows k.procs pid ≡ true → (e : Entry Task) (h : Held) → LivesIn k pid e h → then_kept ≡ gone k e h how
   gone_lent lent e h runs_here =
       ended_is e runs_here.lives
       ∙ ap (λ (b : Bool). space_left (ended k e how) b e.value.space h) (sym (ap (borrows k.procs) (own_pid k.procs pid e runs_here.lives) ∙ lent))
 
   pub gone_owned : borrows k.procs pid ≡ false → (new : Kept) → ((h : Held) → slice_get k.spaces t.space ≡ Some (Some h) → new ≡ without_space then_kept t.space h)
-      → (e : Entry Task) (h : Held) → RunsIn k pid e h → new ≡ gone k e h how
+      → (e : Entry Task) (h : Held) → LivesIn k pid e h → new ≡ gone k e h how
   gone_owned none new gives_up e h runs_here =
       let same : t ≡ e.value = value_found k.procs pid e runs_here.lives t kept in
       gives_up h (ap (λ (x : Task). slice_get k.spaces x.space) same ∙ runs_here.home)

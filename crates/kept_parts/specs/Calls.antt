@@ -38,7 +38,7 @@ use Rattle.kept_parts.specs.Recorded.{event_recorded, call_recorded}
 use Rattle.region_watch.specs.Private.{in_pages}
 
 -- a process lives, in a live space
-pub record RunsIn (k : Kept) (pid : ℕ) (e : Entry Task) (h : Held) : Type 0 where
+pub record LivesIn (k : Kept) (pid : ℕ) (e : Entry Task) (h : Held) : Type 0 where
   pub lives : process k.procs pid ≡ Some e
   pub home : slice_get k.spaces e.value.space ≡ Some (Some h)
 
@@ -56,7 +56,7 @@ pub record IsCall (e : Entry Task) (call : Call) : Type 0 where
 pub record Caller (k : Kept) (call : Call) : Type 0 where
   pub entry : Entry Task
   pub held : Held
-  pub runs : RunsIn k call.pid entry held
+  pub runs : LivesIn k call.pid entry held
   pub stands : IsCall entry call
 
 -- with what it reads of these bytes, or the range of which it may not read each byte; out of memory says nothing
@@ -140,9 +140,9 @@ after_reply k e h call r mem = record (with_task k call.pid e (held_as h r.space
 }
 
 -- out of memory nothing changed
-abbrev pub Replies : About → Kept → Entry Task → Held → Call → Effect → Kept → Result ⊤ AllocError → Type 0
-Replies a old e h call f new (Ok done) = new ≡ after_reply old e h call (reply_of (ask_in a old e h call) f) old.mem
-Replies a old e h call f new (Err error) = new ≡ old
+abbrev pub RepliesBy : About → Kept → Entry Task → Held → Call → Effect → Kept → Result ⊤ AllocError → Type 0
+RepliesBy a old e h call f new (Ok done) = new ≡ after_reply old e h call (reply_of (ask_in a old e h call) f) old.mem
+RepliesBy a old e h call f new (Err error) = new ≡ old
 
 -- the reply of a call with this row, which changes files, or its caller's space with all its mappings: the bytes of all other
 -- spaces stay
@@ -157,9 +157,9 @@ pub record Changed (a : About) (old : Kept) (e : Entry Task) (h : Held) (call : 
   pub pages : length new.regions ≡ length old.regions
   pub after : new ≡ record (after_reply old e h call reply new.mem) { regions = new.regions; starts = new.starts }
 
-abbrev pub Changes : About → Kept → Entry Task → Held → Call → Row → Kept → Result ⊤ AllocError → Type 0
-Changes a old e h call r new (Ok done) = Changed a old e h call r new
-Changes a old e h call r new (Err error) = new ≡ old
+abbrev pub ChangesParts : About → Kept → Entry Task → Held → Call → Row → Kept → Result ⊤ AllocError → Type 0
+ChangesParts a old e h call r new (Ok done) = Changed a old e h call r new
+ChangesParts a old e h call r new (Err error) = new ≡ old
 
 -- the reply of a call that gives bytes
 abbrev pub given : Ask → Outcome → Reply

@@ -14,7 +14,7 @@ ghost use Rattle.kept_parts.specs.Copies.{HoldsFiles};
 ghost use Rattle.kept_parts.specs.Recorded.{room_beside};
 ghost use Rattle.kept_parts.specs.Serves.{Dies};
 ghost use Rattle.kept_parts.specs.Gone.{gone, without_space};
-ghost use Rattle.kept_parts.specs.Calls.{RunsIn, Exits};
+ghost use Rattle.kept_parts.specs.Calls.{LivesIn, Exits};
 
 use crate::keep::keep;
 use crate::kept::KeptParts;
@@ -51,7 +51,7 @@ impl KeptParts {
     /// A process goes, with its table and all that it has open. Its space goes with it, unless another process lent it.
     fn depart(&mut self, pid: u32, how: How)
         requires { CanRun self.old.procs pid }
-        ensures goes { (e : Listed Task) → (h : Held) → RunsIn self.old pid e h → self.new ≡ gone self.old e h how }
+        ensures goes { (e : Listed Task) → (h : Held) → LivesIn self.old pid e h → self.new ≡ gone self.old e h how }
         ensures holds { HoldsFiles self.old → HoldsFiles self.new }
     {
         let Task { space, table, .. } = *self.procs.get(pid);
@@ -68,7 +68,7 @@ impl KeptParts {
     pub fn exit(&mut self, call: Call) -> Result<(), AllocError>
         requires ready { CanRun self.old.procs call.pid }
         requires room { room_beside self.old (length call.sent.items) ≡ true }
-        ensures exits { (e : Listed Task) → (h : Held) → RunsIn self.old call.pid e h → Exits self.old e h call self.new result }
+        ensures exits { (e : Listed Task) → (h : Held) → LivesIn self.old call.pid e h → Exits self.old e h call self.new result }
         ensures memory { self.new.mem ≡ self.old.mem }
         ensures holds { HoldsFiles self.old → HoldsFiles self.new }
     {

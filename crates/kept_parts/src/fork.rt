@@ -8,7 +8,7 @@ ghost use Rattle.flat_loader.specs.Alone.{child_regs};
 ghost use Rattle.kept_parts.specs.declared.task.Task.{Task};
 ghost use Rattle.kept_parts.specs.Copies.{HoldsFiles};
 ghost use Rattle.kept_parts.specs.Recorded.{room_beside};
-ghost use Rattle.kept_parts.specs.Calls.{RunsIn, Forks};
+ghost use Rattle.kept_parts.specs.Calls.{LivesIn, Forks};
 
 use crate::keep::or_unreserve;
 use crate::kept::KeptParts;
@@ -37,7 +37,7 @@ impl KeptParts {
         requires ready { CanRun self.old.procs call.pid }
         requires few { count self.old.procs < most_entries }
         requires room { room_beside self.old (length call.sent.items) ≡ true }
-        ensures forks { (e : Listed Task) → (h : Held) → RunsIn self.old call.pid e h → Forks self.old e call self.new result }
+        ensures forks { (e : Listed Task) → (h : Held) → LivesIn self.old call.pid e h → Forks self.old e call self.new result }
         ensures memory { self.new.mem ≡ self.old.mem }
         ensures holds { HoldsFiles self.old → HoldsFiles self.new }
     {

@@ -19,7 +19,7 @@ ghost use Rattle.machine_world.specs.Event.{answered};
 ghost use Rattle.kept_parts.specs.Copies.{HoldsFiles, StillHolds};
 ghost use Rattle.kept_parts.specs.InMemory.{ChangesIn};
 ghost use Rattle.kept_parts.specs.Stands.{About, world_of};
-ghost use Rattle.kept_parts.specs.Calls.{Caller, RoomFor, asked_by, Changes};
+ghost use Rattle.kept_parts.specs.Calls.{Caller, RoomFor, asked_by, ChangesParts};
 ghost use Rattle.kept_parts.specs.Recorded.{room_beside};
 ghost use Rattle.kept_parts.specs.MapsIn.{MapsIn, UnmapsIn, IsAddress, IsAsked, is_file, status_of};
 
@@ -192,7 +192,7 @@ impl KeptParts {
         requires pages { AsksPages want }
         requires asked { IsAsked call want }
         ensures changes { (a : About) → a.kind ≡ kind_of chooser.now → StillHolds self.old → (c : Caller self.old call) →
-            Changes a self.old c.entry c.held call (mapped (asked_by a c) want) self.new result }
+            ChangesParts a self.old c.entry c.held call (mapped (asked_by a c) want) self.new result }
         ensures memory { (headers : List (List ℕ)) → (a : About) → a.kind ≡ kind_of chooser.now → (c : Caller self.old call) →
             ChangesIn headers a (answered (world_of a self.old) (asked_by a c) (mapped (asked_by a c) want)) self.old self.new result }
         ensures holds { HoldsFiles self.old → HoldsFiles self.new }
@@ -235,7 +235,7 @@ impl KeptParts {
         ensures memory { self.new.mem ≡ self.old.mem }
         ensures holds { HoldsFiles self.old → HoldsFiles self.new }
         ensures changes { (a : About) → (c : Caller self.old call) →
-            Changes a self.old c.entry c.held call (unmaps (asked_by a c) (hit c.held.maps (slice_index call.args 0) (slice_index call.args 1))) self.new result }
+            ChangesParts a self.old c.entry c.held call (unmaps (asked_by a c) (hit c.held.maps (slice_index call.args 0) (slice_index call.args 1))) self.new result }
     {
         self.log.reserve(1)?;
         let number = self.procs.get(call.pid).space;

@@ -11,7 +11,7 @@ ghost use Rattle.vfork_exec.specs.Procs.{Lives, value_at, with_value_at};
 ghost use Rattle.physical_turns.specs.Physical.{has_stray};
 ghost use Rattle.machine_world.specs.Rows.{row};
 ghost use Rattle.machine_world.specs.Event.{replied};
-ghost use Rattle.file_calls.specs.Calls.{IsChange, Replies as RepliesOnly, written_of};
+ghost use Rattle.file_calls.specs.Calls.{IsChange, RepliesBy as RepliesOnly, written_of};
 ghost use Rattle.file_calls.specs.Outcomes.{CanTake, HasEnds};
 ghost use Rattle.kept_parts.specs.declared.task.Task.{Task};
 ghost use Rattle.kept_parts.specs.Copies.{HoldsFiles};
@@ -20,7 +20,7 @@ ghost use Rattle.kept_parts.specs.Stands.{About};
 ghost use Rattle.kept_parts.specs.Recorded.{room_beside};
 ghost use Rattle.call_bytes.specs.Puts.{first_stray, IsRange};
 ghost use Rattle.region_watch.specs.Private.{in_pages};
-ghost use Rattle.kept_parts.specs.Calls.{RunsIn, Caller, asked_by, maps_by, value_of, brk_of, noted_call, Replies, Changes, Gives, GivesIn};
+ghost use Rattle.kept_parts.specs.Calls.{LivesIn, Caller, asked_by, maps_by, value_of, brk_of, noted_call, RepliesBy, ChangesParts, Gives, GivesIn};
 
 use crate::effect::Effect;
 use crate::follow::follow;
@@ -107,7 +107,7 @@ impl KeptParts {
         requires lives { Lives self.old.procs call.pid }
         requires room { room_beside self.old (length call.sent.items) ≡ true }
         requires plain { maps_by call effect ≡ false }
-        ensures replies { (a : About) → (e : Listed Task) → (h : Held) → RunsIn self.old call.pid e h → Replies a self.old e h call effect self.new result }
+        ensures replies { (a : About) → (e : Listed Task) → (h : Held) → LivesIn self.old call.pid e h → RepliesBy a self.old e h call effect self.new result }
         ensures memory { self.new.mem ≡ self.old.mem }
         ensures holds { HoldsFiles self.old → HoldsFiles self.new }
     {
@@ -126,7 +126,7 @@ impl KeptParts {
         requires room { room_beside self.old (length call.sent.items) ≡ true }
         requires change { IsChange call.number }
         requires replies { RepliesOnly call self.old.files }
-        ensures changes { (a : About) → (c : Caller self.old call) → Changes a self.old c.entry c.held call (row (asked_by a c)) self.new result }
+        ensures changes { (a : About) → (c : Caller self.old call) → ChangesParts a self.old c.entry c.held call (row (asked_by a c)) self.new result }
         ensures memory { self.new.mem ≡ self.old.mem }
         ensures holds { HoldsFiles self.old → HoldsFiles self.new }
     {
@@ -148,11 +148,11 @@ impl KeptParts {
         requires ends { HasEnds self.old.files call.table outcome.then }
         requires ranges { All IsRange (written_of outcome) }
         requires inside { first_stray (in_pages (length self.old.regions)) (written_of outcome) ≡ None }
-        requires kept { has_stray self.old.notes ≡ false → (e : Listed Task) → (h : Held) → RunsIn self.old call.pid e h → first_stray (writable_in h.maps) (written_of outcome) ≡ None }
+        requires kept { has_stray self.old.notes ≡ false → (e : Listed Task) → (h : Held) → LivesIn self.old call.pid e h → first_stray (writable_in h.maps) (written_of outcome) ≡ None }
         ensures gives { (a : About) → (c : Caller self.old call) → first_stray (writable_in c.held.maps) (written_of outcome) ≡ None →
             Gives a self.old c.entry c.held call outcome self.new result }
         ensures memory { (a : About) → (c : Caller self.old call) → GivesIn a self.old c.entry c.held call outcome self.new result }
-        ensures holds { (e : Listed Task) → (h : Held) → RunsIn self.old call.pid e h → first_stray (writable_in h.maps) (written_of outcome) ≡ None → HoldsFiles self.old → HoldsFiles self.new }
+        ensures holds { (e : Listed Task) → (h : Held) → LivesIn self.old call.pid e h → first_stray (writable_in h.maps) (written_of outcome) ≡ None → HoldsFiles self.old → HoldsFiles self.new }
         ensures lives { Lives self.new.procs call.pid }
     {
         self.log.reserve(1)?;

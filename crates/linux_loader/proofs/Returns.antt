@@ -19,7 +19,7 @@ use Rattle.bflt_format.proofs.Overlap.{covers}
 use Rattle.bflt_format.proofs.Rising.{StandsIn, stands_in}
 use Rattle.bflt_format.proofs.Spelled.{spells_bytes}
 use Rattle.linux_loader.specs.Loader.{run_len, data_place, data_len, cleared, process_of, memory_after, is_refused, is_told, linux, Loaded}
-use Rattle.linux_loader.specs.Laws.{IsPlaced, IsForLinux, Leaves, FlatFilesLoad}
+use Rattle.linux_loader.specs.Laws.{IsPlaced, IsForLinux, LoadsAs, FlatFilesLoad}
 use Rattle.linux_loader.proofs.Reading.{IsReady, is_ready, not_refused, told}
 use Rattle.linux_loader.proofs.Linking.{Says, says, count_is, link_off, Reached, reached}
 
@@ -121,7 +121,7 @@ header_none y none = left_none (header_fault y) (values_fault (flat_values y)) n
     left_none (Some fault) b none = absurd cc
 
 -- of a file whose values can be said
-pub flat_loads : (y : List ℕ) (args k : ℕ) → Spells (flat_values y) → flat_fault y ≡ None → IsForLinux y → IsPlaced y args k → Leaves y args k (flat_image (flat_values y) (k + 64)) (k + entry y)
+pub flat_loads : (y : List ℕ) (args k : ℕ) → Spells (flat_values y) → flat_fault y ≡ None → IsForLinux y → IsPlaced y args k → LoadsAs y args k (flat_image (flat_values y) (k + 64)) (k + entry y)
 flat_loads y args k spells none for placed =
     let f = flat_values y in
     let clear = header_none y none in

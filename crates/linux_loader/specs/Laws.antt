@@ -14,7 +14,7 @@ pub record IsPlaced (y : List ℕ) (args k : ℕ) : Type 0 where
 
 -- Linux loads the file. Behind the header the run holds an image, and zeros where the image has no byte; the program starts
 -- at `start`
-pub record Leaves (y : List ℕ) (args k : ℕ) (picture : ℕ → Option ℕ) (start : ℕ) : Type 0 where
+pub record LoadsAs (y : List ℕ) (args k : ℕ) (picture : ℕ → Option ℕ) (start : ℕ) : Type 0 where
   pub process : Process
   pub loaded : linux y args k ≡ Loaded process
   pub bytes : (a : ℕ) → k + 64 ≤ a → a < k + run_len y args → process.memory a ≡ unwrap_or (picture a) 0
@@ -27,4 +27,4 @@ pub record IsForLinux (y : List ℕ) : Type 0 where
 
 -- a flat file without a fault
 abbrev pub FlatFilesLoad : Type 0
-FlatFilesLoad = (y : List ℕ) (args k : ℕ) → IsBytes y → flat_fault y ≡ None → IsForLinux y → IsPlaced y args k → Leaves y args k (flat_image (flat_values y) (k + 64)) (k + entry y)
+FlatFilesLoad = (y : List ℕ) (args k : ℕ) → IsBytes y → flat_fault y ≡ None → IsForLinux y → IsPlaced y args k → LoadsAs y args k (flat_image (flat_values y) (k + 64)) (k + entry y)

@@ -8,7 +8,7 @@ use Rattle.fd_tables.proofs.CountsMean.{counted-nothing_open}
 use Rattle.fd_tables.proofs.TablesCounted.{counted-with_table}
 use Rattle.machine_world.specs.World.{World}
 use Rattle.machine_world.specs.Free.{free}
-use Rattle.machine_world.specs.Boot.{StartLine, BootFault, Found, found, path_of, taken, placed, fitting, located, started, all_started, then_started, empty_world, boot}
+use Rattle.machine_world.specs.Boot.{StartLine, BootFault, Found, found, start_path, taken, placed, fitting, located, started, all_started, then_started, empty_world, boot}
 use Rattle.machine_world.specs.Ages.{kept_calls}
 use Rattle.machine_world.specs.Order.{most_tables, AreCounted, BootsBeginCounted}
 use Rattle.machine_world.proofs.FreeNumbers.{free_within, length-one_more}
@@ -48,7 +48,7 @@ module _ (w : World) (n : ℕ) (h : HasCounted n w.rest.files) (none : kept_call
 
   begins_started : Begins (n + 1) (started w s)
   unfolding started
-  begins_started = begins_located (found w.rest (path_of s))
+  begins_started = begins_located (found w.rest (start_path s))
 
 begins_all : (ss : List StartLine) (w : World) (n : ℕ) → HasCounted n w.rest.files → kept_calls w.notes ≡ 0 → n + length ss ≤ most_tables → Begins most_tables (all_started w ss)
 unfolding all_started

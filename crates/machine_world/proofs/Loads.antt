@@ -14,7 +14,7 @@ use Rattle.machine_world.specs.Asks.{Ask}
 use Rattle.machine_world.specs.Found.{Found, found, found_program, found_mark, found_node, taken}
 use Rattle.machine_world.specs.FamilyCalls.{or_eacces, runs_node, runs}
 use Rattle.machine_world.specs.Event.{ended, ask_of, event}
-use Rattle.machine_world.specs.Boot.{StartLine, BootFault, path_of, placed, fitting, located, started, all_started, then_started, empty_world, boot}
+use Rattle.machine_world.specs.Boot.{StartLine, BootFault, start_path, placed, fitting, located, started, all_started, then_started, empty_world, boot}
 use Rattle.machine_world.specs.Programs.{AreLoaded, LoadsPrograms, BootsLoadPrograms, TurnsLoadPrograms, RunsLoadPrograms}
 use Rattle.machine_world.proofs.Kept.{kept_outside}
 use Rattle.machine_world.proofs.ByRows.{by_rows}
@@ -123,7 +123,7 @@ module _ (w : World) (are : AreLoaded (length w.rest.programs) w.notes) (s : Sta
 
   began_started : Began w.rest.programs (started w s)
   unfolding started
-  began_started = began_located (found w.rest (path_of s)) (λ f is. found_below w.rest (path_of s) f is)
+  began_started = began_located (found w.rest (start_path s)) (λ f is. found_below w.rest (start_path s) f is)
 
 began_all : (programs : List Program) (ss : List StartLine) (w : World) → w.rest.programs ≡ programs → AreLoaded (length programs) w.notes → Began programs (all_started w ss)
 unfolding all_started

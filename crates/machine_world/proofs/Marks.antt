@@ -9,7 +9,7 @@ use Rattle.fd_tables.specs.Changes.{with_table}
 use Rattle.machine_world.specs.World.{Process, LiveSpace, World, pid_of, id_of}
 use Rattle.machine_world.specs.Free.{free}
 use Rattle.machine_world.specs.Event.{Outcome, went, strays, full, idle, stepped, trapped, answer, settled, effect, in_space, by_process, at_process, event}
-use Rattle.machine_world.specs.Boot.{StartLine, BootFault, Found, found, path_of, taken, placed, fitting, located, started, all_started, then_started, empty_world, boot}
+use Rattle.machine_world.specs.Boot.{StartLine, BootFault, Found, found, start_path, taken, placed, fitting, located, started, all_started, then_started, empty_world, boot}
 use Rattle.machine_world.specs.Laws.{EventsLeaveNoMark, TurnsLeaveNoMark, RunsLeaveNoMark, BootsLeaveNoMark}
 use Rattle.machine_world.proofs.ByEvents.{Keeps, by_turn, by_turns}
 
@@ -78,7 +78,7 @@ module _ (w : World) (unmarked : Unmarked w) (s : StartLine) where
 
   marks_started : Boots (started w s)
   unfolding started
-  marks_started = marks_located (found w.rest (path_of s))
+  marks_started = marks_located (found w.rest (start_path s))
 
 marks_all : (ss : List StartLine) (w : World) → Unmarked w → Boots (all_started w ss)
 unfolding all_started

@@ -26,8 +26,8 @@ pub data BootFault : Type 0 where
   args_too_big : ℕ → BootFault
   no_run : ℕ → BootFault
 
-abbrev pub path_of : StartLine → List ℕ
-path_of s = slice_index_or s.args 0 []
+abbrev pub start_path : StartLine → List ℕ
+start_path s = slice_index_or s.args 0 []
 
 -- a process of its own in a new space, with a new table
 abbrev pub begun : World → ℕ → Loading → World
@@ -53,7 +53,7 @@ located w s None = Err (bad_start s.line)
 located w s (Some f) = fitting w s f (frame_fits f.original s.args [])
 
 unfoldable pub started : World → StartLine → Result World BootFault
-started w s = located w s (found w.rest (path_of s))
+started w s = located w s (found w.rest (start_path s))
 
 abbrev pub then_started : Result World BootFault → (World → Result World BootFault) → Result World BootFault
 then_started (Ok w) more = more w

@@ -15,10 +15,10 @@ use Rattle.machine_world.specs.World.{World}
 use Rattle.machine_world.specs.Free.{free_runs_in, free}
 use Rattle.machine_world.specs.Asks.{Ask, arg, leaves, refuses}
 use Rattle.machine_world.specs.MapCalls.{file_side, in_copy, pages_of, own_run, with_mapping, first_bytes}
-use Rattle.machine_world.specs.PathCalls.{path_of as exec_path}
+use Rattle.machine_world.specs.PathCalls.{start_path as exec_path}
 use Rattle.machine_world.specs.Rows.{row}
 use Rattle.machine_world.specs.Found.{Found, found, taken, address_of}
-use Rattle.machine_world.specs.Boot.{StartLine, path_of, begun, started, no_run}
+use Rattle.machine_world.specs.Boot.{StartLine, start_path, begun, started, no_run}
 use Rattle.machine_world.specs.FamilyCalls.{runs}
 use Rattle.machine_world.specs.Event.{answered, executed, exec}
 
@@ -45,7 +45,7 @@ pub record StartsExactly (w : World) (s : StartLine) (f : Found) : Type 0 where
   pub full : taken w (block_pages f.original) (free w) ≡ None → started w s ≡ Err (no_run s.line)
 
 abbrev pub StartsAreExact : Type 0
-StartsAreExact = (w : World) (s : StartLine) (f : Found) → found w.rest (path_of s) ≡ Some f → frame_fits f.original s.args [] ≡ true → StartsExactly w s f
+StartsAreExact = (w : World) (s : StartLine) (f : Found) → found w.rest (start_path s) ≡ Some f → frame_fits f.original s.args [] ≡ true → StartsExactly w s f
 
 -- an execve that read these strings, whose path leads to a program and whose frame fits: its block begins at that page of the runs that
 -- are free while the old space is held, or it is ENOMEM

@@ -6,11 +6,11 @@ use Rattle.mem_files.specs.declared.fault.FileFault.TheVariants.{Errno, Memory}
 use Rattle.mem_files.specs.Inodes.{Inodes}
 
 -- a call that may be refused: a refusal changes nothing
-abbrev pub Changes : Result Inodes log.Errno → Inodes → Inodes → Result ⊤ log.Errno → Type 0
-Changes (Ok now) old new (Ok done) = new ≡ now
-Changes (Ok now) old new (Err errno) = ⊥
-Changes (Err first) old new (Ok done) = ⊥
-Changes (Err first) old new (Err errno) = (errno ≡ first) × (new ≡ old)
+abbrev pub ChangesTree : Result Inodes log.Errno → Inodes → Inodes → Result ⊤ log.Errno → Type 0
+ChangesTree (Ok now) old new (Ok done) = new ≡ now
+ChangesTree (Ok now) old new (Err errno) = ⊥
+ChangesTree (Err first) old new (Ok done) = ⊥
+ChangesTree (Err first) old new (Err errno) = (errno ≡ first) × (new ≡ old)
 
 -- the same where memory may be out, which is no answer where the call is refused
 abbrev pub Writes : Result Inodes log.Errno → Inodes → Inodes → Result ⊤ FileFault → Type 0

@@ -16,7 +16,7 @@ use Rattle.psabi_relocs.specs.Noted.{high_part}
 use Rattle.psabi_relocs.specs.Index.{AreStored, IsPairs}
 
 -- section `section` of the file e
-pub record Kept : Type 0 where
+pub record SectionOfFile : Type 0 where
   pub file : List ℕ
   pub section : ℕ
 

@@ -23,9 +23,9 @@ pub struct KeptSection<'a, 'b> {
 }
 
 impl<'a, 'b> Model for KeptSection<'a, 'b> {
-    ghost use Rattle.psabi_relocs.specs.Judged.{Kept, IsIndexed};
+    ghost use Rattle.psabi_relocs.specs.Judged.{SectionOfFile, IsIndexed};
 
-    ghost Value = { Kept };
+    ghost Value = { SectionOfFile };
 
     ghost view = { λ s. record { file = s.elf.now; section = s.section } };
 

@@ -5,7 +5,7 @@ use Rattle.flat_loader.specs.Frame.{frame_fits}
 use Rattle.flat_loader.specs.Begin.{Loading}
 use Rattle.machine_world.specs.World.{Rest, World}
 use Rattle.machine_world.specs.Free.{free}
-use Rattle.machine_world.specs.Boot.{StartLine, BootFault, Found, found, path_of, begun, address_of, taken, placed, fitting, located, started, then_started, all_started, empty_world, boot}
+use Rattle.machine_world.specs.Boot.{StartLine, BootFault, Found, found, start_path, begun, address_of, taken, placed, fitting, located, started, then_started, all_started, empty_world, boot}
 
 module _ (P : World → Type 0) (begins : (w : World) (index : ℕ) (l : Loading) → P w → P (begun w index l)) where
   abbrev Behind : Result World BootFault → Type 0
@@ -27,7 +27,7 @@ module _ (P : World → Type 0) (begins : (w : World) (index : ℕ) (l : Loading
 
     by_started : Behind (started w s)
     unfolding started
-    by_started = by_located (found w.rest (path_of s))
+    by_started = by_located (found w.rest (start_path s))
 
   by_all : (ss : List StartLine) (w : World) → P w → Behind (all_started w ss)
   unfolding all_started

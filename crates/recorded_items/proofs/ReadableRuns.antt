@@ -11,7 +11,7 @@ use Rattle.quantum_sched.specs.declared.Quantum.{Quantum}
 use Rattle.machine_world.specs.World.{Rest, World}
 use Rattle.machine_world.specs.Free.{free}
 use Rattle.machine_world.specs.Turns.{turns}
-use Rattle.machine_world.specs.Boot.{StartLine, BootFault, Found, found, path_of, taken, placed, fitting, located, started, then_started, all_started, empty_world, boot}
+use Rattle.machine_world.specs.Boot.{StartLine, BootFault, Found, found, start_path, taken, placed, fitting, located, started, then_started, all_started, empty_world, boot}
 use Rattle.stays_laws.specs.Stays.{Stay, loading_at, loading_in, loading_of, first_stay, behind_start, first_stays, stays}
 use Rattle.stays_laws.specs.Sound.{IsSound}
 use Rattle.stays_laws.proofs.SoundRuns.{events_keep_sound, turns_keep_sound}
@@ -56,7 +56,7 @@ module _ (ys : List Stay) (w : World) (opens : Opens ys w) (s : StartLine) (clea
 
   opens_started : OpensBehind (ys ++ first_stay w.next_pid (loading_of w s)) (started w s)
   unfolding started
-  opens_started = opens_located (found w.rest (path_of s))
+  opens_started = opens_located (found w.rest (start_path s))
 
 opens_all : (ss : List StartLine) → AreStrings ss → (ys : List Stay) (w : World) → Opens ys w → OpensBehind (ys ++ first_stays w ss) (all_started w ss)
 unfolding all_started first_stays

@@ -19,7 +19,7 @@ use Rattle.machine_world.specs.World.{Process, Rest, World, pid_of}
 use Rattle.machine_world.specs.Recordings.{most_count, raised}
 use Rattle.machine_world.specs.Free.{free}
 use Rattle.machine_world.specs.Event.{maps_file, noted, plain_item}
-use Rattle.machine_world.specs.Boot.{StartLine, BootFault, Found, found, path_of, begun, address_of, taken, placed, fitting, located, started, then_started, all_started, empty_world, boot}
+use Rattle.machine_world.specs.Boot.{StartLine, BootFault, Found, found, start_path, begun, address_of, taken, placed, fitting, located, started, then_started, all_started, empty_world, boot}
 use Rattle.stays_laws.specs.Stays.{Stay, loading_at, loading_in, loading_of, first_stay, behind_start, first_stays}
 use Rattle.stays_laws.proofs.Lists.{eqb_is, eqb_isnt}
 use Rattle.stays_laws.proofs.SoundRuns.{events_keep_sound, turns_keep_sound}
@@ -88,7 +88,7 @@ module _ (ys : List Stay) (w : World) (told : AreRecorded ys w) (s : StartLine) 
 
   records_started : RecordsBehind (ys ++ first_stay w.next_pid (loading_of w s)) (started w s)
   unfolding started
-  records_started = records_located (found w.rest (path_of s))
+  records_started = records_located (found w.rest (start_path s))
 
 records_all : (ss : List StartLine) (ys : List Stay) (w : World) → AreRecorded ys w → RecordsBehind (ys ++ first_stays w ss) (all_started w ss)
 unfolding all_started first_stays

@@ -8,7 +8,7 @@ use Rattle.mmap_rules.specs.declared.mapping.Mapping.{Mapping}
 use Rattle.mmap_rules.specs.Held.{IsMapping}
 use Rattle.flat_loader.specs.Alone.{most_pages}
 use Rattle.machine_world.specs.World.{World, id_of}
-use Rattle.refusal_laws.specs.Regular.{HasBreak, IsRegular}
+use Rattle.refusal_laws.specs.Regular.{HasBreak, IsRegularWorld}
 use Rattle.refusal_laws.specs.Bounded.{IsPlaced, IsWithin, IsBounded}
 use Rattle.refusal_laws.proofs.Lists.{each_by_place, each_by_number, each_found}
 
@@ -23,7 +23,7 @@ placed pages m most inside is = by m.source refl
     by Own same = tt
     by (Copy file change first) same = (omega (arith, inside, most), uncut (ap is_copy same) m.range.anonymous refl)
 
-pub bounded : (w : World) → IsRegular w → IsBounded w
+pub bounded : (w : World) → IsRegularWorld w → IsBounded w
 bounded w r = record {
   most = r.sound.most;
   pids = r.sound.pids;

@@ -11,7 +11,7 @@ use Rattle.machine_world.specs.Ages.{kept_calls}
 use Rattle.machine_world.specs.Free.{free}
 use Rattle.machine_world.specs.Event.{Outcome, went, strays, full, idle, noted, event}
 use Rattle.machine_world.specs.Turns.{seen_of, turns}
-use Rattle.machine_world.specs.Boot.{StartLine, BootFault, Found, found, path_of, taken, placed, fitting, located, started, then_started, all_started, empty_world, boot}
+use Rattle.machine_world.specs.Boot.{StartLine, BootFault, Found, found, start_path, taken, placed, fitting, located, started, then_started, all_started, empty_world, boot}
 use Rattle.machine_world.specs.Order.{IsCounted}
 use Rattle.machine_world.proofs.ByEvents.{Went, Keeps, by_turn, by_turns}
 use Rattle.machine_world.proofs.CountedBoots.{boots_begin_counted}
@@ -74,7 +74,7 @@ module _ (w : World) (s : StartLine) where
 
   begun_started : BegunIn w (started w s)
   unfolding started
-  begun_started = begun_located (found w.rest (path_of s))
+  begun_started = begun_located (found w.rest (start_path s))
 
 begun_all : (ss : List StartLine) (w : World) → BegunIn w (all_started w ss)
 unfolding all_started

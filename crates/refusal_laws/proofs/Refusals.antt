@@ -25,10 +25,10 @@ use Rattle.machine_world.proofs.Refused.{is_refused, refusals_change_nothing_els
 use Rattle.machine_world.proofs.States.{event_is}
 use Rattle.stays_laws.proofs.RowSpaces.{row-mmap2}
 use Rattle.refusal_laws.specs.Calls.{Call, ask}
-use Rattle.refusal_laws.specs.Regular.{IsRegular}
+use Rattle.refusal_laws.specs.Regular.{IsRegularWorld}
 use Rattle.refusal_laws.specs.Bounded.{IsWithin, IsBounded}
 use Rattle.refusal_laws.specs.NoRun.{LacksRunToMap, LacksRunToExec, LacksRun}
-use Rattle.refusal_laws.specs.Laws.{Replies, ErrnosAreRefusals, IsWithoutRun, EnomemIsExact}
+use Rattle.refusal_laws.specs.Laws.{IsReplied, ErrnosAreRefusals, IsWithoutRun, EnomemIsExact}
 use Rattle.refusal_laws.proofs.Errnos.{is_enomem, same_number}
 use Rattle.refusal_laws.proofs.Bounded.{bounded}
 use Rattle.refusal_laws.proofs.EachRow.{EachRow, each_row}
@@ -165,7 +165,7 @@ settled_plain (strays access) plain = tt
 settled_plain full plain = tt
 settled_plain idle plain = tt
 
-module _ (w : World) (r : IsRegular w) (pid : ℕ) where
+module _ (w : World) (r : IsRegularWorld w) (pid : ℕ) where
   module _ (p : Process) (lives : find pid_of pid w.procs ≡ Some p) (s : LiveSpace) (has : find id_of p.space w.spaces ≡ Some s) where
     by_sent : meaning p.regs s.space.bytes (writable_in s.space.maps) ≡ call → (o : Result (List ℕ) Span) → sent (number_of p.regs) (args_of p.regs) s.space.bytes ≡ o
         → OrPlain w pid (settled (asked w p s.space o))
@@ -212,7 +212,7 @@ reply_of (strays access) = None
 reply_of full = None
 reply_of idle = None
 
-replied : (w : World) (pid value : ℕ) → (h : Replies w pid value) → reply_of (event w pid) ≡ Some value
+replied : (w : World) (pid value : ℕ) → (h : IsReplied w pid value) → reply_of (event w pid) ≡ Some value
 replied w pid value h = ap reply_of h.goes ∙ ap reply_in h.made ∙ ap Some h.reply
 
 reply_if : (b : Bool) (now : World) (t : Trace) (value : ℕ) → reply_of (if b then went now t else full) ≡ Some value → reply_in t.items ≡ Some value
@@ -232,7 +232,7 @@ plain_reply_of (strays access) value plain is = absurd cc
 plain_reply_of full value plain is = absurd cc
 plain_reply_of idle value plain is = absurd cc
 
-module _ (w : World) (pid value : ℕ) (h : Replies w pid value) (errno : is_errno value ≡ true) where
+module _ (w : World) (pid value : ℕ) (h : IsReplied w pid value) (errno : is_errno value ≡ true) where
   is_refusal : OrPlain w pid (event w pid) → RefusesCall w pid
   is_refusal (inl c) = c
   is_refusal (inr plain) = let no : true ≡ false = sym errno ∙ plain_reply_of (event w pid) value plain (replied w pid value h) in absurd cc
@@ -278,12 +278,12 @@ room_if true now t value is = refl
 room_if false now t value is = absurd cc
 
 replies_if : (w : World) (pid value : ℕ) (b : Bool) (now : World) (t : Trace) (i : Item) → event w pid ≡ (if b then went now t else full) → b ≡ true
-    → t.items ≡ i ∷ [] → i.entry.reply ≡ value → Replies w pid value
+    → t.items ≡ i ∷ [] → i.entry.reply ≡ value → IsReplied w pid value
 replies_if w pid value b now t i is room made reply =
     record { now = now; trace = t; goes = is ∙ ap (λ (c : Bool). if c then went now t else full) room; item = i; made = made; reply = reply }
 
-module _ (w : World) (pid : ℕ) (r : IsRegular w) where
-  for_want : Replies w pid (refusal Enomem) → IsWithoutRun w pid
+module _ (w : World) (pid : ℕ) (r : IsRegularWorld w) where
+  for_want : IsReplied w pid (refusal Enomem) → IsWithoutRun w pid
   for_want h =
       let c : RefusesCall w pid = is_refusal w pid (refusal Enomem) h (is_refused Enomem) (or_plain w r pid) in
       record {
@@ -292,7 +292,7 @@ module _ (w : World) (pid : ℕ) (r : IsRegular w) where
         lacks = c.lacks (same_number c.errno (sym (its_reply w pid (refusal Enomem) h (is_refused Enomem) c)));
       }
 
-  each_want : IsWithoutRun w pid → Replies w pid (refusal Enomem)
+  each_want : IsWithoutRun w pid → IsReplied w pid (refusal Enomem)
   each_want h =
       let a : Ask = ask w pid h.call in
       replies_if w pid (refusal Enomem) (room_in w (weight_of h.call.bytes [])) _ _ (plain_item (entry_of a (refusal Enomem) []))

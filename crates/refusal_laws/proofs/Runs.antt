@@ -12,13 +12,13 @@ use Rattle.machine_world.specs.Free.{free}
 use Rattle.machine_world.specs.Found.{Found, found, taken}
 use Rattle.machine_world.specs.Event.{Outcome, went, strays, full, idle, event}
 use Rattle.machine_world.specs.Turns.{Walk, End, stays_at, traced, turned, turn, going_on, quantum_turn, turns}
-use Rattle.machine_world.specs.Boot.{StartLine, BootFault, path_of, placed, fitting, located, started, all_started, then_started, empty_world, boot}
+use Rattle.machine_world.specs.Boot.{StartLine, BootFault, start_path, placed, fitting, located, started, all_started, then_started, empty_world, boot}
 use Rattle.machine_world.proofs.Runnable.{ready_found, may_run_still}
 use Rattle.machine_world.proofs.Marks.{boots_leave_no_mark, events_leave_no_mark, turns_leave_no_mark}
 use Rattle.machine_world.proofs.CountedBoots.{boots_begin_counted}
 use Rattle.machine_world.proofs.CountedKept.{events_keep_counted, turns_keep_counted}
 use Rattle.stays_laws.proofs.SoundRuns.{boots_are_sound, events_keep_sound, turns_keep_sound}
-use Rattle.refusal_laws.specs.Regular.{HasBreak, IsRegular}
+use Rattle.refusal_laws.specs.Regular.{HasBreak, IsRegularWorld}
 use Rattle.refusal_laws.specs.Bounded.{IsWithin}
 use Rattle.refusal_laws.specs.Laws.{BootsAreRegular, EventsKeepRegular, TurnsKeepRegular, RunsKeepRegular}
 use Rattle.refusal_laws.proofs.Lists.{each_weaker}
@@ -41,11 +41,11 @@ events_keep_regular w pid now t r may is =
 
 -- ---- turns and runs
 
-its : (w : World) → IsRegular w → AreBounded w
+its : (w : World) → IsRegularWorld w → AreBounded w
 its w r = record { parents = r.parents; spaces = (bounded w r).spaces }
 
-turned_bounded : (more : World → Walk) (w : World) (pid : ℕ) (o : Outcome) → event w pid ≡ o → IsRegular w → MayRun w pid
-    → ((v : World) → IsRegular v → MayRun v pid → AreBounded (more v).world) → AreBounded (turned more w pid o).world
+turned_bounded : (more : World → Walk) (w : World) (pid : ℕ) (o : Outcome) → event w pid ≡ o → IsRegularWorld w → MayRun w pid
+    → ((v : World) → IsRegularWorld v → MayRun v pid → AreBounded (more v).world) → AreBounded (turned more w pid o).world
 turned_bounded more w pid (went now t) is r may on = over t.over refl
   where
     over : (b : Bool) → t.over ≡ b → AreBounded (traced t (if b then stays_at now None else more now)).world
@@ -55,7 +55,7 @@ turned_bounded more w pid (strays access) is r may on = record { parents = r.par
 turned_bounded more w pid full is r may on = its w r
 turned_bounded more w pid idle is r may on = its w r
 
-turn_bounded : (count pid : ℕ) (w : World) → IsRegular w → MayRun w pid → AreBounded (turn count pid w).world
+turn_bounded : (count pid : ℕ) (w : World) → IsRegularWorld w → MayRun w pid → AreBounded (turn count pid w).world
 unfolding turn
 turn_bounded zero pid w r may = its w r
 turn_bounded (suc count) pid w r may = turned_bounded (turn count pid) w pid (event w pid) refl r may (λ v. turn_bounded count pid v)
@@ -71,15 +71,15 @@ turns_keep_regular count pid w r may =
       breaks = breaks_of (turn count pid w).world bounds;
     }
 
-quantum_regular : (more : World → Walk) (w : World) (count : ℕ) (chosen : Option ℕ) → ((pid : ℕ) → chosen ≡ Some pid → MayRun w pid) → IsRegular w
-    → ((v : World) → IsRegular v → IsRegular (more v).world) → IsRegular (quantum_turn more w count chosen).world
+quantum_regular : (more : World → Walk) (w : World) (count : ℕ) (chosen : Option ℕ) → ((pid : ℕ) → chosen ≡ Some pid → MayRun w pid) → IsRegularWorld w
+    → ((v : World) → IsRegularWorld v → IsRegularWorld (more v).world) → IsRegularWorld (quantum_turn more w count chosen).world
 quantum_regular more w count None may r on = r
 quantum_regular more w count (Some pid) may r on = goes (turn count pid w) (turns_keep_regular count pid w r (may pid refl))
   where
-    goes : (walk : Walk) → IsRegular walk.world → IsRegular (going_on more walk).world
+    goes : (walk : Walk) → IsRegularWorld walk.world → IsRegularWorld (going_on more walk).world
     goes walk now = at walk.end
       where
-        at : (end : Option End) → IsRegular (going_on more (record walk { end = end })).world
+        at : (end : Option End) → IsRegularWorld (going_on more (record walk { end = end })).world
         at (Some end) = now
         at None = on walk.world now
 
@@ -125,7 +125,7 @@ module _ (pages : ℕ) (most : pages ≤ 16384) where
 
     begins_started : Begins pages (started w s)
     unfolding started
-    begins_started = begins_located (found w.rest (path_of s))
+    begins_started = begins_located (found w.rest (start_path s))
 
   begins_all : (ss : List StartLine) (w : World) → Opens pages w → Begins pages (all_started w ss)
   unfolding all_started

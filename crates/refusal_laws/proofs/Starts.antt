@@ -5,7 +5,7 @@ use Rattle.flat_loader.specs.Frame.{frame_fits}
 use Rattle.machine_world.specs.World.{World}
 use Rattle.machine_world.specs.Free.{free}
 use Rattle.machine_world.specs.Found.{Found, found, taken}
-use Rattle.machine_world.specs.Boot.{StartLine, BootFault, bad_start, args_too_big, no_run, path_of, placed, fitting, located, started, all_started, then_started, empty_world, boot}
+use Rattle.machine_world.specs.Boot.{StartLine, BootFault, bad_start, args_too_big, no_run, start_path, placed, fitting, located, started, all_started, then_started, empty_world, boot}
 use Rattle.refusal_laws.specs.NoRun.{LacksRunToStart}
 use Rattle.refusal_laws.specs.Laws.{NoRunIsExact, BootsWithoutRunAreExact}
 
@@ -19,21 +19,21 @@ Ends w s (Err (args_too_big line)) = Unit {0}
 Ends w s (Err (no_run line)) = (line ≡ s.line) × LacksRunToStart w s
 
 module _ (w : World) (s : StartLine) where
-  ends_placed : (f : Found) → found w.rest (path_of s) ≡ Some f → frame_fits f.original s.args [] ≡ true → (o : Option ℕ) → taken w (block_pages f.original) (free w) ≡ o → Ends w s (placed w s f o)
+  ends_placed : (f : Found) → found w.rest (start_path s) ≡ Some f → frame_fits f.original s.args [] ≡ true → (o : Option ℕ) → taken w (block_pages f.original) (free w) ≡ o → Ends w s (placed w s f o)
   ends_placed f leads fits None none = (refl, record { program = f; leads = leads; fits = fits; no_run = none })
   ends_placed f leads fits (Some page) is = tt
 
-  ends_fitting : (f : Found) → found w.rest (path_of s) ≡ Some f → (b : Bool) → frame_fits f.original s.args [] ≡ b → Ends w s (fitting w s f b)
+  ends_fitting : (f : Found) → found w.rest (start_path s) ≡ Some f → (b : Bool) → frame_fits f.original s.args [] ≡ b → Ends w s (fitting w s f b)
   ends_fitting f leads true fits = ends_placed f leads fits (taken w (block_pages f.original) (free w)) refl
   ends_fitting f leads false fits = tt
 
-  ends_located : (o : Option Found) → found w.rest (path_of s) ≡ o → Ends w s (located w s o)
+  ends_located : (o : Option Found) → found w.rest (start_path s) ≡ o → Ends w s (located w s o)
   ends_located None leads = tt
   ends_located (Some f) leads = ends_fitting f leads (frame_fits f.original s.args []) refl
 
   ends : Ends w s (started w s)
   unfolding started
-  ends = ends_located (found w.rest (path_of s)) refl
+  ends = ends_located (found w.rest (start_path s)) refl
 
   lacks : LacksRunToStart w s → started w s ≡ Err (no_run s.line)
   unfolding started

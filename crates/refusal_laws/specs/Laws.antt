@@ -17,7 +17,7 @@ use Rattle.machine_world.specs.Boot.{StartLine, no_run, started, boot}
 use Rattle.machine_world.specs.Laws.{refused_outcome}
 use Rattle.stays_laws.specs.Laws.{CanBoot}
 use Rattle.refusal_laws.specs.Calls.{Call, ask}
-use Rattle.refusal_laws.specs.Regular.{IsRegular}
+use Rattle.refusal_laws.specs.Regular.{IsRegularWorld}
 use Rattle.refusal_laws.specs.NoRun.{LacksRun, LacksRunToStart, LacksRunToBoot}
 
 -- ---- what holds of every world
@@ -25,21 +25,21 @@ use Rattle.refusal_laws.specs.NoRun.{LacksRun, LacksRunToStart, LacksRunToBoot}
 abbrev pub BootsAreRegular : Type 0
 BootsAreRegular =
     (rest : Rest) (starts : List StartLine) (w : World) → CanBoot rest → rest.files ≡ nothing_open rest.files.stdin → length starts ≤ most_entries →
-    boot rest starts ≡ Ok w → IsRegular w
+    boot rest starts ≡ Ok w → IsRegularWorld w
 
 abbrev pub EventsKeepRegular : Type 0
-EventsKeepRegular = (w : World) (pid : ℕ) (now : World) (t : Trace) → IsRegular w → MayRun w pid → event w pid ≡ went now t → IsRegular now
+EventsKeepRegular = (w : World) (pid : ℕ) (now : World) (t : Trace) → IsRegularWorld w → MayRun w pid → event w pid ≡ went now t → IsRegularWorld now
 
 abbrev pub TurnsKeepRegular : Type 0
-TurnsKeepRegular = (count pid : ℕ) (w : World) → IsRegular w → MayRun w pid → IsRegular (turn count pid w).world
+TurnsKeepRegular = (count pid : ℕ) (w : World) → IsRegularWorld w → MayRun w pid → IsRegularWorld (turn count pid w).world
 
 abbrev pub RunsKeepRegular : Type 0
-RunsKeepRegular = (quanta : List Quantum) (w : World) → IsRegular w → IsRegular (turns quanta w).world
+RunsKeepRegular = (quanta : List Quantum) (w : World) → IsRegularWorld w → IsRegularWorld (turns quanta w).world
 
 -- ---- refusals
 
 -- an event makes a call, and the call is answered this
-pub record Replies (w : World) (pid value : ℕ) : Type 0 where
+pub record IsReplied (w : World) (pid value : ℕ) : Type 0 where
   pub now : World
   pub trace : Trace
   pub goes : event w pid ≡ went now trace
@@ -56,7 +56,7 @@ pub record IsRefused (w : World) (pid value : ℕ) : Type 0 where
 
 -- each reply that is an errno is a refusal
 abbrev pub ErrnosAreRefusals : Type 0
-ErrnosAreRefusals = (w : World) (pid value : ℕ) → IsRegular w → Replies w pid value → is_errno value ≡ true → IsRefused w pid value
+ErrnosAreRefusals = (w : World) (pid value : ℕ) → IsRegularWorld w → IsReplied w pid value → is_errno value ≡ true → IsRefused w pid value
 
 -- ---- ENOMEM
 
@@ -68,7 +68,7 @@ pub record IsWithoutRun (w : World) (pid : ℕ) : Type 0 where
 
 -- a call is answered so exactly for want of a run
 abbrev pub EnomemIsExact : Type 0
-EnomemIsExact = (w : World) (pid : ℕ) → IsRegular w → Replies w pid (refusal Enomem) ↔ IsWithoutRun w pid
+EnomemIsExact = (w : World) (pid : ℕ) → IsRegularWorld w → IsReplied w pid (refusal Enomem) ↔ IsWithoutRun w pid
 
 -- ---- the opening world
 

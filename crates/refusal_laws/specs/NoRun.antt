@@ -13,10 +13,10 @@ use Rattle.machine_world.specs.Free.{free}
 use Rattle.machine_world.specs.Found.{Found, found, taken}
 use Rattle.machine_world.specs.Asks.{Ask, arg}
 use Rattle.machine_world.specs.MapCalls.{file_side, in_copy}
-use Rattle.machine_world.specs.PathCalls.{path_of as exec_path}
+use Rattle.machine_world.specs.PathCalls.{start_path as exec_path}
 use Rattle.machine_world.specs.FamilyCalls.{runs}
 use Rattle.machine_world.specs.Placements.{placed_page}
-use Rattle.machine_world.specs.Boot.{StartLine, path_of, boot}
+use Rattle.machine_world.specs.Boot.{StartLine, start_path, boot}
 
 -- an mmap2 asks for pages that may be mapped, no copy that is there has them, and the placement gives no run for them
 pub record LacksRunToMap (a : Ask) : Type 0 where
@@ -43,7 +43,7 @@ LacksRun w a = ((a.number ≡ numbers.mmap2) × LacksRunToMap a) ⊎ ((a.number 
 -- a start line's path leads to a program, the frame fits into its stack, and the placement gives no run for the block
 pub record LacksRunToStart (w : World) (s : StartLine) : Type 0 where
   pub program : Found
-  pub leads : found w.rest (path_of s) ≡ Some program
+  pub leads : found w.rest (start_path s) ≡ Some program
   pub fits : frame_fits program.original s.args [] ≡ true
   pub no_run : taken w (block_pages program.original) (free w) ≡ None
 

@@ -21,7 +21,7 @@ pub record HasBreak (s : LiveSpace) : Type 0 where
   pub high : s.space.brk_high ≤ memory_end
 
 -- a sound world, in which what is open is counted exactly and no pipe is marked
-pub record IsRegular (w : World) : Type 0 where
+pub record IsRegularWorld (w : World) : Type 0 where
   pub sound : IsSound w
   pub counted : IsCounted w
   pub unmarked : w.rest.files.changed ≡ []

@@ -10,7 +10,7 @@ use Rattle.items_text.specs.Items.{IsItem}
 use Rattle.items_text.specs.Values.{item_value}
 use Rattle.replay_check.specs.declared.verdict.Verdict.TheVariants.{Yes, No}
 use Rattle.replay_check.specs.Verdicts.{at_end, verdict_behind, verdict_from}
-use Rattle.replay_check.specs.Answers.{Leaves, answered}
+use Rattle.replay_check.specs.Answers.{GivesOrRefutes, answered}
 use Rattle.replay_check.specs.Solos.{item_of, Runs, Pops}
 use Rattle.replay_check.specs.Loops.{items_alone}
 use Rattle.replay_check.proofs.Steps.{steps}
@@ -96,22 +96,22 @@ module _ (most : ℕ) (old mid : Solo) (p : Progress) (r : Runs most old mid p) 
     step : (o : Option Solo) → answered mid i ≡ o → solo_step mid (drop used all) ≡ with_items (drop (used + 1) all) o
     step o is = ap (solo_step mid) (next_of all used i there) ∙ answer_steps mid means i (drop (used + 1) all) ∙ ap (with_items (drop (used + 1) all)) is
 
-    pub answers_on : Leaves (answered mid i) true new → (left before : ℕ)
+    pub answers_on : GivesOrRefutes (answered mid i) true new → (left before : ℕ)
         → verdict_from (p.done + 1 + left) used before old (drop used all) ≡ verdict_from left (used + 1) (before + (p.done + 1)) new (drop (used + 1) all)
     answers_on leaves left before = by (answered mid i) refl leaves
       where
         taken : used + (length (drop used all) - length (drop (used + 1) all)) ≡ used + 1
         taken = (let more : length (drop used all) ≡ suc (length (drop (used + 1) all)) = ap length (next_of all used i there) in omega (arith, more))
 
-        by : (o : Option Solo) → answered mid i ≡ o → Leaves o true new
+        by : (o : Option Solo) → answered mid i ≡ o → GivesOrRefutes o true new
             → verdict_from (p.done + 1 + left) used before old (drop used all) ≡ verdict_from left (used + 1) (before + (p.done + 1)) new (drop (used + 1) all)
         by None is l = absurd l
         by (Some now) is l = goes_on most old mid new p r left used (used + 1) before (drop used all) (drop (used + 1) all) taken (step (Some now) is ∙ (λ k. Some (sym l k, drop (used + 1) all)))
 
-    pub wrong_on : Leaves (answered mid i) false new → (left before : ℕ) → verdict_from (most + left) used before old (drop used all) ≡ No (used + 1) (before + p.done)
+    pub wrong_on : GivesOrRefutes (answered mid i) false new → (left before : ℕ) → verdict_from (most + left) used before old (drop used all) ≡ No (used + 1) (before + p.done)
     wrong_on leaves left before = by (answered mid i) refl leaves
       where
-        by : (o : Option Solo) → answered mid i ≡ o → Leaves o false new → verdict_from (most + left) used before old (drop used all) ≡ No (used + 1) (before + p.done)
+        by : (o : Option Solo) → answered mid i ≡ o → GivesOrRefutes o false new → verdict_from (most + left) used before old (drop used all) ≡ No (used + 1) (before + p.done)
         by None is l = refuted most old mid p r less left used before (drop used all) (step None is)
         by (Some now) is l = absurd l
 

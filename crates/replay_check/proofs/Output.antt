@@ -14,7 +14,7 @@ use Rattle.flat_loader.specs.Alone.{own_of, writable_of, put_got}
 use Rattle.call_bytes.specs.Puts.{first_stray, IsRange, Put}
 use Rattle.call_bytes.proofs.Puts.{may_be_put, strays_first, put_strays, stray_wider}
 use Rattle.replay_check.specs.Ranges.{LoneBytes, own_memory, IsLone}
-use Rattle.replay_check.specs.Answers.{AreFilled, MayPut, Leaves, put_in}
+use Rattle.replay_check.specs.Answers.{AreFilled, MayPut, GivesOrRefutes, put_in}
 use Rattle.replay_check.proofs.OwnBytes.{owned, writable}
 
 -- what was tested of all ranges, and what is left of them
@@ -68,7 +68,7 @@ long_strays table a len long =
 -- ---- what is written of it
 
 pub put_leaves : (ranges : List Range) (table : List PageOwner) (old new : List ℕ) → IsLone ranges table old → (gots : List Written) → Put table old new gots
-    → Leaves (put_in (own_memory (record { ranges = ranges; mem = old })) gots) true (own_memory (record { ranges = ranges; mem = new }))
+    → GivesOrRefutes (put_in (own_memory (record { ranges = ranges; mem = old })) gots) true (own_memory (record { ranges = ranges; mem = new }))
 unfolding put_in
 put_leaves ranges table old new l gots p =
     let own = owned ranges table old l in
@@ -78,7 +78,7 @@ put_leaves ranges table old new l gots p =
     rw e refl
 
 pub stray_leaves : (ranges : List Range) (table : List PageOwner) (old : List ℕ) → IsLone ranges table old → (gots : List Written) → MayPut (owns table true) gots false
-    → (now : LoneBytes) → Leaves (put_in (own_memory (record { ranges = ranges; mem = old })) gots) false (own_memory now)
+    → (now : LoneBytes) → GivesOrRefutes (put_in (own_memory (record { ranges = ranges; mem = old })) gots) false (own_memory now)
 unfolding put_in
 stray_leaves ranges table old l gots strays now =
     let own = owned ranges table old l in

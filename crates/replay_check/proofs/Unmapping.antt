@@ -13,7 +13,7 @@ use Rattle.mmap_rules.proofs.Lists.{found_any, any_found, each_cut, each_append}
 use Rattle.region_watch.specs.Private.{only, physical}
 use Rattle.flat_loader.specs.Alone.{OwnMemory, own_of, cons_to, or_else, with_first, is_exact, can_cut, part, parts, without_range, over_ranges, without_pages}
 use Rattle.replay_check.specs.Ranges.{own_memory, IsBlock, IsLone}
-use Rattle.replay_check.specs.Answers.{Leaves}
+use Rattle.replay_check.specs.Answers.{GivesOrRefutes}
 
 lt_zero : (n : ℕ) → nat_lt 0 (suc n) ≡ true
 lt_zero n = grind (arith, nat_tests)
@@ -141,10 +141,10 @@ part_in r from to low up high j x there a inside = by (from == to) refl there
 
 -- ---- munmap
 
-pub refuses : (o : Option OwnMemory) (new : OwnMemory) → o ≡ None → Leaves o false new
+pub refuses : (o : Option OwnMemory) (new : OwnMemory) → o ≡ None → GivesOrRefutes o false new
 refuses o new is = rw is tt
 
-pub leaves : (o : Option OwnMemory) (new : OwnMemory) → o ≡ Some new → Leaves o true new
+pub leaves : (o : Option OwnMemory) (new : OwnMemory) → o ≡ Some new → GivesOrRefutes o true new
 leaves o new is = rw is refl
 
 pub none_asked : (m : OwnMemory) (addr len : ℕ) → len ≡ 0 → without_pages m addr len ≡ None

@@ -10,11 +10,11 @@ use Rattle.call_bytes.specs.Puts.{first_stray, IsRange}
 
 -- ---- what a function that may refute leaves
 
-abbrev pub Leaves : {A : Type 0} → Option A → Bool → A → Type 0
-Leaves (Some now) true new = new ≡ now
-Leaves (Some now) false new = ⊥
-Leaves None true new = ⊥
-Leaves None false new = Unit {0}
+abbrev pub GivesOrRefutes : {A : Type 0} → Option A → Bool → A → Type 0
+GivesOrRefutes (Some now) true new = new ≡ now
+GivesOrRefutes (Some now) false new = ⊥
+GivesOrRefutes None true new = ⊥
+GivesOrRefutes None false new = Unit {0}
 
 -- ---- a call and the item that tells of it
 

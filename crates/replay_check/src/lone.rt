@@ -4,7 +4,7 @@ ghost use Rattle.std.specs.Prelude.{◌≡◌, IfOk, map};
 ghost use Rattle.call_log.specs.Values.{entry_value, written_value};
 ghost use Rattle.flat_loader.specs.Alone.{is_call, is_errno, is_same, args_of, leaves_space, replied, child_regs, solo_effect};
 ghost use Rattle.replay_check.specs.Ranges.{own_memory};
-ghost use Rattle.replay_check.specs.Answers.{AreFilled, Leaves, told, answered};
+ghost use Rattle.replay_check.specs.Answers.{AreFilled, GivesOrRefutes, told, answered};
 ghost use Rattle.replay_check.specs.Solos.{runner_value, solo_of, item_of, RunsOn, Pops};
 
 use crate::memory::LoneMemory;
@@ -111,7 +111,7 @@ impl LoneMemory {
     #[tactic(auto, unfolding(crate::specs::Answers::told))]
     fn told(&mut self, alloc: Global, top: &Runner, entry: &Entry) -> Result<bool, AllocError>
         requires { AreFilled (map written_value entry.now.got.items) }
-        ensures { IfOk result (λ right. Leaves (told (runner_value top.now) (own_memory self.old) (entry_value entry.now)) right (own_memory self.new)) }
+        ensures { IfOk result (λ right. GivesOrRefutes (told (runner_value top.now) (own_memory self.old) (entry_value entry.now)) right (own_memory self.new)) }
     {
         let args = args_of(&top.regs);
         match self.sent(alloc, top.regs.x[17], &args) {
@@ -146,7 +146,7 @@ impl Lone {
         entry: &Entry,
         brought: &[u8],
     ) -> Result<bool, AllocError>
-        ensures { IfOk result (λ right. Leaves (solo_effect (solo_of self.old) regs.now (item_of entry.now brought.now)) right (solo_of self.new)) }
+        ensures { IfOk result (λ right. GivesOrRefutes (solo_effect (solo_of self.old) regs.now (item_of entry.now brought.now)) right (solo_of self.new)) }
     {
         match entry.call {
             numbers::MMAP2 => self.memory.map_new(entry, brought),
@@ -172,7 +172,7 @@ impl Lone {
         brought: &[u8],
     ) -> Result<bool, AllocError>
         requires { AreFilled (map written_value entry.now.got.items) }
-        ensures { IfOk result (λ right. Leaves (answered (solo_of self.old) (item_of entry.now brought.now)) right (solo_of self.new)) }
+        ensures { IfOk result (λ right. GivesOrRefutes (answered (solo_of self.old) (item_of entry.now brought.now)) right (solo_of self.new)) }
     {
         let Some(top) = self.stack.pop() else {
             return Ok(false);

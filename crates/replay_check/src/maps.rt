@@ -4,7 +4,7 @@ ghost use Rattle.std.specs.Prelude.{◌≡◌, ℕ, ◌+◌, ◌%◌, ◌^◌, �
 ghost use Rattle.call_log.specs.Values.{entry_value};
 ghost use Rattle.flat_loader.specs.Alone.{own_of, is_placed, brings_all, new_bytes, may_lie, may_map, with_range, without_pages};
 ghost use Rattle.replay_check.specs.Ranges.{own_memory};
-ghost use Rattle.replay_check.specs.Answers.{Leaves, IsNewRange, byte_lies, mapped};
+ghost use Rattle.replay_check.specs.Answers.{GivesOrRefutes, IsNewRange, byte_lies, mapped};
 ghost use Rattle.replay_check.specs.Solos.{item_of};
 
 use crate::memory::LoneMemory;
@@ -132,7 +132,7 @@ impl LoneMemory {
 
     /// The range of an mmap2 is one more, if it may be.
     pub(crate) fn map_new(&mut self, entry: &Entry, brought: &[u8]) -> Result<bool, AllocError>
-        ensures { IfOk result (λ right. Leaves (mapped (own_memory self.old) (item_of entry.now brought.now)) right (own_memory self.new)) }
+        ensures { IfOk result (λ right. GivesOrRefutes (mapped (own_memory self.old) (item_of entry.now brought.now)) right (own_memory self.new)) }
     {
         let Some(range) = new_range(entry) else {
             return Ok(false);
@@ -147,7 +147,7 @@ impl LoneMemory {
     /// Takes off the oldest range but the block that is just the pages of so many bytes; where there is none, cuts them out of
     /// the anonymous one that has them. False where there is neither.
     pub(crate) fn unmap(&mut self, addr: u32, len: u32) -> Result<bool, AllocError>
-        ensures { IfOk result (λ done. Leaves (without_pages (own_memory self.old) addr len) done (own_memory self.new)) }
+        ensures { IfOk result (λ done. GivesOrRefutes (without_pages (own_memory self.old) addr len) done (own_memory self.new)) }
     {
         if len == 0 || addr % PAGE != 0 {
             return Ok(false);

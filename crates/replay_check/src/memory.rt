@@ -8,7 +8,7 @@ ghost use Rattle.region_watch.specs.Instructions.{instructions, ran};
 ghost use Rattle.flat_loader.specs.Alone.{writable_of};
 ghost use Rattle.call_bytes.specs.Reading.{Reads};
 ghost use Rattle.replay_check.specs.Ranges.{own_memory};
-ghost use Rattle.replay_check.specs.Answers.{AreFilled, MayPut, Leaves, put_in};
+ghost use Rattle.replay_check.specs.Answers.{AreFilled, MayPut, GivesOrRefutes, put_in};
 
 use call_bytes::{Unread, put, read_sent};
 use call_log::Got;
@@ -82,7 +82,7 @@ impl LoneMemory {
     /// Writes what a call gives, where all of it may be written.
     pub(crate) fn put(&mut self, got: &[Got]) -> bool
         requires { AreFilled (map written_value got.now) }
-        ensures { Leaves (put_in (own_memory self.old) (map written_value got.now)) result (own_memory self.new) }
+        ensures { GivesOrRefutes (put_in (own_memory self.old) (map written_value got.now)) result (own_memory self.new) }
     {
         if !may_put(&self.owners, got) {
             return false;

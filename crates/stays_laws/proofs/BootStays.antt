@@ -13,7 +13,7 @@ use Rattle.flat_loader.specs.Alone.{memory_of}
 use Rattle.fd_tables.specs.Files.{free_number}
 use Rattle.machine_world.specs.World.{Process, Rest, World, id_of}
 use Rattle.machine_world.specs.Free.{free}
-use Rattle.machine_world.specs.Boot.{StartLine, BootFault, Found, found, path_of, begun, address_of, taken, placed, fitting, located, started, then_started, all_started, empty_world, boot}
+use Rattle.machine_world.specs.Boot.{StartLine, BootFault, Found, found, start_path, begun, address_of, taken, placed, fitting, located, started, then_started, all_started, empty_world, boot}
 use Rattle.stays_laws.specs.Stays.{Stay, loading_at, loading_in, loading_of, first_stay, behind_start, first_stays, runner_of, runners, Agrees, kept_calls_of, loads_of, belonging, original_at, head_of, loaded_head, AreRight}
 use Rattle.stays_laws.specs.Laws.{BootsBeginStays}
 use Rattle.stays_laws.proofs.Lists.{eqb_other, eqb_same, more_item, item_below}
@@ -96,13 +96,13 @@ module _ (ys : List Stay) (w : World) (opens : Opens ys w) (s : StartLine) where
   opens_fitting f names true = opens_placed f names (taken w (block_pages f.original) (free w))
   opens_fitting f names false = tt
 
-  opens_located : (o : Option Found) → found w.rest (path_of s) ≡ o → OpensBehind (ys ++ first_stay w.next_pid (loading_in w s o)) (located w s o)
+  opens_located : (o : Option Found) → found w.rest (start_path s) ≡ o → OpensBehind (ys ++ first_stay w.next_pid (loading_in w s o)) (located w s o)
   opens_located None is = tt
-  opens_located (Some f) is = opens_fitting f (found_names w.rest (path_of s) f is) (frame_fits f.original s.args [])
+  opens_located (Some f) is = opens_fitting f (found_names w.rest (start_path s) f is) (frame_fits f.original s.args [])
 
   opens_started : OpensBehind (ys ++ first_stay w.next_pid (loading_of w s)) (started w s)
   unfolding started
-  opens_started = opens_located (found w.rest (path_of s)) refl
+  opens_started = opens_located (found w.rest (start_path s)) refl
 
 opens_all : (ss : List StartLine) (ys : List Stay) (w : World) → Opens ys w → OpensBehind (ys ++ first_stays w ss) (all_started w ss)
 unfolding all_started first_stays

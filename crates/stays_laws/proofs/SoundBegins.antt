@@ -22,7 +22,7 @@ use Rattle.machine_world.specs.World.{Process, LiveSpace, Rest, World, pid_of, i
 use Rattle.machine_world.specs.Families.{sharing, IsChain}
 use Rattle.machine_world.specs.Free.{free}
 use Rattle.machine_world.specs.MapCalls.{all_maps}
-use Rattle.machine_world.specs.Boot.{StartLine, BootFault, Found, found, path_of, begun, address_of, taken, placed, fitting, located, started, all_started, then_started, empty_world, boot}
+use Rattle.machine_world.specs.Boot.{StartLine, BootFault, Found, found, start_path, begun, address_of, taken, placed, fitting, located, started, all_started, then_started, empty_world, boot}
 use Rattle.machine_world.specs.Ages.{AreChanged, kept_calls, most_at_boot}
 use Rattle.stays_laws.specs.Stays.{runners, runner_of}
 use Rattle.stays_laws.specs.Sound.{IsSpace, Apart, AreApart, HoldsSource, HoldCopies, most_given, IsSound}
@@ -197,7 +197,7 @@ module _ (left : ℕ) (w : World) (o : Opens (suc left) w) (s : StartLine) where
 
   begins_started : Begins left (started w s)
   unfolding started
-  begins_started = begins_located (found w.rest (path_of s))
+  begins_started = begins_located (found w.rest (start_path s))
 
 begins_all : (ss : List StartLine) (w : World) → Opens (length ss) w → Begins 0 (all_started w ss)
 unfolding all_started

@@ -10,7 +10,7 @@ use Rattle.machine_world.specs.World.{Program, Process, LiveSpace, World, id_of}
 use Rattle.machine_world.specs.Event.{Begins, Trace}
 use Rattle.machine_world.specs.Turns.{turns}
 use Rattle.machine_world.specs.Free.{free}
-use Rattle.machine_world.specs.Boot.{StartLine, Found, found, path_of, taken, address_of, started, BootFault}
+use Rattle.machine_world.specs.Boot.{StartLine, Found, found, start_path, taken, address_of, started, BootFault}
 
 -- a program loaded into a space, the space's owner, the calls made in it with what their mappings brought, and how many events
 -- were made in it, other than waits
@@ -61,7 +61,7 @@ loading_in w s (Some f) = loading_at s f (taken w (block_pages f.original) (free
 
 -- how the program of a start line is loaded
 abbrev pub loading_of : World → StartLine → Option Loading
-loading_of w s = loading_in w s (found w.rest (path_of s))
+loading_of w s = loading_in w s (found w.rest (start_path s))
 
 abbrev pub first_stay : ℕ → Option Loading → List Stay
 first_stay pid None = []

@@ -13,7 +13,7 @@ use Rattle.manifest_text.specs.Values.{Manifest, start_value}
 use Rattle.manifest_text.specs.Laws.{IsShort, Reasonable}
 use Rattle.flat_loader.specs.Begin.{Loading}
 use Rattle.machine_world.specs.World.{Rest, World}
-use Rattle.machine_world.specs.Boot.{StartLine, BootFault, bad_start, args_too_big, no_run, Found, found, path_of, placed, fitting, located, started, then_started, all_started, empty_world, begun, boot}
+use Rattle.machine_world.specs.Boot.{StartLine, BootFault, bad_start, args_too_big, no_run, Found, found, start_path, placed, fitting, located, started, then_started, all_started, empty_world, begun, boot}
 use Rattle.kept_parts.specs.Stands.{world_of}
 use Rattle.machine_world.specs.Turns.{turns}
 use Rattle.physical_turns.specs.Physical.{Physical, physical_turns, opening as memory_opening}
@@ -66,7 +66,7 @@ module _ {A : Type 0} (of : World → A) (keeps : (w : World) (i : ℕ) (l : Loa
   unfolding all_started started
   kept_all [] w now is = let h : w ≡ now = cc in sym (ap of h)
   kept_all (s ∷ ss) w now is =
-      kept_then (started w s) w (λ v. all_started v ss) now (λ v first. kept_located w s (found w.rest (path_of s)) v first) (λ v. kept_all ss v now) is
+      kept_then (started w s) w (λ v. all_started v ss) now (λ v first. kept_located w s (found w.rest (start_path s)) v first) (λ v. kept_all ss v now) is
 
   pub kept_boot : (rest : Rest) (starts : List StartLine) (w : World) → boot rest starts ≡ Ok w → of w ≡ of (empty_world rest)
   unfolding boot

@@ -21,7 +21,7 @@ use Rattle.suite_top.specs.Run.{run_outcome}
 use Rattle.suite_top.specs.Result.{command_outcome}
 use Rattle.file_commands.specs.HostCourse.{HostCourse, complete, failed, out_of_memory, AreLoads, IsCourseOf, FaultsAfter, after_answer, after_answers, told_after}
 use Rattle.suite_top.specs.Call.{outcome_of}
-use Rattle.suite_top.specs.HostLaws.{NamesAreAPrefix, NothingIsAsked, stores_of, stored_name, Leaves, OthersChangeNoFile, StoresAreWhole}
+use Rattle.suite_top.specs.HostLaws.{NamesAreAPrefix, NothingIsAsked, stores_of, stored_name, ChangesAtMost, OthersChangeNoFile, StoresAreWhole}
 use Rattle.suite_top.proofs.RunOutcomes.{run_by}
 use Rattle.suite_top.proofs.ImageOutcomes.{romfs_by}
 use Rattle.suite_top.proofs.ReplayOutcomes.{replay_by}
@@ -116,11 +116,11 @@ command_has (Some (unromfs image)) inputs = subst (HasStore None) (sym (unromfs_
 command_has (Some (replay kind file items)) inputs = replay_has kind file items inputs
 command_has (Some (demo programs)) inputs = tt
 
-leaves_same : (stored : Option (List ℕ)) (old new : Files) → new ≡ old → Leaves stored old new
+leaves_same : (stored : Option (List ℕ)) (old new : Files) → new ≡ old → ChangesAtMost stored old new
 leaves_same None old new same = same
 leaves_same (Some name) old new same = inl same
 
-leaves_all : (stored : Option (List ℕ)) (requests : List Request) (t : Told) → HasStore stored requests → Leaves stored t.files (after_answers t requests).files
+leaves_all : (stored : Option (List ℕ)) (requests : List Request) (t : Told) → HasStore stored requests → ChangesAtMost stored t.files (after_answers t requests).files
 leaves_all stored [] t has = leaves_same stored t.files t.files refl
 leaves_all stored (load name ∷ requests) t has = leaves_all stored requests (after_answer t (load name)) has
 leaves_all None (store name bytes ∷ requests) t has = absurd has
@@ -147,5 +147,5 @@ others_change_no_file c t t_after meets is_old is_new =
     elim (stores_are_whole c t t_after meets is_old is_new) [
       | inl same ↦ leaves_same (stored_name c.arguments) t.files t_after.files same
       | inr all ↦
-          subst (Leaves (stored_name c.arguments) t.files) (sym all) (leaves_all (stored_name c.arguments) (outcome_of c).requests t (command_has (command_of c.arguments) c.inputs))
+          subst (ChangesAtMost (stored_name c.arguments) t.files) (sym all) (leaves_all (stored_name c.arguments) (outcome_of c).requests t (command_has (command_of c.arguments) c.inputs))
     ]

@@ -29,14 +29,14 @@ abbrev pub stored_name : List (List ℕ) → Option (List ℕ)
 stored_name arguments = option_and_then stores_of (command_of arguments)
 
 -- the files are as before, but for the one of this name, if there is one
-abbrev pub Leaves : (stored : Option (List ℕ)) → (old new : Files) → Type 0
-Leaves None old new = new ≡ old
-Leaves (Some name) old new = (new ≡ old) ⊎ ((bytes : List ℕ) × (new ≡ insert old name bytes))
+abbrev pub ChangesAtMost : (stored : Option (List ℕ)) → (old new : Files) → Type 0
+ChangesAtMost None old new = new ≡ old
+ChangesAtMost (Some name) old new = (new ≡ old) ⊎ ((bytes : List ℕ) × (new ≡ insert old name bytes))
 
 -- however a call ends, no file changes but the one that its command stores
 abbrev pub OthersChangeNoFile : Type 0
 OthersChangeNoFile = (c : Call) (t t_after : Told) → MeetsOutcome c → c.host.told ≡ Some t → c.host_after.told ≡ Some t_after
-    → Leaves (stored_name c.arguments) t.files t_after.files
+    → ChangesAtMost (stored_name c.arguments) t.files t_after.files
 
 -- however a call ends, the files are as before, or as the requests of its outcome leave them
 abbrev pub StoresAreWhole : Type 0

@@ -17,7 +17,7 @@ ghost use Rattle.machine_world.specs.MapCalls.{mapped};
 ghost use Rattle.machine_world.specs.Rows.{row};
 ghost use Rattle.machine_world.specs.Event.{room_for, called, classed, answered, exited, waited, settled, stray_in};
 ghost use Rattle.vfork_exec.specs.declared.family.State.TheVariants.{OnPipe};
-ghost use Rattle.file_calls.specs.Calls.{IsChange, IsOutput, Replies, written_of};
+ghost use Rattle.file_calls.specs.Calls.{IsChange, IsOutput, DoesNotWait, written_of};
 ghost use Rattle.file_calls.specs.Outcomes.{GivesRow, CanTake, HasEnds};
 ghost use Rattle.kept_parts.specs.declared.task.Task.{Task};
 ghost use Rattle.kept_parts.specs.Stands.{About, process_of, world_of};
@@ -36,7 +36,7 @@ ghost use Rattle.kept_parts.specs.Regular.{Regular};
 ghost use Rattle.kept_parts.specs.Recorded.{room_beside};
 ghost use Rattle.kept_parts.specs.MapsIn.{IsAsked};
 ghost use Rattle.kept_parts.specs.Brings.{recorded_bytes};
-ghost use Rattle.kept_parts.specs.Calls.{RunsIn, Caller, maps_by, asked_by, reply_of, given, served_by};
+ghost use Rattle.kept_parts.specs.Calls.{LivesIn, Caller, maps_by, asked_by, reply_of, given, served_by};
 ghost use Rattle.kept_parts.specs.Flats.{AreFlats, ForRuns};
 
 use crate::call::call_of;
@@ -91,7 +91,7 @@ fn has_room_with(parts: &KeptParts, call: &Call, got: &[Got]) -> bool
 fn recorded_len(parts: &KeptParts, pid: u32, want: Want) -> u64
     requires lives { Lives parts.now.procs pid }
     requires pages { AsksPages want }
-    ensures { (a : About) → (e : Entry Task) → (h : Held) → RunsIn parts.now pid e h →
+    ensures { (a : About) → (e : Entry Task) → (h : Held) → LivesIn parts.now pid e h →
         result ≡ recorded_bytes parts.now e.value.space want (is_some (mapped_in (sides h parts.now.regions parts.now.mem) a.kind (bytes_of parts.now.tree (file_in want)) want)) }
 {
     let Want::File { pages, .. } = want else {
@@ -158,7 +158,7 @@ pub(crate) fn answer_effect(
 fn answer_change(parts: &mut KeptParts, call: Call) -> Result<Served, AllocError>
     requires lives { Lives parts.old.procs call.pid }
     requires change { IsChange call.number }
-    requires replies { Replies call parts.old.files }
+    requires replies { DoesNotWait call parts.old.files }
     ensures serves { (a : About) → (c : Caller parts.old call) →
         Serves a (answered (world_of a parts.old) (asked_by a c) (row (asked_by a c))) parts.old parts.new call.pid result }
     ensures memory { parts.new.mem ≡ parts.old.mem }
@@ -183,7 +183,7 @@ fn stray_of(
     requires lives { Lives parts.now.procs pid }
     requires whole { whole.now ≡ whole_table (length parts.now.regions) }
     requires ranges { All IsRange (map written_value got.now) }
-    ensures { (e : Entry Task) → (h : Held) → RunsIn parts.now pid e h →
+    ensures { (e : Entry Task) → (h : Held) → LivesIn parts.now pid e h →
         result ≡ option_map (access_at e.value.regs.pc) (first_stray (writable reach (length parts.now.regions) h) (map written_value got.now)) }
 {
     let task = parts.procs.get(pid);
@@ -201,7 +201,7 @@ fn beyond_reach(
     requires { CanRun parts.old.procs pid }
     ensures strays { reach ≡ Own → (result ≡ Ok (Stray access)) × (parts.new ≡ parts.old) }
     ensures silent { result ≢ Ok Replied }
-    ensures memory { reach ≡ Whole → (headers : List (List ℕ)) → (a : About) → (e : Entry Task) → (h : Held) → RunsIn parts.old pid e h →
+    ensures memory { reach ≡ Whole → (headers : List (List ℕ)) → (a : About) → (e : Entry Task) → (h : Held) → LivesIn parts.old pid e h →
         ServesIn headers a (killed (physical_of headers a parts.old) (process_of e) outside) parts.old parts.new pid result }
     ensures leaves { IfOk result (Tells parts.old parts.new pid) }
 {
@@ -217,7 +217,7 @@ fn beyond_reach(
 /// What a call gives. Each of its ranges is one that an access can have.
 fn outcome_of(parts: &KeptParts, call: &Call) -> Result<Outcome, AllocError>
     requires output { IsOutput call.now.number }
-    requires replies { Replies call.now parts.now.files }
+    requires replies { DoesNotWait call.now parts.now.files }
     requires room { slice_index call.now.args 2 < 2 ^ 32 }
     ensures gives { IfOk result (GivesRow row call.now parts.now.tree parts.now.files) }
     ensures fits { IfOk result (λ o. CanTake parts.now.files o.then) }
@@ -272,7 +272,7 @@ fn answer_output(
     requires whole { whole.now ≡ whole_table (length parts.old.regions) }
     requires strayed { reach ≡ Whole → has_stray parts.old.notes ≡ true }
     requires output { IsOutput call.number }
-    requires replies { Replies call parts.old.files }
+    requires replies { DoesNotWait call parts.old.files }
     requires room { slice_index call.args 2 < 2 ^ 32 }
     ensures serves { reach ≡ Own → (a : About) → (c : Caller parts.old call) →
         Serves a (answered (world_of a parts.old) (asked_by a c) (row (asked_by a c))) parts.old parts.new call.pid result }

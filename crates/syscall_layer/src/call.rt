@@ -7,7 +7,7 @@ ghost use Rattle.vfork_exec.specs.Procs.{Lives};
 ghost use Rattle.machine_world.specs.Event.{args_of};
 ghost use Rattle.kept_parts.specs.declared.task.Task.{Task};
 ghost use Rattle.region_watch.specs.Private.{only, physical};
-ghost use Rattle.kept_parts.specs.Calls.{RunsIn, Made};
+ghost use Rattle.kept_parts.specs.Calls.{LivesIn, Made};
 ghost use Rattle.kept_parts.specs.Reach.{readable, whole_table};
 
 use call_bytes::{Unread, read_sent};
@@ -29,7 +29,7 @@ fn args_of(regs: &Regs) -> [u32; 6]
 pub fn call_of(parts: &KeptParts, pid: u32, reach: Reach, whole: &Owners) -> Result<Call, Unread>
     requires lives { Lives parts.now.procs pid }
     requires whole { whole.now ≡ whole_table (length parts.now.regions) }
-    ensures made { (e : Entry Task) → (h : Held) → RunsIn parts.now pid e h → Made (only (readable reach (length parts.now.regions) h) (physical parts.now.mem)) e result }
+    ensures made { (e : Entry Task) → (h : Held) → LivesIn parts.now pid e h → Made (only (readable reach (length parts.now.regions) h) (physical parts.now.mem)) e result }
     ensures pid { IfOk result (λ call. call.pid ≡ pid) }
     ensures args { IfOk result (λ call. slice_index call.args 2 < 2 ^ 32) }
 {

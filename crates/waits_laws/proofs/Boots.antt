@@ -14,7 +14,7 @@ use Rattle.vfork_exec.specs.Keyed.{find}
 use Rattle.vfork_exec.proofs.Keyed.{eqb_same, find_head, find_later}
 use Rattle.machine_world.specs.World.{Process, Rest, World, pid_of}
 use Rattle.machine_world.specs.Free.{free}
-use Rattle.machine_world.specs.Boot.{StartLine, BootFault, Found, found, path_of, begun, taken, placed, fitting, located, started, all_started, then_started, empty_world, boot}
+use Rattle.machine_world.specs.Boot.{StartLine, BootFault, Found, found, start_path, begun, taken, placed, fitting, located, started, all_started, then_started, empty_world, boot}
 use Rattle.machine_world.proofs.CountedBoots.{boots_begin_counted}
 use Rattle.machine_world.proofs.Marks.{boots_leave_no_mark}
 use Rattle.stays_laws.proofs.SoundRuns.{boots_are_sound}
@@ -105,7 +105,7 @@ module _ (w : World) (opens : Opens w) (s : StartLine) where
 
   begins_started : Begins (started w s)
   unfolding started
-  begins_started = begins_located (found w.rest (path_of s))
+  begins_started = begins_located (found w.rest (start_path s))
 
 begins_all : (ss : List StartLine) (w : World) → Opens w → Begins (all_started w ss)
 unfolding all_started

@@ -1,7 +1,7 @@
 //! Names that go.
 
 ghost use Rattle.std.specs.Prelude.{◌≡◌};
-ghost use Rattle.mem_files.specs.Calls.{Changes};
+ghost use Rattle.mem_files.specs.Calls.{ChangesTree};
 ghost use Rattle.mem_files.specs.Changes.{unlinked, unnamed, without_entry, without_link, may_be_entry, naming_fault, unless_fault};
 ghost use Rattle.mem_files.specs.Inodes.{kind_of, size_of};
 ghost use Rattle.mem_files.specs.Walks.{place_value};
@@ -14,7 +14,7 @@ use call_log::Errno;
 impl Tree {
     /// Takes a name from its folder: that of a folder, if `dir`, or of a file. What is open stays until it is let go.
     pub fn unlink(&mut self, path: &[u8], dir: bool) -> Result<(), Errno>
-        ensures { Changes (unlinked self.old path.now dir) self.old self.new result }
+        ensures { ChangesTree (unlinked self.old path.now dir) self.old self.new result }
     {
         let place = self.place(path)?;
         if !may_be_entry(place.name) {

@@ -10,7 +10,7 @@ use Rattle.machine_world.specs.Event.{number_of, args_of}
 use Rattle.file_calls.specs.declared.call.Call.{Call}
 use Rattle.kept_parts.specs.Kept.{Kept}
 use Rattle.kept_parts.specs.Inside.{kept_of}
-use Rattle.kept_parts.specs.Calls.{RunsIn, IsCall, Made}
+use Rattle.kept_parts.specs.Calls.{LivesIn, IsCall, Made}
 use Rattle.kept_parts.specs.Reach.{readable, whole_table}
 use Rattle.kept_parts.proofs.Runs.{has_space, memory_reached, bytes_reached, home_at, sent_is, call_is, unread_is}
 use Rattle.syscall_layer.proofs.call.call_of.Goals as goal
@@ -40,7 +40,7 @@ returns-in-Ok-clause-made c = λ e h runs.
       args = c.args_of-args.result;
       sent = c.in-Ok.sent;
     } in
-    subst (λ (now : Kept). RunsIn now c.args.pid e h → IsCall e from
+    subst (λ (now : Kept). LivesIn now c.args.pid e h → IsCall e from
     × (sent (number_of e.value.regs) (args_of e.value.regs) (only (readable c.args.reach (length now.regions) h) (physical now.mem)) ≡ Ok c.in-Ok.sent.items)) c.parts.view_is
     (λ r.
     let there = ap (λ (ss : List (Option Held)). slice_get ss t.space) c.deref.ensures.value ∙ home_at k c.args.pid e h r t c.get-task.ensures in
@@ -58,7 +58,7 @@ returns-in-Err-clause-made c = λ e h runs.
     let args = c.args_of-args.result in
     let whole = subst (λ (s : Kept). c.args.whole.now ≡ whole_table (length s.regions)) (sym c.parts.view_is) c.requires.whole in
     let table : List PageOwner = c.table_of-owners.result.now in
-    subst (λ (now : Kept). RunsIn now c.args.pid e h → Made (only (readable c.args.reach (length now.regions) h) (physical now.mem)) e (Err c.in-Err.unread)) c.parts.view_is
+    subst (λ (now : Kept). LivesIn now c.args.pid e h → Made (only (readable c.args.reach (length now.regions) h) (physical now.mem)) e (Err c.in-Err.unread)) c.parts.view_is
     (λ r.
     let there = ap (λ (ss : List (Option Held)). slice_get ss t.space) c.deref.ensures.value ∙ home_at k c.args.pid e h r t c.get-task.ensures in
     let bytes = bytes_reached k c.args.reach c.args.whole.now whole h table (c.table_of-owners.ensures h there) in

@@ -3,7 +3,7 @@ use Rattle.std.proofs.Common.{◌≡◌, ◌+◌, ◌≤◌, true, [], ◌∷◌
 use Rattle.std.specs.Vec.{vec_len, vec_capacity}
 use Rattle.call_log.specs.Notes.{calls_in, bytes_in}
 use Rattle.call_log.specs.Values.{note_value}
-use Rattle.call_log.specs.Log.{Kept, may_keep}
+use Rattle.call_log.specs.Log.{KeptNotes, may_keep}
 use Rattle.call_log.specs.Inside.{notes_of}
 use Rattle.call_log.proofs.Room.{kept_fits, notes_more, count_more, not_cut}
 use Rattle.call_log.proofs.log.Log.push.Goals as goal
@@ -13,7 +13,7 @@ overflow_add-self-2 c =
     let i = c.self.inside in
     let v = c.self.invariant in
     let n = note_value c.args.note in
-    let keeps : may_keep (notes_of i) n ≡ true = ap (λ (k : Kept). may_keep k.notes n) c.self.view_is ∙ sym c.may_keep.ensures ∙ c.if-not-may_keep.false in
+    let keeps : may_keep (notes_of i) n ≡ true = ap (λ (k : KeptNotes). may_keep k.notes n) c.self.view_is ∙ sym c.may_keep.ensures ∙ c.if-not-may_keep.false in
     let fit = kept_fits (notes_of i) i.calls i.bytes v.calls v.bytes v.calls_fit v.bytes_fit n keeps in
     omega (arith, fit.1, not_cut i.bytes (bytes_in n) c.bytes_in.result fit.1 c.bytes_in.ensures)
 
@@ -22,7 +22,7 @@ invariant_of-self-2 c =
     let i = c.self.inside in
     let v = c.self.invariant in
     let n = note_value c.args.note in
-    let keeps : may_keep (notes_of i) n ≡ true = ap (λ (k : Kept). may_keep k.notes n) c.self.view_is ∙ sym c.may_keep.ensures ∙ c.if-not-may_keep.false in
+    let keeps : may_keep (notes_of i) n ≡ true = ap (λ (k : KeptNotes). may_keep k.notes n) c.self.view_is ∙ sym c.may_keep.ensures ∙ c.if-not-may_keep.false in
     let fit = kept_fits (notes_of i) i.calls i.bytes v.calls v.bytes v.calls_fit v.bytes_fit n keeps in
     let bytes = not_cut i.bytes (bytes_in n) c.bytes_in.result fit.1 c.bytes_in.ensures in
     let items = c.push_reserved.ensures.items ∙ ap (λ xs. xs ++ c.args.note ∷ []) c.reserve.ensures.items in

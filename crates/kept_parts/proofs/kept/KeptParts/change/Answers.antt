@@ -10,7 +10,7 @@ use Rattle.machine_world.specs.Rows.{row}
 use Rattle.kept_parts.specs.Kept.{Kept}
 use Rattle.kept_parts.specs.Inside.{kept_of}
 use Rattle.kept_parts.specs.Regular.{IsRegular}
-use Rattle.kept_parts.specs.Calls.{noted_call, Changed, Changes, Caller, asked_by}
+use Rattle.kept_parts.specs.Calls.{noted_call, Changed, ChangesParts, Caller, asked_by}
 use Rattle.kept_parts.specs.declared.task.Task.{Task}
 use Rattle.kept_parts.specs.Recorded.{event_recorded}
 use Rattle.kept_parts.proofs.Recorded.{room_inside, room_left}
@@ -57,7 +57,7 @@ returns-in_err-value-clause-changes c = λ a.
     let k = kept_of c.self.inside in
     let call = c.args.call in
     let p = err_from_is_err_and c.from_residual-in_err-value.result c.from_residual-in_err-value.ensures.1 in
-    subst (λ (old : Kept). (caller : Caller old call) → Changes a old caller.entry caller.held call (row (asked_by a caller)) (left c) c.from_residual-in_err-value.result) c.self.view_is
+    subst (λ (old : Kept). (caller : Caller old call) → ChangesParts a old caller.entry caller.held call (row (asked_by a caller)) (left c) c.from_residual-in_err-value.result) c.self.view_is
     (λ caller.
     let same = rw (← c.in_err-value.ensures.same) at (c.change-changed.ensures.changes (asked_by a caller) (made_by a k caller.entry caller.held call caller.runs caller.stands) (is_rest a k caller.entry caller.held call caller.runs caller.stands c.self.inside.files refl)) in
     rw p.1 (λ i. record k { tree = same.0 i; files = same.1 i; console = same.2 i; notes = (c.or_unreserve.ensures.notes ∙ c.reserve.ensures.same) i }))

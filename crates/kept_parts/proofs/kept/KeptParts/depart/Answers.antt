@@ -3,7 +3,7 @@ use Rattle.std.proofs.Common.{◌≡◌, sym, subst, ◌∙◌}
 use Rattle.vfork_exec.specs.Procs.{CanRun}
 use Rattle.kept_parts.specs.Kept.{Kept}
 use Rattle.kept_parts.specs.Inside.{kept_of}
-use Rattle.kept_parts.specs.Calls.{RunsIn}
+use Rattle.kept_parts.specs.Calls.{LivesIn}
 use Rattle.kept_parts.specs.Gone.{gone}
 use Rattle.kept_parts.proofs.Settled.{kept_ended, nobody_ended, gone_lent, gone_owned}
 use Rattle.kept_parts.proofs.Sound.{copies_ended}
@@ -33,7 +33,7 @@ pub returns-then-not-lent-clause-goes : goal.returns-then-not-lent-clause-goes
 returns-then-not-lent-clause-goes c = λ e h.
     let k = kept_of c.self.inside in
     let runs = subst (λ (s : Kept). CanRun s.procs c.args.pid) (sym c.self.view_is) c.requires in
-    subst (λ (old : Kept). RunsIn old c.args.pid e h → c.give_up.new.self ≡ gone old e h c.args.how) c.self.view_is
+    subst (λ (old : Kept). LivesIn old c.args.pid e h → c.give_up.new.self ≡ gone old e h c.args.how) c.self.view_is
     (gone_owned k c.args.pid c.args.how c.get.result.now runs c.get.ensures c.drop_table.new.tree c.drop_table.new.self.open_files c.end.new.self c.drop_table.ensures.storage c.end.ensures
     (sym c.borrows-lent.ensures ∙ c.if-not-lent.true) c.give_up.new.self c.give_up.ensures.goes e h)
 
@@ -42,7 +42,7 @@ returns-else-not-lent-clause-goes c = λ e h.
     let k = kept_of c.self.inside in
     let runs = subst (λ (s : Kept). CanRun s.procs c.args.pid) (sym c.self.view_is) c.requires in
     let now = record k { tree = c.drop_table.new.tree; files = c.drop_table.new.self.open_files; procs = c.end.new.self } in
-    subst (λ (old : Kept). RunsIn old c.args.pid e h → now ≡ gone old e h c.args.how) c.self.view_is
+    subst (λ (old : Kept). LivesIn old c.args.pid e h → now ≡ gone old e h c.args.how) c.self.view_is
     (gone_lent k c.args.pid c.args.how c.get.result.now runs c.get.ensures c.drop_table.new.tree c.drop_table.new.self.open_files c.end.new.self c.drop_table.ensures.storage c.end.ensures
     (sym c.borrows-lent.ensures ∙ c.if-not-lent.false) e h)
 

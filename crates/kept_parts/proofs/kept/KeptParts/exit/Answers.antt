@@ -6,7 +6,7 @@ use Rattle.call_log.specs.Values.{written_value}
 use Rattle.vfork_exec.specs.Procs.{CanRun}
 use Rattle.kept_parts.specs.Kept.{Kept}
 use Rattle.kept_parts.specs.Inside.{kept_of}
-use Rattle.kept_parts.specs.Calls.{RunsIn, noted_call, exit_of, after_exit}
+use Rattle.kept_parts.specs.Calls.{LivesIn, noted_call, exit_of, after_exit}
 use Rattle.kept_parts.specs.declared.task.Task.{Task}
 use Rattle.kept_parts.specs.Recorded.{event_recorded}
 use Rattle.kept_parts.proofs.Runs.{value_found}
@@ -27,7 +27,7 @@ returns-clause-exits c = λ e h.
     let call = c.args.call in
     let noted = c.keep-2.ensures.notes ∙ ap (λ (ns : List Note). end_note call.pid (exit_of call) ∷ ns) (c.keep.ensures.notes
     ∙ (λ i. noted_call call 0 (map written_value (c.new-got.ensures.items i)) ∷ c.reserve.ensures.same i)) in
-    subst (λ (old : Kept). RunsIn old call.pid e h → c.depart.new.self ≡ after_exit old e h call) c.self.view_is
+    subst (λ (old : Kept). LivesIn old call.pid e h → c.depart.new.self ≡ after_exit old e h call) c.self.view_is
     (λ runs. exit_done k call e h c.depart.new.self c.keep-2.new.log.notes c.pass.new.self noted
     (c.pass.ensures ∙ ap (λ (t : Task). event_recorded k.recording t.space) (value_found k.procs call.pid e runs.lives c.get.result.now c.get.ensures)) (c.depart.ensures.goes e h (record { lives = runs.lives; home = runs.home })))
 

@@ -10,7 +10,7 @@ use Rattle.kept_parts.specs.declared.task.Task.{Task}
 use Rattle.kept_parts.specs.Kept.{Kept}
 use Rattle.kept_parts.specs.Regular.{Regular}
 use Rattle.kept_parts.specs.Inside.{kept_of}
-use Rattle.kept_parts.specs.Calls.{RunsIn, after_fork, noted_call}
+use Rattle.kept_parts.specs.Calls.{LivesIn, after_fork, noted_call}
 use Rattle.kept_parts.specs.Recorded.{event_recorded}
 use Rattle.kept_parts.proofs.Recorded.{room_inside, room_left}
 use Rattle.kept_parts.proofs.Runs.{runs_in, value_found}
@@ -66,7 +66,7 @@ returns-clause-forks c = λ e h.
     let call = c.args.call in
     let noted = c.finish.ensures.notes
     ∙ (λ i. noted_call call (c.in-Ok.ensures.1 i) (map written_value (c.new-got.ensures.items i)) ∷ (c.or_unreserve.ensures.notes ∙ c.reserve.ensures.same) i) in
-    subst (λ (old : Kept). RunsIn old call.pid e h →
+    subst (λ (old : Kept). LivesIn old call.pid e h →
     record k { procs = c.finish.new.procs; files = c.copy_table-copied.new.self.open_files; notes = c.finish.new.log.notes; recording = c.pass.new.self } ≡ after_fork old e call) c.self.view_is
     (λ runs. λ i. record k {
       procs = procs_are c e runs.lives i;

@@ -14,7 +14,7 @@ use Rattle.kept_parts.specs.Kept.{Kept}
 use Rattle.kept_parts.specs.Inside.{kept_of}
 use Rattle.call_bytes.specs.Puts.{first_stray}
 use Rattle.region_watch.specs.Private.{in_pages}
-use Rattle.kept_parts.specs.Calls.{RunsIn, noted_call, Gave, GaveIn, Caller}
+use Rattle.kept_parts.specs.Calls.{LivesIn, noted_call, Gave, GaveIn, Caller}
 use Rattle.kept_parts.specs.declared.task.Task.{Task}
 use Rattle.kept_parts.specs.Recorded.{event_recorded, room_beside}
 use Rattle.kept_parts.proofs.Recorded.{room_alone}
@@ -65,7 +65,7 @@ invariant_of-self-2 c =
     let gots = written_of c.args.outcome in
     let lives = subst (λ (s : Kept). Lives s.procs call.pid) (sym c.self.view_is) c.requires.lives in
     let r = runs_in k call.pid c.self.invariant.0.0 lives in
-    let fits = subst (λ (s : Kept). has_stray s.notes ≡ false → (e : _) → (h : _) → RunsIn s call.pid e h → first_stray (writable_in h.maps) gots ≡ None) (sym c.self.view_is) c.requires.kept in
+    let fits = subst (λ (s : Kept). has_stray s.notes ≡ false → (e : _) → (h : _) → LivesIn s call.pid e h → first_stray (writable_in h.maps) gots ≡ None) (sym c.self.view_is) c.requires.kept in
     let counted = counts call c.args.outcome.value gots k.notes _ (noted_so c) in (
       (
         regular_finished k call.pid c.self.invariant.0.0 lives c.args.outcome.value c.put.new.mem k.tree c.follow-followed.new.files.open_files c.finish.new.procs c.finish.new.log.notes k.console c.pass.new.self
@@ -108,6 +108,6 @@ pub returns-clause-holds : goal.returns-clause-holds
 returns-clause-holds c = λ e h runs fits holds.
     let k = kept_of c.self.inside in
     let regular = c.self.invariant.0.0 in
-    let home = (subst (λ (s : Kept). RunsIn s c.args.call.pid e h) (sym c.self.view_is) runs).home in
+    let home = (subst (λ (s : Kept). LivesIn s c.args.call.pid e h) (sym c.self.view_is) runs).home in
     let copies = copies_clean k c.self.invariant.0.1 (holds_inside k c.args.self.now c.self.view_is holds) in
     (copies_given (cleaned k) (regular_clean k regular) e.value.space h home copies c.put.new.mem c.put.ensures.len (written_of c.args.outcome) (puts_all c) (λ unstrayed. fits)).hold (none_clean k.notes)

@@ -23,7 +23,7 @@ use Rattle.kept_parts.specs.Copies.{StillHolds}
 use Rattle.kept_parts.specs.Stands.{later, world_of}
 use Rattle.kept_parts.specs.InMemory.{physical_of}
 use Rattle.mmap_rules.specs.Copies.{IsKnown}
-use Rattle.kept_parts.specs.Calls.{RunsIn, RoomFor, noted_call, Changed, Caller, asked_by}
+use Rattle.kept_parts.specs.Calls.{LivesIn, RoomFor, noted_call, Changed, Caller, asked_by}
 use Rattle.kept_parts.specs.MapsIn.{MapsIn}
 use Rattle.kept_parts.specs.Recorded.{room_beside}
 use Rattle.kept_parts.proofs.Recorded.{room_inside, room_left, few_brought}
@@ -162,7 +162,7 @@ invariant_of-self-2 g c =
     )
 
 -- what is recorded
-brought : (g : Over) (c : goal.After-finish g) (kind : Kind) (e : Entry Task) (h : Held) → RunsIn (kept_of c.self.inside) c.args.call.pid e h →
+brought : (g : Over) (c : goal.After-finish g) (kind : Kind) (e : Entry Task) (h : Held) → LivesIn (kept_of c.self.inside) c.args.call.pid e h →
     Brought (kept_of c.self.inside) e.value.space kind c.args.want h c.map_in-mapped.result c.pass.new.self
 brought g c kind e h runs =
     let k = kept_of c.self.inside in
@@ -175,7 +175,7 @@ brought g c kind e h runs =
     (done (sides h k.regions k.mem) kind (bytes_of k.tree (file_in want)) refl) now c.settle_brought.ensures c.pass.ensures)
 
 -- the same by the entry of the process
-left_at : (g : Over) (c : goal.After-finish g) (kind : Kind) → kind ≡ kind_of c.args.chooser.now → (e : Entry Task) (h : Held) → RunsIn (kept_of c.self.inside) c.args.call.pid e h →
+left_at : (g : Over) (c : goal.After-finish g) (kind : Kind) → kind ≡ kind_of c.args.chooser.now → (e : Entry Task) (h : Held) → LivesIn (kept_of c.self.inside) c.args.call.pid e h →
     MapsIn kind (bytes_of c.self.inside.tree (file_in c.args.want)) c.args.want e.value.space h c.self.inside.spaces.items (new_parts g c).spaces c.self.inside.regions.regions
     c.map_in-mapped.new.regions.regions c.self.inside.mem c.map_in-mapped.new.mem c.map_in-mapped.result
 left_at g c kind same e h runs =

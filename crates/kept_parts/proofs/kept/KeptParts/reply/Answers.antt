@@ -9,7 +9,7 @@ use Rattle.vfork_exec.specs.Procs.{Lives}
 use Rattle.kept_parts.specs.declared.task.Task.{Task}
 use Rattle.kept_parts.specs.Kept.{Kept}
 use Rattle.kept_parts.specs.Inside.{kept_of}
-use Rattle.kept_parts.specs.Calls.{RunsIn, value_of, brk_of, noted_call, Replies}
+use Rattle.kept_parts.specs.Calls.{LivesIn, value_of, brk_of, noted_call, RepliesBy}
 use Rattle.kept_parts.specs.Recorded.{event_recorded}
 use Rattle.kept_parts.proofs.Recorded.{room_left}
 use Rattle.kept_parts.proofs.Runs.{value_found}
@@ -63,7 +63,7 @@ returns-clause-replies c = λ a e h.
     let call = c.args.call in
     let noted = c.finish.ensures.notes
     ∙ (λ i. noted_call call c.settle-value.result (map written_value (c.new-got.ensures.items i)) ∷ c.reserve.ensures.same i) in
-    subst (λ (old : Kept). RunsIn old call.pid e h → Replies a old e h call c.args.effect (new_parts c) (Ok tt)) c.self.view_is
+    subst (λ (old : Kept). LivesIn old call.pid e h → RepliesBy a old e h call c.args.effect (new_parts c) (Ok tt)) c.self.view_is
     (λ runs.
     let same : c.get.result.now ≡ e.value = value_found k.procs call.pid e runs.lives c.get.result.now c.get.ensures in
     let done = settled c h (ap (λ (t : Task). slice_get k.spaces t.space) same ∙ runs.home) in
