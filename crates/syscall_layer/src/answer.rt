@@ -2,6 +2,7 @@
 
 ghost use Rattle.std.specs.Prelude.{◌≡◌, ◌==◌, ◌≢◌, ℕ, ◌<◌, ◌^◌, All, IfOk, false, true, List, [], length, slice_index, map, is_some, option_map, Some, Ok, OnErr};
 ghost use Rattle.rv32im_step.specs.declared.access.Access.{Access};
+ghost use Rattle.call_log.specs.Numbers as numbers;
 ghost use Rattle.call_log.specs.Notes.{weight_of};
 ghost use Rattle.call_log.specs.Values.{written_value};
 ghost use Rattle.page_runs.specs.Choosers.{IsChooser, kind_of};
@@ -242,7 +243,7 @@ pub(crate) fn answer_given(
     requires fits { CanTake parts.old.files outcome.then }
     requires ends { HasEnds parts.old.files call.table outcome.then }
     requires ranges { All IsRange (written_of outcome) }
-    requires plain { (call.number == 222) ≡ false }
+    requires plain { (call.number == numbers.mmap2) ≡ false }
     ensures serves { reach ≡ Own → (a : About) → (c : Caller parts.old call) →
         Serves a (answered (world_of a parts.old) (asked_by a c) (replies (given (asked_by a c) outcome))) parts.old parts.new call.pid result }
     ensures memory { (headers : List (List ℕ)) → (a : About) → (c : Caller parts.old call) →
@@ -319,7 +320,7 @@ fn answer_map<F: Fn(&[Run], u32) -> Option<usize>>(
 ) -> Result<Served, AllocError>
     requires chooser { IsChooser F.pre F.post chooser.now }
     requires lives { Lives parts.old.procs call.pid }
-    requires mmap2 { call.number ≡ 222 }
+    requires mmap2 { call.number ≡ numbers.mmap2 }
     ensures serves { (a : About) → a.kind ≡ kind_of chooser.now → StillHolds parts.old → (c : Caller parts.old call) →
         Serves a (answered (world_of a parts.old) (asked_by a c) (row (asked_by a c))) parts.old parts.new call.pid result }
     ensures memory { (headers : List (List ℕ)) → (a : About) → a.kind ≡ kind_of chooser.now → (c : Caller parts.old call) →
@@ -336,7 +337,7 @@ fn answer_map<F: Fn(&[Run], u32) -> Option<usize>>(
 /// Carries out munmap, where the log has room for it.
 fn answer_unmap(parts: &mut KeptParts, call: Call) -> Result<Served, AllocError>
     requires lives { Lives parts.old.procs call.pid }
-    requires munmap { call.number ≡ 215 }
+    requires munmap { call.number ≡ numbers.munmap }
     ensures serves { (a : About) → (c : Caller parts.old call) →
         Serves a (answered (world_of a parts.old) (asked_by a c) (row (asked_by a c))) parts.old parts.new call.pid result }
     ensures memory { parts.new.mem ≡ parts.old.mem }

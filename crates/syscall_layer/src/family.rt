@@ -2,6 +2,7 @@
 
 ghost use Rattle.std.specs.Prelude.{◌≡◌, ℕ, false, true, IfOk, List, Ok, length, flat_map};
 ghost use Rattle.byteorder.specs.Endian.{little_bytes};
+ghost use Rattle.call_log.specs.Numbers as numbers;
 ghost use Rattle.page_runs.specs.Choosers.{IsChooser, kind_of};
 ghost use Rattle.vfork_exec.specs.Procs.{CanRun};
 ghost use Rattle.vfork_exec.specs.Procs.{looked};
@@ -133,7 +134,7 @@ fn answer_told(
     requires whole { whole.now ≡ whole_table (length parts.old.regions) }
     requires strayed { reach ≡ Whole → has_stray parts.old.notes ≡ true }
     requires told { looked parts.old.procs call.pid who false ≡ Ok told }
-    requires waitid { call.number ≡ 95 }
+    requires waitid { call.number ≡ numbers.waitid }
     ensures serves { reach ≡ Own → (a : About) → (c : Caller parts.old call) →
         Serves a (reaped (world_of a parts.old) (asked_by a c) who (Ok told)) parts.old parts.new call.pid result }
     ensures memory { (headers : List (List ℕ)) → (a : About) → (c : Caller parts.old call) →
@@ -161,7 +162,7 @@ pub(crate) fn answer_waitid(
     requires ready { CanRun parts.old.procs call.pid }
     requires whole { whole.now ≡ whole_table (length parts.old.regions) }
     requires strayed { reach ≡ Whole → has_stray parts.old.notes ≡ true }
-    requires waitid { call.number ≡ 95 }
+    requires waitid { call.number ≡ numbers.waitid }
     ensures serves { reach ≡ Own → (a : About) → (c : Caller parts.old call) →
         Serves a (waitid (world_of a parts.old) (asked_by a c)) parts.old parts.new call.pid result }
     ensures memory { (headers : List (List ℕ)) → (a : About) → (c : Caller parts.old call) →
