@@ -25,6 +25,7 @@
 -- HitsRounds  and of runs by quanta
 -- HitsRoundsIn  and of those in the one memory
 -- Waiting   who waits in a machine's world, and why where a run is stuck
+-- ByMode    what a run that halts keeps, by its turns
 -- Readers   what the fields of a machine say of its world
 -- Copies    the own bytes of a process, in the one memory
 -- Found     the program of a path, and the start of a start line
@@ -57,6 +58,7 @@ pub mod HitsTurned
 pub mod HitsRounds
 pub mod HitsRoundsIn
 pub mod Waiting
+pub mod ByMode
 pub mod Copies
 pub mod Found
 pub mod Booted

@@ -16,8 +16,9 @@ ghost use Rattle.region_watch.specs.declared.mode.Mode.TheVariants.{GoOn};
 ghost use Rattle.flat_machine.specs.declared.run.End.TheVariants.{Stray};
 ghost use Rattle.flat_machine.specs.State.{is_whole, world, one_memory};
 ghost use Rattle.kept_parts.specs.Copies.{HoldsFiles};
-ghost use Rattle.flat_machine.specs.Runs.{Ends, Runs, KeepsStays, KeepsWaits, WaitsWhereStuck, repeated};
-ghost use Rattle.flat_machine.specs.RunsIn.{ends_astray, IsHalting, RunsIn, GoesOn, StaysHalted};
+ghost use Rattle.flat_machine.specs.Runs.{Ends, repeated};
+ghost use Rattle.flat_machine.specs.RunsIn.{IsHalting, StaysHalted};
+ghost use Rattle.flat_machine.specs.ByMode.{HaltRuns, GoOnRuns};
 ghost use Rattle.flat_machine.specs.Leaves.{Leaves, TurnLeaves};
 ghost use Rattle.flat_machine.specs.LeavesIn.{LeavesIn, LeavesFirst, TurnLeavesIn, reach_behind, has_rest, is_undone, is_stray};
 ghost use Rattle.watch_points.specs.Points.{AreSpans, IsPoint, kind_of_point};
@@ -221,14 +222,8 @@ impl Machine {
         ensures kind { self.new.kind ≡ self.old.kind }
         ensures mode { self.new.mode ≡ self.old.mode }
         ensures events { self.new.events ≤ self.old.events + sum_by (λ q. q.count) quanta.now }
-        ensures turns { IsHalting self.old → Runs quanta.now self.old self.new result }
-        ensures memory { self.old.mode ≡ GoOn → RunsIn quanta.now self.old self.new result }
-        ensures first { self.old.mode ≡ GoOn → has_stray (world self.old).notes ≡ false → GoesOn quanta.now self.old self.new result }
-        ensures quiet { IsHalting self.old → ends_astray result ≡ false → IsHalting self.new }
-        ensures copies { IsHalting self.old → HoldsFiles self.new.kept }
-        ensures waits { IsHalting self.old → KeepsWaits self.old self.new }
-        ensures stuck { IsHalting self.old → WaitsWhereStuck self.old self.new result }
-        ensures alone { IsHalting self.old → KeepsStays quanta.now self.old self.new result }
+        ensures halts { IsHalting self.old → HaltRuns quanta.now self.old self.new result }
+        ensures goes_on { self.old.mode ≡ GoOn → GoOnRuns quanta.now self.old self.new result }
         ensures halted { StaysHalted self.old self.new result }
     {
         self.run_repeated(quanta, 1, chooser)
@@ -248,14 +243,8 @@ impl Machine {
         ensures kind { self.new.kind ≡ self.old.kind }
         ensures mode { self.new.mode ≡ self.old.mode }
         ensures events { self.new.events ≤ self.old.events + count * sum_by (λ q. q.count) quanta.now }
-        ensures turns { IsHalting self.old → Runs (repeated count quanta.now) self.old self.new result }
-        ensures memory { self.old.mode ≡ GoOn → RunsIn (repeated count quanta.now) self.old self.new result }
-        ensures first { self.old.mode ≡ GoOn → has_stray (world self.old).notes ≡ false → GoesOn (repeated count quanta.now) self.old self.new result }
-        ensures quiet { IsHalting self.old → ends_astray result ≡ false → IsHalting self.new }
-        ensures copies { IsHalting self.old → HoldsFiles self.new.kept }
-        ensures waits { IsHalting self.old → KeepsWaits self.old self.new }
-        ensures stuck { IsHalting self.old → WaitsWhereStuck self.old self.new result }
-        ensures alone { IsHalting self.old → KeepsStays (repeated count quanta.now) self.old self.new result }
+        ensures halts { IsHalting self.old → HaltRuns (repeated count quanta.now) self.old self.new result }
+        ensures goes_on { self.old.mode ≡ GoOn → GoOnRuns (repeated count quanta.now) self.old self.new result }
         ensures halted { StaysHalted self.old self.new result }
     {
         let point = WatchPoint::new(PointKind::Touch, |spans: &[Span], addr: u32, len: u32| {
@@ -282,14 +271,8 @@ impl Machine {
         ensures kind { self.new.kind ≡ self.old.kind }
         ensures mode { self.new.mode ≡ self.old.mode }
         ensures events { self.new.events ≤ self.old.events + sum_by (λ q. q.count) quanta.now }
-        ensures turns { IsHalting self.old → Runs quanta.now self.old self.new result }
-        ensures memory { self.old.mode ≡ GoOn → RunsIn quanta.now self.old self.new result }
-        ensures first { self.old.mode ≡ GoOn → has_stray (world self.old).notes ≡ false → GoesOn quanta.now self.old self.new result }
-        ensures quiet { IsHalting self.old → ends_astray result ≡ false → IsHalting self.new }
-        ensures copies { IsHalting self.old → HoldsFiles self.new.kept }
-        ensures waits { IsHalting self.old → KeepsWaits self.old self.new }
-        ensures stuck { IsHalting self.old → WaitsWhereStuck self.old self.new result }
-        ensures alone { IsHalting self.old → KeepsStays quanta.now self.old self.new result }
+        ensures halts { IsHalting self.old → HaltRuns quanta.now self.old self.new result }
+        ensures goes_on { self.old.mode ≡ GoOn → GoOnRuns quanta.now self.old self.new result }
         ensures halted { StaysHalted self.old self.new result }
         ensures hits { IsHalting self.old → HitsFollow (kind_of_point point.now) spans.now hits.old hits.new quanta.now self.old self.new result }
         ensures hits_in { self.old.mode ≡ GoOn → HitsFollowIn (kind_of_point point.now) spans.now hits.old hits.new quanta.now self.old self.new result }
@@ -319,14 +302,8 @@ impl Machine {
         ensures kind { self.new.kind ≡ self.old.kind }
         ensures mode { self.new.mode ≡ self.old.mode }
         ensures events { self.new.events ≤ self.old.events + count * sum_by (λ q. q.count) quanta.now }
-        ensures turns { IsHalting self.old → Runs (repeated count quanta.now) self.old self.new result }
-        ensures memory { self.old.mode ≡ GoOn → RunsIn (repeated count quanta.now) self.old self.new result }
-        ensures first { self.old.mode ≡ GoOn → has_stray (world self.old).notes ≡ false → GoesOn (repeated count quanta.now) self.old self.new result }
-        ensures quiet { IsHalting self.old → ends_astray result ≡ false → IsHalting self.new }
-        ensures copies { IsHalting self.old → HoldsFiles self.new.kept }
-        ensures waits { IsHalting self.old → KeepsWaits self.old self.new }
-        ensures stuck { IsHalting self.old → WaitsWhereStuck self.old self.new result }
-        ensures alone { IsHalting self.old → KeepsStays (repeated count quanta.now) self.old self.new result }
+        ensures halts { IsHalting self.old → HaltRuns (repeated count quanta.now) self.old self.new result }
+        ensures goes_on { self.old.mode ≡ GoOn → GoOnRuns (repeated count quanta.now) self.old self.new result }
         ensures halted { StaysHalted self.old self.new result }
         ensures hits { IsHalting self.old → HitsFollow (kind_of_point point.now) spans.now hits.old hits.new (repeated count quanta.now) self.old self.new result }
         ensures hits_in { self.old.mode ≡ GoOn → HitsFollowIn (kind_of_point point.now) spans.now hits.old hits.new (repeated count quanta.now) self.old self.new result }

@@ -19,25 +19,25 @@ returns-clause-halt g c =
     let course = c.args.course.now in
     let found = c.run_repeated_watched.new.hits in
     let spans = rw c.deref.ensures.value at c.in_ok-spans.ensures in
-    let turns = rw c.deref-2.ensures.value at c.in_ok-end.ensures.turns in
+    let runs = rw c.deref-2.ensures.value at c.in_ok-end.ensures.halts in
     let follow = rw (c.deref-2.ensures.value, c.deref-3.ensures.value) at c.in_ok-end.ensures.hits in
     let told = rw (c.deref-5.ensures, c.in_ok-shown.ensures, c.deref-4.ensures.value) at c.told.ensures in
     λ is.
     let some = some_told (watch_of c.args.telling) (kind_of_point c.args.point.now) course.watches.items (λ kind spans. hits kind spans (turns_of course) (world c.args.machine.now))
     c.in_ok-spans.spans.items c.in_ok-hits.hits found (found_text found) c.requires.some spans c.in_ok-hits.ensures (follow (record { halts = is; quiet = c.requires.quiet })) refl in
     halts_with c.args.telling (turns_of course) (found_text found) course.dumps.items c.args.machine.now c.run_repeated_watched.new.self c.in_ok-end.ensures.mode c.in_ok-end.end
-    c.told.result told course.watches.items some is c.requires.quiet turns
+    c.told.result told course.watches.items some is c.requires.quiet runs
 
 pub returns-clause-go_on : goal.returns-clause-go_on
 returns-clause-go_on g c =
     let course = c.args.course.now in
     let found = c.run_repeated_watched.new.hits in
     let spans = rw c.deref.ensures.value at c.in_ok-spans.ensures in
-    let memory = rw c.deref-2.ensures.value at c.in_ok-end.ensures.memory in
+    let runs = rw c.deref-2.ensures.value at c.in_ok-end.ensures.goes_on in
     let follow = rw (c.deref-2.ensures.value, c.deref-3.ensures.value) at c.in_ok-end.ensures.hits_in in
     let told = rw (c.deref-5.ensures, c.in_ok-shown.ensures, c.deref-4.ensures.value) at c.told.ensures in
     λ is.
     let some = some_told (watch_of c.args.telling) (kind_of_point c.args.point.now) course.watches.items (λ kind spans. hits_in_memory kind spans (turns_of course) (one_memory c.args.machine.now))
     c.in_ok-spans.spans.items c.in_ok-hits.hits found (found_text found) c.requires.some spans c.in_ok-hits.ensures (follow is) refl in
     goes_on_with c.args.telling (turns_of course) (found_text found) course.dumps.items c.args.machine.now c.run_repeated_watched.new.self c.in_ok-end.ensures.mode c.in_ok-end.end
-    c.told.result told course.watches.items some is memory
+    c.told.result told course.watches.items some is runs

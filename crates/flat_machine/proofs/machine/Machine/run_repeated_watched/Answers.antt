@@ -6,6 +6,7 @@ use Rattle.machine_world.specs.Turns.{turns}
 use Rattle.machine_world.proofs.RunLaws.{comes_none}
 use Rattle.physical_turns.proofs.TurnsIn.{comes_in_none}
 use Rattle.physical_turns.specs.Physical.{has_stray}
+use Rattle.region_watch.specs.declared.mode.Mode.TheVariants.{GoOn}
 use Rattle.kept_parts.specs.Stands.{world_of}
 use Rattle.flat_machine.specs.declared.run.End.{End as Told}
 use Rattle.flat_machine.specs.declared.run.End.TheVariants as told
@@ -15,9 +16,9 @@ use Rattle.flat_machine.specs.RunsIn.{ends_astray, IsHalting}
 use Rattle.flat_machine.specs.State.{State, about_of, world, one_memory}
 use Rattle.flat_machine.specs.Inside.{state_of}
 use Rattle.flat_machine.specs.Runs.{repeated, Ends}
-use Rattle.flat_machine.proofs.Rounds.{time_fits, one_more_time, time_on, time_ends, time_fails, machine_ends, runs_fail, run_keeps_stays}
+use Rattle.flat_machine.proofs.Rounds.{time_fits, one_more_time, time_on, time_ends, time_fails, machine_ends, runs_fail}
 use Rattle.flat_machine.proofs.RoundsIn.{first_quiet, time_on_in, time_ends_in, time_fails_in, time_first, time_first_ends, all_comes_in, all_first, runs_fail_in, goes_on_fails}
-use Rattle.flat_machine.proofs.Waiting.{run_keeps_waits, run_waits_where_stuck}
+use Rattle.flat_machine.proofs.ByMode.{halt_runs, none_halted_on}
 use Rattle.syscall_layer.proofs.Halted.{none_halted}
 use Rattle.watch_points.specs.Points.{kind_of_point}
 use Rattle.flat_machine.specs.Hits.{hits, hits_in_memory}
@@ -48,36 +49,6 @@ round-requires-clause-events g c =
     let events = c.loop-time.invariant.events in
     omega arith
 
-pub returns-in_err-end-clause-turns : goal.returns-in_err-end-clause-turns
-returns-in_err-end-clause-turns g c halting =
-    runs_fail (repeated c.args.count c.args.quanta.now) c.args.self.now c.round.new.self c.from_residual.result c.from_residual.ensures.0
-    (time_fails c.args.quanta.now c.loop-time._time c.args.count c.loop-time-test.true (world c.args.self.now) (world c.loop-time.self) (world c.round.new.self) (c.loop-time.invariant.comes halting) (c.in_err-end.ensures.leaves (c.loop-time.invariant.halts halting)))
-
-pub returns-in_err-end-clause-memory : goal.returns-in_err-end-clause-memory
-returns-in_err-end-clause-memory g c go =
-    runs_fail_in (repeated c.args.count c.args.quanta.now) c.args.self.now c.round.new.self c.from_residual.result c.from_residual.ensures.0
-    (time_fails_in c.args.quanta.now c.loop-time._time c.args.count c.loop-time-test.true (one_memory c.args.self.now) (one_memory c.loop-time.self) (one_memory c.round.new.self) (c.loop-time.invariant.memory go) (c.in_err-end.ensures.memory (c.loop-time.invariant.mode ∙ go)))
-
-pub returns-in_err-end-clause-first : goal.returns-in_err-end-clause-first
-returns-in_err-end-clause-first g c go quiet =
-    goes_on_fails (repeated c.args.count c.args.quanta.now) c.args.self.now c.round.new.self c.from_residual.result c.from_residual.ensures.0
-
-pub returns-in-Some-2-clause-turns : goal.returns-in-Some-2-clause-turns
-returns-in-Some-2-clause-turns g c halting =
-    let leaves = rw c.in-Some-2.is at (c.in_ok-end.ensures.leaves (c.loop-time.invariant.halts halting)) in
-    time_ends c.args.quanta.now c.loop-time._time c.args.count c.loop-time-test.true (world c.args.self.now) (world c.loop-time.self) (world c.round.new.self) (c.loop-time.invariant.comes halting) c.in-Some-2.end leaves
-
-pub returns-in-Some-2-clause-memory : goal.returns-in-Some-2-clause-memory
-returns-in-Some-2-clause-memory g c go =
-    let memory = rw c.in-Some-2.is at (c.in_ok-end.ensures.memory (c.loop-time.invariant.mode ∙ go)) in
-    time_ends_in c.args.quanta.now c.loop-time._time c.args.count c.loop-time-test.true (one_memory c.args.self.now) (one_memory c.loop-time.self) (one_memory c.round.new.self) (c.loop-time.invariant.memory go) c.in-Some-2.end memory
-
-pub returns-in-Some-2-clause-first : goal.returns-in-Some-2-clause-first
-returns-in-Some-2-clause-first g c go quiet =
-    let memory = rw c.in-Some-2.is at (c.in_ok-end.ensures.memory (c.loop-time.invariant.mode ∙ go)) in
-    let first = rw c.in-Some-2.is at (c.in_ok-end.ensures.first (c.loop-time.invariant.mode ∙ go)) in
-    time_first_ends c.args.quanta.now c.loop-time._time c.args.count c.loop-time-test.true c.args.self.now c.loop-time.self c.round.new.self (c.loop-time.invariant.first go quiet) c.in-Some-2.end memory first
-
 pub loop-time-preserved : goal.loop-time-preserved
 loop-time-preserved g c =
     let leaves = rw c.in_default-2.is at c.in_ok-end.ensures.leaves in
@@ -102,59 +73,7 @@ loop-time-preserved g c =
       events = omega arith;
     }
 
-pub returns-clause-turns : goal.returns-clause-turns
-returns-clause-turns g c halting =
-    let all : c.loop-time._time ≡ c.args.count = omega (arith, c.loop-time.auto._time-end) in
-    machine_ends (repeated c.args.count c.args.quanta.now) (world c.args.self.now) c.loop-time.self (state_of c.self-2.inside) c.last_end.result c.self-2.view_is
-    (rw all at (c.loop-time.invariant.comes halting)) (c.last_end.ensures (about_of (state_of c.self-2.inside)))
-
-pub returns-clause-memory : goal.returns-clause-memory
-returns-clause-memory g c go =
-    let all : c.loop-time._time ≡ c.args.count = omega (arith, c.loop-time.auto._time-end) in
-    let last : Ends (turns [] (world c.loop-time.self)).end c.last_end.result =
-    subst (λ (s : State). Ends (turns [] (world s)).end c.last_end.result) c.self-2.view_is (c.last_end.ensures (about_of (state_of c.self-2.inside))) in
-    all_comes_in (repeated c.args.count c.args.quanta.now) c.args.self.now c.loop-time.self c.last_end.result last (rw all at (c.loop-time.invariant.memory go))
-
-pub returns-clause-first : goal.returns-clause-first
-returns-clause-first g c go quiet =
-    let all : c.loop-time._time ≡ c.args.count = omega (arith, c.loop-time.auto._time-end) in
-    let last : Ends (turns [] (world c.loop-time.self)).end c.last_end.result =
-    subst (λ (s : State). Ends (turns [] (world s)).end c.last_end.result) c.self-2.view_is (c.last_end.ensures (about_of (state_of c.self-2.inside))) in
-    all_first (repeated c.args.count c.args.quanta.now) c.args.self.now c.loop-time.self c.last_end.result last (rw all at (c.loop-time.invariant.first go quiet))
-
-pub returns-in-Some-2-clause-alone : goal.returns-in-Some-2-clause-alone
-returns-in-Some-2-clause-alone g c halting =
-    run_keeps_stays (repeated c.args.count c.args.quanta.now) c.args.self.now c.round.new.self (Ok c.in-Some-2.end) (c.kind-kind.ensures.order halting.quiet).sound (returns-in-Some-2-clause-turns g c halting)
-
-pub returns-in-Some-2-clause-waits : goal.returns-in-Some-2-clause-waits
-returns-in-Some-2-clause-waits g c halting =
-    run_keeps_waits (repeated c.args.count c.args.quanta.now) c.args.self.now c.round.new.self (Ok c.in-Some-2.end) (c.kind-kind.ensures.order halting.quiet) (returns-in-Some-2-clause-turns g c halting)
-
-pub returns-in-Some-2-clause-stuck : goal.returns-in-Some-2-clause-stuck
-returns-in-Some-2-clause-stuck g c halting =
-    run_waits_where_stuck (repeated c.args.count c.args.quanta.now) c.args.self.now c.round.new.self (Ok c.in-Some-2.end) (c.kind-kind.ensures.order halting.quiet) (returns-in-Some-2-clause-turns g c halting)
-
-pub returns-clause-alone : goal.returns-clause-alone
-returns-clause-alone g c halting =
-    run_keeps_stays (repeated c.args.count c.args.quanta.now) c.args.self.now c.loop-time.self (Ok c.last_end.result) (c.kind-kind.ensures.order halting.quiet).sound (returns-clause-turns g c halting)
-
-pub returns-clause-waits : goal.returns-clause-waits
-returns-clause-waits g c halting =
-    run_keeps_waits (repeated c.args.count c.args.quanta.now) c.args.self.now c.loop-time.self (Ok c.last_end.result) (c.kind-kind.ensures.order halting.quiet) (returns-clause-turns g c halting)
-
-pub returns-clause-stuck : goal.returns-clause-stuck
-returns-clause-stuck g c halting =
-    run_waits_where_stuck (repeated c.args.count c.args.quanta.now) c.args.self.now c.loop-time.self (Ok c.last_end.result) (c.kind-kind.ensures.order halting.quiet) (returns-clause-turns g c halting)
-
-pub returns-in_err-end-clause-alone : goal.returns-in_err-end-clause-alone
-returns-in_err-end-clause-alone g c halting =
-    run_keeps_stays (repeated c.args.count c.args.quanta.now) c.args.self.now c.round.new.self c.from_residual.result (c.kind-kind.ensures.order halting.quiet).sound (returns-in_err-end-clause-turns g c halting)
-
-pub returns-in_err-end-clause-waits : goal.returns-in_err-end-clause-waits
-returns-in_err-end-clause-waits g c halting =
-    run_keeps_waits (repeated c.args.count c.args.quanta.now) c.args.self.now c.round.new.self c.from_residual.result (c.kind-kind.ensures.order halting.quiet) (returns-in_err-end-clause-turns g c halting)
-
--- ---- whether it met a stray access
+-- ---- where it ends
 
 stray_same : (end : Told) → is_stray (Ok (Some end)) ≡ ends_astray (Ok end)
 stray_same (told.Stray access) = refl
@@ -163,24 +82,62 @@ stray_same told.Stuck = refl
 stray_same told.OutOfQuanta = refl
 stray_same told.LogFull = refl
 
-pub returns-in_err-end-clause-quiet : goal.returns-in_err-end-clause-quiet
-returns-in_err-end-clause-quiet g c halting is = c.in_err-end.ensures.quiet (c.loop-time.invariant.halts halting) refl
+pub returns-in_err-end-clause-halts : goal.returns-in_err-end-clause-halts
+returns-in_err-end-clause-halts g c halting =
+    let turns =
+    runs_fail (repeated c.args.count c.args.quanta.now) c.args.self.now c.round.new.self c.from_residual.result c.from_residual.ensures.0
+    (time_fails c.args.quanta.now c.loop-time._time c.args.count c.loop-time-test.true (world c.args.self.now) (world c.loop-time.self) (world c.round.new.self) (c.loop-time.invariant.comes halting) (c.in_err-end.ensures.leaves (c.loop-time.invariant.halts halting))) in
+    halt_runs (repeated c.args.count c.args.quanta.now) c.args.self.now c.round.new.self c.from_residual.result (c.kind-kind.ensures.order halting.quiet) turns (λ is. c.in_err-end.ensures.quiet (c.loop-time.invariant.halts halting) refl) (c.in_err-end.ensures.copies (c.loop-time.invariant.halts halting) (c.loop-time.invariant.copies halting))
 
-pub returns-in-Some-2-clause-quiet : goal.returns-in-Some-2-clause-quiet
-returns-in-Some-2-clause-quiet g c halting is = (rw c.in-Some-2.is at c.in_ok-end.ensures.quiet) (c.loop-time.invariant.halts halting) (stray_same c.in-Some-2.end ∙ is)
+pub returns-in_err-end-clause-goes_on : goal.returns-in_err-end-clause-goes_on
+returns-in_err-end-clause-goes_on g c go =
+    record {
+      memory =
+          runs_fail_in (repeated c.args.count c.args.quanta.now) c.args.self.now c.round.new.self c.from_residual.result c.from_residual.ensures.0
+          (time_fails_in c.args.quanta.now c.loop-time._time c.args.count c.loop-time-test.true (one_memory c.args.self.now) (one_memory c.loop-time.self) (one_memory c.round.new.self) (c.loop-time.invariant.memory go) (c.in_err-end.ensures.memory (c.loop-time.invariant.mode ∙ go)));
+      first = λ quiet.
+          goes_on_fails (repeated c.args.count c.args.quanta.now) c.args.self.now c.round.new.self c.from_residual.result c.from_residual.ensures.0;
+    }
 
--- ---- live copies
+pub returns-in-Some-2-clause-halts : goal.returns-in-Some-2-clause-halts
+returns-in-Some-2-clause-halts g c halting =
+    let leaves = rw c.in-Some-2.is at (c.in_ok-end.ensures.leaves (c.loop-time.invariant.halts halting)) in
+    let turns =
+    time_ends c.args.quanta.now c.loop-time._time c.args.count c.loop-time-test.true (world c.args.self.now) (world c.loop-time.self) (world c.round.new.self) (c.loop-time.invariant.comes halting) c.in-Some-2.end leaves in
+    halt_runs (repeated c.args.count c.args.quanta.now) c.args.self.now c.round.new.self (Ok c.in-Some-2.end) (c.kind-kind.ensures.order halting.quiet) turns (λ is. (rw c.in-Some-2.is at c.in_ok-end.ensures.quiet) (c.loop-time.invariant.halts halting) (stray_same c.in-Some-2.end ∙ is)) (c.in_ok-end.ensures.copies (c.loop-time.invariant.halts halting) (c.loop-time.invariant.copies halting))
 
-pub returns-in_err-end-clause-copies : goal.returns-in_err-end-clause-copies
-returns-in_err-end-clause-copies g c halting = c.in_err-end.ensures.copies (c.loop-time.invariant.halts halting) (c.loop-time.invariant.copies halting)
+pub returns-in-Some-2-clause-goes_on : goal.returns-in-Some-2-clause-goes_on
+returns-in-Some-2-clause-goes_on g c go =
+    let memory = rw c.in-Some-2.is at (c.in_ok-end.ensures.memory (c.loop-time.invariant.mode ∙ go)) in
+    let first = rw c.in-Some-2.is at (c.in_ok-end.ensures.first (c.loop-time.invariant.mode ∙ go)) in
+    record {
+      memory =
+          time_ends_in c.args.quanta.now c.loop-time._time c.args.count c.loop-time-test.true (one_memory c.args.self.now) (one_memory c.loop-time.self) (one_memory c.round.new.self) (c.loop-time.invariant.memory go) c.in-Some-2.end memory;
+      first = λ quiet.
+          time_first_ends c.args.quanta.now c.loop-time._time c.args.count c.loop-time-test.true c.args.self.now c.loop-time.self c.round.new.self (c.loop-time.invariant.first go quiet) c.in-Some-2.end memory first;
+    }
 
-pub returns-in-Some-2-clause-copies : goal.returns-in-Some-2-clause-copies
-returns-in-Some-2-clause-copies g c halting = c.in_ok-end.ensures.copies (c.loop-time.invariant.halts halting) (c.loop-time.invariant.copies halting)
+pub returns-clause-halts : goal.returns-clause-halts
+returns-clause-halts g c halting =
+    let all : c.loop-time._time ≡ c.args.count = omega (arith, c.loop-time.auto._time-end) in
+    let turns =
+    machine_ends (repeated c.args.count c.args.quanta.now) (world c.args.self.now) c.loop-time.self (state_of c.self-2.inside) c.last_end.result c.self-2.view_is
+    (rw all at (c.loop-time.invariant.comes halting)) (c.last_end.ensures (about_of (state_of c.self-2.inside))) in
+    halt_runs (repeated c.args.count c.args.quanta.now) c.args.self.now c.loop-time.self (Ok c.last_end.result) (c.kind-kind.ensures.order halting.quiet) turns (λ is. c.loop-time.invariant.halts halting) (c.loop-time.invariant.copies halting)
 
-pub returns-clause-copies : goal.returns-clause-copies
-returns-clause-copies g c halting = c.loop-time.invariant.copies halting
+pub returns-clause-goes_on : goal.returns-clause-goes_on
+returns-clause-goes_on g c go =
+    let all : c.loop-time._time ≡ c.args.count = omega (arith, c.loop-time.auto._time-end) in
+    let last : Ends (turns [] (world c.loop-time.self)).end c.last_end.result =
+    subst (λ (s : State). Ends (turns [] (world s)).end c.last_end.result) c.self-2.view_is (c.last_end.ensures (about_of (state_of c.self-2.inside))) in
+    record {
+      memory =
+          all_comes_in (repeated c.args.count c.args.quanta.now) c.args.self.now c.loop-time.self c.last_end.result last (rw all at (c.loop-time.invariant.memory go));
+      first = λ quiet.
+          all_first (repeated c.args.count c.args.quanta.now) c.args.self.now c.loop-time.self c.last_end.result last (rw all at (c.loop-time.invariant.first go quiet));
+    }
 
--- ---- behind a stray access: there one was noted
+-- ---- behind a stray access: there one was noted, and the run halts
 
 never : (g : Over) (c : goal.In-Some g) → IsHalting c.args.self.now → ⊥
 unfolding world_of
@@ -188,17 +145,19 @@ never g c halting =
     none_halted c.self.inside.parts.mode c.self.inside.parts.kept.notes c.halted_at.result c.in-Some.access c.halted_at.ensures c.in-Some.is
     (subst (λ (s : State). has_stray s.kept.notes ≡ false) (sym c.self.view_is) halting.quiet)
 
-pub returns-in-Some-clause-turns : goal.returns-in-Some-clause-turns
-returns-in-Some-clause-turns g c halting = absurd (never g c halting)
+never_on : (g : Over) (c : goal.In-Some g) → c.args.self.now.mode ≡ GoOn → ⊥
+never_on g c go =
+    none_halted_on c.self.inside.parts.mode c.self.inside.parts.kept.notes c.halted_at.result c.in-Some.access c.halted_at.ensures c.in-Some.is
+    (subst (λ (s : State). s.mode ≡ GoOn) (sym c.self.view_is) go)
+
+pub returns-in-Some-clause-halts : goal.returns-in-Some-clause-halts
+returns-in-Some-clause-halts g c halting = absurd (never g c halting)
+
+pub returns-in-Some-clause-goes_on : goal.returns-in-Some-clause-goes_on
+returns-in-Some-clause-goes_on g c go = absurd (never_on g c go)
 
 pub returns-in-Some-clause-hits : goal.returns-in-Some-clause-hits
 returns-in-Some-clause-hits g c halting = absurd (never g c halting)
-
-pub returns-in-Some-clause-copies : goal.returns-in-Some-clause-copies
-returns-in-Some-clause-copies g c halting = absurd (never g c halting)
-
-pub returns-in-Some-clause-alone : goal.returns-in-Some-clause-alone
-returns-in-Some-clause-alone g c halting = absurd (never g c halting)
 
 -- ---- hits
 

@@ -13,17 +13,11 @@ returns-clause-events g c =
     let within = c.run_repeated_watched.ensures.events in
     omega (arith, within)
 
-pub returns-clause-turns : goal.returns-clause-turns
-returns-clause-turns g c halting = rw (once c.args.quanta.now) at (c.run_repeated_watched.ensures.turns halting)
+pub returns-clause-halts : goal.returns-clause-halts
+returns-clause-halts g c halting = rw (once c.args.quanta.now) at (c.run_repeated_watched.ensures.halts halting)
 
-pub returns-clause-memory : goal.returns-clause-memory
-returns-clause-memory g c go = rw (once c.args.quanta.now) at (c.run_repeated_watched.ensures.memory go)
-
-pub returns-clause-first : goal.returns-clause-first
-returns-clause-first g c go quiet = rw (once c.args.quanta.now) at (c.run_repeated_watched.ensures.first go quiet)
-
-pub returns-clause-alone : goal.returns-clause-alone
-returns-clause-alone g c halting = rw (once c.args.quanta.now) at (c.run_repeated_watched.ensures.alone halting)
+pub returns-clause-goes_on : goal.returns-clause-goes_on
+returns-clause-goes_on g c go = rw (once c.args.quanta.now) at (c.run_repeated_watched.ensures.goes_on go)
 
 pub returns-clause-hits : goal.returns-clause-hits
 returns-clause-hits g c halting = rw (once c.args.quanta.now) at (c.run_repeated_watched.ensures.hits halting)

@@ -1,0 +1,37 @@
+-- What a run that halts keeps follows from the turns that it makes.
+use Rattle.std.proofs.Common.{◌≡◌, false, List, Option, Some, None, Result, sym, ap, ◌∙◌}
+use Rattle.std.specs.Prelude.{option_map}
+use Rattle.std.specs.declared.alloc.AllocError.{AllocError}
+use Rattle.quantum_sched.specs.declared.Quantum.{Quantum}
+use Rattle.rv32im_step.specs.declared.access.Access.{Access}
+use Rattle.call_log.specs.Notes.{Note}
+use Rattle.machine_world.specs.Turns.{seen_of}
+use Rattle.region_watch.specs.declared.mode.Mode.{Mode}
+use Rattle.region_watch.specs.declared.mode.Mode.TheVariants.{GoOn}
+use Rattle.syscall_layer.specs.Parts.{halted_at}
+use Rattle.kept_parts.specs.Copies.{HoldsFiles}
+use Rattle.waits_laws.specs.Laws.{IsOrdered}
+use Rattle.flat_machine.specs.declared.run.End.{End as Told}
+use Rattle.flat_machine.specs.State.{State, world}
+use Rattle.flat_machine.specs.Runs.{Runs}
+use Rattle.flat_machine.specs.RunsIn.{ends_astray, IsHalting}
+use Rattle.flat_machine.specs.ByMode.{HaltRuns}
+use Rattle.flat_machine.proofs.Rounds.{run_keeps_stays}
+use Rattle.flat_machine.proofs.Waiting.{run_keeps_waits, run_waits_where_stuck}
+
+pub halt_runs : (qs : List Quantum) (old new : State) (r : Result Told AllocError) → IsOrdered (world old) → Runs qs old new r → (ends_astray r ≡ false → IsHalting new) → HoldsFiles new.kept
+    → HaltRuns qs old new r
+halt_runs qs old new r ordered runs quiet copies = record {
+  turns = runs;
+  quiet = quiet;
+  copies = copies;
+  waits = run_keeps_waits qs old new r ordered runs;
+  stuck = run_waits_where_stuck qs old new r ordered runs;
+  alone = run_keeps_stays qs old new r ordered.sound runs;
+}
+
+-- a run that goes on ends at no stray access
+pub none_halted_on : (mode : Mode) (notes : List Note) (o : Option Access) (access : Access) → option_map seen_of o ≡ halted_at mode notes → o ≡ Some access → mode ≡ GoOn → ⊥
+none_halted_on mode notes o access found is go =
+    let both : Some (seen_of access) ≡ None = sym (ap (option_map seen_of) is) ∙ found ∙ ap (λ (m : Mode). halted_at m notes) go in
+    absurd cc
