@@ -38,7 +38,8 @@ ghost use Rattle.kept_parts.specs.Recorded.{room_beside};
 ghost use Rattle.kept_parts.specs.MapsIn.{IsAsked};
 ghost use Rattle.kept_parts.specs.Brings.{recorded_bytes};
 ghost use Rattle.kept_parts.specs.Calls.{LivesIn, Caller, maps_by, asked_by, reply_of, given, served_by};
-ghost use Rattle.kept_parts.specs.Flats.{AreFlats, ForRuns};
+ghost use Rattle.kept_parts.specs.Flats.{ForRuns};
+ghost use Rattle.syscall_layer.specs.ByMode.{HaltServes, GoOnServes};
 
 use crate::call::call_of;
 use crate::classes::{Class, class_of};
@@ -552,20 +553,11 @@ pub fn serve<F: Fn(&[Run], u32) -> Option<usize>>(
     ensures programs { parts.new.programs ≡ parts.old.programs }
     ensures mode { parts.new.mode ≡ parts.old.mode }
     ensures noted { parts.new.noted ≡ has_stray parts.new.kept.notes }
-    ensures serves { parts.old.mode ≡ Halt → (a : About) → a.kind ≡ kind_of chooser.now → AreFlats a.programs parts.old.programs → StillHolds parts.old.kept →
-        Serves a (called (world_of a parts.old.kept) pid) parts.old.kept parts.new.kept pid result }
-    ensures memory { parts.old.mode ≡ GoOn → (a : About) → a.kind ≡ kind_of chooser.now → AreFlats a.programs parts.old.programs →
-        ServesOn (headers_of parts.old.programs) a parts.old.kept parts.new.kept pid result }
-    ensures holds { parts.old.mode ≡ Halt → HoldsFiles parts.old.kept → HoldsFiles parts.new.kept }
-    ensures within { parts.old.mode ≡ Halt → (a : About) → a.kind ≡ kind_of chooser.now → AreFlats a.programs parts.old.programs →
-        InReach Own (headers_of parts.old.programs) a (called_in (physical_of (headers_of parts.old.programs) a parts.old.kept) pid) parts.old.kept parts.new.kept pid result }
-    ensures halts { parts.old.mode ≡ Halt → parts.new.noted ≡ parts.old.noted }
-    ensures stray { parts.old.mode ≡ Halt → (access : Access) → result ≡ Ok (Stray access) → parts.new ≡ parts.old }
+    ensures halts { parts.old.mode ≡ Halt → HaltServes (kind_of chooser.now) pid parts.old parts.new result }
+    ensures goes_on { parts.old.mode ≡ GoOn → GoOnServes (kind_of chooser.now) pid parts.old parts.new result }
     ensures unchanged { OnErr result (parts.new ≡ parts.old) }
     ensures yields { result ≡ Ok TurnEnds → WaitsAt parts.new.kept.procs pid false }
     ensures waits { result ≡ Ok Waits → WaitsAt parts.new.kept.procs pid true }
-    ensures unnoted { result ≡ Ok Waits → parts.old.mode ≡ GoOn → (a : About) → a.kind ≡ kind_of chooser.now → AreFlats a.programs parts.old.programs →
-        parts.new.kept.notes ≡ (with_range pid (first_range (physical_of (headers_of parts.old.programs) a parts.old.kept) pid) parts.old.kept).notes }
 {
     let within = reach_in(parts.mode, parts.reach());
     let served = serve_within(
