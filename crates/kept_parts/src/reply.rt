@@ -11,7 +11,7 @@ ghost use Rattle.vfork_exec.specs.Procs.{Lives, value_at, with_value_at};
 ghost use Rattle.physical_turns.specs.Physical.{has_stray};
 ghost use Rattle.machine_world.specs.Rows.{row};
 ghost use Rattle.machine_world.specs.Event.{replied};
-ghost use Rattle.file_calls.specs.Calls.{IsChange, RepliesBy as RepliesOnly, written_of};
+ghost use Rattle.file_calls.specs.Calls.{IsChange, DoesNotWait, written_of};
 ghost use Rattle.file_calls.specs.Outcomes.{CanTake, HasEnds};
 ghost use Rattle.kept_parts.specs.declared.task.Task.{Task};
 ghost use Rattle.kept_parts.specs.Copies.{HoldsFiles};
@@ -125,7 +125,7 @@ impl KeptParts {
         requires lives { Lives self.old.procs call.pid }
         requires room { room_beside self.old (length call.sent.items) ≡ true }
         requires change { IsChange call.number }
-        requires replies { RepliesOnly call self.old.files }
+        requires replies { DoesNotWait call self.old.files }
         ensures changes { (a : About) → (c : Caller self.old call) → ChangesParts a self.old c.entry c.held call (row (asked_by a c)) self.new result }
         ensures memory { self.new.mem ≡ self.old.mem }
         ensures holds { HoldsFiles self.old → HoldsFiles self.new }

@@ -15,7 +15,7 @@ use Rattle.machine_world.specs.World.{World}
 use Rattle.machine_world.specs.Free.{free_runs_in, free}
 use Rattle.machine_world.specs.Asks.{Ask, arg, leaves, refuses}
 use Rattle.machine_world.specs.MapCalls.{file_side, in_copy, pages_of, own_run, with_mapping, first_bytes}
-use Rattle.machine_world.specs.PathCalls.{start_path as exec_path}
+use Rattle.machine_world.specs.PathCalls.{path_of as exec_path}
 use Rattle.machine_world.specs.Rows.{row}
 use Rattle.machine_world.specs.Found.{Found, found, taken, address_of}
 use Rattle.machine_world.specs.Boot.{StartLine, start_path, begun, started, no_run}

@@ -13,7 +13,7 @@ use Rattle.machine_world.specs.Free.{free}
 use Rattle.machine_world.specs.Found.{Found, found, taken}
 use Rattle.machine_world.specs.Asks.{Ask, arg}
 use Rattle.machine_world.specs.MapCalls.{file_side, in_copy}
-use Rattle.machine_world.specs.PathCalls.{start_path as exec_path}
+use Rattle.machine_world.specs.PathCalls.{path_of as exec_path}
 use Rattle.machine_world.specs.FamilyCalls.{runs}
 use Rattle.machine_world.specs.Placements.{placed_page}
 use Rattle.machine_world.specs.Boot.{StartLine, start_path, boot}
