@@ -16,7 +16,7 @@ PREFIX ?= /usr/local
 SOURCES := crates.txt $(shell find crates -path '*/out' -prune -o -type f \( -name '*.rt' -o -name '*.antt' \) -print)
 
 build/flatc: $(SOURCES)
-	@echo 'flatc is proved before it is built: 15 to 30 minutes on four cores the first time, and later what changed.'
+	@echo 'flatc is proved before it is built: 15 to 25 minutes on four cores the first time, and later what changed.'
 	@tools/build
 
 .PHONY: try demo check cases papers kit sdk kernel real install
