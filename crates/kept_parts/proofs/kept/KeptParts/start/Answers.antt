@@ -1,4 +1,4 @@
-use Rattle.std.proofs.Common.{rules, ◌≡◌, ℕ, Ok, ap, subst, ◌∙◌, length, [], ◌∷◌, ◌++◌, refl, Some}
+use Rattle.std.proofs.Common.{rules, ◌≡◌, ℕ, Ok, sym, ap, subst, ◌∙◌, length, [], ◌∷◌, ◌++◌, refl, Some}
 use Rattle.page_runs.specs.Choosers.{kind_of}
 use Rattle.flat_loader.specs.Frame.{texts}
 use Rattle.kept_parts.proofs.kept.KeptParts.start.Given.{Over}
@@ -9,7 +9,9 @@ use Rattle.fd_tables.specs.Files.{OpenFiles, free_number}
 use Rattle.fd_tables.specs.Changes.{with_table}
 use Rattle.kept_parts.specs.Kept.{Kept}
 use Rattle.kept_parts.specs.Inside.{kept_of}
+use Rattle.kept_parts.specs.Reach.{whole_table}
 use Rattle.kept_parts.proofs.Boots.{refuses_by, Begun, begun_by, regular_by, copies_by, starts_by, process_started, note_pushed}
+use Rattle.kept_parts.proofs.Loaded.{pages_loaded}
 use Rattle.kept_parts.proofs.StartMemory.{lays_by, others_by}
 use Rattle.kept_parts.proofs.kept.KeptParts.start.Goals as goal
 
@@ -57,6 +59,7 @@ invariant_of-self-2 g c = (
     copies_by (kept_of c.self.inside) (new_parts g c) c.self.invariant.0.0 c.self.invariant.0.1 _ _ _ _ (begun g c),
   ),
   search rules,
+  c.self.invariant.2 ∙ ap whole_table (sym (pages_loaded _ _ _ _ _ _ _ _ _ (begun g c).is)),
 )
 
 pub returns-clause-starts : goal.returns-clause-starts
