@@ -158,14 +158,8 @@ impl KeptParts {
                 self.recording.pass(task.space, 1);
                 let launch = launch_of(flat, program.base, call.pid, strings);
                 record_program(&mut self.recording, number, launch);
-                note_exec(
-                    &mut self.log,
-                    call,
-                    Vec::new(alloc),
-                    index,
-                    program.base,
-                    program.pages,
-                );
+                let got = Vec::new(alloc);
+                note_exec(&mut self.log, call, got, index, program.base, program.pages);
                 if !lent {
                     self.give_up(task.space);
                 }
