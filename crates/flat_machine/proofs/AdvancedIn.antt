@@ -33,12 +33,11 @@ use Rattle.kept_parts.specs.declared.task.Task.{Task}
 use Rattle.kept_parts.specs.declared.reach.Reach.{Reach}
 use Rattle.kept_parts.specs.declared.reach.Reach.TheVariants.{Own, Whole}
 use Rattle.kept_parts.specs.Kept.{Kept}
-use Rattle.kept_parts.specs.Reach.{Reaches, whole_table}
+use Rattle.kept_parts.specs.Reach.{Reaches}
 use Rattle.kept_parts.specs.Regular.{Regular, HasSpace, IsRegular}
 use Rattle.kept_parts.specs.Copies.{CopiesHold}
 use Rattle.kept_parts.specs.Stands.{About, later, private_bytes, private_of, live_spaces, process_of, world_of}
 use Rattle.kept_parts.specs.InMemory.{physical_of}
-use Rattle.kept_parts.proofs.Reached.{whole_pages}
 use Rattle.kept_parts.proofs.Shows.{shown_as, shows}
 use Rattle.kept_parts.proofs.Worlds.{find_space, find_process}
 use Rattle.flat_machine.specs.State.{is_whole, mode_within}
@@ -281,12 +280,6 @@ pub space_paged : (k : Kept) (pid : ℕ) (task : Task) (x : Option Held) (h : He
     → length table ≡ h.pages → length k.mem ≡ 4096 * length table
 space_paged k pid task x h table regular is at space long =
     omega (arith, space_long k task.space x h table regular (has_space k pid task regular is) at space long, regular.memory)
-
--- and so has a table of what is within reach
-pub reach_paged : (reach : Reach) (k : Kept) (whole table : List PageOwner) (h : Held) → Regular k → whole ≡ whole_table (length k.regions) → Reaches reach (length whole) h table
-    → length k.mem ≡ 4096 * length table
-reach_paged reach k whole table h regular is reaches =
-    let long = reaches.long in omega (arith, (whole_pages (length k.regions) whole is).0, long, regular.memory)
 
 -- a table of just the bytes within reach, and what the instructions leave by it
 pub record ByTable (reach : Reach) (k : Kept) (pid count : ℕ) (task : Task) (h : Held) (mode : Mode) (table : List PageOwner) (now : List ℕ) (regs : Regs) (done : ℕ) (stop : Stop) : Type 0 where

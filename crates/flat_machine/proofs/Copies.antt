@@ -14,16 +14,15 @@ use Rattle.kept_parts.specs.declared.task.Task.{Task}
 use Rattle.kept_parts.specs.Kept.{Kept}
 use Rattle.kept_parts.specs.declared.reach.Reach.{Reach}
 use Rattle.kept_parts.specs.declared.reach.Reach.TheVariants.{Own, Whole}
-use Rattle.kept_parts.specs.Reach.{Reaches, readable, whole_table}
+use Rattle.kept_parts.specs.Reach.{Reaches, readable}
 use Rattle.kept_parts.specs.Regular.{Regular, HasSpace}
 use Rattle.call_bytes.specs.Reading.{appended}
 use Rattle.kept_parts.specs.InMemory.{physical_of}
 use Rattle.kept_parts.specs.Stands.{About, private_bytes, process_of, world_of}
 use Rattle.kept_parts.proofs.Worlds.{find_space, find_process}
-use Rattle.kept_parts.proofs.Reached.{reached_bytes, whole_pages}
+use Rattle.kept_parts.proofs.Reached.{reached_bytes, reached_pages}
 use Rattle.flat_machine.specs.OwnBytes.{read_or_none, bytes_in, bytes_of, own_bytes, bytes_for, memory_bytes}
 use Rattle.flat_machine.proofs.Advanced.{entered, has_space}
-use Rattle.flat_machine.proofs.AdvancedIn.{reach_paged}
 
 none_found : (o : Option (Entry Task)) → is_some o ≡ false → o ≡ None
 none_found None h = refl
@@ -78,27 +77,27 @@ module _ (a : About) (k : Kept) (pid addr len : ℕ) where
 
 -- ---- within reach
 
-module _ (reach : Reach) (k : Kept) (pid addr len : ℕ) (whole table : List PageOwner) (task : Task) (regular : Regular k) (pages : whole ≡ whole_table (length k.regions))
-    (is : value_at k.procs pid ≡ Some task) (each : (h : Held) → slice_get k.spaces task.space ≡ Some (Some h) → Reaches reach (length whole) h table) where
+module _ (reach : Reach) (k : Kept) (pid addr len : ℕ) (table : List PageOwner) (task : Task) (regular : Regular k)
+    (is : value_at k.procs pid ≡ Some task) (each : (h : Held) → slice_get k.spaces task.space ≡ Some (Some h) → Reaches reach (length k.regions) h table) where
   live : HasSpace k.spaces task.space
   live = has_space k pid task regular is
 
-  reaches : Reaches reach (length whole) live.held table
+  reaches : Reaches reach (length k.regions) live.held table
   reaches = each live.held live.there
 
   -- the table has an entry for each page of memory
   pub copied_paged : length k.mem ≡ 4096 * length table
-  copied_paged = reach_paged reach k whole table live.held regular pages reaches
+  copied_paged = reached_pages reach k live.held table regular reaches
 
   own_seen : reach ≡ Own → own_bytes_in table k.mem ≡ private_bytes k.mem live.held
   unfolding private_bytes
   own_seen own =
-      reached_bytes reach (length whole) live.held table k.mem reaches ∙ ap (λ (r : Reach). only (readable r (length whole) live.held) (physical k.mem)) own
+      reached_bytes reach (length k.regions) live.held table k.mem reaches ∙ ap (λ (r : Reach). only (readable r (length k.regions) live.held) (physical k.mem)) own
 
   whole_seen : reach ≡ Whole → own_bytes_in table k.mem ≡ physical k.mem
   whole_seen all =
-      reached_bytes reach (length whole) live.held table k.mem reaches ∙ ap (λ (r : Reach). only (readable r (length whole) live.held) (physical k.mem)) all
-      ∙ all_pages (length whole) k.mem (regular.memory ∙ ap (λ (n : ℕ). 4096 * n) (sym (whole_pages (length k.regions) whole pages).0))
+      reached_bytes reach (length k.regions) live.held table k.mem reaches ∙ ap (λ (r : Reach). only (readable r (length k.regions) live.held) (physical k.mem)) all
+      ∙ all_pages (length k.regions) k.mem regular.memory
 
   abbrev span : Span
   span = record { addr = addr; len = len }

@@ -149,7 +149,7 @@ impl Machine {
             begin(&mut parts, &paths, &programs, start, chooser)?;
         }
         Ok(Machine {
-            parts: Parts::new(alloc, parts, programs, mode)?,
+            parts: Parts::new(parts, programs, mode),
             kind: chooser.kind(),
             paths,
             events: 0,

@@ -1,9 +1,8 @@
 //! The bytes of a process.
 
-ghost use Rattle.std.specs.Prelude.{◌≡◌, List, ℕ, IfOk, length, option_map};
+ghost use Rattle.std.specs.Prelude.{◌≡◌, List, ℕ, IfOk, option_map};
 ghost use Rattle.kept_parts.specs.declared.reach.Reach.TheVariants.{Own, Whole};
 ghost use Rattle.kept_parts.specs.InMemory.{physical_of};
-ghost use Rattle.kept_parts.specs.Reach.{whole_table};
 ghost use Rattle.kept_parts.specs.Stands.{About, world_of};
 ghost use Rattle.region_watch.specs.declared.mode.Mode.TheVariants.{Halt, GoOn};
 ghost use Rattle.flat_machine.specs.State.{world, one_memory};
@@ -11,8 +10,7 @@ ghost use Rattle.flat_machine.specs.OwnBytes.{own_bytes, memory_bytes};
 
 use crate::machine::Machine;
 use call_bytes::{Unread, read_range};
-use kept_parts::{KeptParts, Reach, table_of};
-use mmap_rules::Owners;
+use kept_parts::{KeptParts, Reach};
 use region_watch::Mode;
 use std::alloc::AllocError;
 
@@ -23,9 +21,7 @@ fn copied(
     addr: u32,
     len: u32,
     reach: Reach,
-    whole: &Owners,
 ) -> Result<Option<Vec<u8>>, AllocError>
-    requires { whole.now ≡ whole_table (length parts.now.regions) }
     ensures own { reach ≡ Own → (a : About) → IfOk result (λ found. option_map (λ bytes. bytes.items) found ≡ own_bytes (world_of a parts.now) pid addr len) }
     ensures memory { reach ≡ Whole → (headers : List (List ℕ)) → (a : About) → IfOk result (λ found. option_map (λ bytes. bytes.items) found ≡ memory_bytes (physical_of headers a parts.now) pid addr len) }
 {
@@ -33,7 +29,7 @@ fn copied(
         return Ok(None);
     }
     let task = parts.procs.get(pid);
-    let owners = table_of(&parts.spaces, task.space, reach, whole);
+    let owners = parts.table_of(task.space, reach);
     let mut bytes = Vec::new(*parts.console.allocator());
     match read_range(&parts.mem, owners, addr, len, &mut bytes) {
         Ok(()) => Ok(Some(bytes)),
@@ -60,13 +56,6 @@ impl Machine {
         ensures own { self.now.mode ≡ Halt → IfOk result (λ found. option_map (λ bytes. bytes.items) found ≡ own_bytes (world self.now) pid addr len) }
         ensures memory { self.now.mode ≡ GoOn → IfOk result (λ found. option_map (λ bytes. bytes.items) found ≡ memory_bytes (one_memory self.now) pid addr len) }
     {
-        copied(
-            &self.parts.kept,
-            pid,
-            addr,
-            len,
-            shown(self.parts.mode),
-            &self.parts.whole,
-        )
+        copied(&self.parts.kept, pid, addr, len, shown(self.parts.mode))
     }
 }

@@ -11,7 +11,7 @@ ghost use Rattle.kept_parts.specs.declared.reach.Reach.TheVariants.{Own, Whole};
 ghost use Rattle.kept_parts.specs.Flats.{ForRuns};
 ghost use Rattle.kept_parts.specs.InMemory.{headers_of, physical_of, without_newest};
 ghost use Rattle.kept_parts.specs.Copies.{HoldsFiles, KnowsFiles};
-ghost use Rattle.kept_parts.specs.Reach.{reach_of, whole_table};
+ghost use Rattle.kept_parts.specs.Reach.{reach_of};
 ghost use Rattle.kept_parts.specs.Regular.{IsRegular};
 ghost use Rattle.kept_parts.specs.Stands.{About, later, world_of};
 ghost use Rattle.flat_machine.specs.declared.run.End.TheVariants.{Stray};
@@ -28,7 +28,6 @@ use crate::run::End;
 use crate::watcher::Watcher;
 use bflt_format::Flat;
 use kept_parts::{KeptParts, Reach, Served};
-use mmap_rules::Owners;
 use page_runs::{Chooser, Run};
 use rv32im_step::{Access, Stop};
 use std::alloc::AllocError;
@@ -90,11 +89,9 @@ fn next_event<F: Fn(&[Run], u32) -> Option<usize>>(
     programs: &[Flat],
     chooser: &Chooser<F>,
     reach: Reach,
-    whole: &Owners,
 ) -> Result<After, AllocError>
     requires chooser { IsChooser F.pre F.post chooser.now }
     requires ready { CanRun parts.old.procs pid }
-    requires whole { whole.now ≡ whole_table (length parts.old.regions) }
     requires strayed { has_stray parts.old.notes ≡ is_whole reach }
     requires stands { reach ≡ Own → (a : About) → StandsAt (world_of a parts.old) pid stop }
     requires stands_in { (headers : List (List ℕ)) → (a : About) → StandsWithin reach (physical_of headers a parts.old) pid stop }
@@ -107,7 +104,7 @@ fn next_event<F: Fn(&[Run], u32) -> Option<usize>>(
 {
     match stop {
         Stop::Next => Ok(After::GoesOn),
-        Stop::Call => match serve_within(parts, pid, programs, chooser, reach, whole)? {
+        Stop::Call => match serve_within(parts, pid, programs, chooser, reach)? {
             Served::Replied => Ok(After::GoesOn),
             Served::TurnEnds | Served::Waits | Served::Ended => Ok(After::TurnEnds),
             Served::Stray(access) => stray(parts, pid, access),
@@ -138,7 +135,6 @@ fn turn_within<F: Fn(&[Run], u32) -> Option<usize>, G: Fn(&[Span], u32, u32) -> 
     programs: &[Flat],
     chooser: &Chooser<F>,
     reach: Reach,
-    whole: &Owners,
     watcher: &Watcher<'_, G>,
     hits: &mut Hits,
 ) -> TurnEnd
@@ -146,7 +142,6 @@ fn turn_within<F: Fn(&[Run], u32) -> Option<usize>, G: Fn(&[Span], u32, u32) -> 
     requires point { IsPoint G.pre G.post watcher.now.point.now }
     requires spans { AreSpans watcher.now.spans.now }
     requires ready { CanRun parts.old.procs pid }
-    requires whole { whole.now ≡ whole_table (length parts.old.regions) }
     requires strayed { has_stray parts.old.notes ≡ is_whole reach }
     ensures within { result.events ≤ count }
     ensures regions { length parts.new.regions ≡ length parts.old.regions }
@@ -174,7 +169,7 @@ fn turn_within<F: Fn(&[Run], u32) -> Option<usize>, G: Fn(&[Span], u32, u32) -> 
                 end: Ok(None),
             };
         }
-        match next_event(parts, pid, progress.stop, programs, chooser, reach, whole) {
+        match next_event(parts, pid, progress.stop, programs, chooser, reach) {
             Ok(After::GoesOn) => events += 1,
             Ok(After::TurnEnds) => {
                 return TurnEnd {
@@ -261,7 +256,6 @@ pub(crate) fn turn<F: Fn(&[Run], u32) -> Option<usize>, G: Fn(&[Span], u32, u32)
         &parts.programs,
         chooser,
         reach,
-        &parts.whole,
         watcher,
         hits,
     );

@@ -1,5 +1,5 @@
 -- The parts before the first program.
-use Rattle.std.proofs.Common.{◌≡◌, ℕ, zero, suc, ◌*◌, ◌≤◌, length, replicate, List, [], arith, refl, sym, ap}
+use Rattle.std.proofs.Common.{◌≡◌, ℕ, zero, suc, ◌*◌, ◌≤◌, length, replicate, List, [], arith, refl, sym, ap, ◌∙◌}
 use Rattle.std.proofs.lemmas.List.{length-replicate}
 use Rattle.std.proofs.lemmas.Option.{same_Some, none-some}
 use Rattle.std.specs.Prelude.{Some, slice_get, true}
@@ -7,6 +7,7 @@ use Rattle.std.proofs.lemmas.Bool.Decides.{nat_tests}
 use Rattle.nommu_regions.specs.declared.region.Region.{Region}
 use Rattle.nommu_regions.specs.declared.region.Source.TheVariants.{Own}
 use Rattle.nommu_regions.specs.Regions.{holds, AreRegions}
+use Rattle.mmap_rules.specs.declared.owners.PageOwner.{PageOwner}
 use Rattle.vfork_exec.specs.Keyed.{find}
 use Rattle.call_log.specs.Notes.{Note}
 use Rattle.mem_files.specs.Inodes.{Inodes}
@@ -14,6 +15,7 @@ use Rattle.fd_tables.specs.Files.{OpenFiles}
 use Rattle.kept_parts.specs.Kept.{Kept, nothing_yet}
 use Rattle.machine_world.specs.Families.{sharing, IsChain}
 use Rattle.machine_world.specs.Ages.{AreChanged, most_at_boot}
+use Rattle.kept_parts.specs.Reach.{whole_table}
 use Rattle.kept_parts.specs.Regular.{Regular, IsRegular}
 use Rattle.kept_parts.proofs.CopiesStay.{copies_begin}
 
@@ -69,3 +71,10 @@ begins_with pages tree files keep notes console some most =
 pub sound_begins : (k : Kept) (pages : ℕ) (tree : Inodes) (files : OpenFiles) (keep : ℕ) → 1 ≤ pages → pages ≤ 16384 → AreChanged most_at_boot tree → k ≡ nothing_yet pages tree files keep → IsRegular k
 sound_begins k pages tree files keep some most changed is =
     rw is (begins_with pages tree files keep [] [] some most, copies_begin pages (replicate (4096 * pages) 0) tree changed)
+
+-- the table is of this memory
+pub whole_begins : (pages : ℕ) (regions : List Region) (table : List PageOwner) → regions ≡ replicate pages (record { first = 0; pages = 0; source = Own; uses = 0 }) → table ≡ whole_table pages
+    → table ≡ whole_table (length regions)
+whole_begins pages regions table fresh is =
+    let r : Region = record { first = 0; pages = 0; source = Own; uses = 0 } in
+    is ∙ ap whole_table (sym (ap (length {A = Region}) fresh ∙ length-replicate pages r))

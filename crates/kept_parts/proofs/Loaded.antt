@@ -1,5 +1,5 @@
 -- A program that is loaded beside the live spaces: the run that is taken, the space with which it begins, and the bytes of the others, which stay.
-use Rattle.std.proofs.Common.{◌≡◌, ℕ, suc, ◌+◌, ◌-◌, ◌*◌, ◌/◌, ◌^◌, ◌<◌, ◌≤◌, Bool, true, false, List, [], ◌∷◌, ◌++◌, length, arith, refl, sym, ap, ◌∙◌}
+use Rattle.std.proofs.Common.{◌≡◌, ℕ, suc, ◌+◌, ◌-◌, ◌*◌, ◌/◌, ◌^◌, ◌<◌, ◌≤◌, Bool, true, false, List, [], ◌∷◌, ◌++◌, length, arith, refl, sym, ap, ◌∙◌, length-set}
 use Rattle.std.specs.Prelude.{Option, Some, None, slice_get, if◌then◌else◌, ◌||◌}
 use Rattle.std.proofs.lemmas.Bool.{false≢true}
 use Rattle.std.proofs.lemmas.Bool.Decides.{nat_tests}
@@ -169,6 +169,11 @@ module _ (k : Kept) (regular : Regular k) (f : Values) (args env : List (List �
   spaces_begin mem loaded =
       push_space k.mem mem k.spaces held (others_stay loaded.free mem loaded.others)
       ∙ ap (λ (s : Space). record { id = length k.spaces; space = s } ∷ live_spaces k.mem k.spaces) (space_begins mem loaded.own)
+
+-- memory has as many pages as it had
+pub pages_loaded : (kind : Kind) (f : Values) (args env : List (List ℕ)) (rs : List Region) (mem : List ℕ) (now : List Region) (after : List ℕ) (loaded : Loaded)
+    → IsLoaded kind f args env rs mem now after loaded → length now ≡ length rs
+pages_loaded kind f args env rs mem now after loaded is = ap (length {A = Region}) is.regions ∙ length-set rs is.page (block_region is.page (block_pages (flat_original f)))
 
 -- what loading leaves
 pub placed_by : (kind : Kind) (k : Kept) (regular : Regular k) (f : Values) (args env : List (List ℕ)) (regions : List Region) (mem : List ℕ) (loaded : Loaded)

@@ -248,6 +248,15 @@ module _ (k : Kept) (regular : Regular k) where
       let memory = regular.memory in
       omega (arith, inside, memory, len)
 
+-- memory has as many pages as it had
+pub map_pages : (k : Kept) → Regular k → (h : Held) (kind : Kind) (bytes : List ℕ) (want : Want) → AsksPages want → (m : Mapped)
+    → mapped (sides h k.regions k.mem) kind bytes want ≡ Some m → length m.sides.regions ≡ length k.regions
+map_pages k regular h kind bytes want asks m is =
+    elim (change (sides h k.regions k.mem) kind bytes want m asks regular.regions is) [
+      | inl run ↦ ap (length {A = Region}) run.regions ∙ length-set k.regions run.first (record { first = run.first; pages = run.count; source = run.source; uses = 1 })
+      | inr one ↦ ap (length {A = Region}) one.regions ∙ length-set k.regions one.region.first (used one.region)
+    ]
+
 pub map_regular : (k : Kept) (regular : Regular k) (copies : CopiesHold k.regions k.mem k.tree k.notes) (number : ℕ) (h : Held)
     (home : slice_get k.spaces number ≡ Some (Some h)) (kind : Kind) (want : Want) (asks : AsksPages want) (known : IsKnown k.tree want) (m : Mapped)
     → mapped (sides h k.regions k.mem) kind (bytes_of k.tree (file_in want)) want ≡ Some m

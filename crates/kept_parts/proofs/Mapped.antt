@@ -41,23 +41,23 @@ use Rattle.kept_parts.proofs.Brought.{Brought, brought_there, brought_nowhere}
 use Rattle.kept_parts.proofs.CopiesStay.{copies_noted}
 use Rattle.kept_parts.proofs.MapAgrees.{Agrees, map_agrees, map_refused}
 use Rattle.kept_parts.proofs.MapChoice.{chosen}
-use Rattle.kept_parts.proofs.MapRegular.{map_regular}
+use Rattle.kept_parts.proofs.MapRegular.{map_regular, map_pages}
 use Rattle.kept_parts.proofs.MapCopies.{map_copies}
-use Rattle.kept_parts.proofs.Unmapped.{Unmapped, unmap_refused, unmap_agrees}
+use Rattle.kept_parts.proofs.Unmapped.{Unmapped, same_pages, unmap_refused, unmap_agrees}
 use Rattle.kept_parts.proofs.UnmapsRegular.{unmap_regular, unmap_copies}
 
 -- what is left of memory, the regions and the spaces
 abbrev pub with_maps : Kept → List ℕ → List Region → List (Option Held) → Kept
 with_maps k mem rs spaces = record k { mem = mem; regions = rs; spaces = spaces }
 
--- the parts are regular, and with so many calls more copies hold their file
+-- the parts are regular, with so many calls more copies hold their file, and memory has as many pages as it had
 abbrev pub Keeps : ℕ → Kept → Kept → Type 0
-Keeps more k now = Regular now × ((notes : List Note) → kept_calls k.notes + more ≤ kept_calls notes → (has_stray notes ≡ false → has_stray k.notes ≡ false) → CopiesHold now.regions now.mem now.tree notes)
+Keeps more k now = Regular now × ((notes : List Note) → kept_calls k.notes + more ≤ kept_calls notes → (has_stray notes ≡ false → has_stray k.notes ≡ false) → CopiesHold now.regions now.mem now.tree notes) × (length now.regions ≡ length k.regions)
 
 module _ (k : Kept) (regular : Regular k) (copies : CopiesHold k.regions k.mem k.tree k.notes) (number : ℕ) (h : Held) (home : slice_get k.spaces number ≡ Some (Some h)) where
   -- where all stays
   keeps_same : (more : ℕ) → Keeps more k k
-  keeps_same more = (regular, λ notes later strays. copies_noted k.regions k.mem k.tree k.notes notes copies (omega (arith, later)) strays)
+  keeps_same more = (regular, λ notes later strays. copies_noted k.regions k.mem k.tree k.notes notes copies (omega (arith, later)) strays, refl)
 
   same_maps : (mem : List ℕ) (rs : List Region) (spaces : List (Option Held)) (held : Held) → mem ≡ k.mem → rs ≡ k.regions → held ≡ h → spaces ≡ slice_set k.spaces number (Some held)
       → k ≡ with_maps k mem rs spaces
@@ -82,7 +82,11 @@ module _ (k : Kept) (regular : Regular k) (copies : CopiesHold k.regions k.mem k
         by_mapped (Some m) is (Ok addr) all =
             let now : with_maps k m.sides.memory m.sides.regions (slice_set k.spaces number (Some m.sides.held)) ≡ with_maps k mem rs spaces =
             (λ i. with_maps k (sym all.1 i).memory (sym all.1 i).regions (slice_set k.spaces number (Some (sym all.1 i).held))) ∙ (λ i. with_maps k mem rs (sym left.spaces i)) in
-            subst (Keeps 1 k) now (map_regular k regular copies number h home kind want asks known m is, map_copies k regular copies number h home kind want asks known m is)
+            subst (Keeps 1 k) now (
+              map_regular k regular copies number h home kind want asks known m is,
+              map_copies k regular copies number h home kind want asks known m is,
+              map_pages k regular h kind (bytes_of k.tree (file_in want)) want asks m is,
+            )
         by_mapped (Some m) is (Err fault.Enomem) all = absurd all
         by_mapped (Some m) is (Err fault.Memory) all = same all
         by_mapped None is (Ok addr) all = absurd all
@@ -118,6 +122,7 @@ module _ (k : Kept) (regular : Regular k) (copies : CopiesHold k.regions k.mem k
           subst (Keeps 0 k) now (
             unmap_regular k regular number h home left.shaped addr len f is,
             λ notes later strays. unmap_copies k regular copies number h home left.shaped addr len f is notes (omega (arith, later)) strays,
+            (same_pages h k.regions addr len f is).1,
           )
       by_freed (Some f) is (Err errno) all = absurd all
       by_freed None is (Ok done) all = absurd all

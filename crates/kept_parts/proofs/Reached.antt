@@ -7,12 +7,15 @@ use Rattle.std.proofs.lemmas.List.{length-replicate, get_or-replicate}
 use Rattle.std.proofs.lemmas.Option.{slice_get_past, slice_get-get_or}
 use Rattle.mmap_rules.specs.declared.owners.PageOwner.{PageOwner}
 use Rattle.mmap_rules.specs.Owners.{owns_in, owns_at, owns}
+use Rattle.mmap_rules.specs.Space.{own_in, writable_in}
 use Rattle.region_watch.specs.Private.{only, physical, own_bytes}
 use Rattle.region_watch.proofs.Accesses.{all_pages}
 use Rattle.mmap_rules.specs.Held.{Held}
 use Rattle.kept_parts.specs.declared.reach.Reach.{Reach}
-use Rattle.kept_parts.specs.declared.reach.Reach.TheVariants.{Whole}
+use Rattle.kept_parts.specs.declared.reach.Reach.TheVariants.{Own, Whole}
+use Rattle.kept_parts.specs.Kept.{Kept}
 use Rattle.kept_parts.specs.Reach.{readable, whole_page, whole_table, Reaches}
+use Rattle.kept_parts.specs.Regular.{Regular}
 use Rattle.region_watch.specs.Private.{in_pages}
 
 -- each of its bytes is own, and may be written
@@ -63,15 +66,19 @@ whole_own pages mem paged = ap (λ (test : ℕ → Bool). only test (physical me
 pub reached_bytes : (reach : Reach) (pages : ℕ) (h : Held) (table : List PageOwner) (mem : List ℕ) → Reaches reach pages h table → own_bytes table mem ≡ only (readable reach pages h) (physical mem)
 reached_bytes reach pages h table mem r = ap (λ (test : ℕ → Bool). only test (physical mem)) r.reads
 
-pub whole_reaches : (h : Held) (table : List PageOwner) → table ≡ whole_table (length table) → Reaches Whole (length table) h table
-whole_reaches h table is = record {
-  reads = ap (λ (t : List PageOwner). owns t false) is ∙ owns_whole (length table) false;
-  writes = ap (λ (t : List PageOwner). owns t true) is ∙ owns_whole (length table) true;
-  long = refl;
-}
+-- and as many pages as memory has
+pub reached_pages : (reach : Reach) (k : Kept) (h : Held) (table : List PageOwner) → Regular k → Reaches reach (length k.regions) h table → length k.mem ≡ 4096 * length table
+reached_pages reach k h table regular r = regular.memory ∙ ap (λ (n : ℕ). 4096 * n) (sym r.long)
 
--- so many pages are in the table that owns all of them
-pub whole_pages : (pages : ℕ) (table : List PageOwner) → table ≡ whole_table pages → (length table ≡ pages) × (table ≡ whole_table (length table))
-whole_pages pages table is =
-    let long : length table ≡ pages = ap (length {A = PageOwner}) is ∙ length-replicate pages whole_page in
-    (long, is ∙ ap whole_table (sym long))
+-- by the table of its space
+pub own_reaches : (k : Kept) → Regular k → (number : ℕ) (h : Held) (table : List PageOwner) → slice_get k.spaces number ≡ Some (Some h)
+    → owns table false ≡ own_in h.maps → owns table true ≡ writable_in h.maps → length table ≡ h.pages → Reaches Own (length k.regions) h table
+own_reaches k regular number h table there reads writes long = record { reads = reads; writes = writes; long = long ∙ regular.pages number h there }
+
+-- and by the one that owns all of memory
+pub whole_reaches : (pages : ℕ) (h : Held) (table : List PageOwner) → table ≡ whole_table pages → Reaches Whole pages h table
+whole_reaches pages h table is = record {
+  reads = ap (λ (t : List PageOwner). owns t false) is ∙ owns_whole pages false;
+  writes = ap (λ (t : List PageOwner). owns t true) is ∙ owns_whole pages true;
+  long = ap (length {A = PageOwner}) is ∙ length-replicate pages whole_page;
+}

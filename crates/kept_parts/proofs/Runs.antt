@@ -1,12 +1,10 @@
 -- A process that runs in its space, and the call at which it stands.
 use Rattle.std.proofs.Common.{◌≡◌, ℕ, List, [], ◌∷◌, true, false, inl, inr, Some, Global, sym, ap, ◌∙◌}
-use Rattle.std.specs.Prelude.{◌==◌, ◌*◌, length, Vec, Err, option_map, slice_get, slice_index}
+use Rattle.std.specs.Prelude.{◌==◌, Vec, Err, option_map, slice_get, slice_index}
 use Rattle.std.proofs.lemmas.Option.{same_Some}
 use Rattle.byte_words.specs.ByteMap.{Bytes}
 use Rattle.call_log.specs.Sent.{sent}
-use Rattle.mmap_rules.specs.declared.owners.PageOwner.{PageOwner}
 use Rattle.mmap_rules.specs.Held.{Held}
-use Rattle.region_watch.specs.Private.{only, physical, own_bytes}
 use Rattle.rv32im_step.specs.Registers.{register}
 use Rattle.vfork_exec.specs.declared.entry.Entry.{Entry}
 use Rattle.vfork_exec.specs.Keyed.{find}
@@ -21,11 +19,8 @@ use Rattle.kept_parts.specs.Calls.{LivesIn, IsCall, Made}
 use Rattle.call_bytes.specs.Reading.{Reads}
 use Rattle.call_bytes.specs.declared.reading.Unread.{Unread}
 use Rattle.call_bytes.specs.declared.reading.Unread.TheVariants.{Stray, Memory}
-use Rattle.kept_parts.specs.declared.reach.Reach.{Reach}
-use Rattle.kept_parts.specs.Reach.{readable, whole_table, Reaches}
 use Rattle.call_bytes.proofs.Places.{decide}
 use Rattle.kept_parts.proofs.Counts.{eqb_is}
-use Rattle.kept_parts.proofs.Reached.{reached_bytes, whole_pages}
 
 -- what is found has the number
 pub found_key : {A : Type 0} (key : A → ℕ) (k : ℕ) (xs : List A) (x : A) → find key k xs ≡ Some x → key x ≡ k
@@ -59,16 +54,6 @@ has_space k pid t regular lives is =
     let f = found pid_of pid k.procs.entries lives in
     let home = regular.runs pid f.0 f.1 in
     record { held = home.held; there = ap (λ (x : Task). slice_get k.spaces x.space) (value_found k.procs pid f.0 f.1 t is) ∙ home.there }
-
--- the bytes that a process reaches, by their table
-module _ (k : Kept) (reach : Reach) (whole : List PageOwner) (is : whole ≡ whole_table (length k.regions)) (h : Held) (table : List PageOwner) (reached : Reaches reach (length whole) h table) where
-  pub memory_reached : Regular k → length k.mem ≡ 4096 * length table
-  memory_reached regular = regular.memory ∙ ap (λ (n : ℕ). 4096 * n) (sym (reached.long ∙ (whole_pages (length k.regions) whole is).0))
-
-  pub bytes_reached : own_bytes table k.mem ≡ only (readable reach (length k.regions) h) (physical k.mem)
-  bytes_reached =
-      reached_bytes reach (length whole) h table k.mem reached
-      ∙ ap (λ (pages : ℕ). only (readable reach pages h) (physical k.mem)) (whole_pages (length k.regions) whole is).0
 
 -- the space of a process is the one that stands at its number
 pub home_is : (k : Kept) (pid : ℕ) (e : Entry Task) (h : Held) → LivesIn k pid e h → (t : Task) → value_at k.procs pid ≡ Some t → (g : Held) → slice_get k.spaces t.space ≡ Some (Some g) → g ≡ h

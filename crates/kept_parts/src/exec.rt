@@ -29,7 +29,7 @@ use bflt_format::Flat;
 use call_bytes::ProgramStrings;
 use call_log::{Entry, Errno, Got, Log, Note};
 use file_calls::Call;
-use flat_loader::{LoadRefusal, Loaded, load};
+use flat_loader::{LoadRefusal, load};
 use page_runs::{Chooser, Run};
 use recordings::{Launch, Recording};
 use rv32im_step::Regs;
@@ -47,8 +47,21 @@ fn switch(procs: &mut Procs<Task>, pid: u32, regs: Regs, space: u32)
     task.space = space;
 }
 
+/// What is recorded of a program that is loaded there, with these strings.
+fn launch_of(flat: &Flat, base: u32, pid: u32, strings: ProgramStrings) -> Launch
+    ensures { launch_value result ≡ record { stack = flat.now.stack; base = base; pid = pid; args = texts strings.args.items; env = texts strings.env.items } }
+{
+    Launch {
+        stack: flat.stack(),
+        base,
+        pid,
+        args: strings.args,
+        env: strings.env,
+    }
+}
+
 /// The program that is loaded into a space is recorded, if that is the recorded one.
-pub(crate) fn record_program(recording: &mut Recording, space: u32, launch: Launch)
+fn record_program(recording: &mut Recording, space: u32, launch: Launch)
     ensures { recording.new ≡ program_recorded recording.old space (launch_value launch) }
 {
     if recording.has(space) {
@@ -135,30 +148,18 @@ impl KeptParts {
             chooser,
         );
         match or_unreserve(&mut self.log, loaded) {
-            Ok(
-                Loaded {
-                    space,
-                    regs,
-                    base,
-                    pages,
-                },
-            ) => {
+            Ok(program) => {
                 let task = *self.procs.get(call.pid);
                 let lent = self.procs.borrows(call.pid);
                 let number = self.spaces.len() as u32;
-                self.spaces.push_reserved(Some(space));
+                self.spaces.push_reserved(Some(program.space));
                 self.files.exec_close(&mut self.tree, task.table);
-                switch(&mut self.procs, call.pid, regs, number);
+                switch(&mut self.procs, call.pid, program.regs, number);
                 self.recording.pass(task.space, 1);
-                let launch = Launch {
-                    stack: flat.stack(),
-                    base,
-                    pid: call.pid,
-                    args: strings.args,
-                    env: strings.env,
-                };
+                let launch = launch_of(flat, program.base, call.pid, strings);
                 record_program(&mut self.recording, number, launch);
-                note_exec(&mut self.log, call, Vec::new(alloc), index, base, pages);
+                let got = Vec::new(alloc);
+                note_exec(&mut self.log, call, got, index, program.base, program.pages);
                 if !lent {
                     self.give_up(task.space);
                 }

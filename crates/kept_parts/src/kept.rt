@@ -4,11 +4,12 @@ ghost use Rattle.std.specs.Prelude.{◌≡◌, ◌≤◌, IfOk};
 ghost use Rattle.machine_world.specs.Ages.{AreChanged, most_at_boot};
 ghost use Rattle.kept_parts.specs.Kept.{nothing_yet};
 
+use crate::reach::whole_table;
 use crate::task::Task;
 use call_log::Log;
 use fd_tables::Files;
 use mem_files::Tree;
-use mmap_rules::Space;
+use mmap_rules::{Owners, Space};
 use nommu_regions::Regions;
 use phys_mem::PhysMem;
 use recordings::Recording;
@@ -23,6 +24,8 @@ pub struct KeptParts {
     pub mem: PhysMem,
     /// Which of its pages are held.
     pub regions: Regions,
+    /// The table that owns each of its bytes.
+    pub(crate) whole: Owners,
     /// By the number of their load note; None where the space is gone.
     pub spaces: Vec<Option<Space>>,
     /// The files and folders.
@@ -40,17 +43,18 @@ pub struct KeptParts {
 }
 
 impl Model for KeptParts {
-    ghost use Rattle.std.specs.Prelude.{◌≡◌};
+    ghost use Rattle.std.specs.Prelude.{◌≡◌, length};
     ghost use Rattle.kept_parts.specs.Kept.{Kept};
 
     ghost Value = { Kept };
 
     ghost use Rattle.kept_parts.specs.Inside.{kept_of};
+    ghost use Rattle.kept_parts.specs.Reach.{whole_table};
     ghost use Rattle.kept_parts.specs.Regular.{IsRegular};
 
     ghost view = { kept_of };
 
-    ghost invariant = { λ p. IsRegular (kept_of p) × (p.log.spare ≡ 0) };
+    ghost invariant = { λ p. IsRegular (kept_of p) × (p.log.spare ≡ 0) × (p.whole ≡ whole_table (length p.regions.regions)) };
 }
 
 impl KeptParts {
@@ -71,6 +75,7 @@ impl KeptParts {
         Ok(KeptParts {
             mem: PhysMem::new(alloc, pages)?,
             regions: Regions::new(alloc, pages)?,
+            whole: whole_table(alloc, pages)?,
             spaces: Vec::new(alloc),
             tree,
             files,

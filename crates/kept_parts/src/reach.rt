@@ -10,8 +10,9 @@ ghost use Rattle.kept_parts.specs.Reach.{Reaches, whole_table};
 ghost use Rattle.kept_parts.specs.Regular.{HasSpace};
 
 use crate::home::home;
+use crate::kept::KeptParts;
 use call_log::{Note, Seen, SeenKind};
-use mmap_rules::{Owners, PageOwner, Space};
+use mmap_rules::{Owners, PageOwner};
 use rv32im_step::{Access, AccessKind};
 use std::alloc::{AllocError, Global};
 
@@ -25,7 +26,7 @@ pub enum Reach {
 }
 
 /// The table that owns each byte of a memory of so many pages.
-pub fn whole_table(alloc: Global, pages: u32) -> Result<Owners, AllocError>
+pub(crate) fn whole_table(alloc: Global, pages: u32) -> Result<Owners, AllocError>
     requires { pages ≤ 16384 }
     ensures { IfOk result (λ table. table ≡ whole_table pages) }
 {
@@ -37,21 +38,16 @@ pub fn whole_table(alloc: Global, pages: u32) -> Result<Owners, AllocError>
     Ok(Owners::of(vec![in alloc; page; pages as usize]?))
 }
 
-/// The table of the bytes that are reached from the space of a number, which lives.
-pub fn table_of<'a>(
-    spaces: &'a [Option<Space>],
-    number: u32,
-    reach: Reach,
-    whole: &'a Owners,
-) -> &'a Owners
-    requires home { HasSpace spaces.now number }
-    requires pages { (h : Held) → slice_get spaces.now number ≡ Some (Some h) → h.pages ≡ length whole.now }
-    requires whole { whole.now ≡ whole_table (length whole.now) }
-    ensures { (h : Held) → slice_get spaces.now number ≡ Some (Some h) → Reaches reach (length whole.now) h result.now }
-{
-    match reach {
-        Reach::Own => home(spaces, number).owners(),
-        Reach::Whole => whole,
+impl KeptParts {
+    /// The table of the bytes that are reached from the space of a number, which lives.
+    pub fn table_of(&self, number: u32, reach: Reach) -> &Owners
+        requires { HasSpace self.now.spaces number }
+        ensures { (h : Held) → slice_get self.now.spaces number ≡ Some (Some h) → Reaches reach (length self.now.regions) h result.now }
+    {
+        match reach {
+            Reach::Own => home(&self.spaces, number).owners(),
+            Reach::Whole => &self.whole,
+        }
     }
 }
 

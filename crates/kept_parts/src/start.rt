@@ -16,7 +16,7 @@ use crate::kept::KeptParts;
 use crate::task::Task;
 use bflt_format::Flat;
 use call_log::Note;
-use flat_loader::{LoadRefusal, Loaded, load};
+use flat_loader::{LoadRefusal, load};
 use page_runs::{Chooser, Run};
 use recordings::{Launch, Recording};
 use std::alloc::{AllocError, Global};
@@ -126,27 +126,22 @@ impl KeptParts {
             &[],
             chooser,
         );
-        let Loaded {
-            space,
-            regs,
-            base,
-            pages,
-        } = or_unreserve(&mut self.log, loaded)?;
+        let program = or_unreserve(&mut self.log, loaded)?;
         let number = self.spaces.len() as u32;
-        self.spaces.push_reserved(Some(space));
+        self.spaces.push_reserved(Some(program.space));
         let table = self.files.new_table().unwrap();
         let task = Task {
-            regs,
+            regs: program.regs,
             space: number,
             table,
         };
         let pid = self.procs.start(task).unwrap();
-        record_start(&mut self.recording, flat, base, pid, copies, alloc);
+        record_start(&mut self.recording, flat, program.base, pid, copies, alloc);
         let note = Note::Load {
             pid,
             program: index,
-            base,
-            pages,
+            base: program.base,
+            pages: program.pages,
         };
         self.log.push(note).unwrap();
         Ok(())

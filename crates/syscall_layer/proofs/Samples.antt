@@ -1,5 +1,5 @@
 -- Calls of a run that goes on, live copies that hold their file or don't, and what ties the parts of a run, computed from the definitions.
-use Rattle.std.proofs.Common.{◌≡◌, ◌≤◌, ℕ, zero, suc, Bool, true, false, List, [], ◌∷◌, ◌++◌, length, get_or, map, Option, Some, None, refl, ap, subst, arith}
+use Rattle.std.proofs.Common.{◌≡◌, ◌≤◌, ℕ, zero, suc, Bool, true, false, List, [], ◌∷◌, ◌++◌, get_or, map, Option, Some, None, refl, ap, subst, arith}
 use Rattle.std.specs.Prelude.{Result, Ok, Err, codes, option_map, replicate}
 use Rattle.std.proofs.lemmas.Option.{same_Some, none-some}
 use Rattle.byte_words.specs.Patches.{from_base}
@@ -48,7 +48,6 @@ use Rattle.physical_turns.proofs.Samples.{caller, still, rest_of, start, q, load
 use Rattle.kept_parts.specs.Kept.{Kept, nothing_yet}
 use Rattle.kept_parts.specs.Copies.{KnowsFile, HoldsFiles, StillHolds}
 use Rattle.syscall_layer.specs.Parts.{AreTied}
-use Rattle.kept_parts.specs.Reach.{whole_table}
 use Rattle.kept_parts.specs.InMemory.{first_range, called_on}
 use Rattle.kept_parts.proofs.Holding.{unstrayed_holds}
 
@@ -188,14 +187,11 @@ fell knows = let up = knows.up (changed 3) refl in omega (arith, up)
 
 -- ---- what ties the parts of a run
 
-tied : AreTied false (whole_table 2) (with_copy [] 0 [])
-tied = record { noted = refl; whole = refl; unmarked = refl }
+tied : AreTied false (with_copy [] 0 [])
+tied = record { noted = refl; unmarked = refl }
 
-tied_behind : AreTied true (whole_table 2) (with_copy [] 0 (stray_range ∷ []))
-tied_behind = record { noted = refl; whole = refl; unmarked = refl }
+tied_behind : AreTied true (with_copy [] 0 (stray_range ∷ []))
+tied_behind = record { noted = refl; unmarked = refl }
 
-unmarked_stray : AreTied false (whole_table 2) (with_copy [] 0 (stray_range ∷ [])) → ⊥
+unmarked_stray : AreTied false (with_copy [] 0 (stray_range ∷ [])) → ⊥
 unmarked_stray ties = let noted : false ≡ true = ties.noted in cc
-
-short_table : AreTied false (whole_table 1) (with_copy [] 0 []) → ⊥
-short_table ties = let pages = ap length ties.whole in omega (arith, pages)

@@ -1,15 +1,13 @@
 -- The parts of a run.
-use Rattle.std.specs.Prelude.{◌≡◌, Bool, List, [], length, reverse, Option, None}
+use Rattle.std.specs.Prelude.{◌≡◌, Bool, List, [], reverse, Option, None}
 use Rattle.bflt_format.specs.Values.{Values}
 use Rattle.call_log.specs.declared.how.Seen.{Seen}
 use Rattle.call_log.specs.Notes.{Note}
-use Rattle.mmap_rules.specs.declared.owners.PageOwner.{PageOwner}
 use Rattle.physical_turns.specs.Physical.{has_stray}
 use Rattle.region_watch.specs.declared.mode.Mode.{Mode}
 use Rattle.region_watch.specs.declared.mode.Mode.TheVariants.{Halt, GoOn}
 use Rattle.kept_parts.specs.Kept.{Kept}
 use Rattle.kept_parts.specs.Noted.{first_noted}
-use Rattle.kept_parts.specs.Reach.{whole_table}
 
 -- what is kept of all programs, the programs that an execve may run, what becomes of the run at its first stray access, and whether one
 -- was noted
@@ -19,11 +17,9 @@ pub record RunParts : Type 0 where
   pub mode : Mode
   pub noted : Bool
 
--- a stray access is marked as noted exactly where the notes have one; the table owns all of this memory; and no pipe is marked: who waits
--- on one that changed was let go on
-pub record AreTied (marked : Bool) (table : List PageOwner) (k : Kept) : Type 0 where
+-- a stray access is marked as noted exactly where the notes have one, and no pipe is marked: who waits on one that changed was let go on
+pub record AreTied (marked : Bool) (k : Kept) : Type 0 where
   pub noted : marked ≡ has_stray k.notes
-  pub whole : table ≡ whole_table (length k.regions)
   pub unmarked : k.files.changed ≡ []
 
 -- where a run has ended that ends at its first stray access, by its notes, which stand newest first

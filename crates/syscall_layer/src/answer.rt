@@ -29,7 +29,7 @@ ghost use Rattle.kept_parts.specs.declared.reach.Reach.TheVariants.{Own, Whole};
 ghost use Rattle.kept_parts.specs.declared.served.Served.TheVariants.{Replied, TurnEnds, Waits, Stray};
 ghost use Rattle.kept_parts.specs.Copies.{HoldsFiles, StillHolds};
 ghost use Rattle.kept_parts.specs.InMemory.{headers_of, physical_of, ServesIn, InReach, ServesOn, first_range, with_range};
-ghost use Rattle.kept_parts.specs.Reach.{writable, whole_table};
+ghost use Rattle.kept_parts.specs.Reach.{writable};
 ghost use Rattle.kept_parts.specs.Serves.{Answered, Serves, Tells, WaitsAt, went_by};
 ghost use Rattle.mmap_rules.specs.Copies.{IsKnown};
 ghost use Rattle.call_bytes.specs.Puts.{first_stray, access_at, IsRange};
@@ -51,8 +51,8 @@ use bflt_format::Flat;
 use call_bytes::{Unread, got_len, stray_put};
 use call_log::Got;
 use file_calls::{Call, Outcome, output, wait_of};
-use kept_parts::{Effect, KeptParts, Reach, Served, table_of};
-use mmap_rules::{Owners, Want, fits};
+use kept_parts::{Effect, KeptParts, Reach, Served};
+use mmap_rules::{Want, fits};
 use page_runs::{Chooser, Run};
 use phys_mem::PAGE;
 use region_watch::Mode;
@@ -175,21 +175,14 @@ fn answer_change(parts: &mut KeptParts, call: Call) -> Result<Served, AllocError
 }
 
 /// The first range that the bytes of a call may not be written to.
-fn stray_of(
-    parts: &KeptParts,
-    pid: u32,
-    got: &[Got],
-    reach: Reach,
-    whole: &Owners,
-) -> Option<Access>
+fn stray_of(parts: &KeptParts, pid: u32, got: &[Got], reach: Reach) -> Option<Access>
     requires lives { Lives parts.now.procs pid }
-    requires whole { whole.now ≡ whole_table (length parts.now.regions) }
     requires ranges { All IsRange (map written_value got.now) }
     ensures { (e : Entry Task) → (h : Held) → LivesIn parts.now pid e h →
         result ≡ option_map (access_at e.value.regs.pc) (first_stray (writable reach (length parts.now.regions) h) (map written_value got.now)) }
 {
     let task = parts.procs.get(pid);
-    let owners = table_of(&parts.spaces, task.space, reach, whole);
+    let owners = parts.table_of(task.space, reach);
     stray_put(owners, task.regs.pc, got)
 }
 
@@ -236,10 +229,8 @@ pub(crate) fn answer_given(
     call: Call,
     outcome: Outcome,
     reach: Reach,
-    whole: &Owners,
 ) -> Result<Served, AllocError>
     requires ready { CanRun parts.old.procs call.pid }
-    requires whole { whole.now ≡ whole_table (length parts.old.regions) }
     requires strayed { reach ≡ Whole → has_stray parts.old.notes ≡ true }
     requires fits { CanTake parts.old.files outcome.then }
     requires ends { HasEnds parts.old.files call.table outcome.then }
@@ -253,7 +244,7 @@ pub(crate) fn answer_given(
     ensures lives { result ≡ Ok Replied → Lives parts.new.procs call.pid }
     ensures leaves { IfOk result (Tells parts.old parts.new call.pid) }
 {
-    if let Some(access) = stray_of(parts, call.pid, &outcome.got, reach, whole) {
+    if let Some(access) = stray_of(parts, call.pid, &outcome.got, reach) {
         return beyond_reach(parts, call.pid, access, reach);
     }
     if !has_room_with(parts, &call, &outcome.got) {
@@ -264,14 +255,8 @@ pub(crate) fn answer_given(
 }
 
 /// Carries out a call that gives bytes and doesn't wait, where they are within reach and the log has room for them.
-fn answer_output(
-    parts: &mut KeptParts,
-    call: Call,
-    reach: Reach,
-    whole: &Owners,
-) -> Result<Served, AllocError>
+fn answer_output(parts: &mut KeptParts, call: Call, reach: Reach) -> Result<Served, AllocError>
     requires ready { CanRun parts.old.procs call.pid }
-    requires whole { whole.now ≡ whole_table (length parts.old.regions) }
     requires strayed { reach ≡ Whole → has_stray parts.old.notes ≡ true }
     requires output { IsOutput call.number }
     requires replies { DoesNotWait call parts.old.files }
@@ -284,7 +269,7 @@ fn answer_output(
     ensures leaves { IfOk result (Tells parts.old parts.new call.pid) }
 {
     let outcome = outcome_of(parts, &call)?;
-    answer_given(parts, call, outcome, reach, whole)
+    answer_given(parts, call, outcome, reach)
 }
 
 /// Maps what an mmap2 asks for, where the log has room for the call, and for what it would bring where that is recorded.
@@ -372,11 +357,9 @@ fn answer<F: Fn(&[Run], u32) -> Option<usize>>(
     programs: &[Flat],
     chooser: &Chooser<F>,
     reach: Reach,
-    whole: &Owners,
 ) -> Result<Served, AllocError>
     requires chooser { IsChooser F.pre F.post chooser.now }
     requires ready { CanRun parts.old.procs call.pid }
-    requires whole { whole.now ≡ whole_table (length parts.old.regions) }
     requires strayed { reach ≡ Whole → has_stray parts.old.notes ≡ true }
     requires room { slice_index call.args 2 < 2 ^ 32 }
     ensures serves { reach ≡ Own → ForRuns (kind_of chooser.now) programs.now (λ a. StillHolds parts.old → (c : Caller parts.old call) →
@@ -392,8 +375,8 @@ fn answer<F: Fn(&[Run], u32) -> Option<usize>>(
     match class_of(call.number) {
         Class::Exit => answer_exit(parts, call),
         Class::Change => answer_change(parts, call),
-        Class::Output => answer_output(parts, call, reach, whole),
-        Class::Waitid => answer_waitid(parts, call, reach, whole),
+        Class::Output => answer_output(parts, call, reach),
+        Class::Waitid => answer_waitid(parts, call, reach),
         Class::Munmap => answer_unmap(parts, call),
         Class::Clone => answer_clone(parts, call),
         Class::Execve => answer_exec(parts, call, programs, chooser),
@@ -422,11 +405,9 @@ fn answer_and_wake<F: Fn(&[Run], u32) -> Option<usize>>(
     programs: &[Flat],
     chooser: &Chooser<F>,
     reach: Reach,
-    whole: &Owners,
 ) -> Result<Served, AllocError>
     requires chooser { IsChooser F.pre F.post chooser.now }
     requires ready { CanRun parts.old.procs call.pid }
-    requires whole { whole.now ≡ whole_table (length parts.old.regions) }
     requires strayed { reach ≡ Whole → has_stray parts.old.notes ≡ true }
     requires room { slice_index call.args 2 < 2 ^ 32 }
     ensures serves { reach ≡ Own → ForRuns (kind_of chooser.now) programs.now (λ a. StillHolds parts.old → (c : Caller parts.old call) →
@@ -439,7 +420,7 @@ fn answer_and_wake<F: Fn(&[Run], u32) -> Option<usize>>(
     ensures waits { result ≡ Ok Waits → parts.old.files.changed ≡ [] → WaitsAt parts.new.procs call.pid true }
     ensures unnoted { result ≡ Ok Waits → parts.new.notes ≡ parts.old.notes }
 {
-    let served = answer(parts, call, programs, chooser, reach, whole)?;
+    let served = answer(parts, call, programs, chooser, reach)?;
     if went(served) {
         parts.wake_changed();
     }
@@ -455,11 +436,9 @@ pub fn serve_within<F: Fn(&[Run], u32) -> Option<usize>>(
     programs: &[Flat],
     chooser: &Chooser<F>,
     reach: Reach,
-    whole: &Owners,
 ) -> Result<Served, AllocError>
     requires chooser { IsChooser F.pre F.post chooser.now }
     requires ready { CanRun parts.old.procs pid }
-    requires whole { whole.now ≡ whole_table (length parts.old.regions) }
     requires strayed { reach ≡ Whole → has_stray parts.old.notes ≡ true }
     ensures serves { reach ≡ Own → ForRuns (kind_of chooser.now) programs.now (λ a. StillHolds parts.old →
         Serves a (called (world_of a parts.old) pid) parts.old parts.new pid result) }
@@ -475,8 +454,8 @@ pub fn serve_within<F: Fn(&[Run], u32) -> Option<usize>>(
     ensures pages { length parts.new.regions ≡ length parts.old.regions }
     ensures marks { parts.old.files.changed ≡ [] → parts.new.files.changed ≡ [] }
 {
-    match call_of(parts, pid, reach, whole) {
-        Ok(call) => answer_and_wake(parts, call, programs, chooser, reach, whole),
+    match call_of(parts, pid, reach) {
+        Ok(call) => answer_and_wake(parts, call, programs, chooser, reach),
         Err(Unread::Stray { addr, len }) => {
             let access = Access {
                 pc: parts.procs.get(pid).regs.pc,
@@ -504,11 +483,9 @@ fn serve_noted<F: Fn(&[Run], u32) -> Option<usize>>(
     access: Access,
     programs: &[Flat],
     chooser: &Chooser<F>,
-    whole: &Owners,
 ) -> Result<Served, AllocError>
     requires chooser { IsChooser F.pre F.post chooser.now }
     requires ready { CanRun parts.old.procs pid }
-    requires whole { whole.now ≡ whole_table (length parts.old.regions) }
     ensures memory { has_stray parts.old.notes ≡ false → ForRuns (kind_of chooser.now) programs.now (λ a. stray_in (called (world_of a parts.old) pid) ≡ Some access →
         ServesOn (headers_of programs.now) a parts.old parts.new pid result) }
     ensures unchanged { OnErr result (parts.new ≡ parts.old) }
@@ -520,7 +497,7 @@ fn serve_noted<F: Fn(&[Run], u32) -> Option<usize>>(
     ensures marks { IfOk result (λ _. parts.old.files.changed ≡ [] → parts.new.files.changed ≡ []) }
 {
     parts.note_stray(pid, access)?;
-    let served = serve_within(parts, pid, programs, chooser, Reach::Whole, whole);
+    let served = serve_within(parts, pid, programs, chooser, Reach::Whole);
     if served.is_err() {
         parts.take_back();
     }
@@ -560,28 +537,14 @@ pub fn serve<F: Fn(&[Run], u32) -> Option<usize>>(
     ensures waits { result ≡ Ok Waits → WaitsAt parts.new.kept.procs pid true }
 {
     let within = reach_in(parts.mode, parts.reach());
-    let served = serve_within(
-        &mut parts.kept,
-        pid,
-        &parts.programs,
-        chooser,
-        within,
-        &parts.whole,
-    )?;
+    let served = serve_within(&mut parts.kept, pid, &parts.programs, chooser, within)?;
     let Served::Stray(access) = served else {
         return Ok(served);
     };
     match parts.mode {
         Mode::Halt => Ok(served),
         Mode::GoOn => {
-            let served = serve_noted(
-                &mut parts.kept,
-                pid,
-                access,
-                &parts.programs,
-                chooser,
-                &parts.whole,
-            )?;
+            let served = serve_noted(&mut parts.kept, pid, access, &parts.programs, chooser)?;
             parts.noted = true;
             Ok(served)
         }

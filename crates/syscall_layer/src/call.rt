@@ -8,12 +8,11 @@ ghost use Rattle.machine_world.specs.Event.{args_of};
 ghost use Rattle.kept_parts.specs.declared.task.Task.{Task};
 ghost use Rattle.region_watch.specs.Private.{only, physical};
 ghost use Rattle.kept_parts.specs.Calls.{LivesIn, Made};
-ghost use Rattle.kept_parts.specs.Reach.{readable, whole_table};
+ghost use Rattle.kept_parts.specs.Reach.{readable};
 
 use call_bytes::{Unread, read_sent};
 use file_calls::Call;
-use kept_parts::{KeptParts, Reach, table_of};
-use mmap_rules::Owners;
+use kept_parts::{KeptParts, Reach};
 use rv32im_step::Regs;
 
 /// The arguments of the call at which these registers stand.
@@ -26,9 +25,8 @@ fn args_of(regs: &Regs) -> [u32; 6]
 }
 
 /// The call at which a process stands, with the bytes that it reads within this reach.
-pub fn call_of(parts: &KeptParts, pid: u32, reach: Reach, whole: &Owners) -> Result<Call, Unread>
+pub fn call_of(parts: &KeptParts, pid: u32, reach: Reach) -> Result<Call, Unread>
     requires lives { Lives parts.now.procs pid }
-    requires whole { whole.now ≡ whole_table (length parts.now.regions) }
     ensures made { (e : Entry Task) → (h : Held) → LivesIn parts.now pid e h → Made (only (readable reach (length parts.now.regions) h) (physical parts.now.mem)) e result }
     ensures pid { IfOk result (λ call. call.pid ≡ pid) }
     ensures args { IfOk result (λ call. slice_index call.args 2 < 2 ^ 32) }
@@ -37,7 +35,7 @@ pub fn call_of(parts: &KeptParts, pid: u32, reach: Reach, whole: &Owners) -> Res
     let number = task.regs.x[17];
     let args = args_of(&task.regs);
     let alloc = *parts.console.allocator();
-    let owners = table_of(&parts.spaces, task.space, reach, whole);
+    let owners = parts.table_of(task.space, reach);
     match read_sent(alloc, &parts.mem, owners, number, &args) {
         Ok(sent) => Ok(Call {
             pid,

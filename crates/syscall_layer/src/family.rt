@@ -1,6 +1,6 @@
 //! waitid, clone and execve (Linux, wait(2), vfork(2), execve(2), in this project's profile).
 
-ghost use Rattle.std.specs.Prelude.{◌≡◌, ℕ, false, true, IfOk, List, Ok, length, flat_map};
+ghost use Rattle.std.specs.Prelude.{◌≡◌, ℕ, false, true, IfOk, List, Ok, flat_map};
 ghost use Rattle.byteorder.specs.Endian.{little_bytes};
 ghost use Rattle.call_log.specs.Numbers as numbers;
 ghost use Rattle.page_runs.specs.Choosers.{IsChooser, kind_of};
@@ -18,7 +18,6 @@ ghost use Rattle.region_watch.specs.Private.{physical};
 ghost use Rattle.physical_turns.specs.Physical.{has_stray, carried, reaped_in, waitid_in};
 ghost use Rattle.kept_parts.specs.declared.reach.Reach.TheVariants.{Own, Whole};
 ghost use Rattle.kept_parts.specs.InMemory.{headers_of, physical_of, ServesIn, InReach};
-ghost use Rattle.kept_parts.specs.Reach.{whole_table};
 ghost use Rattle.kept_parts.specs.Copies.{HoldsFiles};
 ghost use Rattle.kept_parts.specs.Serves.{Serves, Tells};
 ghost use Rattle.kept_parts.specs.Flats.{ForRuns};
@@ -31,7 +30,6 @@ use call_log::{Errno, Got, How};
 use file_calls::{Call, Outcome, Then};
 use kept_parts::{Effect, KeptParts, Reach, Served};
 use mem_files::Tree;
-use mmap_rules::Owners;
 use page_runs::{Chooser, Run};
 use std::alloc::{AllocError, Global};
 use vfork_exec::{Waited, Who};
@@ -128,10 +126,8 @@ fn answer_told(
     who: Who,
     told: Waited,
     reach: Reach,
-    whole: &Owners,
 ) -> Result<Served, AllocError>
     requires ready { CanRun parts.old.procs call.pid }
-    requires whole { whole.now ≡ whole_table (length parts.old.regions) }
     requires strayed { reach ≡ Whole → has_stray parts.old.notes ≡ true }
     requires told { looked parts.old.procs call.pid who false ≡ Ok told }
     requires waitid { call.number ≡ numbers.waitid }
@@ -145,7 +141,7 @@ fn answer_told(
     let alloc = *parts.console.allocator();
     let pid = call.pid;
     let outcome = told_outcome(alloc, call.args[2], told)?;
-    let served = answer_given(parts, call, outcome, reach, whole)?;
+    let served = answer_given(parts, call, outcome, reach)?;
     if let Served::Replied = served {
         let _ = parts.procs.wait(pid, who, false);
     }
@@ -157,10 +153,8 @@ pub(crate) fn answer_waitid(
     parts: &mut KeptParts,
     call: Call,
     reach: Reach,
-    whole: &Owners,
 ) -> Result<Served, AllocError>
     requires ready { CanRun parts.old.procs call.pid }
-    requires whole { whole.now ≡ whole_table (length parts.old.regions) }
     requires strayed { reach ≡ Whole → has_stray parts.old.notes ≡ true }
     requires waitid { call.number ≡ numbers.waitid }
     ensures serves { reach ≡ Own → (a : About) → (c : Caller parts.old call) →
@@ -183,7 +177,7 @@ pub(crate) fn answer_waitid(
         let _ = parts.procs.wait(call.pid, who, may_wait);
         return Ok(Served::Waits);
     }
-    answer_told(parts, call, who, told, reach, whole)
+    answer_told(parts, call, who, told, reach)
 }
 
 /// Carries out clone, where the log has room for it.

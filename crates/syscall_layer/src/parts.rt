@@ -1,6 +1,6 @@
 //! The parts of a run.
 
-ghost use Rattle.std.specs.Prelude.{◌≡◌, IfOk, option_map};
+ghost use Rattle.std.specs.Prelude.{◌≡◌, option_map};
 ghost use Rattle.machine_world.specs.Turns.{seen_of};
 ghost use Rattle.physical_turns.specs.Physical.{has_stray};
 ghost use Rattle.kept_parts.specs.Awake.{awake_in};
@@ -10,11 +10,9 @@ ghost use Rattle.kept_parts.specs.Reach.{is_whole, reach_of};
 ghost use Rattle.kept_parts.specs.Regular.{IsRegular};
 
 use bflt_format::Flat;
-use kept_parts::{KeptParts, Reach, first_stray, whole_table};
-use mmap_rules::Owners;
+use kept_parts::{KeptParts, Reach, first_stray};
 use region_watch::Mode;
 use rv32im_step::Access;
-use std::alloc::{AllocError, Global};
 use std::marker::Model;
 
 /// What the events of a run change, and beside it what they are carried out by.
@@ -28,8 +26,6 @@ pub struct Parts {
     pub mode: Mode,
     /// Whether a stray access was noted.
     pub noted: bool,
-    /// The table that owns each byte of memory.
-    pub whole: Owners,
 }
 
 impl Model for Parts {
@@ -41,30 +37,23 @@ impl Model for Parts {
 
     ghost view = { parts_of };
 
-    ghost invariant = { λ p. AreTied p.noted p.whole p.kept };
+    ghost invariant = { λ p. AreTied p.noted p.kept };
 }
 
 impl Parts {
     /// A run in this mode over what is kept, with the programs that an execve may run. Those go on that wait on a pipe which changed,
     /// so that no pipe is marked. It looks through the notes for a stray access.
-    pub fn new(
-        alloc: Global,
-        mut kept: KeptParts,
-        programs: Vec<Flat>,
-        mode: Mode,
-    ) -> Result<Parts, AllocError>
-        ensures { IfOk result (λ parts. parts ≡ record { kept = awake_in kept; programs = programs.items; mode = mode; noted = has_stray kept.notes }) }
+    pub fn new(mut kept: KeptParts, programs: Vec<Flat>, mode: Mode) -> Parts
+        ensures { result ≡ record { kept = awake_in kept; programs = programs.items; mode = mode; noted = has_stray kept.notes } }
     {
         kept.wake_changed();
-        let whole = whole_table(alloc, kept.regions.pages())?;
         let noted = kept.has_stray();
-        Ok(Parts {
+        Parts {
             kept,
             programs,
             mode,
             noted,
-            whole,
-        })
+        }
     }
 
     /// What a run that goes on reaches: all of memory behind the note of a stray access.

@@ -110,7 +110,7 @@ fn a_noted_stray_access_opens_nothing(rt: HostRuntime) -> Result<(), Fail> {
     let Some(kept) = begun(rt)? else {
         return Err(Fail::from("not started"));
     };
-    let mut parts = Parts::new(rt.alloc(), kept, Vec::new(rt.alloc()), Mode::Halt)?;
+    let mut parts = Parts::new(kept, Vec::new(rt.alloc()), Mode::Halt);
     assert!(rt; opens_nothing(&mut parts));
     Ok(())
 }

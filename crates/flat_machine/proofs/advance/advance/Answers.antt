@@ -30,6 +30,7 @@ invariant_of-parts g c =
           c.owners.ensures.own c.owners.ensures.writable c.owners.ensures.pages (c.with_windows-watch.ensures.mode ∙ c.mode_within.ensures) c.with_windows-watch.ensures.owners c.with_windows-watch.ensures.mem
           c.run_watched-progress.ensures.leaves c.run_watched-progress.ensures.frozen c.run_watched-progress.ensures.length).regular),
       c.parts.invariant.1,
+      c.parts.invariant.2,
     )
 
 pub returns-in-Some-clause-ready : goal.returns-in-Some-clause-ready

@@ -1,5 +1,5 @@
 -- The events so far, the instructions behind them, and the event behind these.
-use Rattle.std.proofs.Common.{Ok, refl, ◌≡◌, ◌≢◌, ◌+◌, ◌-◌, ◌∙◌, length, sym, ap, rules, arith}
+use Rattle.std.proofs.Common.{Ok, refl, ◌≡◌, ◌≢◌, ◌+◌, ◌-◌, ◌∙◌, length, ap, rules, arith}
 use Rattle.page_runs.specs.Choosers.{kind_of}
 use Rattle.rv32im_step.specs.declared.stop.Stop.TheVariants.{Next}
 use Rattle.physical_turns.specs.Physical.{has_stray}
@@ -7,7 +7,6 @@ use Rattle.fd_tables.specs.Files.{OpenFiles}
 use Rattle.kept_parts.specs.Stands.{later}
 use Rattle.kept_parts.specs.InMemory.{headers_of, physical_of}
 use Rattle.kept_parts.specs.Kept.{Kept}
-use Rattle.kept_parts.specs.Reach.{whole_table}
 use Rattle.flat_machine.specs.declared.run.End.{End}
 use Rattle.flat_machine.specs.declared.run.End.TheVariants.{Stray}
 use Rattle.flat_machine.specs.declared.turn.After.TheVariants.{RunEnds}
@@ -61,10 +60,6 @@ returns-then-eq-clause-memory g c =
     turn_all_in (kind_of c.args.chooser.now) c.args.programs.now c.args.reach c.args.pid c.args.parts.now c.advance-progress.new.parts c.advance-progress.new.parts (c.loop-events.events + c.advance-progress.result.done) c.args.count (omega arith)
     (reached_in_on (kind_of c.args.chooser.now) c.args.programs.now c.args.pid c.args.parts.now c.loop-events.parts c.advance-progress.new.parts c.loop-events.events c.advance-progress.result.done c.loop-events.invariant.leads_in
     (λ b same are. c.advance-progress.ensures.leads_in (headers_of c.args.programs.now) b))
-
-pub next_event-requires-clause-whole : goal.next_event-requires-clause-whole
-next_event-requires-clause-whole g c =
-    c.requires.whole ∙ ap whole_table (sym (c.advance-progress.ensures.regions ∙ c.loop-events.invariant.regions))
 
 pub next_event-requires-clause-strayed : goal.next_event-requires-clause-strayed
 next_event-requires-clause-strayed g c =

@@ -28,6 +28,7 @@ invariant_of-parts c =
         c.parts.invariant.0.1,
       ),
       c.parts.invariant.1,
+      c.parts.invariant.2,
     )
 
 pub returns-clause-waits : goal.returns-clause-waits

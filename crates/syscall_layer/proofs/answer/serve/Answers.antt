@@ -9,7 +9,7 @@ use Rattle.kept_parts.specs.Kept.{Kept}
 use Rattle.kept_parts.specs.Stands.{About}
 use Rattle.kept_parts.specs.Flats.{AreFlats}
 use Rattle.kept_parts.specs.InMemory.{headers_of, physical_of, InReach}
-use Rattle.kept_parts.specs.Reach.{is_whole, whole_table}
+use Rattle.kept_parts.specs.Reach.{is_whole}
 use Rattle.kept_parts.proofs.Holding.{unstrayed_holds}
 use Rattle.syscall_layer.proofs.CallsOn.{serves_unstrayed, notes_unstrayed, strays_by, notes_noted}
 use Rattle.syscall_layer.proofs.answer.serve.Goals as goal
@@ -54,7 +54,6 @@ invariant_of-parts-in-GoOn g c =
     let remains = c.in_ok-served-in-GoOn.ensures in
     record {
       noted = sym remains.strayed;
-      whole = c.parts.invariant.whole ∙ ap whole_table (sym (remains.pages ∙ c.serve_within.ensures.pages));
       unmarked = remains.marks (c.serve_within.ensures.marks c.parts.invariant.unmarked);
     }
 

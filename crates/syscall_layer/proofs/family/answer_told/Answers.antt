@@ -56,6 +56,7 @@ invariant_of-parts c =
         c.parts-2.invariant.0.1,
       ),
       c.parts-2.invariant.1,
+      c.parts-2.invariant.2,
     )
 
 pub returns-in-Replied-clause-serves : goal.returns-in-Replied-clause-serves

@@ -69,6 +69,7 @@ invariant_of-parts c =
         c.parts.invariant.0.1,
       ),
       c.parts.invariant.1,
+      c.parts.invariant.2,
     )
 
 pub returns-in-Waits-clause-serves : goal.returns-in-Waits-clause-serves

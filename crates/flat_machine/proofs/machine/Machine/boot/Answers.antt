@@ -72,7 +72,7 @@ invariant_of-result g c =
     let first_is = boots_from a c.args.setup.pages c.args.setup.tree c.in_ok-files.files.open_files c.args.setup.keep rest c.in_ok-parts.parts (lines_of c.deref-start-items.result.now) c.in_ok-parts.ensures (ap (λ (files : OpenFiles). record rest { files = files }) c.in_ok-files.ensures) refl in
     let all = left_none c.deref-start-items.result.now c.loop-start.start-index (world_of a c.loop-start.parts) (all_started (world_of a c.in_ok-parts.parts) (lines_of c.deref-start-items.result.now))
     c.loop-start-test.false c.loop-start.invariant.left in
-    let parts_is = parts_boot rest (lines_of c.deref-start-items.result.now) a c.loop-start.parts refl (sym (all ∙ first_is)) _ c.args.setup.programs.items c.args.setup.mode c.in_ok-new.ensures in
+    let parts_is = parts_boot rest (lines_of c.deref-start-items.result.now) a c.loop-start.parts refl (sym (all ∙ first_is)) _ c.args.setup.programs.items c.args.setup.mode c.new-3.ensures in
     let same : length (paths_of c.args.setup.paths.items) ≡ length c.args.setup.programs.items = length-map c.args.setup.paths.items (λ p. p.items) ∙ c.requires.paths in
     let few : length (lines_of c.deref-start-items.result.now) ≤ most_entries = let items = c.deref-start-items.ensures.value in omega (arith, c.requires.starts, length-map c.deref-start-items.result.now line_of, ap (λ (starts : List StartItem). length starts) items) in
     let loads = machine_loads rest (lines_of c.deref-start-items.result.now) a c.loop-start.parts (all ∙ first_is) in
@@ -90,7 +90,7 @@ returns-clause-world g c =
     let first_is = boots_from a c.args.setup.pages c.args.setup.tree c.in_ok-files.files.open_files c.args.setup.keep rest c.in_ok-parts.parts (lines_of c.deref-start-items.result.now) c.in_ok-parts.ensures (ap (λ (files : OpenFiles). record rest { files = files }) c.in_ok-files.ensures) refl in
     let all = left_none c.deref-start-items.result.now c.loop-start.start-index (world_of a c.loop-start.parts) (all_started (world_of a c.in_ok-parts.parts) (lines_of c.deref-start-items.result.now))
     c.loop-start-test.false c.loop-start.invariant.left in
-    let parts_is = parts_boot rest (lines_of c.deref-start-items.result.now) a c.loop-start.parts refl (sym (all ∙ first_is)) _ c.args.setup.programs.items c.args.setup.mode c.in_ok-new.ensures in
+    let parts_is = parts_boot rest (lines_of c.deref-start-items.result.now) a c.loop-start.parts refl (sym (all ∙ first_is)) _ c.args.setup.programs.items c.args.setup.mode c.new-3.ensures in
     let kind = c.kind.ensures in
     rw (parts_is, ← c.deref-start-items.ensures.value, kind)
     (machine_boots (world_of a c.loop-start.parts)
@@ -104,7 +104,7 @@ returns-clause-alone g c =
     let first_is = boots_from a c.args.setup.pages c.args.setup.tree c.in_ok-files.files.open_files c.args.setup.keep rest c.in_ok-parts.parts (lines_of c.deref-start-items.result.now) c.in_ok-parts.ensures (ap (λ (files : OpenFiles). record rest { files = files }) c.in_ok-files.ensures) refl in
     let all = left_none c.deref-start-items.result.now c.loop-start.start-index (world_of a c.loop-start.parts) (all_started (world_of a c.in_ok-parts.parts) (lines_of c.deref-start-items.result.now))
     c.loop-start-test.false c.loop-start.invariant.left in
-    let parts_is = parts_boot rest (lines_of c.deref-start-items.result.now) a c.loop-start.parts refl (sym (all ∙ first_is)) _ c.args.setup.programs.items c.args.setup.mode c.in_ok-new.ensures in
+    let parts_is = parts_boot rest (lines_of c.deref-start-items.result.now) a c.loop-start.parts refl (sym (all ∙ first_is)) _ c.args.setup.programs.items c.args.setup.mode c.new-3.ensures in
     let kind = c.kind.ensures in
     rw (parts_is, ← c.deref-start-items.ensures.value, kind)
     (boots_begin_stays rest (lines_of c.deref-start-items.result.now) (world_of a c.loop-start.parts) (record { some = c.requires.some; most = c.requires.most; changes = c.requires.changes }) (sym (all ∙ first_is)))
@@ -116,7 +116,7 @@ returns-clause-waits g c =
     let first_is = boots_from a c.args.setup.pages c.args.setup.tree c.in_ok-files.files.open_files c.args.setup.keep rest c.in_ok-parts.parts (lines_of c.deref-start-items.result.now) c.in_ok-parts.ensures (ap (λ (files : OpenFiles). record rest { files = files }) c.in_ok-files.ensures) refl in
     let all = left_none c.deref-start-items.result.now c.loop-start.start-index (world_of a c.loop-start.parts) (all_started (world_of a c.in_ok-parts.parts) (lines_of c.deref-start-items.result.now))
     c.loop-start-test.false c.loop-start.invariant.left in
-    let parts_is = parts_boot rest (lines_of c.deref-start-items.result.now) a c.loop-start.parts refl (sym (all ∙ first_is)) _ c.args.setup.programs.items c.args.setup.mode c.in_ok-new.ensures in
+    let parts_is = parts_boot rest (lines_of c.deref-start-items.result.now) a c.loop-start.parts refl (sym (all ∙ first_is)) _ c.args.setup.programs.items c.args.setup.mode c.new-3.ensures in
     let few : length (lines_of c.deref-start-items.result.now) ≤ most_entries = let items = c.deref-start-items.ensures.value in omega (arith, c.requires.starts, length-map c.deref-start-items.result.now line_of, ap (λ (starts : List StartItem). length starts) items) in
     let kind = c.kind.ensures in
     rw (parts_is, kind)
@@ -124,7 +124,7 @@ returns-clause-waits g c =
 
 pub returns-clause-quiet : goal.returns-clause-quiet
 unfolding world_of
-returns-clause-quiet g c = rw c.in_ok-new.ensures c.loop-start.invariant.quiet
+returns-clause-quiet g c = rw c.new-3.ensures c.loop-start.invariant.quiet
 
 pub returns-clause-memory : goal.returns-clause-memory
 returns-clause-memory g c =
@@ -133,6 +133,6 @@ returns-clause-memory g c =
     let first_is = boots_from a c.args.setup.pages c.args.setup.tree c.in_ok-files.files.open_files c.args.setup.keep rest c.in_ok-parts.parts (lines_of c.deref-start-items.result.now) c.in_ok-parts.ensures (ap (λ (files : OpenFiles). record rest { files = files }) c.in_ok-files.ensures) refl in
     let all = left_none c.deref-start-items.result.now c.loop-start.start-index (world_of a c.loop-start.parts) (all_started (world_of a c.in_ok-parts.parts) (lines_of c.deref-start-items.result.now))
     c.loop-start-test.false c.loop-start.invariant.left in
-    let parts_is = parts_boot rest (lines_of c.deref-start-items.result.now) a c.loop-start.parts refl (sym (all ∙ first_is)) _ c.args.setup.programs.items c.args.setup.mode c.in_ok-new.ensures in
+    let parts_is = parts_boot rest (lines_of c.deref-start-items.result.now) a c.loop-start.parts refl (sym (all ∙ first_is)) _ c.args.setup.programs.items c.args.setup.mode c.new-3.ensures in
     let kind = c.kind.ensures in
     rw (parts_is, kind) (opened (headers_of c.args.setup.programs.items) a c.loop-start.parts c.loop-start.invariant.laid)

@@ -47,7 +47,7 @@ stays c =
     λ i. record k { tree = sym same.0 i; files = sym same.1 i; console = sym same.2 i; notes = sym (c.or_unreserve.ensures.notes ∙ c.reserve.ensures.same) i }
 
 pub invariant_of-self-in_err-value : goal.invariant_of-self-in_err-value
-invariant_of-self-in_err-value c = (subst IsRegular (stays c) c.self.invariant.0, search rules)
+invariant_of-self-in_err-value c = (subst IsRegular (stays c) c.self.invariant.0, search rules, c.self.invariant.2)
 
 pub returns-in_err-value-clause-holds : goal.returns-in_err-value-clause-holds
 returns-in_err-value-clause-holds c = holds_inside (left c) c.args.self.now (sym (stays c) ∙ c.self.view_is)
@@ -78,6 +78,7 @@ invariant_of-self-2 c =
             (rw (← c.in_ok-value.ensures.same) at (c.change-changed.ensures.changes (plain_ask k call) made (record { tree = refl; files = refl; console = refl }))) counted (call_strays call c.in_ok-value.value _ k.notes _ noted),
       ),
       search rules,
+      c.self.invariant.2,
     )
 
 pub returns-clause-changes : goal.returns-clause-changes

@@ -14,7 +14,7 @@ pub invariant_of-self : goal.invariant_of-self
 invariant_of-self c =
     let k = kept_of c.self.inside in
     let runs = subst (λ (s : Kept). CanRun s.procs c.args.pid) (sym c.self.view_is) c.requires in
-    (kept_ended k c.args.pid c.args.how c.get.result.now runs c.get.ensures c.drop_table.new.tree c.drop_table.new.self.open_files c.end.new.self c.drop_table.ensures.storage c.end.ensures c.self.invariant.0, c.self.invariant.1)
+    (kept_ended k c.args.pid c.args.how c.get.result.now runs c.get.ensures c.drop_table.new.tree c.drop_table.new.self.open_files c.end.new.self c.drop_table.ensures.storage c.end.ensures c.self.invariant.0, c.self.invariant.1, c.self.invariant.2)
 
 pub give_up-requires-clause-nobody : goal.give_up-requires-clause-nobody
 give_up-requires-clause-nobody c =
@@ -27,7 +27,7 @@ pub invariant_of-self-else-not-lent : goal.invariant_of-self-else-not-lent
 invariant_of-self-else-not-lent c =
     let k = kept_of c.self.inside in
     let runs = subst (λ (s : Kept). CanRun s.procs c.args.pid) (sym c.self.view_is) c.requires in
-    (kept_ended k c.args.pid c.args.how c.get.result.now runs c.get.ensures c.drop_table.new.tree c.drop_table.new.self.open_files c.end.new.self c.drop_table.ensures.storage c.end.ensures c.self.invariant.0, c.self.invariant.1)
+    (kept_ended k c.args.pid c.args.how c.get.result.now runs c.get.ensures c.drop_table.new.tree c.drop_table.new.self.open_files c.end.new.self c.drop_table.ensures.storage c.end.ensures c.self.invariant.0, c.self.invariant.1, c.self.invariant.2)
 
 pub returns-then-not-lent-clause-goes : goal.returns-then-not-lent-clause-goes
 returns-then-not-lent-clause-goes c = λ e h.

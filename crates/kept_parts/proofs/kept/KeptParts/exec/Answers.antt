@@ -10,10 +10,12 @@ use Rattle.kept_parts.specs.declared.served.Served.TheVariants.{Replied}
 use Rattle.kept_parts.specs.Kept.{Kept}
 use Rattle.kept_parts.specs.Inside.{kept_of}
 use Rattle.kept_parts.specs.Calls.{noted_call}
+use Rattle.kept_parts.specs.Reach.{whole_table}
 use Rattle.kept_parts.specs.Recorded.{event_recorded, program_recorded, room_beside}
 use Rattle.kept_parts.proofs.Recorded.{room_inside}
 use Rattle.kept_parts.proofs.Families.{can_run_lives}
 use Rattle.kept_parts.proofs.Boots.{same_parts}
+use Rattle.kept_parts.proofs.Loaded.{pages_loaded}
 use Rattle.kept_parts.proofs.ExecSteps.{Begun, begun_by, number_fits, sound_by, there_by, nobody_by, serves_lent, serves_own, holds_begun, holds_refused, ExecServes, refused_big, refused_run}
 use Rattle.kept_parts.proofs.ExecMemory.{ExecServesIn, memory_lent, memory_own, refused_big_in, refused_run_in}
 use Rattle.kept_parts.proofs.Holding.{holds_inside}
@@ -53,7 +55,7 @@ begun : (g : Over) (c : After-note_exec g) → Begun (kept_of c.self.inside) (ne
 begun g c =
     let k : Kept = kept_of c.self.inside in
     let n : Kept = new_parts g c in
-    let loaded = c.in-Ok.field-0 in
+    let loaded = c.in-Ok.program in
     let is : IsLoaded (kind_of c.args.chooser.now) c.args.flat.now (texts c.args.strings.args.items) (texts c.args.strings.env.items) k.regions k.mem n.regions n.mem loaded = search rules in
     let spaces : n.spaces ≡ k.spaces ++ Some loaded.space ∷ [] = search rules in
     let number : c.len-number.result ≡ length k.spaces = search rules in
@@ -62,6 +64,9 @@ begun g c =
     (record { stack = c.args.flat.now.stack; base = loaded.base; pid = c.args.call.pid; args = texts c.args.strings.args.items; env = texts c.args.strings.env.items }) = search rules in
     begun_by k n c.args.call _ c.args.index c.args.flat.now _ _ loaded c.get-task.result.now c.len-number.result is c.load-loaded.ensures.ids c.get-task.ensures spaces number
     c.switch.ensures c.exec_close.ensures.storage notes refl recorded
+
+whole_behind : (g : Over) (c : After-note_exec g) → c.self.inside.whole ≡ whole_table (length (new_parts g c).regions)
+whole_behind g c = c.self.invariant.2 ∙ ap whole_table (sym (pages_loaded _ _ _ _ _ _ _ _ _ (begun g c).is))
 
 pub overflow_cast-number : goal.overflow_cast-number
 overflow_cast-number g c =
@@ -73,7 +78,7 @@ overflow_cast-number g c =
 pub invariant_of-self-then-not-lent : goal.invariant_of-self-then-not-lent
 invariant_of-self-then-not-lent g c =
     let at = goal.at.invariant_of-self-then-not-lent g c in
-    (sound_by (kept_of c.self.inside) (new_parts g at.After-note_exec) c.self.invariant.0.0 c.args.call c.get-task.result.now _ c.args.index c.args.flat.now _ _ (begun g at.After-note_exec) c.self.invariant.0.1 (ready_in g at.After-load-loaded), search rules)
+    (sound_by (kept_of c.self.inside) (new_parts g at.After-note_exec) c.self.invariant.0.0 c.args.call c.get-task.result.now _ c.args.index c.args.flat.now _ _ (begun g at.After-note_exec) c.self.invariant.0.1 (ready_in g at.After-load-loaded), search rules, whole_behind g at.After-note_exec)
 
 pub give_up-requires-clause-there : goal.give_up-requires-clause-there
 give_up-requires-clause-there g c =
@@ -91,7 +96,7 @@ give_up-requires-clause-nobody g c =
 pub invariant_of-self-else-not-lent : goal.invariant_of-self-else-not-lent
 invariant_of-self-else-not-lent g c =
     let at = goal.at.invariant_of-self-else-not-lent g c in
-    (sound_by (kept_of c.self.inside) (new_parts g at.After-note_exec) c.self.invariant.0.0 c.args.call c.get-task.result.now _ c.args.index c.args.flat.now _ _ (begun g at.After-note_exec) c.self.invariant.0.1 (ready_in g at.After-load-loaded), search rules)
+    (sound_by (kept_of c.self.inside) (new_parts g at.After-note_exec) c.self.invariant.0.0 c.args.call c.get-task.result.now _ c.args.index c.args.flat.now _ _ (begun g at.After-note_exec) c.self.invariant.0.1 (ready_in g at.After-load-loaded), search rules, whole_behind g at.After-note_exec)
 
 pub returns-then-not-lent-clause-serves : goal.returns-then-not-lent-clause-serves
 returns-then-not-lent-clause-serves g c =

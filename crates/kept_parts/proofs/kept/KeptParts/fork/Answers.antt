@@ -58,6 +58,7 @@ invariant_of-self-in-Ok c =
         copies_called k c.self.invariant.0.1 c.finish.new.log.notes counted (call_strays call c.in-Ok.pid _ k.notes c.finish.new.log.notes noted),
       ),
       search rules,
+      c.self.invariant.2,
     )
 
 pub returns-clause-forks : goal.returns-clause-forks

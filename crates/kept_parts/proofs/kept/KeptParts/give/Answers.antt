@@ -75,6 +75,7 @@ invariant_of-self-2 c =
             c.finish.new.log.notes counted (call_strays call c.args.outcome.value gots k.notes c.finish.new.log.notes (noted_so c)),
       ),
       search rules,
+      c.self.invariant.2,
     )
 
 pub returns-clause-gives : goal.returns-clause-gives

@@ -18,6 +18,7 @@ use Rattle.physical_turns.specs.Physical.{Physical, after, carried}
 use Rattle.kept_parts.specs.declared.task.Task.{Task}
 use Rattle.kept_parts.specs.Kept.{Kept}
 use Rattle.kept_parts.specs.Inside.{kept_of}
+use Rattle.kept_parts.specs.Reach.{whole_table}
 use Rattle.kept_parts.specs.Regular.{IsRegular}
 use Rattle.kept_parts.specs.Copies.{StillHolds}
 use Rattle.kept_parts.specs.Stands.{later, world_of}
@@ -92,7 +93,7 @@ stays g c =
     }
 
 pub invariant_of-self-in_err-value : goal.invariant_of-self-in_err-value
-invariant_of-self-in_err-value g c = (subst IsRegular (stays g c) c.self.invariant.0, search rules)
+invariant_of-self-in_err-value g c = (subst IsRegular (stays g c) c.self.invariant.0, search rules, c.self.invariant.2 ∙ ap (λ (k : Kept). whole_table (length k.regions)) (stays g c))
 
 pub returns-in_err-value-clause-changes : goal.returns-in_err-value-clause-changes
 returns-in_err-value-clause-changes g c = λ a kind unstrayed caller.
@@ -159,6 +160,7 @@ invariant_of-self-2 g c =
         keeps.1 c.finish.new.log.notes (omega (arith, counted)) (call_strays c.args.call c.in_ok-value.value [] k.notes c.finish.new.log.notes (noted g c)),
       ),
       search rules,
+      c.self.invariant.2 ∙ ap whole_table (sym keeps.2),
     )
 
 -- what is recorded

@@ -55,6 +55,7 @@ invariant_of-self-2 c =
         copies_called k c.self.invariant.0.1 c.finish.new.log.notes counted (call_strays c.args.call c.settle-value.result _ k.notes _ noted),
       ),
       search rules,
+      c.self.invariant.2,
     )
 
 pub returns-clause-replies : goal.returns-clause-replies

@@ -12,6 +12,7 @@ use Rattle.kept_parts.specs.Kept.{Kept}
 use Rattle.kept_parts.specs.Inside.{kept_of}
 use Rattle.kept_parts.specs.Calls.{noted_call, Changed, Caller, asked_by}
 use Rattle.kept_parts.specs.MapsIn.{UnmapsIn}
+use Rattle.kept_parts.specs.Reach.{whole_table}
 use Rattle.kept_parts.specs.Recorded.{event_recorded}
 use Rattle.kept_parts.proofs.Recorded.{room_left}
 use Rattle.kept_parts.proofs.Runs.{value_found, has_space}
@@ -77,6 +78,7 @@ invariant_of-self-2 c =
         keeps.1 c.finish.new.log.notes (omega (arith, counted)) (call_strays c.args.call c.status-value.result [] k.notes c.finish.new.log.notes (noted c)),
       ),
       search rules,
+      c.self.invariant.2 ∙ ap whole_table (sym keeps.2),
     )
 
 pub returns-clause-changes : goal.returns-clause-changes

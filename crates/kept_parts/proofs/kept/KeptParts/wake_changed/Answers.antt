@@ -10,7 +10,7 @@ use Rattle.kept_parts.proofs.Wakes.{awake_last, awake_next, awake_world, regular
 use Rattle.kept_parts.proofs.kept.KeptParts.wake_changed.Goals as goal
 
 pub loop-pipe-init : goal.loop-pipe-init
-loop-pipe-init c = (refl, c.self.invariant.1)
+loop-pipe-init c = (refl, c.self.invariant.1, c.self.invariant.2)
 
 pub loop-pipe-smaller : goal.loop-pipe-smaller
 loop-pipe-smaller c = omega (arith, ap length c.in-Some.ensures.changed.0)
@@ -21,6 +21,7 @@ loop-pipe-preserved c = (
       ∙ awake_next (kept_of c.loop-pipe.self-inside) c.in-Some.pipe c.next_changed.new.self.open_files c.in-Some.ensures.changed
       ∙ c.loop-pipe.invariant.0,
   c.loop-pipe.invariant.1,
+  c.loop-pipe.invariant.2,
 )
 
 pub invariant_of-self : goal.invariant_of-self
@@ -28,6 +29,7 @@ invariant_of-self c = (
   subst IsRegular (sym (awake_last (kept_of c.loop-pipe.self-inside) c.next_changed.new.self.open_files c.in_default.ensures.changed ∙ c.loop-pipe.invariant.0))
       (regular_awake (kept_of c.self.inside) c.self.invariant.0),
   c.loop-pipe.invariant.1,
+  c.loop-pipe.invariant.2,
 )
 
 pub returns-clause-kept : goal.returns-clause-kept

@@ -24,4 +24,5 @@ invariant_of-parts c =
         c.parts.invariant.0.1,
       ),
       c.parts.invariant.1,
+      c.parts.invariant.2,
     )

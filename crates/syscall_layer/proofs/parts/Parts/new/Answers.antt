@@ -1,14 +1,12 @@
--- The table has as many pages as there are regions, and no pipe is marked once those went on that wait on one that changed.
-use Rattle.std.proofs.Common.{◌≡◌, length, ap, ◌∙◌}
+-- No pipe is marked once those went on that wait on one that changed.
+use Rattle.std.proofs.Common.{◌≡◌, ap, ◌∙◌}
 use Rattle.physical_turns.specs.Physical.{has_stray}
 use Rattle.kept_parts.specs.Kept.{Kept}
-use Rattle.kept_parts.specs.Reach.{whole_table}
 use Rattle.syscall_layer.proofs.parts.Parts.new.Goals as goal
 
 pub invariant_of-result : goal.invariant_of-result
 invariant_of-result c = record {
   noted = c.has_stray-noted.ensures;
-  whole = c.in_ok-whole.ensures ∙ ap whole_table (c.pages.ensures.pages ∙ ap (λ (k : Kept). length k.regions) c.kept.view_is);
   unmarked = ap (λ (k : Kept). k.files.changed) c.wake_changed.ensures.kept;
 }
 
