@@ -11,6 +11,9 @@ ghost use Rattle.region_watch.specs.Watched.{first_stray};
 use crate::watch::Watch;
 use rv32im_step::{RegisterFile, Regs, Stop, step_at};
 
+/// The fewest instructions for which a watch of its own pays.
+const FEW: u32 = 16;
+
 /// How far a program came.
 #[derive(Clone, Copy, PartialEq, Eq)]
 pub struct Progress {
@@ -28,6 +31,32 @@ fn carried_out(count: u32, left: u32) -> u32
     ensures { result ≡ count - left }
 {
     count - left
+}
+
+/// How far a program came that stands at a call.
+#[inline(never)]
+fn at_call(count: u32, left: u32) -> Progress
+    requires { left ≤ count }
+    ensures done { result.done ≡ count - left }
+    ensures stop { result.stop ≡ Stop.Call }
+{
+    Progress {
+        done: count - left,
+        stop: Stop::Call,
+    }
+}
+
+/// How far a program came that gets a signal.
+#[inline(never)]
+fn at_trap(count: u32, left: u32, signal: u32) -> Progress
+    requires { left ≤ count }
+    ensures done { result.done ≡ count - left }
+    ensures stop { result.stop ≡ Stop.Trap signal }
+{
+    Progress {
+        done: count - left,
+        stop: Stop::Trap(signal),
+    }
 }
 
 /// `run_steps` of registers that are taken apart, so that pc is a number by itself.
@@ -48,18 +77,52 @@ fn steps_at(pc: &mut u32, x: &mut RegisterFile, watch: &mut Watch<'_>, count: u3
     let mut left = count;
     while left > 0 {
         let stop = step_at(pc, x, watch);
-        if stop != Stop::Next {
-            return Progress {
-                done: carried_out(count, left),
-                stop,
-            };
+        match stop {
+            Stop::Next => left -= 1,
+            Stop::Call => return at_call(count, left),
+            Stop::Trap(signal) => return at_trap(count, left, signal),
+            Stop::Refused(access) => {
+                return Progress {
+                    done: carried_out(count, left),
+                    stop: Stop::Refused(access),
+                };
+            }
         }
-        left -= 1;
     }
     Progress {
         done: count,
         stop: Stop::Next,
     }
+}
+
+/// `steps_at` over a watch of its own, whose fields stay in registers. It takes some thirty instructions of the host to make it, and
+/// saves three for each that is carried out.
+#[inline]
+fn steps_in(pc: &mut u32, x: &mut RegisterFile, watch: &mut Watch<'_>, count: u32) -> Progress
+    ensures leaves { ran (registers pc.new x.new) (passed_bytes watch.old.mode watch.old.owners.now watch.new.mem.now) result.done result.stop
+        ≡ instructions count (passes watch.old.mode watch.old.owners.now true) (registers pc.old x.old) (passed_bytes watch.old.mode watch.old.owners.now watch.old.mem.now) }
+    ensures frozen { kept_bytes watch.old.mode watch.old.owners.now watch.new.mem.now ≡ kept_bytes watch.old.mode watch.old.owners.now watch.old.mem.now }
+    ensures length { length watch.new.mem.now ≡ length watch.old.mem.now }
+    ensures owners { watch.new.owners.now ≡ watch.old.owners.now }
+    ensures mode { watch.new.mode ≡ watch.old.mode }
+    ensures first { first_stray watch.new ≡ noted_all watch.old.owners.now (first_stray watch.old)
+        (all_asked count (passes watch.old.mode watch.old.owners.now true) (registers pc.old x.old) (passed_bytes watch.old.mode watch.old.owners.now watch.old.mem.now)) }
+    ensures halts { watch.old.mode ≡ Halt → first_stray watch.new ≡ noted_stop (first_stray watch.old) result.stop }
+    ensures same_reference { watch.new.mem.ghost_name ≡ watch.old.mem.ghost_name }
+{
+    let mut own = Watch {
+        mem: &mut *watch.mem,
+        owners: watch.owners,
+        mode: watch.mode,
+        from: watch.from,
+        reach: watch.reach,
+        second_from: watch.second_from,
+        second_reach: watch.second_reach,
+        first: watch.first,
+    };
+    let progress = steps_at(pc, x, &mut own, count);
+    watch.first = own.first;
+    progress
 }
 
 /// Carries out up to `count` instructions, and stops at the first that isn't carried out.
@@ -78,7 +141,11 @@ pub fn run_steps(regs: &mut Regs, watch: &mut Watch<'_>, count: u32) -> Progress
 {
     let mut pc = regs.pc;
     let mut x = RegisterFile::of(&regs.x);
-    let progress = steps_at(&mut pc, &mut x, watch, count);
+    let progress = if count < FEW {
+        steps_at(&mut pc, &mut x, watch, count)
+    } else {
+        steps_in(&mut pc, &mut x, watch, count)
+    };
     *regs = Regs { pc, x: x.array() };
     progress
 }

@@ -36,13 +36,13 @@ pub struct Watch<'a> {
     /// What becomes of a stray access.
     pub mode: Mode,
     /// Where the window begins.
-    from: u32,
+    pub(crate) from: u32,
     /// How many addresses from there on begin an access of 4 bytes within the window.
-    reach: u32,
+    pub(crate) reach: u32,
     /// The same of a second window.
-    second_from: u32,
-    second_reach: u32,
-    first: Option<Access>,
+    pub(crate) second_from: u32,
+    pub(crate) second_reach: u32,
+    pub(crate) first: Option<Access>,
     ghost paged: { length mem.now ≡ 4096 * length owners.now },
     ghost window: { 0 < reach → may_use (owns owners.now true) from (reach + 3) ≡ true },
     ghost second: { 0 < second_reach → may_use (owns owners.now true) second_from (second_reach + 3) ≡ true },
@@ -166,11 +166,26 @@ impl<'a> Watch<'a> {
         if access.addr.wrapping_sub(self.from) < self.reach {
             return true;
         }
-        let distance = access.addr.wrapping_sub(self.second_from);
-        if distance < self.second_reach {
+        if access.addr >= self.second_from && access.addr - self.second_from < self.second_reach {
             return true;
         }
         self.looks_up(access, write)
+    }
+
+    /// Whether a fetch is to be carried out. A program's code stands in its block, so that the second window isn't asked.
+    #[inline]
+    fn allows_fetch(&mut self, access: Access) -> bool
+        requires { access.len ≤ 4 }
+        ensures answer { result ≡ may_use (passes self.old.mode self.old.owners.now false) access.addr access.len }
+        ensures mem { self.new.mem ≡ self.old.mem }
+        ensures owners { self.new.owners ≡ self.old.owners }
+        ensures mode { self.new.mode ≡ self.old.mode }
+        ensures first { first_stray self.new ≡ noted (first_stray self.old) access (may_use (owns self.old.owners.now false) access.addr access.len) }
+    {
+        if access.addr.wrapping_sub(self.from) < self.reach {
+            return true;
+        }
+        self.looks_up(access, false)
     }
 
     /// Whether the system call at `pc` may read a range.
@@ -259,7 +274,7 @@ impl Bus for Watch<'_> {
             len: 4,
             kind: AccessKind::Fetch,
         };
-        if self.allows(access, false) {
+        if self.allows_fetch(access) {
             Ok(self.mem.get(pc, 4))
         } else {
             Err(access)
@@ -275,7 +290,7 @@ impl Bus for Watch<'_> {
             len: 4,
             kind: AccessKind::Fetch,
         };
-        if !self.allows(access, false) {
+        if !self.allows_fetch(access) {
             return Err(access);
         }
         Ok(self.mem.instr(pc))

@@ -21,6 +21,14 @@ const ILLEGAL: u32 = 4;
 /// The signal of EBREAK.
 const BREAKPOINT: u32 = 5;
 
+/// The signal of EBREAK. It stands apart, so that its arm is more than a value, which would be made ready before each jump to an arm.
+#[inline(never)]
+fn breakpoint() -> u32
+    ensures { result ≡ 5 }
+{
+    BREAKPOINT
+}
+
 /// Carries out one instruction. The one match over all of them is one jump.
 #[inline]
 #[tactic(auto, unfolding(crate::specs::Meaning::effect, crate::specs::Asked::effect_asked))]
@@ -79,7 +87,7 @@ fn execute<B: Bus>(instr: Instr, pc: &mut u32, x: &mut RegisterFile, bus: &mut B
         Instr::Remu { rd, rs1, rs2 } => x.set(rd, remu(x.read(rs1), x.read(rs2)), pc),
         Instr::Fence | Instr::FenceI => follow(pc),
         Instr::Ecall => Stop::Call,
-        Instr::Ebreak => Stop::Trap(BREAKPOINT),
+        Instr::Ebreak => Stop::Trap(breakpoint()),
     }
 }
 

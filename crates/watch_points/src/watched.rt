@@ -101,6 +101,51 @@ fn tell<F: Fn(&[Span], u32, u32) -> bool>(
     }
 }
 
+/// `run_watched` where something is watched. It stands apart, so that a turn in which nothing is makes nothing ready for it.
+#[inline(never)]
+fn run_beside<F: Fn(&[Span], u32, u32) -> bool>(
+    regs: &mut Regs,
+    watch: &mut Watch<'_>,
+    count: u32,
+    pid: u32,
+    point: &WatchPoint<F>,
+    spans: &[Span],
+    hits: &mut Hits,
+) -> Progress
+    requires point { IsPoint F.pre F.post point.now }
+    requires spans { AreSpans spans.now }
+    ensures leaves { ran regs.new (passed_bytes watch.old.mode watch.old.owners.now watch.new.mem.now) result.done result.stop
+        ≡ instructions count (passes watch.old.mode watch.old.owners.now true) regs.old (passed_bytes watch.old.mode watch.old.owners.now watch.old.mem.now) }
+    ensures frozen { kept_bytes watch.old.mode watch.old.owners.now watch.new.mem.now ≡ kept_bytes watch.old.mode watch.old.owners.now watch.old.mem.now }
+    ensures length { length watch.new.mem.now ≡ length watch.old.mem.now }
+    ensures owners { watch.new.owners.now ≡ watch.old.owners.now }
+    ensures mode { watch.new.mode ≡ watch.old.mode }
+    ensures first { first_stray watch.new ≡ noted_all watch.old.owners.now (first_stray watch.old)
+        (all_asked count (passes watch.old.mode watch.old.owners.now true) regs.old (passed_bytes watch.old.mode watch.old.owners.now watch.old.mem.now)) }
+    ensures halts { watch.old.mode ≡ Halt → first_stray watch.new ≡ noted_stop (first_stray watch.old) result.stop }
+    ensures same_reference { watch.new.mem.ghost_name ≡ watch.old.mem.ghost_name }
+    ensures hits { hits.new ≡ with_hits hits.old (hits_in (kind_of_point point.now) spans.now pid
+        (all_asked count (passes watch.old.mode watch.old.owners.now true) regs.old (passed_bytes watch.old.mode watch.old.owners.now watch.old.mem.now))) }
+{
+    let near = Near::of(spans);
+    let mut done = 0;
+    while done < count {
+        let run = run_near(regs, watch, near, count - done);
+        done += run.progress.done;
+        tell(run.seen, pid, point, spans, hits);
+        if run.progress.stop != Stop::Next {
+            return Progress {
+                done,
+                stop: run.progress.stop,
+            };
+        }
+    }
+    Progress {
+        done: count,
+        stop: Stop::Next,
+    }
+}
+
 /// As `run_steps` of region_watch, and adds each load and store that was carried out and hits, in their order.
 pub fn run_watched<F: Fn(&[Span], u32, u32) -> bool>(
     regs: &mut Regs,
@@ -129,21 +174,5 @@ pub fn run_watched<F: Fn(&[Span], u32, u32) -> bool>(
     if spans.is_empty() {
         return run_steps(regs, watch, count);
     }
-    let near = Near::of(spans);
-    let mut done = 0;
-    while done < count {
-        let run = run_near(regs, watch, near, count - done);
-        done += run.progress.done;
-        tell(run.seen, pid, point, spans, hits);
-        if run.progress.stop != Stop::Next {
-            return Progress {
-                done,
-                stop: run.progress.stop,
-            };
-        }
-    }
-    Progress {
-        done: count,
-        stop: Stop::Next,
-    }
+    run_beside(regs, watch, count, pid, point, spans, hits)
 }

@@ -1,22 +1,52 @@
 -- A step keeps what the loop keeps, and its accesses tell the first stray access.
 use Rattle.std.proofs.Common.{rules, ◌≡◌, ◌+◌, ◌-◌, ◌<◌, ap, ◌∙◌, arith}
-use Rattle.rv32im_step.specs.declared.stop.Stop.TheVariants.{Next}
+use Rattle.rv32im_step.specs.declared.stop.Stop.TheVariants.{Next, Refused}
 use Rattle.region_watch.specs.Strays.{noted_stop}
 use Rattle.region_watch.proofs.Runs.{whole_on, asked_on, asked_stops, kept_on}
 use Rattle.region_watch.proofs.StepNotes.{step_halts}
 use Rattle.region_watch.proofs.instructions.steps_at.Goals as goal
 
-pub returns-then-ne-clause-first : goal.returns-then-ne-clause-first
-returns-then-ne-clause-first c =
+pub returns-in-Call-clause-first : goal.returns-in-Call-clause-first
+returns-in-Call-clause-first c =
     let less : c.args.count - c.loop-left.left < c.args.count = omega (arith, c.loop-left-test.true, c.loop-left.invariant.bound) in
     asked_stops (c.args.count - c.loop-left.left) c.args.count _ _ _ _ _ _ _ _ _ _ c.step_at-stop.result _ _ _ less
     c.loop-left.invariant.mode c.step_at-stop.ensures.did.2 c.loop-left.invariant.owners c.step_at-stop.ensures.did.1
     c.step_at-stop.ensures.means (search rules) c.step_at-stop.ensures.did.5 c.loop-left.invariant.asked
 
-pub returns-then-ne-clause-halts : goal.returns-then-ne-clause-halts
-returns-then-ne-clause-halts c = λ halt.
+pub returns-in-Call-clause-halts : goal.returns-in-Call-clause-halts
+returns-in-Call-clause-halts c = λ halt.
     let first = step_halts _ _ _ _ _ _ _ _ c.step_at-stop.result (c.loop-left.invariant.mode ∙ halt) c.loop-left.watch.paged c.step_at-stop.ensures.means c.step_at-stop.ensures.did.5 in
-    rw (c.loop-left.invariant.halts halt) at first
+    let same : c.step_at-stop.result ≡ c.at_call.result.stop = search rules in
+    let now = rw (c.loop-left.invariant.halts halt) at first in
+    now ∙ ap (noted_stop c.args.watch.now.first) same
+
+pub returns-in-Trap-clause-first : goal.returns-in-Trap-clause-first
+returns-in-Trap-clause-first c =
+    let less : c.args.count - c.loop-left.left < c.args.count = omega (arith, c.loop-left-test.true, c.loop-left.invariant.bound) in
+    asked_stops (c.args.count - c.loop-left.left) c.args.count _ _ _ _ _ _ _ _ _ _ c.step_at-stop.result _ _ _ less
+    c.loop-left.invariant.mode c.step_at-stop.ensures.did.2 c.loop-left.invariant.owners c.step_at-stop.ensures.did.1
+    c.step_at-stop.ensures.means (search rules) c.step_at-stop.ensures.did.5 c.loop-left.invariant.asked
+
+pub returns-in-Trap-clause-halts : goal.returns-in-Trap-clause-halts
+returns-in-Trap-clause-halts c = λ halt.
+    let first = step_halts _ _ _ _ _ _ _ _ c.step_at-stop.result (c.loop-left.invariant.mode ∙ halt) c.loop-left.watch.paged c.step_at-stop.ensures.means c.step_at-stop.ensures.did.5 in
+    let same : c.step_at-stop.result ≡ c.at_trap.result.stop = search rules in
+    let now = rw (c.loop-left.invariant.halts halt) at first in
+    now ∙ ap (noted_stop c.args.watch.now.first) same
+
+pub returns-in-Refused-clause-first : goal.returns-in-Refused-clause-first
+returns-in-Refused-clause-first c =
+    let less : c.args.count - c.loop-left.left < c.args.count = omega (arith, c.loop-left-test.true, c.loop-left.invariant.bound) in
+    asked_stops (c.args.count - c.loop-left.left) c.args.count _ _ _ _ _ _ _ _ _ _ c.step_at-stop.result _ _ _ less
+    c.loop-left.invariant.mode c.step_at-stop.ensures.did.2 c.loop-left.invariant.owners c.step_at-stop.ensures.did.1
+    c.step_at-stop.ensures.means (search rules) c.step_at-stop.ensures.did.5 c.loop-left.invariant.asked
+
+pub returns-in-Refused-clause-halts : goal.returns-in-Refused-clause-halts
+returns-in-Refused-clause-halts c = λ halt.
+    let first = step_halts _ _ _ _ _ _ _ _ c.step_at-stop.result (c.loop-left.invariant.mode ∙ halt) c.loop-left.watch.paged c.step_at-stop.ensures.means c.step_at-stop.ensures.did.5 in
+    let same : c.step_at-stop.result ≡ Refused c.in-Refused.access = search rules in
+    let now = rw (c.loop-left.invariant.halts halt) at first in
+    now ∙ ap (noted_stop c.args.watch.now.first) same
 
 pub loop-left-preserved : goal.loop-left-preserved
 loop-left-preserved c =

@@ -3,7 +3,7 @@ use Rattle.std.proofs.Common.{◌≡◌, ◌-◌, ◌≤◌}
 use Rattle.rv32im_step.specs.declared.stop.Stop.TheVariants.{Next}
 use Rattle.watch_points.specs.Points.{kind_of_point}
 use Rattle.watch_points.proofs.Parts.{Reached}
-use Rattle.watch_points.proofs.watched.run_watched.Given as goal
+use Rattle.watch_points.proofs.watched.run_beside.Given as goal
 
 abbrev pub invariant-loop-done : goal.invariant-loop-done
 invariant-loop-done g l = record {
