@@ -6,11 +6,9 @@ use Rattle.std.specs.declared.alloc.AllocError.{AllocError}
 use Rattle.rv32im_step.specs.declared.access.Access.{Access}
 use Rattle.rv32im_step.specs.declared.stop.Stop.{Stop}
 use Rattle.rv32im_step.specs.declared.stop.Stop.TheVariants.{Call, Trap, Refused}
-use Rattle.call_log.specs.Notes.{stray_note}
 use Rattle.vfork_exec.specs.Procs.{CanRun}
 use Rattle.machine_world.specs.Families.{MayRun}
-use Rattle.machine_world.specs.Event.{Outcome, went, strays, full, idle, noted, stray_in, stray, event, called, died}
-use Rattle.machine_world.specs.Turns.{seen_of}
+use Rattle.machine_world.specs.Event.{Outcome, went, strays, full, idle, stray_in, stray, event, called, died}
 use Rattle.machine_world.specs.Courses.{StandsAt}
 use Rattle.machine_world.proofs.Signals.{trap_small}
 use Rattle.physical_turns.specs.Physical.{Physical, in_memory, After as Outcome_in, after as goes, no_room, nobody, has_stray, first_stray, physical_event, carried_out, called_in, died_in, outside}
@@ -26,11 +24,9 @@ use Rattle.kept_parts.proofs.Holding.{unstrayed_holds}
 use Rattle.kept_parts.specs.Stands.{About, later, world_of}
 use Rattle.kept_parts.specs.Serves.{Answered, Died}
 use Rattle.kept_parts.specs.InMemory.{physical_of, GoesIn, InReach, DiedIn}
-use Rattle.flat_machine.specs.declared.run.End.TheVariants as told
 use Rattle.flat_machine.specs.declared.turn.After.{After}
 use Rattle.flat_machine.specs.declared.turn.After.TheVariants as after
 use Rattle.flat_machine.specs.State.{is_whole}
-use Rattle.flat_machine.specs.Leaves.{TellsStray}
 use Rattle.flat_machine.specs.LeavesIn.{CarriedIn, CarriedWithin, StandsWithin}
 use Rattle.flat_machine.proofs.Picks.{can_run, may_run}
 use Rattle.flat_machine.proofs.Events.{event_called, event_died, event_strays}
@@ -92,7 +88,7 @@ module _ (headers : List (List ℕ)) (a : About) (old new : Kept) (pid : ℕ) wh
   ended_in (no_room p) x = absurd x.2
   ended_in nobody x = absurd x
 
-  full_in : (o : Outcome_in) → GoesIn headers a o old new pid served.LogFull → CarriedIn headers a o old new pid (Ok (after.RunEnds told.LogFull))
+  full_in : (o : Outcome_in) → GoesIn headers a o old new pid served.LogFull → CarriedIn headers a o old new pid (Ok after.LogFull)
   full_in (goes p over) x = absurd x.1
   full_in (no_room p) x = (x.0, x.1)
   full_in nobody x = absurd x
@@ -116,7 +112,7 @@ module _ (headers : List (List ℕ)) (a : About) (old new : Kept) (pid : ℕ) wh
   end_within Own x = x
   end_within Whole x = x
 
-  full_within : (reach : Reach) → CarriedIn headers a (physical_event there pid) old new pid (Ok (after.RunEnds told.LogFull)) → CarriedWithin reach headers a old new pid (Ok (after.RunEnds told.LogFull))
+  full_within : (reach : Reach) → CarriedIn headers a (physical_event there pid) old new pid (Ok after.LogFull) → CarriedWithin reach headers a old new pid (Ok after.LogFull)
   full_within Own x = x
   full_within Whole x = x
 
@@ -124,21 +120,6 @@ module _ (headers : List (List ℕ)) (a : About) (old new : Kept) (pid : ℕ) wh
   err_within reach (Ok done) is same = absurd cc
   err_within Own (Err error) is same = same
   err_within Whole (Err error) is same = same
-
-  -- a stray access, behind a call that did nothing
-  strayed_in : (access : Access) (mid : Kept) → mid ≡ old → first_stray there pid ≡ Some access → (r : Result After AllocError) → TellsStray pid access mid new r → CarriedWithin Own headers a old new pid r
-  unfolding physical_of
-  strayed_in access mid same first (Err error) x = x ∙ same
-  strayed_in access mid same first (Ok (after.RunEnds (told.Stray seen))) x =
-      let w : world_of a new ≡ noted (stray_note pid (seen_of access)) (world_of a old) = x.1 a ∙ ap (λ (k : Kept). noted (stray_note pid (seen_of access)) (world_of a k)) same in
-      let m : new.mem ≡ old.mem = x.2 ∙ ap (λ (k : Kept). k.mem) same in
-      record { access = access; first = first; noted = rw (w, m) refl }
-  strayed_in access mid same first (Ok (after.RunEnds told.AllEnded)) x = absurd x
-  strayed_in access mid same first (Ok (after.RunEnds told.Stuck)) x = absurd x
-  strayed_in access mid same first (Ok (after.RunEnds told.OutOfQuanta)) x = absurd x
-  strayed_in access mid same first (Ok (after.RunEnds told.LogFull)) x = absurd x
-  strayed_in access mid same first (Ok after.GoesOn) x = absurd x
-  strayed_in access mid same first (Ok after.TurnEnds) x = absurd x
 
 -- ---- where it stands
 
@@ -239,31 +220,30 @@ module _ (headers : List (List ℕ)) (a : About) (reach : Reach) (old : Kept) (p
           end_within headers a old new pid reach (as_event served.Ended (Ok after.TurnEnds) same (λ is. is)
           (ended_in headers a old new pid comes (goes_as served.Ended same (λ is. is))))
 
-      pub call_full_in : s ≡ served.LogFull → CarriedWithin reach headers a old new pid (Ok (after.RunEnds told.LogFull))
+      pub call_full_in : s ≡ served.LogFull → CarriedWithin reach headers a old new pid (Ok after.LogFull)
       call_full_in same =
-          full_within headers a old new pid reach (as_event served.LogFull (Ok (after.RunEnds told.LogFull)) same (λ is. is)
+          full_within headers a old new pid reach (as_event served.LogFull (Ok after.LogFull) same (λ is. is)
           (full_in headers a old new pid comes (goes_as served.LogFull same (λ is. is))))
 
   -- a call that strays: within its own bytes alone
-  module _ (at : stop ≡ Call) (mid new : Kept) (access : Access) (s : Served) (same : s ≡ served.Stray access) where
-    by_stray : (o : Outcome) → event (world_of a old) pid ≡ o → has_stray old.notes ≡ false → Answered a o old mid pid (served.Stray access) → (r : Result After AllocError)
-        → TellsStray pid access mid new r → CarriedWithin Own headers a old new pid r
+  module _ (at : stop ≡ Call) (new : Kept) (access : Access) (s : Served) (same : s ≡ served.Stray access) where
+    by_stray : (o : Outcome) → event (world_of a old) pid ≡ o → has_stray old.notes ≡ false → Answered a o old new pid (served.Stray access)
+        → CarriedWithin Own headers a old new pid (Ok (after.Strays access))
     unfolding physical_of
-    by_stray (strays seen) is none x r tells =
-        strayed_in headers a old new pid seen mid x.1 (strays_first from pid seen (notes_in headers a old old pid ∙ none) is) r (subst (λ (t : Access). TellsStray pid t mid new r) x.0 tells)
-    by_stray (went now t) is none x r tells = absurd x.1
-    by_stray full is none x r tells = absurd x
-    by_stray idle is none x r tells = absurd x
+    by_stray (strays seen) is none x = (strays_first from pid seen (notes_in headers a old old pid ∙ none) is ∙ ap Some (sym x.0), x.1)
+    by_stray (went now t) is none x = absurd x.1
+    by_stray full is none x = absurd x
+    by_stray idle is none x = absurd x
 
-    pub call_strays_in : (reach ≡ Own → Answered a (called (world_of a old) pid) old mid pid s) → InReach reach headers a (called_in from pid) old mid pid (Ok s)
-        → (r : Result After AllocError) → TellsStray pid access mid new r → CarriedWithin reach headers a old new pid r
-    call_strays_in serves memory r tells = by reach refl memory
+    pub call_strays_in : (reach ≡ Own → Answered a (called (world_of a old) pid) old new pid s) → InReach reach headers a (called_in from pid) old new pid (Ok s)
+        → CarriedWithin reach headers a old new pid (Ok (after.Strays access))
+    call_strays_in serves memory = by reach refl memory
       where
-        by : (t : Reach) → reach ≡ t → InReach t headers a (called_in from pid) old mid pid (Ok s) → CarriedWithin t headers a old new pid r
+        by : (t : Reach) → reach ≡ t → InReach t headers a (called_in from pid) old new pid (Ok s) → CarriedWithin t headers a old new pid (Ok (after.Strays access))
         by Own own x =
             by_stray (called (world_of a old) pid) (event_called (world_of a old) pid (subst (StandsAt (world_of a old) pid) at (stands own))) (strayed ∙ ap is_whole own)
-            (subst (Answered a (called (world_of a old) pid) old mid pid) same (serves own)) r tells
-        by Whole is x = absurd (never_strays headers a old mid pid (called_in from pid) access (subst (GoesIn headers a (called_in from pid) old mid pid) same x))
+            (subst (Answered a (called (world_of a old) pid) old new pid) same (serves own))
+        by Whole is x = absurd (never_strays headers a old new pid (called_in from pid) access (subst (GoesIn headers a (called_in from pid) old new pid) same x))
 
   -- ---- a trap
 
@@ -285,16 +265,16 @@ module _ (headers : List (List ℕ)) (a : About) (reach : Reach) (old : Kept) (p
 
   -- ---- an access that is refused
 
-  pub refused_in : (access : Access) (new : Kept) → stop ≡ Refused access → (r : Result After AllocError) → (reach ≡ Own → TellsStray pid access old new r)
+  pub refused_in : (access : Access) (new : Kept) → stop ≡ Refused access → (r : Result After AllocError) → (reach ≡ Own → (r ≡ Ok (after.Strays access)) × (new ≡ old))
       → (reach ≡ Whole → CarriedIn headers a (died_in from pid outside) old new pid r) → CarriedWithin reach headers a old new pid r
   unfolding physical_of
-  refused_in access new at r tells memory = by reach refl stands_in
+  refused_in access new at r strayed_so memory = by reach refl stands_in
     where
       by : (t : Reach) → reach ≡ t → StandsWithin t from pid stop → CarriedWithin t headers a old new pid r
       by Own own x =
-          strayed_in headers a old new pid access old refl
-          (strays_first from pid access (notes_in headers a old old pid ∙ strayed ∙ ap is_whole own) (event_strays (world_of a old) pid access (subst (StandsAt (world_of a old) pid) at (stands own))))
-          r (tells own)
+          let so = strayed_so own in
+          subst (CarriedWithin Own headers a old new pid) (sym so.0)
+          (strays_first from pid access (notes_in headers a old old pid ∙ strayed ∙ ap is_whole own) (event_strays (world_of a old) pid access (subst (StandsAt (world_of a old) pid) at (stands own))), so.1)
       by Whole is x =
           let s : StandsIn from pid (Refused access) = subst (StandsWithin Whole from pid) at x in
           let none = noted_unstrayed from pid (notes_in headers a old old pid ∙ strayed ∙ ap is_whole is) in

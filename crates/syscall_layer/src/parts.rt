@@ -4,10 +4,8 @@ ghost use Rattle.std.specs.Prelude.{◌≡◌, IfOk, option_map};
 ghost use Rattle.machine_world.specs.Turns.{seen_of};
 ghost use Rattle.physical_turns.specs.Physical.{has_stray};
 ghost use Rattle.kept_parts.specs.Awake.{awake_in};
-ghost use Rattle.kept_parts.specs.InMemory.{without_newest};
 ghost use Rattle.syscall_layer.specs.Parts.{halted_at};
 ghost use Rattle.kept_parts.specs.Reach.{is_whole, reach_of};
-ghost use Rattle.kept_parts.specs.Regular.{IsRegular};
 
 use bflt_format::Flat;
 use kept_parts::{KeptParts, Reach, first_stray, whole_table};
@@ -89,14 +87,5 @@ impl Parts {
                 }
             }
         }
-    }
-
-    /// Takes back the newest note, where the parts are sound without it, and looks through the others for a stray access.
-    pub fn take_back(&mut self)
-        requires sound { IsRegular (without_newest self.old.kept) }
-        ensures { self.new ≡ record self.old { kept = without_newest self.old.kept; noted = has_stray (without_newest self.old.kept).notes } }
-    {
-        self.kept.take_back();
-        self.noted = self.kept.has_stray();
     }
 }
