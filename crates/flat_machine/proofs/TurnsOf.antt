@@ -1,5 +1,5 @@
 -- What holds of a machine behind a turn.
-use Rattle.std.proofs.Common.{◌≡◌, ℕ, inl, inr, Bool, true, false, List, length, Option, Some, None, Result, Ok, Err, refl, sym, subst, ◌∙◌}
+use Rattle.std.proofs.Common.{◌≡◌, ℕ, inl, inr, false, List, length, Option, Some, None, Result, Ok, Err, refl, sym, subst, ◌∙◌}
 use Rattle.std.specs.declared.alloc.AllocError.{AllocError}
 use Rattle.std.proofs.lemmas.Bool.{false≢true, cases_Bool}
 use Rattle.rv32im_step.specs.declared.access.Access.{Access}
@@ -15,14 +15,13 @@ use Rattle.physical_turns.proofs.Growth.{turns_add, turns_leave_programs}
 use Rattle.kept_parts.specs.Copies.{HoldsFiles}
 use Rattle.kept_parts.specs.Flats.{AreFlats}
 use Rattle.kept_parts.specs.Kept.{Kept}
-use Rattle.kept_parts.specs.Reach.{reach_of}
 use Rattle.kept_parts.specs.Stands.{About, later, world_of}
 use Rattle.kept_parts.specs.InMemory.{headers_of, physical_of}
 use Rattle.region_watch.specs.declared.mode.Mode.{Mode}
 use Rattle.region_watch.specs.declared.mode.Mode.TheVariants.{Halt, GoOn}
 use Rattle.flat_machine.specs.declared.run.End.{End as Told}
 use Rattle.flat_machine.specs.declared.run.End.TheVariants as told
-use Rattle.flat_machine.specs.State.{State, world, is_whole}
+use Rattle.flat_machine.specs.State.{State, world}
 use Rattle.flat_machine.specs.LeavesIn.{TurnStopsIn, TurnLeavesIn, is_stray}
 use Rattle.flat_machine.specs.ByMode.{HaltTurn, GoOnTurn}
 use Rattle.flat_machine.proofs.NotedIn.{adds_stray}
@@ -110,11 +109,6 @@ module _ (kind : Kind) (flats : List Values) (a : About) (so : a.kind ≡ kind) 
       by (Ok (Some told.OutOfQuanta)) quiet holds = still (quiet refl)
       by (Ok (Some told.LogFull)) quiet holds = still (quiet refl)
       by (Err error) quiet holds = still (quiet refl)
-
--- all of memory is reached just where one was noted
-pub reach_noted : (noted : Bool) → is_whole (reach_of noted) ≡ noted
-reach_noted true = refl
-reach_noted false = refl
 
 -- the notes of a machine
 pub noted_state : (s : State) → has_stray (world s).notes ≡ has_stray s.kept.notes

@@ -33,21 +33,11 @@ use Rattle.flat_machine.specs.LeavesIn.{StandsStillIn, GoesPast}
 use Rattle.flat_machine.specs.ByMode.{HaltEvent, GoOnEvent, HaltTurn, GoOnTurn}
 use Rattle.flat_machine.specs.Hits.{turn_hits, turn_hits_in}
 use Rattle.flat_machine.specs.HitsLeft.{HitsLead, EventHits, TurnHits}
-use Rattle.flat_machine.proofs.EventsOn.{NotStray, of_ends, adds_event}
+use Rattle.flat_machine.proofs.EventsOn.{NotStray, of_ends, adds_event, goes_other, ends_other, full_other}
 use Rattle.flat_machine.proofs.Turned.{Reached, reached_none, reached_on, ready_on, event_on, turn_all, turn_ends, turn_stops_full, turn_stops_stray, turn_fails}
 use Rattle.flat_machine.proofs.TurnsIn.{ReachedIn, reached_in_none, reached_in_on, quiet_on, quiet_ends, turn_all_in, turn_ends_in, turn_stops_in, turn_fails_in}
 use Rattle.flat_machine.proofs.TurnsPast.{FirstReached, first_reached_none, first_reached_on, first_reached_event, carried_quiet, reached_quiet, past_event, past_so, reached_adds}
 use Rattle.flat_machine.proofs.HitsTurned.{HitsReached, hits_reached_none, hits_reached_on, event_hits, turn_hits_all, turn_hits_over, turn_hits_full, turn_hits_stray, turn_hits_fail, turn_hits_last_in, turn_hits_all_in, turn_hits_fail_in}
-
--- those that are no stray access
-goes_other : NotStray after.GoesOn
-goes_other access is = cc
-
-ends_other : NotStray after.TurnEnds
-ends_other access is = cc
-
-full_other : NotStray after.LogFull
-full_other access is = cc
 
 at_most : {n count : ℕ} → n ≡ count → n ≤ count
 at_most same = omega (arith, same)
@@ -142,7 +132,7 @@ module _ (kind : Kind) (flats : List Values) (point : PointKind) (spans : List S
           leads = reached_on kind flats pid old mid new n 1 x.leads (event_on mid new pid kind flats carried);
           hits = subst (λ (f : Found). HitsReached T world_of kind flats before f old (n + 1) new) (sym same)
               (hits_reached_on T world_of kind flats before found found old mid new n 1 x.hits (event_hits point spans kind flats mid new pid stop stands found carried));
-          quiet = quiet_on (headers_of flats) b mid new pid (event (world_of b mid) pid) refl x.quiet (carried b refl (some_are_flats flats));
+          quiet = quiet_on b mid new pid (event (world_of b mid) pid) refl x.quiet (carried b refl (some_are_flats flats));
         }
 
     pub halt_over : HaltEvent kind flats pid mid new (Ok after.TurnEnds) → HaltTurn kind flats pid count old (n + 1) new (Ok None)
@@ -151,7 +141,7 @@ module _ (kind : Kind) (flats : List Values) (point : PointKind) (spans : List S
         let b = about_with kind flats in
         record {
           leaves = turn_ends kind flats pid count old mid n x.leads less new carried;
-          quiet = λ calm. quiet_ends (headers_of flats) b mid new pid (event (world_of b mid) pid) refl x.quiet (carried b refl (some_are_flats flats));
+          quiet = λ calm. quiet_ends b mid new pid (event (world_of b mid) pid) refl x.quiet (carried b refl (some_are_flats flats));
           holds = λ access is. absurd cc;
         }
 

@@ -46,14 +46,20 @@ module _ (a : About) (old new : Kept) (pid : ℕ) where
 
   -- where still none was noted it is the event of the private spaces
   pub past_quiet : (o : Outcome) (r : After) → has_stray new.notes ≡ false → CarriedOrPast a o old new pid (Ok r) → Carried a o old new pid (Ok r)
-  past_quiet (strays access) r quiet x = absurd (false≢true (sym quiet ∙ noted_strays access x))
+  past_quiet (strays access) (after.Strays seen) quiet x = x
+  past_quiet (strays access) after.GoesOn quiet x = absurd (false≢true (sym quiet ∙ noted_strays access x))
+  past_quiet (strays access) after.TurnEnds quiet x = absurd (false≢true (sym quiet ∙ noted_strays access x))
+  past_quiet (strays access) after.LogFull quiet x = absurd (false≢true (sym quiet ∙ noted_strays access x))
   past_quiet (went now t) r quiet x = x
   past_quiet full r quiet x = x
   past_quiet idle r quiet x = x
 
   -- and else it is the first
   went_past : (o : Outcome) → event (world_of a old) pid ≡ o → (r : After) → has_stray old.notes ≡ false → has_stray new.notes ≡ true → CarriedOrPast a o old new pid (Ok r) → WentPast a old new pid
-  went_past (strays access) is r quiet was x = record { access = access; strays = is; adds = x }
+  went_past (strays access) is (after.Strays seen) quiet was x = absurd (false≢true (sym quiet ∙ ap (λ (k : Kept). has_stray k.notes) (sym x.1) ∙ was))
+  went_past (strays access) is after.GoesOn quiet was x = record { access = access; strays = is; adds = x }
+  went_past (strays access) is after.TurnEnds quiet was x = record { access = access; strays = is; adds = x }
+  went_past (strays access) is after.LogFull quiet was x = record { access = access; strays = is; adds = x }
   went_past (went now t) is after.GoesOn quiet was x = absurd (false≢true (sym (went_on_quiet now (λ q. went_quiet (world_of a old) q pid now t is) quiet x.0) ∙ was))
   went_past (went now t) is after.TurnEnds quiet was x = absurd (false≢true (sym (went_on_quiet now (λ q. went_quiet (world_of a old) q pid now t is) quiet x.0) ∙ was))
   went_past (went now t) is (after.Strays access) quiet was x = absurd x

@@ -30,8 +30,9 @@ abbrev pub CarriedOrEnds : About → Outcome → Kept → Kept → ℕ → Resul
 CarriedOrEnds a (strays access) old new pid (Ok (after.Strays seen)) = (seen ≡ access) × (world_of a new ≡ noted (stray_note pid (seen_of access)) (world_of a old))
 CarriedOrEnds a outcome old new pid result = Carried a outcome old new pid result
 
--- where it goes on, its event comes behind that note, and only adds
+-- where it goes on, its event comes behind that note, and only adds; or nothing is done yet
 abbrev pub CarriedOrPast : About → Outcome → Kept → Kept → ℕ → Result After AllocError → Type 0
+CarriedOrPast a (strays access) old new pid (Ok (after.Strays seen)) = (seen ≡ access) × (new ≡ old)
 CarriedOrPast a (strays access) old new pid (Ok behind) = Adds (noted (stray_note pid (seen_of access)) (world_of a old)) (world_of a new)
 CarriedOrPast a outcome old new pid result = Carried a outcome old new pid result
 

@@ -37,13 +37,13 @@ abbrev pub CarriedIn : List (List ℕ) → About → Outcome → Kept → Kept �
 CarriedIn headers a outcome old new pid (Err error) = new ≡ old
 CarriedIn headers a (goes now over) old new pid (Ok after.GoesOn) = (now ≡ physical_of headers (later 1 a) new) × (over ≡ false) × CanRun new.procs pid
 CarriedIn headers a (goes now over) old new pid (Ok after.TurnEnds) = (now ≡ physical_of headers (later 1 a) new) × (over ≡ true)
-CarriedIn headers a (no_room now) old new pid (Ok after.LogFull) = (now ≡ physical_of headers a old) × (new ≡ old)
+CarriedIn headers a (no_room now) old new pid (Ok after.LogFull) = now ≡ physical_of headers a new
 CarriedIn headers a outcome old new pid (Ok other) = ⊥
 
--- within a process's own bytes its event may be the run's first that strays, and then changes nothing
-abbrev pub CarriedWithin : Reach → List (List ℕ) → About → Kept → Kept → ℕ → Result After AllocError → Type 0
-CarriedWithin Own headers a old new pid (Ok (after.Strays access)) = (first_stray (physical_of headers a old) pid ≡ Some access) × (new ≡ old)
-CarriedWithin reach headers a old new pid result = CarriedIn headers a (physical_event (physical_of headers a old) pid) old new pid result
+-- its event may be the run's first that strays, of which nothing is done yet
+abbrev pub CarriedWithin : List (List ℕ) → About → Kept → Kept → ℕ → Result After AllocError → Type 0
+CarriedWithin headers a old new pid (Ok (after.Strays access)) = (first_stray (physical_of headers a old) pid ≡ Some access) × (new ≡ old)
+CarriedWithin headers a old new pid result = CarriedIn headers a (physical_event (physical_of headers a old) pid) old new pid result
 
 -- an event of a run that goes on, behind the note of its stray access where that is the first: the turn goes on, or is over, or the log
 -- has no room; out of memory nothing changed

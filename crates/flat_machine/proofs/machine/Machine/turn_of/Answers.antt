@@ -6,7 +6,8 @@ use Rattle.kept_parts.specs.Stands.{world_of}
 use Rattle.flat_machine.specs.State.{State, about_of}
 use Rattle.flat_machine.specs.Inside.{state_of}
 use Rattle.flat_machine.proofs.Readers.{are_flats, programs_count}
-use Rattle.flat_machine.proofs.TurnsOf.{loads_behind, order_behind, turn_holds, reach_noted, noted_state}
+use Rattle.flat_machine.proofs.TurnsIn.{reach_noted}
+use Rattle.flat_machine.proofs.TurnsOf.{loads_behind, order_behind, turn_holds, noted_state}
 use Rattle.flat_machine.proofs.machine.Machine.turn_of.Goals as goal
 
 pub turn-events-requires-clause-halting : goal.turn-events-requires-clause-halting
