@@ -1,14 +1,17 @@
 -- What a run that halts keeps follows from the turns that it makes.
-use Rattle.std.proofs.Common.{◌≡◌, false, List, Option, Some, None, Result, sym, ap, ◌∙◌}
-use Rattle.std.specs.Prelude.{option_map}
+use Rattle.std.proofs.Common.{◌≡◌, false, List, reverse, Option, Some, None, Result, sym, ap, ◌∙◌}
+use Rattle.std.specs.Prelude.{is_some, option_map}
 use Rattle.std.specs.declared.alloc.AllocError.{AllocError}
 use Rattle.quantum_sched.specs.declared.Quantum.{Quantum}
 use Rattle.rv32im_step.specs.declared.access.Access.{Access}
 use Rattle.call_log.specs.Notes.{Note}
 use Rattle.machine_world.specs.Turns.{seen_of}
 use Rattle.region_watch.specs.declared.mode.Mode.{Mode}
-use Rattle.region_watch.specs.declared.mode.Mode.TheVariants.{GoOn}
+use Rattle.region_watch.specs.declared.mode.Mode.TheVariants.{Halt, GoOn}
 use Rattle.syscall_layer.specs.Parts.{halted_at}
+use Rattle.physical_turns.specs.Physical.{has_stray}
+use Rattle.kept_parts.specs.Noted.{first_noted}
+use Rattle.kept_parts.proofs.NotedStrays.{stray_first, stray_reversed}
 use Rattle.kept_parts.specs.Copies.{HoldsFiles}
 use Rattle.waits_laws.specs.Laws.{IsOrdered}
 use Rattle.flat_machine.specs.declared.run.End.{End as Told}
@@ -35,3 +38,9 @@ pub none_halted_on : (mode : Mode) (notes : List Note) (o : Option Access) (acce
 none_halted_on mode notes o access found is go =
     let both : Some (seen_of access) ≡ None = sym (ap (option_map seen_of) is) ∙ found ∙ ap (λ (m : Mode). halted_at m notes) go in
     absurd cc
+
+-- and one that ends at its first noted none, as long as it hasn't ended there
+pub none_astray : (mode : Mode) (notes : List Note) (o : Option Access) → option_map seen_of o ≡ halted_at mode notes → o ≡ None → mode ≡ Halt → has_stray notes ≡ false
+none_astray mode notes o found none halt =
+    let first : first_noted (reverse notes) ≡ None = ap (λ (m : Mode). halted_at m notes) (sym halt) ∙ sym found ∙ ap (option_map seen_of) none in
+    sym (stray_reversed notes) ∙ stray_first (reverse notes) ∙ ap is_some first

@@ -1,17 +1,15 @@
 -- The next event of a process, by the step at which it stands.
-use Rattle.std.proofs.Common.{◌⊎◌, inl, inr, ◌≡◌, ℕ, ◌<◌, ◌^◌, Result, Ok, Err, refl, sym, ap, subst, ◌∙◌}
+use Rattle.std.proofs.Common.{◌⊎◌, inl, inr, ◌≡◌, ℕ, ◌<◌, ◌^◌, Result, Ok, Err, refl, sym, subst}
 use Rattle.std.specs.Result.{IsErr}
 use Rattle.std.specs.declared.alloc.AllocError.{AllocError}
 use Rattle.rv32im_step.specs.declared.access.Access.{Access}
 use Rattle.rv32im_step.specs.declared.stop.Stop.{Stop}
 use Rattle.rv32im_step.specs.declared.stop.Stop.TheVariants.{Call, Trap, Refused}
 use Rattle.mmap_rules.specs.Space.{writable_in}
-use Rattle.call_log.specs.Notes.{stray_note}
 use Rattle.vfork_exec.specs.Procs.{CanRun}
 use Rattle.machine_world.specs.World.{World}
 use Rattle.machine_world.specs.Families.{MayRun}
-use Rattle.machine_world.specs.Event.{Outcome, went, strays, full, idle, noted, event, called, died}
-use Rattle.machine_world.specs.Turns.{seen_of}
+use Rattle.machine_world.specs.Event.{Outcome, went, strays, full, idle, event, called, died}
 use Rattle.machine_world.specs.Courses.{StandsAt}
 use Rattle.machine_world.proofs.States.{is_called, is_died, is_stray}
 use Rattle.machine_world.proofs.Runnable.{may_run_still}
@@ -21,10 +19,9 @@ use Rattle.kept_parts.specs.declared.served.Served.TheVariants as served
 use Rattle.kept_parts.specs.Kept.{Kept}
 use Rattle.kept_parts.specs.Stands.{About, later, world_of}
 use Rattle.kept_parts.specs.Serves.{Answered, Died}
-use Rattle.flat_machine.specs.declared.run.End.TheVariants as told
 use Rattle.flat_machine.specs.declared.turn.After.{After}
 use Rattle.flat_machine.specs.declared.turn.After.TheVariants as after
-use Rattle.flat_machine.specs.Leaves.{Carried, TellsStray}
+use Rattle.flat_machine.specs.Leaves.{Carried}
 use Rattle.flat_machine.proofs.Picks.{can_run, may_run}
 
 -- ---- what the event is
@@ -72,7 +69,7 @@ module _ (a : About) (old new : Kept) (pid : ℕ) where
   ended full x = absurd x
   ended idle x = absurd x
 
-  log_full : (o : Outcome) → Answered a o old new pid served.LogFull → Carried a o old new pid (Ok (after.RunEnds told.LogFull))
+  log_full : (o : Outcome) → Answered a o old new pid served.LogFull → Carried a o old new pid (Ok after.LogFull)
   log_full (went now t) x = absurd x.1
   log_full (strays access) x = absurd x
   log_full full x = x
@@ -87,22 +84,11 @@ module _ (a : About) (old new : Kept) (pid : ℕ) where
   no_memory : (o : Outcome) (error : AllocError) → new ≡ old → Carried a o old new pid (Err error)
   no_memory o error same = same
 
-  -- an access that strays, behind a call that did nothing
-  strayed : (access : Access) (mid : Kept) → mid ≡ old → (r : Result After AllocError) → TellsStray pid access mid new r → Carried a (strays access) old new pid r
-  strayed access mid same (Err error) x = x ∙ same
-  strayed access mid same (Ok (after.RunEnds (told.Stray seen))) x = (x.0, x.1 a ∙ ap (λ (k : Kept). noted (stray_note pid (seen_of access)) (world_of a k)) same)
-  strayed access mid same (Ok (after.RunEnds told.AllEnded)) x = absurd x
-  strayed access mid same (Ok (after.RunEnds told.Stuck)) x = absurd x
-  strayed access mid same (Ok (after.RunEnds told.OutOfQuanta)) x = absurd x
-  strayed access mid same (Ok (after.RunEnds told.LogFull)) x = absurd x
-  strayed access mid same (Ok after.GoesOn) x = absurd x
-  strayed access mid same (Ok after.TurnEnds) x = absurd x
-
-  call_strayed : (o : Outcome) (access : Access) (mid : Kept) → Answered a o old mid pid (served.Stray access) → (r : Result After AllocError) → TellsStray pid access mid new r → Carried a o old new pid r
-  call_strayed (went now t) access mid x r tells = absurd x.1
-  call_strayed (strays seen) access mid x r tells = strayed seen mid x.1 r (subst (λ (s : Access). TellsStray pid s mid new r) x.0 tells)
-  call_strayed full access mid x r tells = absurd x
-  call_strayed idle access mid x r tells = absurd x
+  call_strayed : (o : Outcome) (access : Access) → Answered a o old new pid (served.Stray access) → Carried a o old new pid (Ok (after.Strays access))
+  call_strayed (strays seen) access x = x
+  call_strayed (went now t) access x = absurd x.1
+  call_strayed full access x = absurd x
+  call_strayed idle access x = absurd x
 
   -- ---- at the event
 
@@ -127,14 +113,12 @@ module _ (a : About) (old new : Kept) (pid : ℕ) where
     call_turn_ends s (inr (inl same)) x = call_answered s served.Waits (Ok after.TurnEnds) (waits (called (world_of a old) pid)) same x
     call_turn_ends s (inr (inr same)) x = call_answered s served.Ended (Ok after.TurnEnds) (ended (called (world_of a old) pid)) same x
 
-    pub call_full : (s : Served) → s ≡ served.LogFull → Answered a (called (world_of a old) pid) old new pid s → Carried a (event (world_of a old) pid) old new pid (Ok (after.RunEnds told.LogFull))
-    call_full s same x = call_answered s served.LogFull (Ok (after.RunEnds told.LogFull)) (log_full (called (world_of a old) pid)) same x
+    pub call_full : (s : Served) → s ≡ served.LogFull → Answered a (called (world_of a old) pid) old new pid s → Carried a (event (world_of a old) pid) old new pid (Ok after.LogFull)
+    call_full s same x = call_answered s served.LogFull (Ok after.LogFull) (log_full (called (world_of a old) pid)) same x
 
-    pub call_strays : (s : Served) (access : Access) (mid : Kept) → s ≡ served.Stray access → Answered a (called (world_of a old) pid) old mid pid s → (r : Result After AllocError)
-        → TellsStray pid access mid new r → Carried a (event (world_of a old) pid) old new pid r
-    call_strays s access mid same x r tells =
-        carried_by (called (world_of a old) pid) r is
-        (call_strayed (called (world_of a old) pid) access mid (subst (Answered a (called (world_of a old) pid) old mid pid) same x) r tells)
+    pub call_strays : (s : Served) (access : Access) → s ≡ served.Stray access → Answered a (called (world_of a old) pid) old new pid s
+        → Carried a (event (world_of a old) pid) old new pid (Ok (after.Strays access))
+    call_strays s access same x = call_answered s (served.Stray access) (Ok (after.Strays access)) (call_strayed (called (world_of a old) pid) access) same x
 
   pub trap_ends : (stop : Stop) (signal : ℕ) → stop ≡ Trap signal → StandsAt (world_of a old) pid stop → Died a (died (world_of a old) pid signal) new pid
       → Carried a (event (world_of a old) pid) old new pid (Ok after.TurnEnds)
@@ -145,10 +129,11 @@ module _ (a : About) (old new : Kept) (pid : ℕ) where
   pub trap_fits : (stop : Stop) (signal : ℕ) → stop ≡ Trap signal → StandsAt (world_of a old) pid stop → signal < 2 ^ 8
   trap_fits stop signal at stands = signal_small (world_of a old) pid signal (subst (StandsAt (world_of a old) pid) at stands)
 
-  pub refused_strays : (stop : Stop) (access : Access) → stop ≡ Refused access → StandsAt (world_of a old) pid stop → (r : Result After AllocError) → TellsStray pid access old new r
+  pub refused_strays : (stop : Stop) (access : Access) → stop ≡ Refused access → StandsAt (world_of a old) pid stop → (r : Result After AllocError) → r ≡ Ok (after.Strays access) → new ≡ old
       → Carried a (event (world_of a old) pid) old new pid r
-  refused_strays stop access at stands r tells =
-      carried_by (strays access) r (event_strays (world_of a old) pid access (subst (StandsAt (world_of a old) pid) at stands)) (strayed access old refl r tells)
+  refused_strays stop access at stands r is same =
+      let P : Result After AllocError → Type 0 = λ x. Carried a (event (world_of a old) pid) old new pid x in
+      subst P (sym is) (carried_by (strays access) (Ok (after.Strays access)) (event_strays (world_of a old) pid access (subst (StandsAt (world_of a old) pid) at stands)) (refl, same))
 
   pub nothing_done : (r : Result After AllocError) → IsErr r → new ≡ old → Carried a (event (world_of a old) pid) old new pid r
   nothing_done (Ok done) is same = absurd cc

@@ -6,31 +6,27 @@ use Rattle.std.specs.declared.alloc.AllocError.{AllocError}
 use Rattle.rv32im_step.specs.declared.access.Access.{Access}
 use Rattle.rv32im_step.specs.declared.stop.Stop.{Stop}
 use Rattle.rv32im_step.specs.declared.stop.Stop.TheVariants.{Call, Trap, Refused}
-use Rattle.call_log.specs.Notes.{stray_note}
 use Rattle.vfork_exec.specs.Procs.{CanRun}
 use Rattle.machine_world.specs.Families.{MayRun}
-use Rattle.machine_world.specs.Event.{Outcome, went, strays, full, idle, noted, stray_in, stray, event, called, died}
-use Rattle.machine_world.specs.Turns.{seen_of}
+use Rattle.machine_world.specs.Event.{Outcome, went, strays, full, idle, stray_in, stray, event, called, died}
 use Rattle.machine_world.specs.Courses.{StandsAt}
 use Rattle.machine_world.proofs.Signals.{trap_small}
-use Rattle.physical_turns.specs.Physical.{Physical, in_memory, After as Outcome_in, after as goes, no_room, nobody, has_stray, first_stray, physical_event, carried_out, called_in, died_in, outside}
+use Rattle.physical_turns.specs.Physical.{Physical, in_memory, After as Outcome_in, after as goes, no_room, nobody, has_stray, first_stray, with_stray, physical_event, carried_out, died_in, outside}
 use Rattle.physical_turns.specs.Courses.{StandsIn}
-use Rattle.physical_turns.proofs.Moves.{noted_unstrayed, first_strays, event_in_calm, carried_called, carried_trapped, carried_refused}
+use Rattle.physical_turns.proofs.Moves.{noted_unstrayed, first_strays, event_in_carried, event_in_calm, carried_trapped, carried_refused}
 use Rattle.kept_parts.specs.declared.reach.Reach.{Reach}
 use Rattle.kept_parts.specs.declared.reach.Reach.TheVariants.{Own, Whole}
 use Rattle.kept_parts.specs.declared.served.Served.{Served}
 use Rattle.kept_parts.specs.declared.served.Served.TheVariants as served
 use Rattle.kept_parts.specs.Kept.{Kept}
-use Rattle.kept_parts.specs.Copies.{StillHolds}
-use Rattle.kept_parts.proofs.Holding.{unstrayed_holds}
 use Rattle.kept_parts.specs.Stands.{About, later, world_of}
 use Rattle.kept_parts.specs.Serves.{Answered, Died}
-use Rattle.kept_parts.specs.InMemory.{physical_of, GoesIn, InReach, DiedIn}
-use Rattle.flat_machine.specs.declared.run.End.TheVariants as told
+use Rattle.kept_parts.specs.InMemory.{physical_of, GoesIn, ServesOn, DiedIn, called_on, first_range, with_range}
+use Rattle.syscall_layer.specs.ByMode.{ServesFirst}
+use Rattle.syscall_layer.specs.CallEvents.{CallsAreEvents}
 use Rattle.flat_machine.specs.declared.turn.After.{After}
 use Rattle.flat_machine.specs.declared.turn.After.TheVariants as after
 use Rattle.flat_machine.specs.State.{is_whole}
-use Rattle.flat_machine.specs.Leaves.{TellsStray}
 use Rattle.flat_machine.specs.LeavesIn.{CarriedIn, CarriedWithin, StandsWithin}
 use Rattle.flat_machine.proofs.Picks.{can_run, may_run}
 use Rattle.flat_machine.proofs.Events.{event_called, event_died, event_strays}
@@ -69,80 +65,47 @@ module _ (headers : List (List ℕ)) (a : About) (old new : Kept) (pid : ℕ) wh
 
   -- ---- what it leaves
 
-  replied_in : (o : Outcome_in) → StillIn pid o → GoesIn headers a o old new pid served.Replied → CarriedIn headers a o old new pid (Ok after.GoesOn)
+  replied_in : (was : Kept) (o : Outcome_in) → StillIn pid o → GoesIn headers a o was new pid served.Replied → CarriedIn headers a o old new pid (Ok after.GoesOn)
   unfolding physical_of
-  replied_in (goes p over) still x =
+  replied_in was (goes p over) still x =
       let b = x.1 in
       (x.0, b.0, can_run (later 1 a) new pid (subst (λ (w : Physical). MayRun w.world pid) x.0 (still b.0)))
-  replied_in (no_room p) still x = absurd x.2
-  replied_in nobody still x = absurd x
+  replied_in was (no_room p) still x = absurd x.2
+  replied_in was nobody still x = absurd x
 
-  turn_ends_in : (o : Outcome_in) → GoesIn headers a o old new pid served.TurnEnds → CarriedIn headers a o old new pid (Ok after.TurnEnds)
-  turn_ends_in (goes p over) x = let b = x.1 in (x.0, b.0)
-  turn_ends_in (no_room p) x = absurd x.2
-  turn_ends_in nobody x = absurd x
+  turn_ends_in : (was : Kept) (o : Outcome_in) → GoesIn headers a o was new pid served.TurnEnds → CarriedIn headers a o old new pid (Ok after.TurnEnds)
+  turn_ends_in was (goes p over) x = let b = x.1 in (x.0, b.0)
+  turn_ends_in was (no_room p) x = absurd x.2
+  turn_ends_in was nobody x = absurd x
 
-  waits_in : (o : Outcome_in) → GoesIn headers a o old new pid served.Waits → CarriedIn headers a o old new pid (Ok after.TurnEnds)
-  waits_in (goes p over) x = let b = x.1 in (x.0, b.0)
-  waits_in (no_room p) x = absurd x.2
-  waits_in nobody x = absurd x
+  waits_in : (was : Kept) (o : Outcome_in) → GoesIn headers a o was new pid served.Waits → CarriedIn headers a o old new pid (Ok after.TurnEnds)
+  waits_in was (goes p over) x = let b = x.1 in (x.0, b.0)
+  waits_in was (no_room p) x = absurd x.2
+  waits_in was nobody x = absurd x
 
-  ended_in : (o : Outcome_in) → GoesIn headers a o old new pid served.Ended → CarriedIn headers a o old new pid (Ok after.TurnEnds)
-  ended_in (goes p over) x = let b = x.1 in (x.0, b.0)
-  ended_in (no_room p) x = absurd x.2
-  ended_in nobody x = absurd x
+  ended_in : (was : Kept) (o : Outcome_in) → GoesIn headers a o was new pid served.Ended → CarriedIn headers a o old new pid (Ok after.TurnEnds)
+  ended_in was (goes p over) x = let b = x.1 in (x.0, b.0)
+  ended_in was (no_room p) x = absurd x.2
+  ended_in was nobody x = absurd x
 
-  full_in : (o : Outcome_in) → GoesIn headers a o old new pid served.LogFull → CarriedIn headers a o old new pid (Ok (after.RunEnds told.LogFull))
-  full_in (goes p over) x = absurd x.1
-  full_in (no_room p) x = (x.0, x.1)
-  full_in nobody x = absurd x
+  full_in : (was : Kept) (o : Outcome_in) → GoesIn headers a o was new pid served.LogFull → CarriedIn headers a o old new pid (Ok after.LogFull)
+  full_in was (goes p over) x = absurd x.1
+  full_in was (no_room p) x = x.0 ∙ ap (physical_of headers a) (sym x.1)
+  full_in was nobody x = absurd x
 
   died_ends_in : (o : Outcome_in) → DiedIn headers a o new pid → CarriedIn headers a o old new pid (Ok after.TurnEnds)
   died_ends_in (goes p over) x = (x.0, x.1)
   died_ends_in (no_room p) x = absurd x
   died_ends_in nobody x = absurd x
 
-  never_strays : (o : Outcome_in) (access : Access) → GoesIn headers a o old new pid (served.Stray access) → ⊥
-  never_strays (goes p over) access x = absurd x.1
-  never_strays (no_room p) access x = absurd x.2
-  never_strays nobody access x = absurd x
-
-  -- within reach
-  on_within : (reach : Reach) → CarriedIn headers a (physical_event there pid) old new pid (Ok after.GoesOn) → CarriedWithin reach headers a old new pid (Ok after.GoesOn)
-  on_within Own x = x
-  on_within Whole x = x
-
-  end_within : (reach : Reach) → CarriedIn headers a (physical_event there pid) old new pid (Ok after.TurnEnds) → CarriedWithin reach headers a old new pid (Ok after.TurnEnds)
-  end_within Own x = x
-  end_within Whole x = x
-
-  full_within : (reach : Reach) → CarriedIn headers a (physical_event there pid) old new pid (Ok (after.RunEnds told.LogFull)) → CarriedWithin reach headers a old new pid (Ok (after.RunEnds told.LogFull))
-  full_within Own x = x
-  full_within Whole x = x
-
-  pub err_within : (reach : Reach) (r : Result After AllocError) → IsErr r → new ≡ old → CarriedWithin reach headers a old new pid r
-  err_within reach (Ok done) is same = absurd cc
-  err_within Own (Err error) is same = same
-  err_within Whole (Err error) is same = same
-
-  -- a stray access, behind a call that did nothing
-  strayed_in : (access : Access) (mid : Kept) → mid ≡ old → first_stray there pid ≡ Some access → (r : Result After AllocError) → TellsStray pid access mid new r → CarriedWithin Own headers a old new pid r
-  unfolding physical_of
-  strayed_in access mid same first (Err error) x = x ∙ same
-  strayed_in access mid same first (Ok (after.RunEnds (told.Stray seen))) x =
-      let w : world_of a new ≡ noted (stray_note pid (seen_of access)) (world_of a old) = x.1 a ∙ ap (λ (k : Kept). noted (stray_note pid (seen_of access)) (world_of a k)) same in
-      let m : new.mem ≡ old.mem = x.2 ∙ ap (λ (k : Kept). k.mem) same in
-      record { access = access; first = first; noted = rw (w, m) refl }
-  strayed_in access mid same first (Ok (after.RunEnds told.AllEnded)) x = absurd x
-  strayed_in access mid same first (Ok (after.RunEnds told.Stuck)) x = absurd x
-  strayed_in access mid same first (Ok (after.RunEnds told.OutOfQuanta)) x = absurd x
-  strayed_in access mid same first (Ok (after.RunEnds told.LogFull)) x = absurd x
-  strayed_in access mid same first (Ok after.GoesOn) x = absurd x
-  strayed_in access mid same first (Ok after.TurnEnds) x = absurd x
+  never_strays : (was : Kept) (o : Outcome_in) (access : Access) → GoesIn headers a o was new pid (served.Stray access) → ⊥
+  never_strays was (goes p over) access x = absurd x.1
+  never_strays was (no_room p) access x = absurd x.2
+  never_strays was nobody access x = absurd x
 
 -- ---- where it stands
 
-call_stands : (reach : Reach) (p : Physical) (pid : ℕ) (stop : Stop) → stop ≡ Call → StandsWithin reach p pid stop → StandsIn p pid Call
+pub call_stands : (reach : Reach) (p : Physical) (pid : ℕ) (stop : Stop) → stop ≡ Call → StandsWithin reach p pid stop → StandsIn p pid Call
 call_stands Own p pid stop at stands = subst (StandsWithin Own p pid) at stands
 call_stands Whole p pid stop at stands = subst (StandsWithin Whole p pid) at stands
 
@@ -150,13 +113,57 @@ trap_stands : (reach : Reach) (p : Physical) (pid : ℕ) (stop : Stop) (signal :
 trap_stands Own p pid stop signal at stands = subst (StandsWithin Own p pid) at stands
 trap_stands Whole p pid stop signal at stands = subst (StandsWithin Whole p pid) at stands
 
-abbrev IsStray : Served → Type 0
-IsStray (served.Stray access) = Unit {0}
-IsStray served.Replied = ⊥
-IsStray served.TurnEnds = ⊥
-IsStray served.Waits = ⊥
-IsStray served.Ended = ⊥
-IsStray served.LogFull = ⊥
+-- ---- a call
+
+module _ (law : CallsAreEvents) (headers : List (List ℕ)) (a : About) (old new : Kept) (pid : ℕ) (stands : has_stray old.notes ≡ false → StandsAt (world_of a old) pid Call) (stands_in : StandsIn (physical_of headers a old) pid Call) where
+  abbrev here : Physical
+  here = physical_of headers a old
+
+  is_event : called_on here pid ≡ physical_event here pid
+  unfolding physical_of world_of
+  is_event = law here pid stands_in stands
+
+  -- who calls may run still while its turn isn't over
+  still_noted : (o : Option Access) → MayRun here.world pid → StillIn pid (carried_out (with_stray pid o here) pid)
+  still_noted None may = let s = stands_in in still_in here pid s.process s.space s.lives s.has may
+  still_noted (Some access) may = let s = stands_in in still_in (with_stray pid (Some access) here) pid s.process s.space s.lives s.has may
+
+  still_called : CanRun old.procs pid → StillIn pid (physical_event here pid)
+  still_called ready = subst (StillIn pid) (sym (event_in_carried here pid)) (still_noted (first_stray here pid) (may_in headers a old new pid ready))
+
+  abbrev noted_parts : Kept
+  noted_parts = with_range pid (first_range here pid) old
+
+  goes_as : (s t : Served) → s ≡ t → ServesOn headers a old new pid (Ok s) → GoesIn headers a (physical_event here pid) noted_parts new pid t
+  goes_as s t same x =
+      subst (λ (o : Outcome_in). GoesIn headers a o noted_parts new pid t) is_event (subst (λ (u : Served). GoesIn headers a (called_on here pid) noted_parts new pid u) same x)
+
+  pub call_replied_in : CanRun old.procs pid → (s : Served) → s ≡ served.Replied → ServesOn headers a old new pid (Ok s) → CarriedWithin headers a old new pid (Ok after.GoesOn)
+  call_replied_in ready s same x = replied_in headers a old new pid noted_parts (physical_event here pid) (still_called ready) (goes_as s served.Replied same x)
+
+  pub call_turn_ends_in : (s : Served) → (s ≡ served.TurnEnds) ⊎ (s ≡ served.Waits) ⊎ (s ≡ served.Ended) → ServesOn headers a old new pid (Ok s) → CarriedWithin headers a old new pid (Ok after.TurnEnds)
+  call_turn_ends_in s (inl same) x = turn_ends_in headers a old new pid noted_parts (physical_event here pid) (goes_as s served.TurnEnds same x)
+  call_turn_ends_in s (inr (inl same)) x = waits_in headers a old new pid noted_parts (physical_event here pid) (goes_as s served.Waits same x)
+  call_turn_ends_in s (inr (inr same)) x = ended_in headers a old new pid noted_parts (physical_event here pid) (goes_as s served.Ended same x)
+
+  pub call_full_in : (s : Served) → s ≡ served.LogFull → ServesOn headers a old new pid (Ok s) → CarriedWithin headers a old new pid (Ok after.LogFull)
+  call_full_in s same x = full_in headers a old new pid noted_parts (physical_event here pid) (goes_as s served.LogFull same x)
+
+  pub call_never_strays : (s : Served) (access : Access) → s ≡ served.Stray access → ServesOn headers a old new pid (Ok s) → ⊥
+  call_never_strays s access same x = never_strays headers a old new pid noted_parts (physical_event here pid) access (goes_as s (served.Stray access) same x)
+
+-- up to the first stray access it is the call of the private spaces, where that doesn't stray
+first_answered : (a : About) (old new : Kept) (pid : ℕ) (o : Outcome) (s : Served) → stray_in o ≡ None → ServesFirst a o old new pid (Ok s) → Answered a o old new pid s
+first_answered a old new pid (went now t) s none x = x
+first_answered a old new pid full s none x = x
+first_answered a old new pid idle s none x = x
+first_answered a old new pid (strays access) s none x = absurd cc
+
+pub call_first : (a : About) (old new : Kept) (pid : ℕ) (s : Served) → StandsAt (world_of a old) pid Call → stray_in (event (world_of a old) pid) ≡ None
+    → ServesFirst a (called (world_of a old) pid) old new pid (Ok s) → Answered a (called (world_of a old) pid) old new pid s
+call_first a old new pid s stands none x = first_answered a old new pid (called (world_of a old) pid) s (ap stray_in (sym (event_called (world_of a old) pid stands)) ∙ none) x
+
+-- ---- a trap, and an access that is refused
 
 module _ (headers : List (List ℕ)) (a : About) (reach : Reach) (old : Kept) (pid : ℕ) (stop : Stop) (strayed : has_stray old.notes ≡ is_whole reach)
     (stands : reach ≡ Own → StandsAt (world_of a old) pid stop) (stands_in : StandsWithin reach (physical_of headers a old) pid stop) where
@@ -172,99 +179,6 @@ module _ (headers : List (List ℕ)) (a : About) (reach : Reach) (old : Kept) (p
       by Own is = let x = goes_own is in calm from pid o x.0 x.1
       by Whole is = noted_unstrayed from pid (notes_in headers a old old pid ∙ strayed ∙ ap is_whole is)
 
-  -- ---- a call
-
-  module _ (at : stop ≡ Call) (ready : CanRun old.procs pid) (new : Kept) where
-    abbrev comes : Outcome_in
-    comes = called_in from pid
-
-    call_there : StandsIn from pid Call
-    call_there = call_stands reach from pid stop at stands_in
-
-    called_out : carried_out from pid ≡ comes
-    called_out = let s = call_there in carried_called from pid s.process s.space s.lives s.has s.means
-
-    still_called : StillIn pid comes
-    still_called =
-        let s = call_there in
-        subst (StillIn pid) called_out (still_in from pid s.process s.space s.lives s.has (may_in headers a old old pid ready))
-
-    quiet_by : (o : Outcome) (s : Served) → (IsStray s → ⊥) → Answered a o old new pid s → stray_in o ≡ None
-    quiet_by (went now t) s other x = refl
-    quiet_by full s other x = refl
-    quiet_by idle s other x = absurd x
-    quiet_by (strays access) (served.Stray seen) other x = absurd (other tt)
-    quiet_by (strays access) served.Replied other x = absurd x
-    quiet_by (strays access) served.TurnEnds other x = absurd x
-    quiet_by (strays access) served.Waits other x = absurd x
-    quiet_by (strays access) served.Ended other x = absurd x
-    quiet_by (strays access) served.LogFull other x = absurd x
-
-    goes_of : (r : Reach) (s : Served) → (IsStray s → ⊥) → InReach r headers a comes old new pid (Ok s) → GoesIn headers a comes old new pid s
-    goes_of Whole s other x = x
-    goes_of Own (served.Stray access) other x = absurd (other tt)
-    goes_of Own served.Replied other x = x
-    goes_of Own served.TurnEnds other x = x
-    goes_of Own served.Waits other x = x
-    goes_of Own served.Ended other x = x
-    goes_of Own served.LogFull other x = x
-
-    -- what serve gives
-    module _ (s : Served) (serves : reach ≡ Own → Answered a (called (world_of a old) pid) old new pid s) (memory : InReach reach headers a comes old new pid (Ok s)) where
-      event_is_call : (IsStray s → ⊥) → physical_event from pid ≡ comes
-      event_is_call other =
-          event_in_calm from pid (first_none (called (world_of a old) pid)
-          (λ own. (event_called (world_of a old) pid (subst (StandsAt (world_of a old) pid) at (stands own)), quiet_by (called (world_of a old) pid) s other (serves own))))
-          ∙ called_out
-
-      goes_as : (t : Served) → s ≡ t → (IsStray t → ⊥) → GoesIn headers a comes old new pid t
-      goes_as t same other = subst (GoesIn headers a comes old new pid) same (goes_of reach s (λ is. other (subst IsStray same is)) memory)
-
-      as_event : (t : Served) (r : Result After AllocError) → s ≡ t → (IsStray t → ⊥) → CarriedIn headers a comes old new pid r → CarriedIn headers a (physical_event from pid) old new pid r
-      as_event t r same other x = subst (λ (o : Outcome_in). CarriedIn headers a o old new pid r) (sym (event_is_call (λ is. other (subst IsStray same is)))) x
-
-      pub call_replied_in : s ≡ served.Replied → CarriedWithin reach headers a old new pid (Ok after.GoesOn)
-      call_replied_in same =
-          on_within headers a old new pid reach (as_event served.Replied (Ok after.GoesOn) same (λ is. is)
-          (replied_in headers a old new pid comes still_called (goes_as served.Replied same (λ is. is))))
-
-      pub call_turn_ends_in : (s ≡ served.TurnEnds) ⊎ (s ≡ served.Waits) ⊎ (s ≡ served.Ended) → CarriedWithin reach headers a old new pid (Ok after.TurnEnds)
-      call_turn_ends_in (inl same) =
-          end_within headers a old new pid reach (as_event served.TurnEnds (Ok after.TurnEnds) same (λ is. is)
-          (turn_ends_in headers a old new pid comes (goes_as served.TurnEnds same (λ is. is))))
-      call_turn_ends_in (inr (inl same)) =
-          end_within headers a old new pid reach (as_event served.Waits (Ok after.TurnEnds) same (λ is. is)
-          (waits_in headers a old new pid comes (goes_as served.Waits same (λ is. is))))
-      call_turn_ends_in (inr (inr same)) =
-          end_within headers a old new pid reach (as_event served.Ended (Ok after.TurnEnds) same (λ is. is)
-          (ended_in headers a old new pid comes (goes_as served.Ended same (λ is. is))))
-
-      pub call_full_in : s ≡ served.LogFull → CarriedWithin reach headers a old new pid (Ok (after.RunEnds told.LogFull))
-      call_full_in same =
-          full_within headers a old new pid reach (as_event served.LogFull (Ok (after.RunEnds told.LogFull)) same (λ is. is)
-          (full_in headers a old new pid comes (goes_as served.LogFull same (λ is. is))))
-
-  -- a call that strays: within its own bytes alone
-  module _ (at : stop ≡ Call) (mid new : Kept) (access : Access) (s : Served) (same : s ≡ served.Stray access) where
-    by_stray : (o : Outcome) → event (world_of a old) pid ≡ o → has_stray old.notes ≡ false → Answered a o old mid pid (served.Stray access) → (r : Result After AllocError)
-        → TellsStray pid access mid new r → CarriedWithin Own headers a old new pid r
-    unfolding physical_of
-    by_stray (strays seen) is none x r tells =
-        strayed_in headers a old new pid seen mid x.1 (strays_first from pid seen (notes_in headers a old old pid ∙ none) is) r (subst (λ (t : Access). TellsStray pid t mid new r) x.0 tells)
-    by_stray (went now t) is none x r tells = absurd x.1
-    by_stray full is none x r tells = absurd x
-    by_stray idle is none x r tells = absurd x
-
-    pub call_strays_in : (reach ≡ Own → Answered a (called (world_of a old) pid) old mid pid s) → InReach reach headers a (called_in from pid) old mid pid (Ok s)
-        → (r : Result After AllocError) → TellsStray pid access mid new r → CarriedWithin reach headers a old new pid r
-    call_strays_in serves memory r tells = by reach refl memory
-      where
-        by : (t : Reach) → reach ≡ t → InReach t headers a (called_in from pid) old mid pid (Ok s) → CarriedWithin t headers a old new pid r
-        by Own own x =
-            by_stray (called (world_of a old) pid) (event_called (world_of a old) pid (subst (StandsAt (world_of a old) pid) at (stands own))) (strayed ∙ ap is_whole own)
-            (subst (Answered a (called (world_of a old) pid) old mid pid) same (serves own)) r tells
-        by Whole is x = absurd (never_strays headers a old mid pid (called_in from pid) access (subst (GoesIn headers a (called_in from pid) old mid pid) same x))
-
   -- ---- a trap
 
   died_calm : (o : Outcome) (new : Kept) → Died a o new pid → stray_in o ≡ None
@@ -274,46 +188,53 @@ module _ (headers : List (List ℕ)) (a : About) (reach : Reach) (old : Kept) (p
   died_calm idle new x = absurd x
 
   pub trap_ends_in : (signal : ℕ) (new : Kept) → stop ≡ Trap signal → Died a (died (world_of a old) pid signal) new pid → DiedIn headers a (died_in from pid signal) new pid
-      → CarriedWithin reach headers a old new pid (Ok after.TurnEnds)
+      → CarriedWithin headers a old new pid (Ok after.TurnEnds)
   trap_ends_in signal new at dies memory =
       let s = trap_stands reach from pid stop signal at stands_in in
       let none = first_none (died (world_of a old) pid signal)
       (λ own. (event_died (world_of a old) pid signal (subst (StandsAt (world_of a old) pid) at (stands own)), died_calm (died (world_of a old) pid signal) new dies)) in
       let is : physical_event from pid ≡ died_in from pid signal = event_in_calm from pid none ∙ carried_trapped from pid s.process s.space s.lives s.has signal s.means in
-      end_within headers a old new pid reach
-      (subst (λ (o : Outcome_in). CarriedIn headers a o old new pid (Ok after.TurnEnds)) (sym is) (died_ends_in headers a old new pid (died_in from pid signal) memory))
+      subst (λ (o : Outcome_in). CarriedIn headers a o old new pid (Ok after.TurnEnds)) (sym is) (died_ends_in headers a old new pid (died_in from pid signal) memory)
 
   -- ---- an access that is refused
 
-  pub refused_in : (access : Access) (new : Kept) → stop ≡ Refused access → (r : Result After AllocError) → (reach ≡ Own → TellsStray pid access old new r)
-      → (reach ≡ Whole → CarriedIn headers a (died_in from pid outside) old new pid r) → CarriedWithin reach headers a old new pid r
+  died_never : (now : Kept) (o : Outcome_in) (access : Access) → CarriedIn headers a o old now pid (Ok (after.Strays access)) → ⊥
+  died_never now (goes p over) access x = absurd x
+  died_never now (no_room p) access x = absurd x
+  died_never now nobody access x = absurd x
+
+  pub refused_in : (access : Access) (new : Kept) → stop ≡ Refused access → (r : Result After AllocError) → (reach ≡ Own → (r ≡ Ok (after.Strays access)) × (new ≡ old))
+      → (reach ≡ Whole → CarriedIn headers a (died_in from pid outside) old new pid r) → CarriedWithin headers a old new pid r
   unfolding physical_of
-  refused_in access new at r tells memory = by reach refl stands_in
+  refused_in access new at r strayed_so memory = by reach refl stands_in
     where
-      by : (t : Reach) → reach ≡ t → StandsWithin t from pid stop → CarriedWithin t headers a old new pid r
+      never : (t : Result After AllocError) → CarriedIn headers a (died_in from pid outside) old new pid t → CarriedIn headers a (physical_event from pid) old new pid t → CarriedWithin headers a old new pid t
+      never (Ok (after.Strays seen)) x y = absurd (died_never new (died_in from pid outside) seen x)
+      never (Ok after.GoesOn) x y = y
+      never (Ok after.TurnEnds) x y = y
+      never (Ok after.LogFull) x y = y
+      never (Err error) x y = y
+
+      by : (t : Reach) → reach ≡ t → StandsWithin t from pid stop → CarriedWithin headers a old new pid r
       by Own own x =
-          strayed_in headers a old new pid access old refl
-          (strays_first from pid access (notes_in headers a old old pid ∙ strayed ∙ ap is_whole own) (event_strays (world_of a old) pid access (subst (StandsAt (world_of a old) pid) at (stands own))))
-          r (tells own)
+          let so = strayed_so own in
+          subst (CarriedWithin headers a old new pid) (sym so.0)
+          (strays_first from pid access (notes_in headers a old old pid ∙ strayed ∙ ap is_whole own) (event_strays (world_of a old) pid access (subst (StandsAt (world_of a old) pid) at (stands own))), so.1)
       by Whole is x =
           let s : StandsIn from pid (Refused access) = subst (StandsWithin Whole from pid) at x in
           let none = noted_unstrayed from pid (notes_in headers a old old pid ∙ strayed ∙ ap is_whole is) in
           let same : physical_event from pid ≡ died_in from pid outside = event_in_calm from pid none ∙ carried_refused from pid s.process s.space s.lives s.has access s.means in
-          subst (λ (o : Outcome_in). CarriedIn headers a o old new pid r) (sym same) (memory is)
+          never r (memory is) (subst (λ (o : Outcome_in). CarriedIn headers a o old new pid r) (sym same) (memory is))
 
 pub trap_fits_in : (reach : Reach) (a : About) (old : Kept) (pid : ℕ) (stop : Stop) (signal : ℕ) → stop ≡ Trap signal → StandsWithin reach (physical_of [] a old) pid stop → signal < 2 ^ 8
 trap_fits_in reach a old pid stop signal at stands =
     let s = trap_stands reach (physical_of [] a old) pid stop signal at stands in
     trap_small s.process.regs (physical_of [] a old).memory (in_memory (physical_of [] a old).world) signal s.means
 
--- out of memory a call changed nothing
-pub unchanged_in : (reach : Reach) (headers : List (List ℕ)) (a : About) (o : Outcome_in) (old new : Kept) (pid : ℕ) (error : AllocError) → InReach reach headers a o old new pid (Err error) → new ≡ old
-unchanged_in Own headers a o old new pid error x = x
-unchanged_in Whole headers a o old new pid error x = x
-
--- within its own bytes none was noted, so live copies hold their files
-pub holds_own : (reach : Reach) (k : Kept) → reach ≡ Own → has_stray k.notes ≡ is_whole reach → StillHolds k
-holds_own reach k own strayed = unstrayed_holds k (strayed ∙ ap is_whole own)
+-- out of memory nothing changed
+pub err_within : (headers : List (List ℕ)) (a : About) (old new : Kept) (pid : ℕ) (r : Result After AllocError) → IsErr r → new ≡ old → CarriedWithin headers a old new pid r
+err_within headers a old new pid (Ok done) is same = absurd cc
+err_within headers a old new pid (Err error) is same = same
 
 -- of an end by a signal
 pub dies_not : (headers : List (List ℕ)) (a : About) (old new : Kept) (pid : ℕ) (o : Outcome_in) (r : Result After AllocError) → IsErr r → new ≡ old → CarriedIn headers a o old new pid r

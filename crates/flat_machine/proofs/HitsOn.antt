@@ -29,9 +29,8 @@ use Rattle.watch_points.specs.Points.{Found, hits_in, with_hits}
 use Rattle.watch_points.proofs.Kept.{hits_in-nil, hits_in-append, with_hits-nil, with_hits-append}
 use Rattle.flat_machine.specs.Hits.{asked_in_memory, asked_of_in, event_asked, event_asked_in, behind, behind_in, turn_hits, turn_hits_in}
 use Rattle.flat_machine.specs.HitsLeft.{HitsLead}
-use Rattle.flat_machine.specs.LeavesIn.{StraysIn}
 use Rattle.flat_machine.proofs.HitsAsked.{called_quiet, trapped_quiet, refused_quiet}
-use Rattle.flat_machine.proofs.StraysOn.{before_is, behind_is}
+use Rattle.flat_machine.proofs.StraysOn.{StraysIn, before_is, behind_is}
 
 -- ---- what was found, and what is left
 

@@ -1,19 +1,15 @@
 -- The hits of runs by quanta, in the one memory.
-use Rattle.std.proofs.Common.{◌≡◌, ℕ, ◌+◌, ◌-◌, ◌<◌, false, true, List, [], ◌∷◌, ◌++◌, length, Option, Some, None, Result, Ok, Err, refl, sym, ap, subst, ◌∙◌, arith, append_assoc, append-nil, take, drop, get_or}
+use Rattle.std.proofs.Common.{◌≡◌, ℕ, ◌+◌, ◌-◌, ◌<◌, List, [], ◌∷◌, ◌++◌, length, Option, Some, None, Result, Ok, Err, refl, sym, ap, subst, ◌∙◌, append_assoc, append-nil, take, drop, get_or}
 use Rattle.std.specs.Result.{IsErr}
 use Rattle.std.specs.declared.alloc.AllocError.{AllocError}
-use Rattle.std.proofs.lemmas.Bool.{false≢true}
-use Rattle.rv32im_step.specs.declared.access.Access.{Access}
 use Rattle.quantum_sched.specs.declared.Quantum.{Quantum}
 use Rattle.quantum_sched.specs.Picked.{picked}
-use Rattle.machine_world.specs.Families.{MayRun, ready_pids}
+use Rattle.machine_world.specs.Families.{ready_pids}
 use Rattle.machine_world.specs.Turns.{End, log_full}
 use Rattle.physical_turns.specs.Physical.{Physical, physical_turn, stays_at}
 use Rattle.physical_turns.specs.Physical.{Walk as Walk_in}
 use Rattle.physical_turns.specs.Courses.{ComesIn}
 use Rattle.physical_turns.proofs.TurnsIn.{comes_in_none, comes_in_on}
-use Rattle.kept_parts.specs.declared.reach.Reach.{Reach}
-use Rattle.kept_parts.specs.declared.reach.Reach.TheVariants.{Own, Whole}
 use Rattle.watch_points.specs.declared.hits.Hit.{Hit}
 use Rattle.watch_points.specs.declared.point.PointKind.{PointKind}
 use Rattle.watch_points.specs.declared.span.Span.{Span}
@@ -23,12 +19,10 @@ use Rattle.flat_machine.specs.declared.run.End.{End as Told}
 use Rattle.flat_machine.specs.declared.run.End.TheVariants as told
 use Rattle.flat_machine.specs.State.{State, one_memory}
 use Rattle.flat_machine.specs.Runs.{repeated}
-use Rattle.flat_machine.specs.LeavesIn.{TurnLeavesIn, is_stray, is_undone}
+use Rattle.flat_machine.specs.LeavesIn.{TurnLeavesIn}
 use Rattle.flat_machine.specs.Hits.{turn_hits_in, behind_turn_in, quantum_hits_in, hits_in_memory}
-use Rattle.flat_machine.specs.HitsLeft.{HitsLead, TurnHits, TurnHitsIn, HitsCome, gone_through_in, HitsStopIn, HitsLeaveIn, HitsFollowIn}
+use Rattle.flat_machine.specs.HitsLeft.{TurnHits, HitsCome, gone_through_in, HitsStopIn, HitsLeaveIn, HitsFollowIn}
 use Rattle.flat_machine.proofs.Rounds.{next_is, all_are, repeated_more, split}
-use Rattle.flat_machine.proofs.RoundsIn.{as_whole, stray_of}
-use Rattle.flat_machine.proofs.StraysOn.{taken_in, joined}
 use Rattle.flat_machine.proofs.HitsRounds.{come_on}
 
 module _ (kind : PointKind) (spans : List Span) where
@@ -60,16 +54,16 @@ module _ (kind : PointKind) (spans : List Span) where
       ends_hits qs new e is = hits_at qs (Some pid) chosen ∙ ap (λ (v : Walk_in). T pid q.count p ++ behind_turn_in (H qs) v.now v.end) is ∙ append-nil (T pid q.count p)
 
   module _ (q : Quantum) (p : Physical) (pid : ℕ) (chosen : picked q.pick (ready_pids p.world.procs) ≡ Some pid) (before found : Found) (done : ℕ) (new : Physical) where
-    whole_hits : (r : Result (Option Told) AllocError) → TurnLeavesIn Whole pid q.count p done new r → TurnHits (T pid) before found q.count p done r
+    pub turn_hits_leave_in : (r : Result (Option Told) AllocError) → TurnLeavesIn pid q.count p done new r → TurnHits (T pid) before found q.count p done r
         → HitsLeaveIn kind spans before found (q ∷ []) p new r
-    whole_hits (Ok None) x y = λ back.
+    turn_hits_leave_in (Ok None) x y = λ back.
         ap (λ (f : Found). with_hits f (H back new)) y ∙ sym (with_hits-append before (T pid q.count p) (H back new)) ∙ ap (with_hits before) (sym (goes_hits q p pid chosen back new x))
-    whole_hits (Ok (Some told.LogFull)) x y = λ back. y ∙ ap (with_hits before) (sym (ends_hits q p pid chosen back new log_full x))
-    whole_hits (Ok (Some (told.Stray access))) x y = absurd x
-    whole_hits (Ok (Some told.AllEnded)) x y = absurd x
-    whole_hits (Ok (Some told.Stuck)) x y = absurd x
-    whole_hits (Ok (Some told.OutOfQuanta)) x y = absurd x
-    whole_hits (Err error) x y =
+    turn_hits_leave_in (Ok (Some told.LogFull)) x y = λ back. y ∙ ap (with_hits before) (sym (ends_hits q p pid chosen back new log_full x))
+    turn_hits_leave_in (Ok (Some (told.Stray access))) x y = absurd x
+    turn_hits_leave_in (Ok (Some told.AllEnded)) x y = absurd x
+    turn_hits_leave_in (Ok (Some told.Stuck)) x y = absurd x
+    turn_hits_leave_in (Ok (Some told.OutOfQuanta)) x y = absurd x
+    turn_hits_leave_in (Err error) x y =
         let part : Quantum = record q { count = done } in
         record {
           stops = record {
@@ -87,54 +81,6 @@ module _ (kind : PointKind) (spans : List Span) where
           follow = y ∙ ap (with_hits before)
               (sym (goes_hits part p pid chosen [] new x.walked ∙ ap (λ (xs : List Hit). T pid done p ++ xs) (no_quanta_in new) ∙ append-nil (T pid done p)));
         }
-
-    calm_hits : (r : Result (Option Told) AllocError) → is_stray r ≡ false → TurnHitsIn (T pid) before found q.count p done new r → TurnHits (T pid) before found q.count p done r
-    calm_hits (Ok None) calm y = y
-    calm_hits (Ok (Some (told.Stray access))) calm y = absurd (false≢true (sym calm))
-    calm_hits (Ok (Some told.LogFull)) calm y = y
-    calm_hits (Ok (Some told.AllEnded)) calm y = y
-    calm_hits (Ok (Some told.Stuck)) calm y = y
-    calm_hits (Ok (Some told.OutOfQuanta)) calm y = y
-    calm_hits (Err error) calm y = y
-
-    pub turn_hits_leave_in : (reach : Reach) (r : Result (Option Told) AllocError) → is_stray r ≡ false → TurnLeavesIn reach pid q.count p done new r
-        → TurnHitsIn (T pid) before found q.count p done new r → HitsLeaveIn kind spans before found (q ∷ []) p new r
-    turn_hits_leave_in reach r calm x y = whole_hits r (as_whole q p pid chosen done new reach r calm x) (calm_hits r calm y)
-
-  -- a turn that strays, and what is left of it over all of memory
-  hits_joined : (pid count done later : ℕ) (old mid new : Physical) (before half found : Found) → done < count → HitsLead (T pid) before half old done mid
-      → (r : Result (Option Told) AllocError) → TurnLeavesIn Whole pid (count - done) mid later new r → TurnHitsIn (T pid) half found (count - done) mid later new r
-      → TurnHits (T pid) before found count old (done + later) r
-  hits_joined pid count done later old mid new before half found less lead r x y = by r x y
-    where
-      sum : done + (count - done) ≡ count
-      sum = omega (arith, less)
-
-      by : (r : Result (Option Told) AllocError) → TurnLeavesIn Whole pid (count - done) mid later new r → TurnHitsIn (T pid) half found (count - done) mid later new r
-          → TurnHits (T pid) before found count old (done + later) r
-      by (Ok None) x y = y ∙ lead (count - done) ∙ ap (λ (n : ℕ). with_hits before (T pid n old)) sum
-      by (Ok (Some told.LogFull)) x y = y ∙ lead (count - done) ∙ ap (λ (n : ℕ). with_hits before (T pid n old)) sum
-      by (Ok (Some (told.Stray access))) x y = absurd x
-      by (Ok (Some told.AllEnded)) x y = absurd x
-      by (Ok (Some told.Stuck)) x y = absurd x
-      by (Ok (Some told.OutOfQuanta)) x y = absurd x
-      by (Err error) x y = y ∙ lead later
-
-  module _ (q : Quantum) (pid done later : ℕ) (old mid new : Physical) (chosen : picked q.pick (ready_pids old.world.procs) ≡ Some pid) (less : done < q.count) (may : MayRun mid.world pid)
-      (before half found : Found) where
-    pub quantum_hits_past : (reach : Reach) (first r : Result (Option Told) AllocError) → is_stray first ≡ true → TurnLeavesIn reach pid q.count old done mid first
-        → TurnHitsIn (T pid) before half q.count old done mid first → TurnLeavesIn Whole pid (q.count - done) mid later new r → TurnHitsIn (T pid) half found (q.count - done) mid later new r
-        → HitsLeaveIn kind spans before found (q ∷ []) old (taken_in (is_undone later r) new) r
-    quantum_hits_past reach first r strays x hits y rest =
-        let s = stray_of first strays in
-        by reach s.0 (subst (TurnLeavesIn reach pid q.count old done mid) s.1 x) (subst (TurnHitsIn (T pid) before half q.count old done mid) s.1 hits)
-      where
-        by : (t : Reach) (access : Access) → TurnLeavesIn t pid q.count old done mid (Ok (Some (told.Stray access))) → HitsLead (T pid) before half old done mid
-            → HitsLeaveIn kind spans before found (q ∷ []) old (taken_in (is_undone later r) new) r
-        by Own access z lead =
-            whole_hits q old pid chosen before found (done + later) (taken_in (is_undone later r) new) r (joined pid q.count old mid new done z less may later r y)
-            (hits_joined pid q.count done later old mid new before half found less lead r y rest)
-        by Whole access z lead = absurd z
 
   -- ---- one after the other
 

@@ -11,17 +11,18 @@
 -- Turned    a turn, by its events
 -- NotedIn   stray notes come and stay
 -- TurnsIn   a turn in the one memory
+-- TurnsPast  and up to its first stray access and past it
 -- Picks     the process of a turn
 -- Rounds    runs by quanta
 -- StraysOn  a turn goes on behind the note of its first stray access
--- TakenBack  that note is taken back where its event finds no memory
--- HoldFiles  live copies hold their file behind it
+-- EventsOn  an event of a run, by the event within reach
 -- TurnsOf   what holds of a machine behind a turn
 -- RoundsIn  runs by quanta in the one memory, and up to their first stray access
 -- HitsAsked  what an instruction asks hits only where it is carried out
 -- HitsOn    the hits of a turn go on behind its events
 -- HitsAdvanced  the hits of instructions of one process
 -- HitsTurned  and of a turn
+-- TurnsOn  a turn by its events, in a run that ends at its first stray access and in one that goes on
 -- HitsRounds  and of runs by quanta
 -- HitsRoundsIn  and of those in the one memory
 -- Waiting   who waits in a machine's world, and why where a run is stuck
@@ -47,14 +48,15 @@ pub mod TurnsIn
 pub mod Picks
 pub mod Rounds
 pub mod StraysOn
-pub mod TakenBack
-pub mod HoldFiles
+pub mod EventsOn
+pub mod TurnsPast
 pub mod TurnsOf
 pub mod RoundsIn
 pub mod HitsAsked
 pub mod HitsOn
 pub mod HitsAdvanced
 pub mod HitsTurned
+pub mod TurnsOn
 pub mod HitsRounds
 pub mod HitsRoundsIn
 pub mod Waiting

@@ -1,5 +1,5 @@
 -- Stray notes: none comes with an event that goes in the private spaces, and none goes.
-use Rattle.std.proofs.Common.{◌≡◌, ℕ, true, false, List, [], ◌∷◌, ◌++◌, refl, ap, subst, ◌∙◌}
+use Rattle.std.proofs.Common.{◌≡◌, ℕ, true, false, List, [], ◌∷◌, ◌++◌, refl, sym, ap, subst, ◌∙◌, append_assoc}
 use Rattle.mmap_rules.specs.Space.{Space}
 use Rattle.call_log.specs.Notes.{Note, call_note, load_note, end_note, stray_note}
 use Rattle.machine_world.specs.World.{Process, Rest, World}
@@ -56,3 +56,13 @@ stray_behind (stray_note pid access ∷ more) notes was = refl
 -- what was noted stays
 pub adds_stray : (old now : World) → Adds old now → has_stray old.notes ≡ true → has_stray now.notes ≡ true
 adds_stray old now adds was = let n = adds.0 in ap has_stray n.1 ∙ stray_behind n.0 old.notes was
+
+pub adds_trans : (old mid new : World) → Adds old mid → Adds mid new → Adds old new
+adds_trans old mid new x y =
+    let m = x.0 in
+    let n = y.0 in
+    let c = x.1 in
+    let d = y.1 in (
+      (n.0 ++ m.0, n.1 ∙ ap (λ notes. n.0 ++ notes) m.1 ∙ sym (append_assoc n.0 m.0 old.notes)),
+      (c.0 ++ d.0, d.1 ∙ ap (λ console. console ++ d.0) c.1 ∙ append_assoc old.rest.console c.0 d.0),
+    )

@@ -1,41 +1,32 @@
 -- Runs by quanta in the one memory, and up to their first stray access.
-use Rattle.std.proofs.Common.{◌≡◌, ◌≢◌, ℕ, ◌+◌, ◌-◌, ◌<◌, inl, inr, true, false, List, [], ◌∷◌, ◌++◌, length, Option, Some, None, Result, Ok, Err, refl, sym, ap, subst, ◌∙◌, append_assoc, append-nil, take, drop, get_or}
+use Rattle.std.proofs.Common.{◌≡◌, ◌≢◌, ◌+◌, ◌-◌, ◌<◌, ℕ, inl, inr, false, List, [], ◌∷◌, ◌++◌, length, Option, Some, None, Result, Ok, Err, refl, sym, ap, subst, ◌∙◌, append_assoc, append-nil, take, drop, get_or}
 use Rattle.std.specs.Result.{IsErr}
 use Rattle.std.specs.Prelude.{alloc_error}
 use Rattle.std.specs.declared.alloc.AllocError.{AllocError}
 use Rattle.std.proofs.lemmas.Bool.{false≢true, cases_Bool}
-use Rattle.rv32im_step.specs.declared.access.Access.{Access}
-use Rattle.call_log.specs.Notes.{Note}
 use Rattle.quantum_sched.specs.declared.Quantum.{Quantum}
 use Rattle.quantum_sched.specs.Picked.{picked}
-use Rattle.vfork_exec.specs.Procs.{CanRun}
 use Rattle.machine_world.specs.World.{World}
-use Rattle.machine_world.specs.Families.{MayRun, ready_pids}
-use Rattle.machine_world.specs.Turns.{End, all_ended, stuck, out_of_quanta, stray_at, log_full, Walk, none_runs, turns, walked}
+use Rattle.machine_world.specs.Families.{ready_pids}
+use Rattle.machine_world.specs.Turns.{stray_at, log_full, Walk, none_runs, turn, turns, walked}
 use Rattle.machine_world.specs.Courses.{Comes}
-use Rattle.machine_world.proofs.RunLaws.{none_left}
+use Rattle.machine_world.proofs.RunLaws.{none_left, turn_stops}
 use Rattle.physical_turns.specs.Physical.{Physical, has_stray, physical_turns, stays_at}
 use Rattle.physical_turns.specs.Physical.{Walk as Walk_in}
 use Rattle.physical_turns.specs.Courses.{ComesIn}
 use Rattle.physical_turns.specs.Growth.{Adds}
 use Rattle.physical_turns.proofs.Growth.{runs_add}
 use Rattle.physical_turns.proofs.TurnsIn.{comes_in_on, none_chosen_in, turn_in_stops, turn_in_comes, none_left_in, comes_in_none}
-use Rattle.kept_parts.specs.Stands.{world_of}
 use Rattle.kept_parts.specs.InMemory.{physical_of}
-use Rattle.kept_parts.specs.declared.reach.Reach.{Reach}
-use Rattle.kept_parts.specs.declared.reach.Reach.TheVariants.{Own, Whole}
 use Rattle.flat_machine.specs.declared.run.End.{End as Told}
 use Rattle.flat_machine.specs.declared.run.End.TheVariants as told
-use Rattle.flat_machine.specs.State.{State, about_of, world, one_memory, is_whole}
+use Rattle.flat_machine.specs.State.{State, world, one_memory}
 use Rattle.flat_machine.specs.Runs.{repeated, Ends}
 use Rattle.flat_machine.specs.RunsIn.{RunsIn, GoesOn}
 use Rattle.flat_machine.specs.Leaves.{Leaves}
-use Rattle.flat_machine.specs.LeavesIn.{StopsIn, TurnLeavesIn, LeavesIn, LeavesFirst, GoesPast, is_stray, is_undone, reach_behind}
-use Rattle.flat_machine.proofs.NotedIn.{adds_stray}
-use Rattle.flat_machine.proofs.Rounds.{quantum_none, leaves_front, leaves_ended, next_is, all_are, repeated_more, split, machine_ends}
-use Rattle.flat_machine.proofs.StraysOn.{taken_in, joined, turn_adds}
-use Rattle.flat_machine.proofs.TurnsOf.{own_of}
-use Rattle.flat_machine.proofs.Picks.{may_run}
+use Rattle.flat_machine.specs.LeavesIn.{StopsIn, TurnLeavesIn, TurnFirst, LeavesIn, LeavesFirst, GoesPast}
+use Rattle.flat_machine.proofs.NotedIn.{adds_stray, adds_trans}
+use Rattle.flat_machine.proofs.Rounds.{quantum_none, quantum_leaves, leaves_front, leaves_ended, next_is, all_are, repeated_more, split, machine_ends}
 
 -- ---- one quantum, in the one memory
 
@@ -44,14 +35,14 @@ module _ (q : Quantum) (p : Physical) where
   quantum_none_in none end tells back = rw (none_chosen_in q p none back) (refl, tells)
 
   module _ (pid : ℕ) (chosen : picked q.pick (ready_pids p.world.procs) ≡ Some pid) (done : ℕ) (new : Physical) where
-    whole_leaves : (r : Result (Option Told) AllocError) → TurnLeavesIn Whole pid q.count p done new r → LeavesIn (q ∷ []) p new r
-    whole_leaves (Ok None) x = turn_in_comes q p pid chosen (stays_at new None) x refl
-    whole_leaves (Ok (Some told.LogFull)) x = λ back. rw (turn_in_stops q p pid chosen (stays_at new (Some log_full)) x log_full refl back) (refl, tt)
-    whole_leaves (Ok (Some (told.Stray access))) x = absurd x
-    whole_leaves (Ok (Some told.AllEnded)) x = absurd x
-    whole_leaves (Ok (Some told.Stuck)) x = absurd x
-    whole_leaves (Ok (Some told.OutOfQuanta)) x = absurd x
-    whole_leaves (Err error) x = record {
+    pub quantum_leaves_in : (r : Result (Option Told) AllocError) → TurnLeavesIn pid q.count p done new r → LeavesIn (q ∷ []) p new r
+    quantum_leaves_in (Ok None) x = turn_in_comes q p pid chosen (stays_at new None) x refl
+    quantum_leaves_in (Ok (Some told.LogFull)) x = λ back. rw (turn_in_stops q p pid chosen (stays_at new (Some log_full)) x log_full refl back) (refl, tt)
+    quantum_leaves_in (Ok (Some (told.Stray access))) x = absurd x
+    quantum_leaves_in (Ok (Some told.AllEnded)) x = absurd x
+    quantum_leaves_in (Ok (Some told.Stuck)) x = absurd x
+    quantum_leaves_in (Ok (Some told.OutOfQuanta)) x = absurd x
+    quantum_leaves_in (Err error) x = record {
       front = [];
       quantum = q;
       back = [];
@@ -63,62 +54,6 @@ module _ (q : Quantum) (p : Physical) where
       done = done;
       stops = x;
     }
-
-    -- a turn that doesn't stray is a turn of all of memory
-    pub as_whole : (reach : Reach) (r : Result (Option Told) AllocError) → is_stray r ≡ false → TurnLeavesIn reach pid q.count p done new r → TurnLeavesIn Whole pid q.count p done new r
-    as_whole Whole r calm x = x
-    as_whole Own (Ok None) calm x = x
-    as_whole Own (Ok (Some told.LogFull)) calm x = x
-    as_whole Own (Ok (Some (told.Stray access))) calm x = absurd (false≢true (sym calm))
-    as_whole Own (Ok (Some told.AllEnded)) calm x = absurd x
-    as_whole Own (Ok (Some told.Stuck)) calm x = absurd x
-    as_whole Own (Ok (Some told.OutOfQuanta)) calm x = absurd x
-    as_whole Own (Err error) calm x = x
-
-    pub quantum_leaves_in : (reach : Reach) (r : Result (Option Told) AllocError) → is_stray r ≡ false → TurnLeavesIn reach pid q.count p done new r → LeavesIn (q ∷ []) p new r
-    quantum_leaves_in reach r calm x = whole_leaves r (as_whole reach r calm x)
-
--- an end that is a stray access
-record IsAtStray (r : Result (Option Told) AllocError) : Type 0 where
-  access : Access
-  is : r ≡ Ok (Some (told.Stray access))
-
-stray_is : (r : Result (Option Told) AllocError) → is_stray r ≡ true → IsAtStray r
-stray_is (Ok (Some (told.Stray access))) is = record { access = access; is = refl }
-stray_is (Ok None) is = absurd (false≢true is)
-stray_is (Ok (Some told.AllEnded)) is = absurd (false≢true is)
-stray_is (Ok (Some told.Stuck)) is = absurd (false≢true is)
-stray_is (Ok (Some told.OutOfQuanta)) is = absurd (false≢true is)
-stray_is (Ok (Some told.LogFull)) is = absurd (false≢true is)
-stray_is (Err error) is = absurd (false≢true is)
-
--- the access at which a turn strays
-pub stray_of : (r : Result (Option Told) AllocError) → is_stray r ≡ true → (access : Access) × (r ≡ Ok (Some (told.Stray access)))
-stray_of r is = let s = stray_is r is in (s.access, s.is)
-
-pub stray_reach : (reach : Reach) (r : Result (Option Told) AllocError) → is_stray r ≡ true → reach_behind reach r ≡ Whole
-stray_reach reach r is = let s = stray_is r is in ap (reach_behind reach) s.is
-
-pub calm_reach : (reach : Reach) (r : Result (Option Told) AllocError) → is_stray r ≡ false → reach_behind reach r ≡ reach
-calm_reach reach (Ok None) calm = refl
-calm_reach reach (Ok (Some (told.Stray access))) calm = absurd (false≢true (sym calm))
-calm_reach reach (Ok (Some told.AllEnded)) calm = refl
-calm_reach reach (Ok (Some told.Stuck)) calm = refl
-calm_reach reach (Ok (Some told.OutOfQuanta)) calm = refl
-calm_reach reach (Ok (Some told.LogFull)) calm = refl
-calm_reach reach (Err error) calm = refl
-
--- a turn that strays, and what is left of it over all of memory
-module _ (q : Quantum) (pid done later : ℕ) (old mid new : Physical) (chosen : picked q.pick (ready_pids old.world.procs) ≡ Some pid) (less : done < q.count) (may : MayRun mid.world pid) where
-  pub quantum_goes_past : (reach : Reach) (first r : Result (Option Told) AllocError) → is_stray first ≡ true → TurnLeavesIn reach pid q.count old done mid first
-      → TurnLeavesIn Whole pid (q.count - done) mid later new r → LeavesIn (q ∷ []) old (taken_in (is_undone later r) new) r
-  quantum_goes_past reach first r strays x y =
-      let s = stray_is first strays in
-      by reach s.access (subst (TurnLeavesIn reach pid q.count old done mid) s.is x)
-    where
-      by : (t : Reach) (access : Access) → TurnLeavesIn t pid q.count old done mid (Ok (Some (told.Stray access))) → LeavesIn (q ∷ []) old (taken_in (is_undone later r) new) r
-      by Own access z = whole_leaves q old pid chosen (done + later) (taken_in (is_undone later r) new) r (joined pid q.count old mid new done z less may later r y)
-      by Whole access z = absurd z
 
 -- ---- up to the first stray access
 
@@ -132,55 +67,27 @@ pub first_quiet : (qs : List Quantum) (old new : World) (r : Result (Option Told
 first_quiet qs old new (Ok end) quiet x = (λ still. x, λ was. absurd (false≢true (sym quiet ∙ was)))
 first_quiet qs old new (Err error) quiet x = tt
 
--- the access at which a run of the private spaces ended
-ends_strays : (o : Option End) (access : Access) → Ends o (told.Stray access) → (pid : ℕ) × (seen : Access) × (o ≡ Some (stray_at pid seen))
-ends_strays (Some (stray_at pid seen)) access x = (pid, seen, refl)
-ends_strays (Some all_ended) access x = absurd x
-ends_strays (Some stuck) access x = absurd x
-ends_strays (Some out_of_quanta) access x = absurd x
-ends_strays (Some log_full) access x = absurd x
-ends_strays None access x = absurd x
-
--- it was met, and what came behind it only added
-pub first_past : (qs : List Quantum) (old mid new : World) (access : Access) (end : Option Told) → Leaves qs old mid (Ok (Some (told.Stray access))) → has_stray mid.notes ≡ true → Adds mid new
-    → LeavesFirst qs old new (Ok end)
-first_past qs old mid new access end x was adds = (
-  λ quiet. absurd (false≢true (sym quiet ∙ adds_stray mid new adds was)),
-  λ still back.
-      let at = x back in
-      let e = ends_strays (turns (qs ++ back) old).end access at.1 in
-      record { pid = e.0; access = e.1; ends = e.2; adds = subst (λ (w : World). Adds w new) (sym at.0) adds },
+-- what a turn leaves
+pub quantum_first : (q : Quantum) (old new : World) (pid : ℕ) → picked q.pick (ready_pids old.procs) ≡ Some pid → (done : ℕ) (r : Result (Option Told) AllocError) → TurnFirst pid q.count old done new r
+    → LeavesFirst (q ∷ []) old new r
+quantum_first q old new pid chosen done (Err error) x = tt
+quantum_first q old new pid chosen done (Ok end) x = (
+  λ quiet. quantum_leaves q old pid chosen done new (Ok end) (x.0 quiet),
+  λ was back.
+      let at = x.1 was in
+      subst (λ (w : Walk). GoesPast w new) (sym (turn_stops q old pid chosen (turn q.count pid old) refl (stray_at at.pid at.access) at.ends back)) at,
 )
 
 -- ---- as a machine has it
-
--- within its own bytes a machine met none
-own_state : (reach : Reach) (notes : List Note) → has_stray notes ≡ false → has_stray notes ≡ is_whole reach → reach ≡ Own
-own_state reach notes quiet strayed = own_of reach (sym strayed ∙ quiet)
 
 module _ (s : State) where
   pub chosen_in : (pick : ℕ) (o : Option ℕ) → picked pick (ready_pids (world s).procs) ≡ o → picked pick (ready_pids (one_memory s).world.procs) ≡ o
   unfolding physical_of
   chosen_in pick o is = is
 
-  pub may_run_in : (pid : ℕ) → CanRun s.kept.procs pid → MayRun (one_memory s).world pid
-  unfolding physical_of
-  may_run_in pid can = may_run (about_of s) s.kept pid can
-
   pub tells_in : (end : Told) → Ends (Some (none_runs (world s))) end → Ends (Some (none_runs (one_memory s).world)) end
   unfolding physical_of
   tells_in end tells = tells
-
-  pub own_here : has_stray (world s).notes ≡ false → has_stray s.kept.notes ≡ is_whole s.reach → s.reach ≡ Own
-  unfolding world_of
-  own_here quiet strayed = own_state s.reach s.kept.notes quiet strayed
-
--- what is left of the turn adds to what was before it
-pub past_by : (q : Quantum) (old : World) (mid new : State) (access : Access) (pid count later : ℕ) (r : Result (Option Told) AllocError) → Leaves (q ∷ []) old (world mid) (Ok (Some (told.Stray access)))
-    → has_stray (world mid).notes ≡ true → TurnLeavesIn Whole pid count (one_memory mid) later (one_memory new) r → LeavesFirst (q ∷ []) old (world new) r
-unfolding physical_of
-past_by q old mid new access pid count later (Ok end) x was y = first_past (q ∷ []) old (world mid) (world new) access end x was (turn_adds pid count later (one_memory mid) (one_memory new) end y)
-past_by q old mid new access pid count later (Err error) x was y = tt
 
 -- ---- one after the other
 
@@ -226,16 +133,6 @@ adds_of : (qs : List Quantum) (old new : Physical) (end : Option Told) → Leave
 adds_of qs old new None x =
     subst (λ (w : Walk_in). Adds old.world w.now.world) (x [] ∙ none_left_in new) (runs_add (qs ++ []) old)
 adds_of qs old new (Some end) x = subst (λ (p : Physical). Adds old.world p.world) (x []).0 (runs_add (qs ++ []) old)
-
-adds_trans : (old mid new : World) → Adds old mid → Adds mid new → Adds old new
-adds_trans old mid new x y =
-    let m = x.0 in
-    let n = y.0 in
-    let c = x.1 in
-    let d = y.1 in (
-      (n.0 ++ m.0, n.1 ∙ ap (λ notes. n.0 ++ notes) m.1 ∙ sym (append_assoc n.0 m.0 old.notes)),
-      (c.0 ++ d.0, d.1 ∙ ap (λ console. console ++ d.0) c.1 ∙ append_assoc old.rest.console c.0 d.0),
-    )
 
 -- up to the first stray access and behind it
 module _ (front more : List Quantum) (old mid new : World) where

@@ -1,6 +1,7 @@
 -- A turn, by its events.
 use Rattle.std.proofs.Common.{◌≡◌, ◌≢◌, ℕ, ◌+◌, ◌<◌, List, [], ◌∷◌, Some, None, Ok, Err, refl, sym, ap, subst, ◌∙◌, arith}
 use Rattle.std.specs.declared.alloc.AllocError.{AllocError}
+use Rattle.rv32im_step.specs.declared.access.Access.{Access}
 use Rattle.rv32im_step.specs.declared.stop.Stop.{Stop}
 use Rattle.rv32im_step.specs.declared.stop.Stop.TheVariants.{Next, Call, Trap, Refused}
 use Rattle.page_runs.specs.declared.place.Kind.{Kind}
@@ -15,12 +16,11 @@ use Rattle.machine_world.proofs.TurnLaws.{leads_none, leads_on, leads_event, tur
 use Rattle.kept_parts.specs.Flats.{AreFlats}
 use Rattle.kept_parts.specs.Kept.{Kept}
 use Rattle.kept_parts.specs.Stands.{About, later, world_of}
-use Rattle.flat_machine.specs.declared.run.End.{End as Told}
 use Rattle.flat_machine.specs.declared.run.End.TheVariants as told
 use Rattle.flat_machine.specs.declared.turn.After.TheVariants as after
 use Rattle.flat_machine.specs.Runs.{StandsStill}
-use Rattle.flat_machine.specs.Leaves.{Carried, TurnStops, TurnLeaves}
-use Rattle.kept_parts.proofs.Abouts.{some_about, about_with, some_are_flats}
+use Rattle.flat_machine.specs.Leaves.{Carried, CarriedOrEnds, TurnStops, TurnLeaves}
+use Rattle.kept_parts.proofs.Abouts.{some_about}
 
 -- behind so many events of a process the parts are others
 abbrev pub Reached : Kind → List Values → ℕ → Kept → ℕ → Kept → Type 0
@@ -81,7 +81,7 @@ module _ (now new : Kept) (pid : ℕ) where
   one_on a full is x = absurd x
   one_on a idle is x = absurd x
 
-  ready_on : (a : About) (o : Outcome) → Carried a o now new pid (Ok after.GoesOn) → CanRun new.procs pid
+  pub ready_on : (a : About) (o : Outcome) → Carried a o now new pid (Ok after.GoesOn) → CanRun new.procs pid
   ready_on a (went v t) x = x.2
   ready_on a (strays access) x = absurd x
   ready_on a full x = absurd x
@@ -90,9 +90,6 @@ module _ (now new : Kept) (pid : ℕ) where
   module _ (kind : Kind) (flats : List Values) (x : (a : About) → a.kind ≡ kind → AreFlats a.programs flats → Carried a (event (world_of a now) pid) now new pid (Ok after.GoesOn)) where
     pub event_on : Reached kind flats pid now 1 new
     event_on a so are = one_on a (event (world_of a now) pid) refl (x a so are)
-
-    pub event_ready : CanRun new.procs pid
-    event_ready = ready_on (about_with kind flats) (event (world_of (about_with kind flats) now) pid) (x (about_with kind flats) refl (some_are_flats flats))
 
 -- ---- the end of a turn
 
@@ -120,37 +117,32 @@ module _ (kind : Kind) (flats : List Values) (pid count : ℕ) (old now : Kept) 
         → (a : About) → a.kind ≡ kind → AreFlats a.programs flats → TurnLeaves pid count (world_of a old) (n + 1) (world_of (later (n + 1) a) new) (Ok None)
     turn_ends x a so are = ends_with a so are (event (world_of (later n a) now) pid) refl (x (later n a) so are)
 
-    stops_with : (a : About) → a.kind ≡ kind → AreFlats a.programs flats → (o : Outcome) (end : Told) → event (world_of (later n a) now) pid ≡ o → Carried (later n a) o now new pid (Ok (after.RunEnds end))
-        → TurnLeaves pid count (world_of a old) n (world_of (later n a) new) (Ok (Some end))
-    stops_with a so are (strays access) (told.Stray seen) is x =
+    full_with : (a : About) → a.kind ≡ kind → AreFlats a.programs flats → (o : Outcome) → event (world_of (later n a) now) pid ≡ o → Carried (later n a) o now new pid (Ok after.LogFull)
+        → TurnLeaves pid count (world_of a old) n (world_of (later n a) new) (Ok (Some told.LogFull))
+    full_with a so are full is x =
+        let same = whole a so are (stays_at (world_of (later n a) now) (Some log_full)) (turn_full pid (world_of (later n a) now) is) in
+        (ap (λ (z : Walk). z.world) same ∙ ap (world_of (later n a)) (sym x), rw same tt)
+    full_with a so are (went v t) is x = absurd x
+    full_with a so are (strays access) is x = absurd x
+    full_with a so are idle is x = absurd x
+
+    pub turn_stops_full : ((a : About) → a.kind ≡ kind → AreFlats a.programs flats → Carried a (event (world_of a now) pid) now new pid (Ok after.LogFull))
+        → (a : About) → a.kind ≡ kind → AreFlats a.programs flats → TurnLeaves pid count (world_of a old) n (world_of (later n a) new) (Ok (Some told.LogFull))
+    turn_stops_full x a so are = full_with a so are (event (world_of (later n a) now) pid) refl (x (later n a) so are)
+
+    strays_with : (a : About) → a.kind ≡ kind → AreFlats a.programs flats → (o : Outcome) (seen : Access) → event (world_of (later n a) now) pid ≡ o
+        → CarriedOrEnds (later n a) o now new pid (Ok (after.Strays seen)) → TurnLeaves pid count (world_of a old) n (world_of (later n a) new) (Ok (Some (told.Stray seen)))
+    strays_with a so are (strays access) seen is x =
         let w : World = noted (stray_note pid (seen_of access)) (world_of (later n a) now) in
         let same = whole a so are (stays_at w (Some (stray_at pid access))) (turn_strays pid (world_of (later n a) now) access is) in
         (ap (λ (z : Walk). z.world) same ∙ sym x.1, rw same x.0)
-    stops_with a so are full told.LogFull is x =
-        let same = whole a so are (stays_at (world_of (later n a) now) (Some log_full)) (turn_full pid (world_of (later n a) now) is) in
-        (ap (λ (z : Walk). z.world) same ∙ ap (world_of (later n a)) (sym x), rw same tt)
-    stops_with a so are (went v t) told.AllEnded is x = absurd x
-    stops_with a so are (went v t) (told.Stray seen) is x = absurd x
-    stops_with a so are (went v t) told.Stuck is x = absurd x
-    stops_with a so are (went v t) told.OutOfQuanta is x = absurd x
-    stops_with a so are (went v t) told.LogFull is x = absurd x
-    stops_with a so are (strays access) told.AllEnded is x = absurd x
-    stops_with a so are (strays access) told.Stuck is x = absurd x
-    stops_with a so are (strays access) told.OutOfQuanta is x = absurd x
-    stops_with a so are (strays access) told.LogFull is x = absurd x
-    stops_with a so are full told.AllEnded is x = absurd x
-    stops_with a so are full (told.Stray seen) is x = absurd x
-    stops_with a so are full told.Stuck is x = absurd x
-    stops_with a so are full told.OutOfQuanta is x = absurd x
-    stops_with a so are idle told.AllEnded is x = absurd x
-    stops_with a so are idle (told.Stray seen) is x = absurd x
-    stops_with a so are idle told.Stuck is x = absurd x
-    stops_with a so are idle told.OutOfQuanta is x = absurd x
-    stops_with a so are idle told.LogFull is x = absurd x
+    strays_with a so are (went v t) seen is x = absurd x
+    strays_with a so are full seen is x = absurd x
+    strays_with a so are idle seen is x = absurd x
 
-    pub turn_stops : (end : Told) → ((a : About) → a.kind ≡ kind → AreFlats a.programs flats → Carried a (event (world_of a now) pid) now new pid (Ok (after.RunEnds end)))
-        → (a : About) → a.kind ≡ kind → AreFlats a.programs flats → TurnLeaves pid count (world_of a old) n (world_of (later n a) new) (Ok (Some end))
-    turn_stops end x a so are = stops_with a so are (event (world_of (later n a) now) pid) end refl (x (later n a) so are)
+    pub turn_stops_stray : (seen : Access) → ((a : About) → a.kind ≡ kind → AreFlats a.programs flats → CarriedOrEnds a (event (world_of a now) pid) now new pid (Ok (after.Strays seen)))
+        → (a : About) → a.kind ≡ kind → AreFlats a.programs flats → TurnLeaves pid count (world_of a old) n (world_of (later n a) new) (Ok (Some (told.Stray seen)))
+    turn_stops_stray seen x a so are = strays_with a so are (event (world_of (later n a) now) pid) seen refl (x (later n a) so are)
 
     pub turn_fails : (stop : Stop) → ((a : About) → StandsAt (world_of a now) pid stop) → new ≡ now → (error : AllocError)
         → (a : About) → a.kind ≡ kind → AreFlats a.programs flats → TurnLeaves pid count (world_of a old) n (world_of (later n a) new) (Err error)
@@ -163,7 +155,3 @@ module _ (kind : Kind) (flats : List Values) (pid count : ℕ) (old now : Kept) 
           goes_on = ap (λ (v : Walk). v.end) used;
           still = still (world_of (later n a) now) pid stop (stands (later n a));
         })
-
--- an event that fails leaves the parts
-pub failed : (a : About) (o : Outcome) (old new : Kept) (pid : ℕ) (error : AllocError) → Carried a o old new pid (Err error) → new ≡ old
-failed a o old new pid error x = x

@@ -1,23 +1,30 @@
 -- What holds of a machine behind a turn.
-use Rattle.std.proofs.Common.{◌≡◌, ℕ, true, false, List, length, Option, Some, None, Result, Ok, Err, refl, sym, ap, subst, ◌∙◌}
+use Rattle.std.proofs.Common.{◌≡◌, ℕ, inl, inr, false, List, length, Option, Some, None, Result, Ok, Err, refl, sym, subst, ◌∙◌}
 use Rattle.std.specs.declared.alloc.AllocError.{AllocError}
-use Rattle.std.proofs.lemmas.Bool.{false≢true}
+use Rattle.std.proofs.lemmas.Bool.{false≢true, cases_Bool}
+use Rattle.rv32im_step.specs.declared.access.Access.{Access}
+use Rattle.page_runs.specs.declared.place.Kind.{Kind}
+use Rattle.bflt_format.specs.Values.{Values}
 use Rattle.vfork_exec.specs.Procs.{CanRun}
 use Rattle.machine_world.specs.World.{World}
 use Rattle.machine_world.specs.Programs.{AreLoaded}
 use Rattle.waits_laws.specs.Laws.{IsOrdered}
 use Rattle.physical_turns.specs.Physical.{Physical, has_stray, physical_turn, Walk}
-use Rattle.physical_turns.proofs.Growth.{turns_leave_programs}
-use Rattle.kept_parts.specs.declared.reach.Reach.{Reach}
-use Rattle.kept_parts.specs.declared.reach.Reach.TheVariants.{Own, Whole}
+use Rattle.physical_turns.specs.Growth.{Adds}
+use Rattle.physical_turns.proofs.Growth.{turns_add, turns_leave_programs}
+use Rattle.kept_parts.specs.Copies.{HoldsFiles}
+use Rattle.kept_parts.specs.Flats.{AreFlats}
 use Rattle.kept_parts.specs.Kept.{Kept}
 use Rattle.kept_parts.specs.Stands.{About, later, world_of}
-use Rattle.kept_parts.specs.InMemory.{physical_of}
+use Rattle.kept_parts.specs.InMemory.{headers_of, physical_of}
+use Rattle.region_watch.specs.declared.mode.Mode.{Mode}
+use Rattle.region_watch.specs.declared.mode.Mode.TheVariants.{Halt, GoOn}
 use Rattle.flat_machine.specs.declared.run.End.{End as Told}
 use Rattle.flat_machine.specs.declared.run.End.TheVariants as told
-use Rattle.flat_machine.specs.State.{is_whole}
-use Rattle.flat_machine.specs.Leaves.{TurnLeaves}
-use Rattle.flat_machine.specs.LeavesIn.{TurnStopsIn, TurnLeavesIn, reach_behind}
+use Rattle.flat_machine.specs.State.{State, world}
+use Rattle.flat_machine.specs.LeavesIn.{TurnStopsIn, TurnLeavesIn, is_stray}
+use Rattle.flat_machine.specs.ByMode.{HaltTurn, GoOnTurn}
+use Rattle.flat_machine.proofs.NotedIn.{adds_stray}
 use Rattle.flat_machine.proofs.Rounds.{turn_loads, turn_ordered}
 
 -- what is loaded once is loaded for good
@@ -34,7 +41,7 @@ module _ (pid count done : ℕ) (old new : Physical) where
   stops_loads : TurnStopsIn pid count old done new → Loaded old.world new.world
   stops_loads x = subst (λ (w : Walk). Loaded old.world w.now.world) x.walked (walked_loads done)
 
-  turn_loads_in : (r : Result (Option Told) AllocError) → TurnLeavesIn Whole pid count old done new r → Loaded old.world new.world
+  turn_loads_in : (r : Result (Option Told) AllocError) → TurnLeavesIn pid count old done new r → Loaded old.world new.world
   turn_loads_in (Ok None) x = ends_loads _ x
   turn_loads_in (Ok (Some told.LogFull)) x = ends_loads _ x
   turn_loads_in (Ok (Some (told.Stray access))) x = absurd x
@@ -43,43 +50,67 @@ module _ (pid count done : ℕ) (old new : Physical) where
   turn_loads_in (Ok (Some told.OutOfQuanta)) x = absurd x
   turn_loads_in (Err error) x = stops_loads x
 
-whole_behind : (r : Result (Option Told) AllocError) → reach_behind Whole r ≡ Whole
-whole_behind (Ok None) = refl
-whole_behind (Ok (Some (told.Stray access))) = refl
-whole_behind (Ok (Some told.AllEnded)) = refl
-whole_behind (Ok (Some told.Stuck)) = refl
-whole_behind (Ok (Some told.OutOfQuanta)) = refl
-whole_behind (Ok (Some told.LogFull)) = refl
-whole_behind (Err error) = refl
+  -- and what it adds
+  pub turn_adds_in : (r : Result (Option Told) AllocError) → TurnLeavesIn pid count old done new r → Adds old.world new.world
+  turn_adds_in (Ok None) x = subst (λ (w : Walk). Adds old.world w.now.world) x (turns_add count pid old)
+  turn_adds_in (Ok (Some told.LogFull)) x = subst (λ (w : Walk). Adds old.world w.now.world) x (turns_add count pid old)
+  turn_adds_in (Ok (Some (told.Stray access))) x = absurd x
+  turn_adds_in (Ok (Some told.AllEnded)) x = absurd x
+  turn_adds_in (Ok (Some told.Stuck)) x = absurd x
+  turn_adds_in (Ok (Some told.OutOfQuanta)) x = absurd x
+  turn_adds_in (Err error) x = subst (λ (w : Walk). Adds old.world w.now.world) x.walked (turns_add done pid old)
 
-module _ (reach : Reach) (headers : List (List ℕ)) (a : About) (n : ℕ) (pid count done : ℕ) (old new : Kept) (r : Result (Option Told) AllocError)
-    (leaves : reach ≡ Own → TurnLeaves pid count (world_of a old) done (world_of (later done a) new) r)
-    (memory : TurnLeavesIn reach pid count (physical_of headers a old) done (physical_of headers (later done a) new) r) where
-  loads_whole : TurnLeavesIn Whole pid count (physical_of headers a old) done (physical_of headers (later done a) new) r → length a.programs ≡ n → AreLoaded n old.notes → AreLoaded n new.notes
+-- by what becomes of the run at its first stray access
+module _ (kind : Kind) (flats : List Values) (a : About) (so : a.kind ≡ kind) (are : AreFlats a.programs flats) (pid count done : ℕ) (old new : Kept) (r : Result (Option Told) AllocError) where
+  loads_in : (n : ℕ) → length a.programs ≡ n → GoOnTurn kind flats pid count old done new r → AreLoaded n old.notes → AreLoaded n new.notes
   unfolding physical_of world_of
-  loads_whole x count_is are =
+  loads_in n count_is turn are_old =
       subst (λ (m : ℕ). AreLoaded m new.notes) count_is
-      (turn_loads_in pid count done (physical_of headers a old) (physical_of headers (later done a) new) r x (subst (λ (m : ℕ). AreLoaded m old.notes) (sym count_is) are))
+      (turn_loads_in pid count done (physical_of (headers_of flats) a old) (physical_of (headers_of flats) (later done a) new) r (turn.memory a so are) (subst (λ (m : ℕ). AreLoaded m old.notes) (sym count_is) are_old))
 
-  pub loads_behind : length a.programs ≡ n → AreLoaded n old.notes → AreLoaded n new.notes
-  loads_behind count_is are = by reach refl memory
+  quiet_in : GoOnTurn kind flats pid count old done new r → has_stray new.notes ≡ false → has_stray old.notes ≡ false
+  unfolding physical_of world_of
+  quiet_in turn quiet = elim (cases_Bool (has_stray old.notes)) [
+    | inl was ↦
+        let adds = turn_adds_in pid count done (physical_of (headers_of flats) a old) (physical_of (headers_of flats) (later done a) new) r (turn.memory a so are) in
+        absurd (false≢true (sym quiet ∙ adds_stray (physical_of (headers_of flats) a old).world (physical_of (headers_of flats) (later done a) new).world adds was))
+    | inr none ↦ none
+  ]
+
+  module _ (mode : Mode) (halts : mode ≡ Halt → HaltTurn kind flats pid count old done new r) (goes_on : mode ≡ GoOn → GoOnTurn kind flats pid count old done new r) where
+    pub loads_behind : (n : ℕ) → length a.programs ≡ n → AreLoaded n old.notes → AreLoaded n new.notes
+    loads_behind n count_is are_old = by mode refl
+      where
+        by : (m : Mode) → mode ≡ m → AreLoaded n new.notes
+        by Halt halt = turn_loads a (later done a) n pid count done old new r ((halts halt).leaves a so are) count_is are_old
+        by GoOn go = loads_in n count_is (goes_on go) are_old
+
+    -- where none was noted behind it none was before it
+    pub order_behind : CanRun old.procs pid → (mode ≡ Halt → has_stray old.notes ≡ false) → (has_stray old.notes ≡ false → IsOrdered (world_of a old)) → has_stray new.notes ≡ false
+        → IsOrdered (world_of (later done a) new)
+    unfolding world_of
+    order_behind can halting order quiet = by mode refl
+      where
+        by : (m : Mode) → mode ≡ m → IsOrdered (world_of (later done a) new)
+        by Halt halt = turn_ordered a (later done a) pid count done old new r ((halts halt).leaves a so are) can (order (halting halt))
+        by GoOn go =
+            let before = quiet_in (goes_on go) quiet in
+            turn_ordered a (later done a) pid count done old new r (((goes_on go).first before a so are).0 quiet) can (order before)
+
+  -- live copies hold their files behind a turn of a run that ends at its first stray access
+  pub turn_holds : HaltTurn kind flats pid count old done new r → (has_stray new.notes ≡ false → HoldsFiles new) → HoldsFiles new
+  turn_holds turn still = by r turn.quiet turn.holds
     where
-      by : (t : Reach) → reach ≡ t → TurnLeavesIn t pid count (physical_of headers a old) done (physical_of headers (later done a) new) r → AreLoaded n new.notes
-      by Own own x = turn_loads a (later done a) n pid count done old new r (leaves own) count_is are
-      by Whole whole x = loads_whole x count_is are
+      by : (t : Result (Option Told) AllocError) → (is_stray t ≡ false → has_stray new.notes ≡ false) → ((access : Access) → t ≡ Ok (Some (told.Stray access)) → HoldsFiles new) → HoldsFiles new
+      by (Ok (Some (told.Stray access))) quiet holds = holds access refl
+      by (Ok None) quiet holds = still (quiet refl)
+      by (Ok (Some told.AllEnded)) quiet holds = still (quiet refl)
+      by (Ok (Some told.Stuck)) quiet holds = still (quiet refl)
+      by (Ok (Some told.OutOfQuanta)) quiet holds = still (quiet refl)
+      by (Ok (Some told.LogFull)) quiet holds = still (quiet refl)
+      by (Err error) quiet holds = still (quiet refl)
 
-  -- where none was noted behind it none was before it
-  pub order_behind : CanRun old.procs pid → has_stray old.notes ≡ is_whole reach → has_stray new.notes ≡ is_whole (reach_behind reach r)
-      → (has_stray old.notes ≡ false → IsOrdered (world_of a old)) → has_stray new.notes ≡ false → IsOrdered (world_of (later done a) new)
-  order_behind can before behind order quiet = by reach refl
-    where
-      by : (t : Reach) → reach ≡ t → IsOrdered (world_of (later done a) new)
-      by Own own = turn_ordered a (later done a) pid count done old new r (leaves own) can (order (before ∙ ap is_whole own))
-      by Whole whole =
-          let all : has_stray new.notes ≡ true = behind ∙ ap (λ (t : Reach). is_whole (reach_behind t r)) whole ∙ ap is_whole (whole_behind r) in
-          absurd (false≢true (sym quiet ∙ all))
-
--- within its own bytes a machine met no stray access
-pub own_of : (reach : Reach) → is_whole reach ≡ false → reach ≡ Own
-own_of Own is = refl
-own_of Whole is = absurd (false≢true (sym is))
+-- the notes of a machine
+pub noted_state : (s : State) → has_stray (world s).notes ≡ has_stray s.kept.notes
+unfolding world_of
+noted_state s = refl

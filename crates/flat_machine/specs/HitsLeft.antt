@@ -1,5 +1,5 @@
 -- What is kept of the hits of a turn and of a run: those that were found, and behind them those of what is left, are those of the whole.
-use Rattle.std.specs.Prelude.{◌≡◌, ℕ, ◌+◌, List, [], ◌∷◌, ◌++◌, Option, Some, None, Result, Ok, Err}
+use Rattle.std.specs.Prelude.{◌≡◌, ℕ, suc, ◌+◌, List, [], ◌∷◌, ◌++◌, Option, Some, None, Result, Ok, Err}
 use Rattle.std.specs.declared.alloc.AllocError.{AllocError}
 use Rattle.quantum_sched.specs.declared.Quantum.{Quantum}
 use Rattle.call_log.specs.declared.how.Seen.{Seen}
@@ -11,7 +11,8 @@ use Rattle.watch_points.specs.declared.point.PointKind.{PointKind}
 use Rattle.watch_points.specs.declared.span.Span.{Span}
 use Rattle.watch_points.specs.Points.{Found, with_hits}
 use Rattle.flat_machine.specs.declared.run.End.{End as Told}
-use Rattle.flat_machine.specs.declared.run.End.TheVariants as told
+use Rattle.flat_machine.specs.declared.turn.After.{After}
+use Rattle.flat_machine.specs.declared.turn.After.TheVariants.{GoesOn}
 use Rattle.flat_machine.specs.State.{State, world, one_memory}
 use Rattle.flat_machine.specs.Runs.{Stops, gone_through}
 use Rattle.flat_machine.specs.LeavesIn.{StopsIn}
@@ -28,10 +29,11 @@ abbrev pub TurnHits : {W : Type 0} → (hits : ℕ → W → List Hit) → (befo
 TurnHits hits before after count old done (Ok end) = after ≡ with_hits before (hits count old)
 TurnHits hits before after count old done (Err error) = after ≡ with_hits before (hits done old)
 
--- the same in the one memory, where what is left behind the note of the first stray access follows
-abbrev pub TurnHitsIn : (hits : ℕ → Physical → List Hit) → (before after : Found) → (count : ℕ) → Physical → (done : ℕ) → Physical → Result (Option Told) AllocError → Type 0
-TurnHitsIn hits before after count old done new (Ok (Some (told.Stray access))) = HitsLead hits before after old done new
-TurnHitsIn hits before after count old done new other = TurnHits hits before after count old done other
+-- an event of it: the turn goes on in the new world, or makes no other hits
+abbrev pub EventHits : {W : Type 0} → (hits : ℕ → W → List Hit) → (before after : Found) → W → W → Result After AllocError → Type 0
+EventHits hits before after old new (Ok GoesOn) = HitsLead hits before after old 1 new
+EventHits hits before after old new (Ok over) = (left : ℕ) → after ≡ with_hits before (hits (suc left) old)
+EventHits hits before after old new (Err error) = after ≡ before
 
 -- ---- a run, whose hits by some quanta `hits` tells
 

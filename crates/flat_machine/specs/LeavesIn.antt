@@ -1,5 +1,5 @@
 -- What the next event, a turn and the turns of some quanta leave in the one memory.
-use Rattle.std.specs.Prelude.{◌≡◌, ◌≢◌, ℕ, ◌<◌, ◌==◌, if◌then◌else◌, Bool, true, false, List, ◌∷◌, ◌++◌, Option, Some, None, Result, Ok, Err}
+use Rattle.std.specs.Prelude.{◌≡◌, ◌≢◌, ℕ, ◌<◌, if◌then◌else◌, Bool, true, false, List, ◌∷◌, ◌++◌, Option, Some, None, Result, Ok, Err}
 use Rattle.std.specs.declared.alloc.AllocError.{AllocError}
 use Rattle.byte_words.specs.ByteMap.{Bytes}
 use Rattle.rv32im_step.specs.declared.access.Access.{Access}
@@ -14,23 +14,21 @@ use Rattle.vfork_exec.specs.Keyed.{find}
 use Rattle.vfork_exec.specs.Procs.{CanRun}
 use Rattle.machine_world.specs.Families.{ready_pids}
 use Rattle.machine_world.specs.World.{World, Process, LiveSpace, pid_of, id_of}
-use Rattle.machine_world.specs.Turns.{End, Walk, stray_at, log_full, turns}
-use Rattle.physical_turns.specs.Physical.{Physical, After as Outcome, after as goes, no_room, has_stray, next_meaning, first_stray, with_stray, physical_event, physical_turn, physical_turns}
+use Rattle.machine_world.specs.Turns.{End, Walk, stray_at, log_full, turn, turns}
+use Rattle.physical_turns.specs.Physical.{Physical, After as Outcome, after as goes, no_room, has_stray, next_meaning, first_stray, physical_event, physical_turn, physical_turns}
 use Rattle.physical_turns.specs.Courses.{LeadsIn, ComesIn, StandsIn}
 use Rattle.physical_turns.specs.Growth.{Adds}
 use Rattle.kept_parts.specs.declared.reach.Reach.{Reach}
-use Rattle.kept_parts.specs.declared.reach.Reach.TheVariants.{Own, Whole}
+use Rattle.kept_parts.specs.declared.reach.Reach.TheVariants.{Own}
 use Rattle.kept_parts.specs.Kept.{Kept}
 use Rattle.kept_parts.specs.Stands.{About, later}
 use Rattle.kept_parts.specs.InMemory.{physical_of}
-use Rattle.region_watch.specs.declared.mode.Mode.{Mode}
-use Rattle.region_watch.specs.declared.mode.Mode.TheVariants.{Halt, GoOn}
 use Rattle.flat_machine.specs.declared.run.End.{End as Told}
 use Rattle.flat_machine.specs.declared.run.End.TheVariants as told
 use Rattle.flat_machine.specs.declared.turn.After.{After}
 use Rattle.flat_machine.specs.declared.turn.After.TheVariants as after
 use Rattle.flat_machine.specs.Runs.{Ends}
-use Rattle.flat_machine.specs.Leaves.{Leaves}
+use Rattle.flat_machine.specs.Leaves.{TurnLeaves, Leaves}
 
 -- ---- an event
 
@@ -39,19 +37,22 @@ abbrev pub CarriedIn : List (List ℕ) → About → Outcome → Kept → Kept �
 CarriedIn headers a outcome old new pid (Err error) = new ≡ old
 CarriedIn headers a (goes now over) old new pid (Ok after.GoesOn) = (now ≡ physical_of headers (later 1 a) new) × (over ≡ false) × CanRun new.procs pid
 CarriedIn headers a (goes now over) old new pid (Ok after.TurnEnds) = (now ≡ physical_of headers (later 1 a) new) × (over ≡ true)
-CarriedIn headers a (no_room now) old new pid (Ok (after.RunEnds told.LogFull)) = (now ≡ physical_of headers a old) × (new ≡ old)
+CarriedIn headers a (no_room now) old new pid (Ok after.LogFull) = now ≡ physical_of headers a new
 CarriedIn headers a outcome old new pid (Ok other) = ⊥
 
--- the next event of a process is the first that strays: its access was noted, and nothing of it was carried out
-pub record StraysIn (pid : ℕ) (old new : Physical) : Type 0 where
-  pub access : Access
-  pub first : first_stray old pid ≡ Some access
-  pub noted : new ≡ with_stray pid (Some access) old
+-- its event may be the run's first that strays, of which nothing is done yet
+abbrev pub CarriedWithin : List (List ℕ) → About → Kept → Kept → ℕ → Result After AllocError → Type 0
+CarriedWithin headers a old new pid (Ok (after.Strays access)) = (first_stray (physical_of headers a old) pid ≡ Some access) × (new ≡ old)
+CarriedWithin headers a old new pid result = CarriedIn headers a (physical_event (physical_of headers a old) pid) old new pid result
 
--- within a process's own bytes its event may stray
-abbrev pub CarriedWithin : Reach → List (List ℕ) → About → Kept → Kept → ℕ → Result After AllocError → Type 0
-CarriedWithin Own headers a old new pid (Ok (after.RunEnds (told.Stray access))) = StraysIn pid (physical_of headers a old) (physical_of headers a new)
-CarriedWithin reach headers a old new pid result = CarriedIn headers a (physical_event (physical_of headers a old) pid) old new pid result
+-- an event of a run that goes on, behind the note of its stray access where that is the first: the turn goes on, or is over, or the log
+-- has no room; out of memory nothing changed
+abbrev pub EventIn : List (List ℕ) → About → Kept → Kept → ℕ → Result After AllocError → Type 0
+EventIn headers a old new pid (Ok after.GoesOn) = LeadsIn pid (physical_of headers a old) 1 (physical_of headers (later 1 a) new) × CanRun new.procs pid
+EventIn headers a old new pid (Ok after.TurnEnds) = physical_event (physical_of headers a old) pid ≡ goes (physical_of headers (later 1 a) new) true
+EventIn headers a old new pid (Ok (after.Strays access)) = ⊥
+EventIn headers a old new pid (Ok after.LogFull) = physical_event (physical_of headers a old) pid ≡ no_room (physical_of headers a new)
+EventIn headers a old new pid (Err error) = new ≡ old
 
 -- where a process stands: within its own bytes an access that is refused says nothing of all of memory
 abbrev pub StandsWithin : Reach → Physical → ℕ → Stop → Type 0
@@ -87,38 +88,16 @@ pub record TurnStopsIn (pid count : ℕ) (old : Physical) (done : ℕ) (new : Ph
   pub walked : physical_turn done pid old ≡ record { now = new; end = None }
   pub still : StandsStillIn new pid
 
--- up to the run's first stray access, which is noted and not yet carried out
-pub record TurnStraysIn (pid : ℕ) (old : Physical) (done : ℕ) (new : Physical) : Type 0 where
-  pub at : Physical
-  pub leads : LeadsIn pid old done at
-  pub strays : StraysIn pid at new
-
-abbrev pub TurnLeavesIn : Reach → ℕ → ℕ → Physical → ℕ → Physical → Result (Option Told) AllocError → Type 0
-TurnLeavesIn reach pid count old done new (Ok None) = TurnEndsIn pid count old new None
-TurnLeavesIn reach pid count old done new (Ok (Some told.LogFull)) = TurnEndsIn pid count old new (Some log_full)
-TurnLeavesIn Own pid count old done new (Ok (Some (told.Stray access))) = TurnStraysIn pid old done new
-TurnLeavesIn reach pid count old done new (Ok (Some other)) = ⊥
-TurnLeavesIn reach pid count old done new (Err error) = TurnStopsIn pid count old done new
-
--- all of memory is reached behind the first stray access
-abbrev pub reach_behind : Reach → Result (Option Told) AllocError → Reach
-reach_behind reach (Ok (Some (told.Stray access))) = Whole
-reach_behind reach other = reach
+abbrev pub TurnLeavesIn : ℕ → ℕ → Physical → ℕ → Physical → Result (Option Told) AllocError → Type 0
+TurnLeavesIn pid count old done new (Ok None) = TurnEndsIn pid count old new None
+TurnLeavesIn pid count old done new (Ok (Some told.LogFull)) = TurnEndsIn pid count old new (Some log_full)
+TurnLeavesIn pid count old done new (Ok (Some other)) = ⊥
+TurnLeavesIn pid count old done new (Err error) = TurnStopsIn pid count old done new
 
 -- it came to a stray access that isn't carried out
 abbrev pub is_stray : Result (Option Told) AllocError → Bool
 is_stray (Ok (Some (told.Stray access))) = true
 is_stray other = false
-
--- a run that goes on has what is left of it
-abbrev pub has_rest : Mode → Result (Option Told) AllocError → Bool
-has_rest Halt result = false
-has_rest GoOn result = is_stray result
-
--- out of memory before any of its events was carried out
-abbrev pub is_undone : {A : Type 0} → ℕ → Result A AllocError → Bool
-is_undone events (Ok end) = false
-is_undone events (Err error) = events == 0
 
 -- ---- a run
 
@@ -150,8 +129,12 @@ pub record GoesPast (walk : Walk) (now : World) : Type 0 where
   pub ends : walk.end ≡ Some (stray_at pid access)
   pub adds : Adds walk.world now
 
--- what the turns of some quanta leave of a run that goes on and met no stray access yet: still none, and it is that of the private
--- spaces; or one, and these end there, whatever quanta are left
+-- a turn of a run that goes on and met no stray access yet: still none, and it is that of the private spaces; or one, and that ends there
+abbrev pub TurnFirst : ℕ → ℕ → World → ℕ → World → Result (Option Told) AllocError → Type 0
+TurnFirst pid count old done new result =
+    (has_stray new.notes ≡ false → TurnLeaves pid count old done new result) × (has_stray new.notes ≡ true → GoesPast (turn count pid old) new)
+
+-- so the turns of some quanta, whatever quanta are left
 abbrev pub LeavesFirst : List Quantum → World → World → Result (Option Told) AllocError → Type 0
 LeavesFirst quanta old new (Err error) = Unit {0}
 LeavesFirst quanta old new (Ok end) =

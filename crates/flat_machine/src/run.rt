@@ -1,36 +1,30 @@
 //! A run by quanta.
 
-ghost use Rattle.std.specs.Prelude.{◌≡◌, ◌+◌, ◌*◌, ◌^◌, ◌<◌, ◌≤◌, false, [], ◌∷◌, sum_by, Some, None, IfSome, Ok, OnErr};
+ghost use Rattle.std.specs.Prelude.{◌≡◌, ◌+◌, ◌*◌, ◌^◌, ◌<◌, ◌≤◌, false, [], ◌∷◌, sum_by, Some, IfSome};
 ghost use Rattle.page_runs.specs.Choosers.{IsChooser, kind_of};
 ghost use Rattle.vfork_exec.specs.Procs.{CanRun};
 ghost use Rattle.quantum_sched.specs.Picked.{picked};
 ghost use Rattle.machine_world.specs.Families.{ready_pids};
 ghost use Rattle.machine_world.specs.Turns.{none_runs, turns};
-ghost use Rattle.kept_parts.specs.InMemory.{without_newest};
-ghost use Rattle.kept_parts.specs.Regular.{IsRegular};
 ghost use Rattle.kept_parts.specs.Stands.{About, world_of};
-ghost use Rattle.rv32im_step.specs.declared.access.Access.{Access};
 ghost use Rattle.physical_turns.specs.Physical.{has_stray};
-ghost use Rattle.kept_parts.specs.declared.reach.Reach.TheVariants.{Own};
-ghost use Rattle.region_watch.specs.declared.mode.Mode.TheVariants.{GoOn};
-ghost use Rattle.flat_machine.specs.declared.run.End.TheVariants.{Stray};
-ghost use Rattle.flat_machine.specs.State.{is_whole, world, one_memory};
+ghost use Rattle.region_watch.specs.declared.mode.Mode.TheVariants.{Halt, GoOn};
+ghost use Rattle.flat_machine.specs.State.{world, one_memory};
 ghost use Rattle.kept_parts.specs.Copies.{HoldsFiles};
 ghost use Rattle.flat_machine.specs.Runs.{Ends, repeated};
 ghost use Rattle.flat_machine.specs.RunsIn.{IsHalting, StaysHalted};
 ghost use Rattle.flat_machine.specs.ByMode.{HaltRuns, GoOnRuns};
 ghost use Rattle.flat_machine.specs.Leaves.{Leaves, TurnLeaves};
-ghost use Rattle.flat_machine.specs.LeavesIn.{LeavesIn, LeavesFirst, TurnLeavesIn, reach_behind, has_rest, is_undone, is_stray};
+ghost use Rattle.flat_machine.specs.LeavesIn.{LeavesIn, LeavesFirst, TurnLeavesIn, TurnFirst, is_stray};
 ghost use Rattle.watch_points.specs.Points.{AreSpans, IsPoint, kind_of_point};
 ghost use Rattle.flat_machine.specs.Hits.{turn_hits, turn_hits_in};
-ghost use Rattle.flat_machine.specs.HitsLeft.{TurnHits, TurnHitsIn, HitsLeave, HitsLeaveIn, HitsFollow, HitsFollowIn, NoneWhereHalted};
+ghost use Rattle.flat_machine.specs.HitsLeft.{TurnHits, HitsLeave, HitsLeaveIn, HitsFollow, HitsFollowIn, NoneWhereHalted};
 
 use crate::machine::Machine;
 use crate::turn::{TurnEnd, tell_copies, turn};
 use crate::watcher::Watcher;
 use page_runs::{Chooser, Run};
 use quantum_sched::{Quantum, pick};
-use region_watch::Mode;
 use rv32im_step::Access;
 use std::alloc::AllocError;
 use syscall_layer::Parts;
@@ -81,28 +75,8 @@ fn last_end(parts: &Parts) -> End
     }
 }
 
-/// Whether a run goes on with what is left of a turn: it came to a stray access that is noted and not yet carried out.
-fn has_rest(parts: &Parts, end: &Result<Option<End>, AllocError>) -> bool
-    ensures { result ≡ has_rest parts.now.mode end.now }
-{
-    match parts.mode {
-        Mode::Halt => false,
-        Mode::GoOn => matches!(end, Ok(Some(End::Stray(_)))),
-    }
-}
-
-/// Whether memory ended before any event of a turn was carried out.
-fn is_undone(events: u32, end: &Result<Option<End>, AllocError>) -> bool
-    ensures { result ≡ is_undone events end.now }
-{
-    match end {
-        Ok(_) => false,
-        Err(_) => events == 0,
-    }
-}
-
 impl Machine {
-    /// Gives a process its turn within reach of the machine.
+    /// Gives a process its turn.
     fn turn_of<F: Fn(&[Run], u32) -> Option<usize>, G: Fn(&[Span], u32, u32) -> bool>(
         &mut self,
         pid: u32,
@@ -115,31 +89,27 @@ impl Machine {
         requires point { IsPoint G.pre G.post watcher.now.point.now }
         requires spans { AreSpans watcher.now.spans.now }
         requires ready { CanRun self.old.kept.procs pid }
+        requires halting { self.old.mode ≡ Halt → has_stray (world self.old).notes ≡ false }
         requires kind { kind_of chooser.now ≡ self.old.kind }
         requires events { self.old.events + count < 2 ^ 64 }
         ensures kind { self.new.kind ≡ self.old.kind }
-        ensures programs { self.new.programs ≡ self.old.programs }
         ensures mode { self.new.mode ≡ self.old.mode }
-        ensures reach { self.new.reach ≡ reach_behind self.old.reach result.end }
         ensures events { self.new.events ≡ self.old.events + result.events }
         ensures within { result.events ≤ count }
-        ensures notes { has_stray (world self.new).notes ≡ is_whole self.new.reach }
-        ensures strays { (access : Access) → result.end ≡ Ok (Some (Stray access)) → result.events < count × CanRun self.new.kept.procs pid }
-        ensures sound { (access : Access) → result.end ≡ Ok (Some (Stray access)) → IsRegular (without_newest self.new.kept) }
-        ensures still { OnErr result.end (result.events ≡ 0 → self.new.kept ≡ self.old.kept) }
-        ensures copies { self.old.reach ≡ Own → HoldsFiles self.new.kept }
-        ensures leaves { self.old.reach ≡ Own → TurnLeaves pid count (world self.old) result.events (world self.new) result.end }
-        ensures memory { TurnLeavesIn self.old.reach pid count (one_memory self.old) result.events (one_memory self.new) result.end }
-        ensures hits { self.old.reach ≡ Own → TurnHits (turn_hits (kind_of_point watcher.now.point.now) watcher.now.spans.now pid) hits.old hits.new count (world self.old) result.events result.end }
-        ensures hits_in { TurnHitsIn (turn_hits_in (kind_of_point watcher.now.point.now) watcher.now.spans.now pid) hits.old hits.new count (one_memory self.old) result.events (one_memory self.new) result.end }
+        ensures quiet { IsHalting self.old → is_stray result.end ≡ false → IsHalting self.new }
+        ensures copies { IsHalting self.old → HoldsFiles self.new.kept }
+        ensures leaves { IsHalting self.old → TurnLeaves pid count (world self.old) result.events (world self.new) result.end }
+        ensures memory { self.old.mode ≡ GoOn → TurnLeavesIn pid count (one_memory self.old) result.events (one_memory self.new) result.end }
+        ensures first { self.old.mode ≡ GoOn → has_stray (world self.old).notes ≡ false → TurnFirst pid count (world self.old) result.events (world self.new) result.end }
+        ensures hits { IsHalting self.old → TurnHits (turn_hits (kind_of_point watcher.now.point.now) watcher.now.spans.now pid) hits.old hits.new count (world self.old) result.events result.end }
+        ensures hits_in { self.old.mode ≡ GoOn → TurnHits (turn_hits_in (kind_of_point watcher.now.point.now) watcher.now.spans.now pid) hits.old hits.new count (one_memory self.old) result.events result.end }
     {
         let TurnEnd { events, end } = turn(&mut self.parts, pid, count, chooser, watcher, hits);
         self.events += u64::from(events);
         TurnEnd { events, end }
     }
 
-    /// Gives the process of a quantum its turn. A run that goes on has what is left of the turn behind the first stray access too; where
-    /// memory ends in the event of that access, its note is taken back.
+    /// Gives the process of a quantum its turn.
     fn take_turn<F: Fn(&[Run], u32) -> Option<usize>, G: Fn(&[Span], u32, u32) -> bool>(
         &mut self,
         quantum: Quantum,
@@ -150,6 +120,7 @@ impl Machine {
         requires chooser { IsChooser F.pre F.post chooser.now }
         requires point { IsPoint G.pre G.post watcher.now.point.now }
         requires spans { AreSpans watcher.now.spans.now }
+        requires halting { self.old.mode ≡ Halt → has_stray (world self.old).notes ≡ false }
         requires kind { kind_of chooser.now ≡ self.old.kind }
         requires events { self.old.events + quantum.count < 2 ^ 64 }
         ensures kind { self.new.kind ≡ self.old.kind }
@@ -166,15 +137,8 @@ impl Machine {
         let Some(pid) = chosen(&self.parts, quantum) else {
             return Ok(Some(none_runs(&self.parts)));
         };
-        let TurnEnd { events, end } = self.turn_of(pid, quantum.count, chooser, watcher, hits);
-        if has_rest(&self.parts, &end) {
-            let rest = self.turn_of(pid, quantum.count - events, chooser, watcher, hits);
-            if is_undone(rest.events, &rest.end) {
-                self.parts.take_back();
-            }
-            return rest.end;
-        }
-        end
+        let ended = self.turn_of(pid, quantum.count, chooser, watcher, hits);
+        ended.end
     }
 
     /// Gives each quantum its turn, until the run stops.
@@ -188,6 +152,7 @@ impl Machine {
         requires chooser { IsChooser F.pre F.post chooser.now }
         requires point { IsPoint G.pre G.post watcher.now.point.now }
         requires spans { AreSpans watcher.now.spans.now }
+        requires halting { self.old.mode ≡ Halt → has_stray (world self.old).notes ≡ false }
         requires kind { kind_of chooser.now ≡ self.old.kind }
         requires events { self.old.events + sum_by (λ q. q.count) quanta.now < 2 ^ 64 }
         ensures kind { self.new.kind ≡ self.old.kind }

@@ -1,79 +1,101 @@
 //! The turn of a process.
 
-ghost use Rattle.std.specs.Prelude.{◌≡◌, ◌≤◌, ◌<◌, ℕ, false, Some, List, [], length, Ok, OnErr};
+ghost use Rattle.std.specs.Prelude.{◌≡◌, ◌≤◌, ℕ, true, false, Some, List, IfOk, Ok, OnErr};
 ghost use Rattle.page_runs.specs.Choosers.{IsChooser, kind_of};
 ghost use Rattle.vfork_exec.specs.Procs.{CanRun};
-ghost use Rattle.machine_world.specs.Event.{event};
-ghost use Rattle.machine_world.specs.Courses.{StandsAt};
 ghost use Rattle.rv32im_step.specs.declared.access.Access.{Access};
-ghost use Rattle.physical_turns.specs.Physical.{outside, has_stray, died_in};
-ghost use Rattle.kept_parts.specs.declared.reach.Reach.TheVariants.{Own, Whole};
+ghost use Rattle.rv32im_step.specs.declared.stop.Stop.TheVariants.{Call, Refused};
+ghost use Rattle.machine_world.specs.Event.{event, strays};
+ghost use Rattle.machine_world.specs.Courses.{Leads, Halts, StandsAt};
+ghost use Rattle.physical_turns.specs.Physical.{outside, first_stray, has_stray, died_in};
+ghost use Rattle.physical_turns.specs.Courses.{LeadsIn, StandsIn};
+ghost use Rattle.region_watch.specs.declared.mode.Mode.TheVariants.{Halt, GoOn};
 ghost use Rattle.kept_parts.specs.Flats.{ForRuns};
-ghost use Rattle.kept_parts.specs.InMemory.{headers_of, physical_of, without_newest};
+ghost use Rattle.kept_parts.specs.InMemory.{headers_of, physical_of};
 ghost use Rattle.kept_parts.specs.Copies.{HoldsFiles, KnowsFiles};
 ghost use Rattle.kept_parts.specs.Reach.{reach_of};
-ghost use Rattle.kept_parts.specs.Regular.{IsRegular};
 ghost use Rattle.kept_parts.specs.Stands.{About, later, world_of};
-ghost use Rattle.flat_machine.specs.declared.run.End.TheVariants.{Stray};
-ghost use Rattle.flat_machine.specs.declared.turn.After.TheVariants.{RunEnds};
-ghost use Rattle.flat_machine.specs.Leaves.{Carried, TellsStray, TurnLeaves};
-ghost use Rattle.flat_machine.specs.State.{is_whole};
-ghost use Rattle.flat_machine.specs.LeavesIn.{CarriedIn, CarriedWithin, StandsWithin, TurnLeavesIn, reach_behind};
+ghost use Rattle.flat_machine.specs.declared.turn.After.TheVariants.{Strays};
+ghost use Rattle.flat_machine.specs.Leaves.{Carried, CarriedOrEnds, CarriedOrPast};
+ghost use Rattle.flat_machine.specs.LeavesIn.{CarriedIn, CarriedWithin, EventIn, StandsWithin, HaltsWithin};
+ghost use Rattle.flat_machine.specs.ByMode.{HaltEvent, GoOnEvent, HaltTurn, GoOnTurn};
 ghost use Rattle.watch_points.specs.Points.{AreSpans, IsPoint, kind_of_point};
 ghost use Rattle.flat_machine.specs.Hits.{turn_hits, turn_hits_in};
-ghost use Rattle.flat_machine.specs.HitsLeft.{TurnHits, TurnHitsIn};
+ghost use Rattle.flat_machine.specs.HitsLeft.{HitsLead, EventHits, TurnHits};
 
 use crate::advance::advance;
 use crate::run::End;
 use crate::watcher::Watcher;
-use bflt_format::Flat;
-use kept_parts::{KeptParts, Reach, Served};
+use kept_parts::{Reach, Served};
 use page_runs::{Chooser, Run};
+use region_watch::{Mode, Progress};
 use rv32im_step::{Access, Stop};
 use std::alloc::AllocError;
-use syscall_layer::{Parts, serve_within};
+use syscall_layer::{Parts, call_event_law, serve};
 use watch_points::{Hits, Span};
 
 /// The signal of an access outside memory.
 const SIGSEGV: u8 = 11;
 
-/// How a run goes on after an event.
+/// What comes of an event.
 #[derive(Clone, Copy, PartialEq, Eq)]
 enum After {
-    /// With the process's next event.
+    /// The turn goes on with the process's next event.
     GoesOn,
-    /// With the next turn.
+    /// The turn is over.
     TurnEnds,
-    /// Not at all: the event wasn't carried out.
-    RunEnds(End),
+    /// This access strays, and nothing of the event was carried out.
+    Strays(Access),
+    /// The log has no room for the call, of which nothing was carried out.
+    LogFull,
 }
 
-/// Notes an access that isn't carried out.
-fn stray(parts: &mut KeptParts, pid: u32, access: Access) -> Result<After, AllocError>
-    ensures tells { TellsStray pid access parts.old parts.new result }
-    ensures sound { (seen : Access) → result ≡ Ok (RunEnds (Stray seen)) → IsRegular (without_newest parts.new) }
-    ensures marks { parts.old.files.changed ≡ [] → parts.new.files.changed ≡ [] }
-{
-    parts.note_stray(pid, access)?;
-    Ok(After::RunEnds(End::Stray(access)))
-}
-
-/// What comes of an instruction's access beyond reach: it strays, with its note; or it lies outside memory, and ends its process by
-/// SIGSEGV.
-fn refused(
-    parts: &mut KeptParts,
+/// Carries out up to `count` instructions of a process that may run, within what is reached, and stops at the first that isn't carried
+/// out.
+fn instructions<G: Fn(&[Span], u32, u32) -> bool>(
+    parts: &mut Parts,
     pid: u32,
-    access: Access,
-    reach: Reach,
-) -> Result<After, AllocError>
-    requires { CanRun parts.old.procs pid }
-    ensures strays { reach ≡ Own → TellsStray pid access parts.old parts.new result }
-    ensures memory { reach ≡ Whole → (headers : List (List ℕ)) → (a : About) → CarriedIn headers a (died_in (physical_of headers a parts.old) pid outside) parts.old parts.new pid result }
-    ensures sound { (seen : Access) → result ≡ Ok (RunEnds (Stray seen)) → IsRegular (without_newest parts.new) }
-    ensures marks { parts.old.files.changed ≡ [] → parts.new.files.changed ≡ [] }
+    count: u32,
+    watcher: &Watcher<'_, G>,
+    hits: &mut Hits,
+) -> Progress
+    requires point { IsPoint G.pre G.post watcher.now.point.now }
+    requires spans { AreSpans watcher.now.spans.now }
+    requires ready { CanRun parts.old.kept.procs pid }
+    ensures programs { parts.new.programs ≡ parts.old.programs }
+    ensures mode { parts.new.mode ≡ parts.old.mode }
+    ensures noted { parts.new.noted ≡ has_stray parts.new.kept.notes }
+    ensures ready { CanRun parts.new.kept.procs pid }
+    ensures within { result.done ≤ count }
+    ensures notes { parts.new.kept.notes ≡ parts.old.kept.notes }
+    ensures still { result.done ≡ 0 → parts.new ≡ parts.old }
+    ensures leads { has_stray parts.old.kept.notes ≡ false → (a : About) → Leads pid (world_of a parts.old.kept) result.done (world_of (later result.done a) parts.new.kept) }
+    ensures halts { has_stray parts.old.kept.notes ≡ false → (a : About) → Halts (world_of (later result.done a) parts.new.kept) pid count result.done result.stop }
+    ensures leads_in { (headers : List (List ℕ)) → (a : About) → LeadsIn pid (physical_of headers a parts.old.kept) result.done (physical_of headers (later result.done a) parts.new.kept) }
+    ensures halts_in { (headers : List (List ℕ)) → (a : About) → HaltsWithin (reach_of parts.new.noted) (physical_of headers (later result.done a) parts.new.kept) pid count result.done result.stop }
+    ensures hits { has_stray parts.old.kept.notes ≡ false → (a : About) →
+        HitsLead (turn_hits (kind_of_point watcher.now.point.now) watcher.now.spans.now pid) hits.old hits.new (world_of a parts.old.kept) result.done (world_of (later result.done a) parts.new.kept) }
+    ensures hits_in { (headers : List (List ℕ)) → (a : About) →
+        HitsLead (turn_hits_in (kind_of_point watcher.now.point.now) watcher.now.spans.now pid) hits.old hits.new (physical_of headers a parts.old.kept) result.done (physical_of headers (later result.done a) parts.new.kept) }
 {
-    match reach {
-        Reach::Own => stray(parts, pid, access),
+    let within = parts.reach();
+    advance(&mut parts.kept, pid, count, within, watcher, hits)
+}
+
+/// What comes of an instruction's access beyond reach: it strays, and nothing is done; or it lies outside memory, and ends its process
+/// by SIGSEGV.
+fn refused(parts: &mut Parts, pid: u32, access: Access) -> Result<After, AllocError>
+    requires { CanRun parts.old.kept.procs pid }
+    ensures programs { parts.new.programs ≡ parts.old.programs }
+    ensures mode { parts.new.mode ≡ parts.old.mode }
+    ensures noted { parts.new.noted ≡ has_stray parts.new.kept.notes }
+    ensures strays { has_stray parts.old.kept.notes ≡ false → (result ≡ Ok (Strays access)) × (parts.new ≡ parts.old) }
+    ensures memory { has_stray parts.old.kept.notes ≡ true → (headers : List (List ℕ)) → (a : About) →
+        CarriedIn headers a (died_in (physical_of headers a parts.old.kept) pid outside) parts.old.kept parts.new.kept pid result }
+    ensures unchanged { OnErr result (parts.new ≡ parts.old) }
+{
+    match parts.reach() {
+        Reach::Own => Ok(After::Strays(access)),
         Reach::Whole => {
             parts.end_by_signal(pid, SIGSEGV)?;
             Ok(After::TurnEnds)
@@ -81,41 +103,185 @@ fn refused(
     }
 }
 
-/// The event of a process that may run and whose next step ends so, within this reach.
-fn next_event<F: Fn(&[Run], u32) -> Option<usize>>(
-    parts: &mut KeptParts,
+/// The system call at which a process stands that may run. In a run that goes on its first range that strays is noted.
+fn called<F: Fn(&[Run], u32) -> Option<usize>>(
+    parts: &mut Parts,
     pid: u32,
-    stop: Stop,
-    programs: &[Flat],
     chooser: &Chooser<F>,
-    reach: Reach,
 ) -> Result<After, AllocError>
     requires chooser { IsChooser F.pre F.post chooser.now }
-    requires ready { CanRun parts.old.procs pid }
-    requires strayed { has_stray parts.old.notes ≡ is_whole reach }
-    requires stands { reach ≡ Own → (a : About) → StandsAt (world_of a parts.old) pid stop }
-    requires stands_in { (headers : List (List ℕ)) → (a : About) → StandsWithin reach (physical_of headers a parts.old) pid stop }
-    ensures carried { reach ≡ Own → ForRuns (kind_of chooser.now) programs.now (λ a.
-        Carried a (event (world_of a parts.old) pid) parts.old parts.new pid result) }
-    ensures memory { ForRuns (kind_of chooser.now) programs.now (λ a.
-        CarriedWithin reach (headers_of programs.now) a parts.old parts.new pid result) }
-    ensures sound { (seen : Access) → result ≡ Ok (RunEnds (Stray seen)) → IsRegular (without_newest parts.new) }
-    ensures marks { parts.old.files.changed ≡ [] → parts.new.files.changed ≡ [] }
+    requires ready { CanRun parts.old.kept.procs pid }
+    requires halting { parts.old.mode ≡ Halt → has_stray parts.old.kept.notes ≡ false }
+    requires stands { has_stray parts.old.kept.notes ≡ false → (a : About) → StandsAt (world_of a parts.old.kept) pid Call }
+    requires stands_in { (headers : List (List ℕ)) → (a : About) → StandsIn (physical_of headers a parts.old.kept) pid Call }
+    ensures programs { parts.new.programs ≡ parts.old.programs }
+    ensures mode { parts.new.mode ≡ parts.old.mode }
+    ensures noted { parts.new.noted ≡ has_stray parts.new.kept.notes }
+    ensures halts { parts.old.mode ≡ Halt → ForRuns (kind_of chooser.now) parts.old.programs (λ a.
+        Carried a (event (world_of a parts.old.kept) pid) parts.old.kept parts.new.kept pid result) }
+    ensures past { parts.old.mode ≡ GoOn → has_stray parts.old.kept.notes ≡ false → ForRuns (kind_of chooser.now) parts.old.programs (λ a.
+        CarriedOrPast a (event (world_of a parts.old.kept) pid) parts.old.kept parts.new.kept pid result) }
+    ensures memory { parts.old.mode ≡ GoOn → ForRuns (kind_of chooser.now) parts.old.programs (λ a.
+        CarriedWithin (headers_of parts.old.programs) a parts.old.kept parts.new.kept pid result) }
+    ensures unchanged { OnErr result (parts.new ≡ parts.old) }
+{
+    call_event_law();
+    match serve(parts, pid, chooser)? {
+        Served::Replied => Ok(After::GoesOn),
+        Served::TurnEnds | Served::Waits | Served::Ended => Ok(After::TurnEnds),
+        Served::Stray(access) => Ok(After::Strays(access)),
+        Served::LogFull => Ok(After::LogFull),
+    }
+}
+
+/// The event of a process that may run and whose next step ends so, within what is reached. Of an instruction whose access strays
+/// nothing is done, and nothing is noted.
+fn event_within<F: Fn(&[Run], u32) -> Option<usize>>(
+    parts: &mut Parts,
+    pid: u32,
+    stop: Stop,
+    chooser: &Chooser<F>,
+) -> Result<After, AllocError>
+    requires chooser { IsChooser F.pre F.post chooser.now }
+    requires ready { CanRun parts.old.kept.procs pid }
+    requires noted { parts.old.noted ≡ has_stray parts.old.kept.notes }
+    requires halting { parts.old.mode ≡ Halt → has_stray parts.old.kept.notes ≡ false }
+    requires stands { has_stray parts.old.kept.notes ≡ false → (a : About) → StandsAt (world_of a parts.old.kept) pid stop }
+    requires stands_in { (headers : List (List ℕ)) → (a : About) → StandsWithin (reach_of parts.old.noted) (physical_of headers a parts.old.kept) pid stop }
+    ensures programs { parts.new.programs ≡ parts.old.programs }
+    ensures mode { parts.new.mode ≡ parts.old.mode }
+    ensures noted { parts.new.noted ≡ has_stray parts.new.kept.notes }
+    ensures halts { parts.old.mode ≡ Halt → ForRuns (kind_of chooser.now) parts.old.programs (λ a.
+        Carried a (event (world_of a parts.old.kept) pid) parts.old.kept parts.new.kept pid result) }
+    ensures past { parts.old.mode ≡ GoOn → has_stray parts.old.kept.notes ≡ false → ForRuns (kind_of chooser.now) parts.old.programs (λ a.
+        CarriedOrPast a (event (world_of a parts.old.kept) pid) parts.old.kept parts.new.kept pid result) }
+    ensures memory { parts.old.mode ≡ GoOn → ForRuns (kind_of chooser.now) parts.old.programs (λ a.
+        CarriedWithin (headers_of parts.old.programs) a parts.old.kept parts.new.kept pid result) }
+    ensures refuses { has_stray parts.old.kept.notes ≡ false → (access : Access) → stop ≡ Refused access → result ≡ Ok (Strays access) }
+    ensures unchanged { OnErr result (parts.new ≡ parts.old) }
 {
     match stop {
         Stop::Next => Ok(After::GoesOn),
-        Stop::Call => match serve_within(parts, pid, programs, chooser, reach)? {
-            Served::Replied => Ok(After::GoesOn),
-            Served::TurnEnds | Served::Waits | Served::Ended => Ok(After::TurnEnds),
-            Served::Stray(access) => stray(parts, pid, access),
-            Served::LogFull => Ok(After::RunEnds(End::LogFull)),
-        },
+        Stop::Call => called(parts, pid, chooser),
         Stop::Trap(signal) => {
             parts.end_by_signal(pid, signal as u8)?;
             Ok(After::TurnEnds)
         }
-        Stop::Refused(access) => refused(parts, pid, access, reach),
+        Stop::Refused(access) => refused(parts, pid, access),
     }
+}
+
+/// The next event of a process that may run, in a run that goes on and noted a stray access.
+fn whole_event<F: Fn(&[Run], u32) -> Option<usize>, G: Fn(&[Span], u32, u32) -> bool>(
+    parts: &mut Parts,
+    pid: u32,
+    chooser: &Chooser<F>,
+    watcher: &Watcher<'_, G>,
+    hits: &mut Hits,
+) -> Result<After, AllocError>
+    requires chooser { IsChooser F.pre F.post chooser.now }
+    requires point { IsPoint G.pre G.post watcher.now.point.now }
+    requires spans { AreSpans watcher.now.spans.now }
+    requires ready { CanRun parts.old.kept.procs pid }
+    requires goes_on { parts.old.mode ≡ GoOn }
+    requires strayed { has_stray parts.old.kept.notes ≡ true }
+    ensures programs { parts.new.programs ≡ parts.old.programs }
+    ensures mode { parts.new.mode ≡ parts.old.mode }
+    ensures noted { parts.new.noted ≡ has_stray parts.new.kept.notes }
+    ensures memory { ForRuns (kind_of chooser.now) parts.old.programs (λ a.
+        EventIn (headers_of parts.old.programs) a parts.old.kept parts.new.kept pid result) }
+    ensures hits { ForRuns (kind_of chooser.now) parts.old.programs (λ a.
+        EventHits (turn_hits_in (kind_of_point watcher.now.point.now) watcher.now.spans.now pid) hits.old hits.new (physical_of (headers_of parts.old.programs) a parts.old.kept) (physical_of (headers_of parts.old.programs) (later 1 a) parts.new.kept) result) }
+    ensures unchanged { OnErr result (parts.new ≡ parts.old) }
+{
+    let progress = instructions(parts, pid, 1, watcher, hits);
+    if progress.stop == Stop::Next {
+        return Ok(After::GoesOn);
+    }
+    event_within(parts, pid, progress.stop, chooser)
+}
+
+/// Notes the access of an instruction that strays, the run's first. A run that goes on then carries out its event over all of memory; out
+/// of memory there is no such note either.
+fn stray<F: Fn(&[Run], u32) -> Option<usize>, G: Fn(&[Span], u32, u32) -> bool>(
+    parts: &mut Parts,
+    pid: u32,
+    access: Access,
+    mode: Mode,
+    chooser: &Chooser<F>,
+    watcher: &Watcher<'_, G>,
+    hits: &mut Hits,
+) -> Result<After, AllocError>
+    requires chooser { IsChooser F.pre F.post chooser.now }
+    requires point { IsPoint G.pre G.post watcher.now.point.now }
+    requires spans { AreSpans watcher.now.spans.now }
+    requires ready { CanRun parts.old.kept.procs pid }
+    requires mode { parts.old.mode ≡ mode }
+    requires noted { parts.old.noted ≡ has_stray parts.old.kept.notes }
+    requires quiet { has_stray parts.old.kept.notes ≡ false }
+    requires first { mode ≡ GoOn → ForRuns (kind_of chooser.now) parts.old.programs (λ a.
+        first_stray (physical_of (headers_of parts.old.programs) a parts.old.kept) pid ≡ Some access) }
+    ensures programs { parts.new.programs ≡ parts.old.programs }
+    ensures mode { parts.new.mode ≡ parts.old.mode }
+    ensures noted { parts.new.noted ≡ has_stray parts.new.kept.notes }
+    ensures ends { mode ≡ Halt → (a : About) → CarriedOrEnds a (strays access) parts.old.kept parts.new.kept pid result }
+    ensures past { mode ≡ GoOn → (a : About) → CarriedOrPast a (strays access) parts.old.kept parts.new.kept pid result }
+    ensures memory { mode ≡ GoOn → ForRuns (kind_of chooser.now) parts.old.programs (λ a.
+        EventIn (headers_of parts.old.programs) a parts.old.kept parts.new.kept pid result) }
+    ensures hits { mode ≡ Halt → hits.new ≡ hits.old }
+    ensures hits_in { mode ≡ GoOn → ForRuns (kind_of chooser.now) parts.old.programs (λ a.
+        EventHits (turn_hits_in (kind_of_point watcher.now.point.now) watcher.now.spans.now pid) hits.old hits.new (physical_of (headers_of parts.old.programs) a parts.old.kept) (physical_of (headers_of parts.old.programs) (later 1 a) parts.new.kept) result) }
+    ensures holds { mode ≡ Halt → IfOk result (λ _. HoldsFiles parts.new.kept) }
+    ensures unchanged { OnErr result (parts.new ≡ parts.old) }
+{
+    parts.note_stray(pid, access)?;
+    match mode {
+        Mode::Halt => Ok(After::Strays(access)),
+        Mode::GoOn => {
+            let after = whole_event(parts, pid, chooser, watcher, hits);
+            if after.is_err() {
+                parts.take_back();
+            }
+            after
+        }
+    }
+}
+
+/// The event of a process that may run and whose next step ends so, within what is reached: behind the run's first stray access, which is
+/// noted, that is all of memory.
+fn next_event<F: Fn(&[Run], u32) -> Option<usize>, G: Fn(&[Span], u32, u32) -> bool>(
+    parts: &mut Parts,
+    pid: u32,
+    stop: Stop,
+    mode: Mode,
+    chooser: &Chooser<F>,
+    watcher: &Watcher<'_, G>,
+    hits: &mut Hits,
+) -> Result<After, AllocError>
+    requires chooser { IsChooser F.pre F.post chooser.now }
+    requires point { IsPoint G.pre G.post watcher.now.point.now }
+    requires spans { AreSpans watcher.now.spans.now }
+    requires ready { CanRun parts.old.kept.procs pid }
+    requires mode { parts.old.mode ≡ mode }
+    requires noted { parts.old.noted ≡ has_stray parts.old.kept.notes }
+    requires halting { mode ≡ Halt → has_stray parts.old.kept.notes ≡ false }
+    requires stands { has_stray parts.old.kept.notes ≡ false → (a : About) → StandsAt (world_of a parts.old.kept) pid stop }
+    requires stands_in { (headers : List (List ℕ)) → (a : About) → StandsWithin (reach_of parts.old.noted) (physical_of headers a parts.old.kept) pid stop }
+    ensures programs { parts.new.programs ≡ parts.old.programs }
+    ensures mode { parts.new.mode ≡ parts.old.mode }
+    ensures noted { parts.new.noted ≡ has_stray parts.new.kept.notes }
+    ensures halts { mode ≡ Halt → HaltEvent (kind_of chooser.now) parts.old.programs pid parts.old.kept parts.new.kept result }
+    ensures goes_on { mode ≡ GoOn → GoOnEvent (kind_of chooser.now) parts.old.programs pid parts.old.kept parts.new.kept result }
+    ensures hits { mode ≡ Halt → hits.new ≡ hits.old }
+    ensures hits_in { mode ≡ GoOn → ForRuns (kind_of chooser.now) parts.old.programs (λ a.
+        EventHits (turn_hits_in (kind_of_point watcher.now.point.now) watcher.now.spans.now pid) hits.old hits.new (physical_of (headers_of parts.old.programs) a parts.old.kept) (physical_of (headers_of parts.old.programs) (later 1 a) parts.new.kept) result) }
+    ensures unchanged { OnErr result (parts.new ≡ parts.old) }
+{
+    let after = event_within(parts, pid, stop, chooser)?;
+    let After::Strays(access) = after else {
+        return Ok(after);
+    };
+    stray(parts, pid, access, mode, chooser, watcher, hits)
 }
 
 /// What a turn leaves beside the parts.
@@ -127,41 +293,37 @@ pub(crate) struct TurnEnd {
     pub(crate) end: Result<Option<End>, AllocError>,
 }
 
-/// Up to `count` events of a process that may run, within this reach.
-fn turn_within<F: Fn(&[Run], u32) -> Option<usize>, G: Fn(&[Span], u32, u32) -> bool>(
-    parts: &mut KeptParts,
+/// Up to `count` events of a process that may run, in this mode.
+fn events_of<F: Fn(&[Run], u32) -> Option<usize>, G: Fn(&[Span], u32, u32) -> bool>(
+    parts: &mut Parts,
     pid: u32,
     count: u32,
-    programs: &[Flat],
+    mode: Mode,
     chooser: &Chooser<F>,
-    reach: Reach,
     watcher: &Watcher<'_, G>,
     hits: &mut Hits,
 ) -> TurnEnd
     requires chooser { IsChooser F.pre F.post chooser.now }
     requires point { IsPoint G.pre G.post watcher.now.point.now }
     requires spans { AreSpans watcher.now.spans.now }
-    requires ready { CanRun parts.old.procs pid }
-    requires strayed { has_stray parts.old.notes ≡ is_whole reach }
+    requires ready { CanRun parts.old.kept.procs pid }
+    requires mode { parts.old.mode ≡ mode }
+    requires noted { parts.old.noted ≡ has_stray parts.old.kept.notes }
+    requires halting { mode ≡ Halt → has_stray parts.old.kept.notes ≡ false }
+    ensures programs { parts.new.programs ≡ parts.old.programs }
+    ensures mode { parts.new.mode ≡ parts.old.mode }
+    ensures noted { parts.new.noted ≡ has_stray parts.new.kept.notes }
     ensures within { result.events ≤ count }
-    ensures regions { length parts.new.regions ≡ length parts.old.regions }
-    ensures notes { has_stray parts.new.notes ≡ is_whole (reach_behind reach result.end) }
-    ensures strays { (access : Access) → result.end ≡ Ok (Some (Stray access)) → result.events < count × CanRun parts.new.procs pid }
-    ensures sound { (access : Access) → result.end ≡ Ok (Some (Stray access)) → IsRegular (without_newest parts.new) }
-    ensures still { OnErr result.end (result.events ≡ 0 → parts.new ≡ parts.old) }
-    ensures marks { parts.old.files.changed ≡ [] → parts.new.files.changed ≡ [] }
-    ensures leaves { reach ≡ Own → ForRuns (kind_of chooser.now) programs.now (λ a.
-        TurnLeaves pid count (world_of a parts.old) result.events (world_of (later result.events a) parts.new) result.end) }
-    ensures memory { ForRuns (kind_of chooser.now) programs.now (λ a.
-        TurnLeavesIn reach pid count (physical_of (headers_of programs.now) a parts.old) result.events (physical_of (headers_of programs.now) (later result.events a) parts.new) result.end) }
-    ensures hits { reach ≡ Own → ForRuns (kind_of chooser.now) programs.now (λ a.
-        TurnHits (turn_hits (kind_of_point watcher.now.point.now) watcher.now.spans.now pid) hits.old hits.new count (world_of a parts.old) result.events result.end) }
-    ensures hits_in { ForRuns (kind_of chooser.now) programs.now (λ a.
-        TurnHitsIn (turn_hits_in (kind_of_point watcher.now.point.now) watcher.now.spans.now pid) hits.old hits.new count (physical_of (headers_of programs.now) a parts.old) result.events (physical_of (headers_of programs.now) (later result.events a) parts.new) result.end) }
+    ensures halts { mode ≡ Halt → HaltTurn (kind_of chooser.now) parts.old.programs pid count parts.old.kept result.events parts.new.kept result.end }
+    ensures goes_on { mode ≡ GoOn → GoOnTurn (kind_of chooser.now) parts.old.programs pid count parts.old.kept result.events parts.new.kept result.end }
+    ensures hits { mode ≡ Halt → ForRuns (kind_of chooser.now) parts.old.programs (λ a.
+        TurnHits (turn_hits (kind_of_point watcher.now.point.now) watcher.now.spans.now pid) hits.old hits.new count (world_of a parts.old.kept) result.events result.end) }
+    ensures hits_in { mode ≡ GoOn → ForRuns (kind_of chooser.now) parts.old.programs (λ a.
+        TurnHits (turn_hits_in (kind_of_point watcher.now.point.now) watcher.now.spans.now pid) hits.old hits.new count (physical_of (headers_of parts.old.programs) a parts.old.kept) result.events result.end) }
 {
     let mut events = 0;
     while events < count {
-        let progress = advance(parts, pid, count - events, reach, watcher, hits);
+        let progress = instructions(parts, pid, count - events, watcher, hits);
         events += progress.done;
         if progress.stop == Stop::Next {
             return TurnEnd {
@@ -169,7 +331,7 @@ fn turn_within<F: Fn(&[Run], u32) -> Option<usize>, G: Fn(&[Span], u32, u32) -> 
                 end: Ok(None),
             };
         }
-        match next_event(parts, pid, progress.stop, programs, chooser, reach) {
+        match next_event(parts, pid, progress.stop, mode, chooser, watcher, hits) {
             Ok(After::GoesOn) => events += 1,
             Ok(After::TurnEnds) => {
                 return TurnEnd {
@@ -177,10 +339,16 @@ fn turn_within<F: Fn(&[Run], u32) -> Option<usize>, G: Fn(&[Span], u32, u32) -> 
                     end: Ok(None),
                 };
             }
-            Ok(After::RunEnds(end)) => {
+            Ok(After::Strays(access)) => {
                 return TurnEnd {
                     events,
-                    end: Ok(Some(end)),
+                    end: Ok(Some(End::Stray(access))),
+                };
+            }
+            Ok(After::LogFull) => {
+                return TurnEnd {
+                    events,
+                    end: Ok(Some(End::LogFull)),
                 };
             }
             Err(error) => {
@@ -197,16 +365,6 @@ fn turn_within<F: Fn(&[Run], u32) -> Option<usize>, G: Fn(&[Span], u32, u32) -> 
     }
 }
 
-/// Whether a stray access was noted by the end of a turn that began within this reach.
-fn is_noted(reach: Reach, end: &Result<Option<End>, AllocError>) -> bool
-    ensures { result ≡ is_whole (reach_behind reach end.now) }
-{
-    match end {
-        Ok(Some(End::Stray(_))) => true,
-        _ => reach == Reach::Whole,
-    }
-}
-
 /// As long as no stray access was noted each live copy of a file that wasn't changed since holds it; and its file is known, whatever was
 /// noted. Nothing is done.
 pub(crate) fn tell_copies(parts: &Parts)
@@ -217,7 +375,7 @@ pub(crate) fn tell_copies(parts: &Parts)
     let _live = parts.kept.procs.live();
 }
 
-/// Up to `count` events of a process that may run, within what the run reaches.
+/// Up to `count` events of a process that may run. A run that has ended at its first stray access isn't gone on with.
 pub(crate) fn turn<F: Fn(&[Run], u32) -> Option<usize>, G: Fn(&[Span], u32, u32) -> bool>(
     parts: &mut Parts,
     pid: u32,
@@ -230,36 +388,21 @@ pub(crate) fn turn<F: Fn(&[Run], u32) -> Option<usize>, G: Fn(&[Span], u32, u32)
     requires point { IsPoint G.pre G.post watcher.now.point.now }
     requires spans { AreSpans watcher.now.spans.now }
     requires ready { CanRun parts.old.kept.procs pid }
+    requires halting { parts.old.mode ≡ Halt → has_stray parts.old.kept.notes ≡ false }
     ensures programs { parts.new.programs ≡ parts.old.programs }
     ensures mode { parts.new.mode ≡ parts.old.mode }
-    ensures reach { reach_of parts.new.noted ≡ reach_behind (reach_of parts.old.noted) result.end }
+    ensures noted { parts.new.noted ≡ has_stray parts.new.kept.notes }
     ensures within { result.events ≤ count }
-    ensures notes { has_stray parts.new.kept.notes ≡ is_whole (reach_behind (reach_of parts.old.noted) result.end) }
-    ensures strays { (access : Access) → result.end ≡ Ok (Some (Stray access)) → result.events < count × CanRun parts.new.kept.procs pid }
-    ensures sound { (access : Access) → result.end ≡ Ok (Some (Stray access)) → IsRegular (without_newest parts.new.kept) }
-    ensures still { OnErr result.end (result.events ≡ 0 → parts.new.kept ≡ parts.old.kept) }
     ensures copies { has_stray parts.new.kept.notes ≡ false → HoldsFiles parts.new.kept }
-    ensures leaves { reach_of parts.old.noted ≡ Own → ForRuns (kind_of chooser.now) parts.old.programs (λ a.
-        TurnLeaves pid count (world_of a parts.old.kept) result.events (world_of (later result.events a) parts.new.kept) result.end) }
-    ensures memory { ForRuns (kind_of chooser.now) parts.old.programs (λ a.
-        TurnLeavesIn (reach_of parts.old.noted) pid count (physical_of (headers_of parts.old.programs) a parts.old.kept) result.events (physical_of (headers_of parts.old.programs) (later result.events a) parts.new.kept) result.end) }
-    ensures hits { reach_of parts.old.noted ≡ Own → ForRuns (kind_of chooser.now) parts.old.programs (λ a.
+    ensures halts { parts.old.mode ≡ Halt → HaltTurn (kind_of chooser.now) parts.old.programs pid count parts.old.kept result.events parts.new.kept result.end }
+    ensures goes_on { parts.old.mode ≡ GoOn → GoOnTurn (kind_of chooser.now) parts.old.programs pid count parts.old.kept result.events parts.new.kept result.end }
+    ensures hits { parts.old.mode ≡ Halt → ForRuns (kind_of chooser.now) parts.old.programs (λ a.
         TurnHits (turn_hits (kind_of_point watcher.now.point.now) watcher.now.spans.now pid) hits.old hits.new count (world_of a parts.old.kept) result.events result.end) }
-    ensures hits_in { ForRuns (kind_of chooser.now) parts.old.programs (λ a.
-        TurnHitsIn (turn_hits_in (kind_of_point watcher.now.point.now) watcher.now.spans.now pid) hits.old hits.new count (physical_of (headers_of parts.old.programs) a parts.old.kept) result.events (physical_of (headers_of parts.old.programs) (later result.events a) parts.new.kept) result.end) }
+    ensures hits_in { parts.old.mode ≡ GoOn → ForRuns (kind_of chooser.now) parts.old.programs (λ a.
+        TurnHits (turn_hits_in (kind_of_point watcher.now.point.now) watcher.now.spans.now pid) hits.old hits.new count (physical_of (headers_of parts.old.programs) a parts.old.kept) result.events result.end) }
 {
-    let reach = parts.reach();
-    let TurnEnd { events, end } = turn_within(
-        &mut parts.kept,
-        pid,
-        count,
-        &parts.programs,
-        chooser,
-        reach,
-        watcher,
-        hits,
-    );
-    parts.noted = is_noted(reach, &end);
+    let mode = parts.mode;
+    let TurnEnd { events, end } = events_of(parts, pid, count, mode, chooser, watcher, hits);
     tell_copies(parts);
     TurnEnd { events, end }
 }

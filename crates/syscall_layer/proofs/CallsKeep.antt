@@ -1,14 +1,18 @@
 -- A call notes no stray access, and none that was noted goes; there are as many pages; and it leaves no pipe marked.
 use Rattle.std.proofs.Common.{◌≡◌, ℕ, Bool, true, false, List, [], length, Option, Some, None, Result, Ok, Err, refl, sym, ap, subst, ◌∙◌}
+use Rattle.std.specs.Prelude.{OnErr, ⊤}
 use Rattle.std.specs.declared.alloc.AllocError.{AllocError}
+use Rattle.bflt_format.specs.Values.{Values}
+use Rattle.region_watch.specs.declared.mode.Mode.{Mode}
+use Rattle.syscall_layer.specs.Parts.{RunParts}
 use Rattle.rv32im_step.specs.declared.access.Access.{Access}
-use Rattle.rv32im_step.specs.Meaning.{call}
+use Rattle.rv32im_step.specs.Meaning.{call, trap}
 use Rattle.mmap_rules.specs.Space.{Space}
 use Rattle.vfork_exec.specs.Keyed.{find}
 use Rattle.machine_world.specs.World.{Process, LiveSpace, Rest, World, pid_of, id_of}
 use Rattle.machine_world.specs.Asks.{Ask}
 use Rattle.machine_world.specs.Rows.{row}
-use Rattle.machine_world.specs.Event.{Outcome, went, strays, full, idle, ended, ask_of, answer, settled, in_space, by_process, at_process, called}
+use Rattle.machine_world.specs.Event.{Outcome, went, strays, full, idle, ended, ask_of, answer, settled, trapped, in_space, by_process, at_process, called, died}
 use Rattle.machine_world.proofs.Kept.{Answers, kept_outside}
 use Rattle.machine_world.proofs.ByRows.{by_rows}
 use Rattle.machine_world.proofs.ByEvents.{Answered as CallHas, Happened, Keeps, by_effect}
@@ -22,7 +26,7 @@ use Rattle.kept_parts.specs.declared.reach.Reach.{Reach}
 use Rattle.kept_parts.specs.declared.reach.Reach.TheVariants.{Own, Whole}
 use Rattle.kept_parts.specs.Kept.{Kept}
 use Rattle.kept_parts.specs.Stands.{About, world_of}
-use Rattle.kept_parts.specs.Serves.{Answered, Serves}
+use Rattle.kept_parts.specs.Serves.{Answered, Serves, Died, Dies}
 use Rattle.kept_parts.specs.InMemory.{physical_of, GoesIn, InReach}
 
 -- whether a stray access was noted, and how many pages there are
@@ -68,6 +72,20 @@ module _ (strayed : Bool) (pages : ℕ) (w : World) (h : Same strayed pages w) w
   pub called_keeps : (pid : ℕ) → Keeps (Same strayed pages) (called w pid)
   unfolding called at_process
   called_keeps pid = in_world (find pid_of pid w.procs)
+
+  -- a signal
+  died_home : (signal : ℕ) (p : Process) (o : Option LiveSpace) → Keeps (Same strayed pages) (in_space (λ q s. settled (trapped w q signal)) p o)
+  died_home signal p None = tt
+  died_home signal p (Some s) =
+      by_effect (λ now t. Same strayed pages now) (Has pages) (λ now t kept. kept) w h.1 p s.space (act_keeps p s.space) (λ bytes. rows_keep pages (ask_of w p s.space bytes) h.1) (trap signal)
+
+  died_world : (signal : ℕ) (o : Option Process) → Keeps (Same strayed pages) (by_process w.spaces (λ q s. settled (trapped w q signal)) o)
+  died_world signal None = tt
+  died_world signal (Some p) = died_home signal p (find id_of p.space w.spaces)
+
+  died_keeps : (pid signal : ℕ) → Keeps (Same strayed pages) (died w pid signal)
+  unfolding died at_process
+  died_keeps pid signal = died_world signal (find pid_of pid w.procs)
 
 -- ---- over one memory, once a stray access was noted
 
@@ -225,3 +243,29 @@ module _ (headers : List (List ℕ)) (a : About) (old new : Kept) (pid : ℕ) wh
           let kept = called_in_keeps (length old.regions) (physical_of headers a old) (of_memory is) pid in
           reach_remains reach (called_in (physical_of headers a old) pid) (subst (λ (b : Bool). AfterHas (Same b (length old.regions)) (called_in (physical_of headers a old) pid)) (sym is) kept) (called_in_unmarked (physical_of headers a old) pid) s
           (λ access is_stray. same access (ap Ok is_stray)) x
+
+  -- an end by a signal
+  died_remains : (o : Outcome) → Keeps HasSame o → Died a o new pid → HasSame (world_of a new)
+  unfolding world_of
+  died_remains (went now t) kept x = subst HasSame x.0 kept
+  died_remains (strays access) kept x = absurd x
+  died_remains full kept x = absurd x
+  died_remains idle kept x = absurd x
+
+  pub signal_remains : (signal : ℕ) → Died a (died (world_of a old) pid signal) new pid → (has_stray new.notes ≡ has_stray old.notes) × (length new.regions ≡ length old.regions)
+  unfolding world_of
+  signal_remains signal x = died_remains (died (world_of a old) pid signal) (died_keeps (has_stray old.notes) (length old.regions) (world_of a old) of_world pid signal) x
+
+pub signal_same : (a : About) (old new : Kept) (pid signal : ℕ) (r : Result ⊤ AllocError) → Dies a (died (world_of a old) pid signal) old new pid r
+    → (has_stray new.notes ≡ has_stray old.notes) × (length new.regions ≡ length old.regions)
+signal_same a old new pid signal (Ok done) x = signal_remains [] a old new pid signal x
+signal_same a old new pid signal (Err error) x = (ap (λ (k : Kept). has_stray k.notes) x, ap (λ (k : Kept). length k.regions) x)
+
+abbrev pub parts_with : List Values → Mode → Bool → Kept → RunParts
+parts_with programs mode noted k = record { kept = k; programs = programs; mode = mode; noted = noted }
+
+pub signal_unchanged : (a : About) (old new : Kept) (pid signal : ℕ) (r : Result ⊤ AllocError) → Dies a (died (world_of a old) pid signal) old new pid r
+    → (programs : List Values) (mode : Mode) (noted : Bool)
+    → OnErr r (parts_with programs mode noted new ≡ parts_with programs mode noted old)
+signal_unchanged a old new pid signal (Ok done) x programs mode noted = tt
+signal_unchanged a old new pid signal (Err error) x programs mode noted = ap (parts_with programs mode noted) x

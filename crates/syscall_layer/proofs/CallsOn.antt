@@ -15,6 +15,8 @@ use Rattle.kept_parts.specs.Kept.{Kept}
 use Rattle.kept_parts.specs.Reach.{is_whole}
 use Rattle.kept_parts.specs.Stands.{About, world_of}
 use Rattle.kept_parts.specs.Serves.{Answered}
+use Rattle.syscall_layer.specs.ByMode.{ServesFirst}
+use Rattle.std.specs.Result.{IsErr}
 use Rattle.kept_parts.specs.InMemory.{physical_of, GoesIn, InReach, ServesOn, first_range, called_on, with_range, without_newest}
 
 abbrev IsStray : Served → Type 0
@@ -37,6 +39,11 @@ not_stray served.LogFull other is = is
 pub strayed_within : (mode : Mode) (reach within : Reach) (strayed : Bool) → (mode ≡ Halt → within ≡ Own) → (mode ≡ GoOn → within ≡ reach) → strayed ≡ is_whole reach → within ≡ Whole → strayed ≡ true
 strayed_within Halt reach within strayed own on is whole = absurd (let e : Own ≡ Whole = sym (own refl) ∙ whole in cc)
 strayed_within GoOn reach within strayed own on is whole = is ∙ ap is_whole (sym (on refl) ∙ whole)
+
+-- within its own bytes none was noted
+own_reach : (reach : Reach) → is_whole reach ≡ false → reach ≡ Own
+own_reach Own is = refl
+own_reach Whole is = absurd (let e : true ≡ false = is in cc)
 
 -- ---- the note of its range
 
@@ -102,7 +109,43 @@ module _ (headers : List (List ℕ)) (a : About) (old : Kept) (pid : ℕ) where
     pub notes_unstrayed : new.notes ≡ old.notes → new.notes ≡ (with_range pid (first_range there pid) old).notes
     notes_unstrayed is = is ∙ ap (λ (found : Option Access). (with_range pid found old).notes) (sym unstrayed)
 
+    -- so it is the call of the private spaces
+    first_unstrayed : (o : Outcome) (t : Served) → (IsStray t → ⊥) → Answered a o old new pid t → ServesFirst a o old new pid (Ok t)
+    first_unstrayed (went now t) s goes x = x
+    first_unstrayed full s goes x = x
+    first_unstrayed idle s goes x = x
+    first_unstrayed (strays access) (served.Stray seen) goes x = absurd (goes tt)
+    first_unstrayed (strays access) served.Replied goes x = absurd x
+    first_unstrayed (strays access) served.TurnEnds goes x = absurd x
+    first_unstrayed (strays access) served.Waits goes x = absurd x
+    first_unstrayed (strays access) served.Ended goes x = absurd x
+    first_unstrayed (strays access) served.LogFull goes x = absurd x
+
+    pub serves_first : has_stray old.notes ≡ false → ServesFirst a outcome old new pid (Ok s)
+    serves_first quiet = first_unstrayed outcome s (not_stray s other) (serves (own_reach reach (sym strayed ∙ quiet)))
+
   -- ---- one strays
+
+  -- where it was noted
+  first_noted : (o : Outcome) (access : Access) (new : Kept) (s : Served) → stray_in o ≡ Some access → has_stray new.notes ≡ true → ServesFirst a o old new pid (Ok s)
+  first_noted (strays seen) access new s is was = was
+  first_noted (went now t) access new s is was = absurd cc
+  first_noted full access new s is was = absurd cc
+  first_noted idle access new s is was = absurd cc
+
+  pub strays_first : (access : Access) (new : Kept) (s : Served) → stray_in outcome ≡ Some access → has_stray new.notes ≡ true → ServesFirst a outcome old new pid (Ok s)
+  strays_first access new s is was = first_noted outcome access new s is was
+
+  -- out of memory
+  none_first_of : (o : Outcome) (new : Kept) (error : AllocError) → new ≡ old → ServesFirst a o old new pid (Err error)
+  none_first_of (went now t) new error same = same
+  none_first_of (strays access) new error same = same
+  none_first_of full new error same = same
+  none_first_of idle new error same = same
+
+  pub fails_first : (new : Kept) (r : Result Served AllocError) → IsErr r → new ≡ old → ServesFirst a outcome old new pid r
+  fails_first new (Ok s) is same = absurd cc
+  fails_first new (Err error) is same = none_first_of outcome new error same
 
   never_strays : (o : After) (new : Kept) (access : Access) → GoesIn headers a o old new pid (served.Stray access) → ⊥
   never_strays (after p over) new access x = absurd x.1

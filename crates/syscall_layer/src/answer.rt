@@ -430,7 +430,7 @@ fn answer_and_wake<F: Fn(&[Run], u32) -> Option<usize>>(
 /// Carries out the system call that a process stands at, which may run, within this reach; those go on that wait on a pipe which it
 /// changed. A run of pages that it needs is the chooser's, and the programs that it may run are these. A range beyond its process's own
 /// bytes strays, and nothing is done; one outside memory ends the process by SIGSEGV.
-pub fn serve_within<F: Fn(&[Run], u32) -> Option<usize>>(
+fn serve_within<F: Fn(&[Run], u32) -> Option<usize>>(
     parts: &mut KeptParts,
     pid: u32,
     programs: &[Flat],

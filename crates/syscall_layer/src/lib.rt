@@ -13,6 +13,6 @@ mod laws;
 mod parts;
 mod want;
 
-pub use answer::{serve, serve_within};
+pub use answer::serve;
 pub use laws::call_event_law;
 pub use parts::Parts;

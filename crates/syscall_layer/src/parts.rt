@@ -1,13 +1,17 @@
 //! The parts of a run.
 
-ghost use Rattle.std.specs.Prelude.{◌≡◌, option_map};
+ghost use Rattle.std.specs.Prelude.{◌≡◌, ℕ, true, List, Some, IfOk, OnErr, option_map};
+ghost use Rattle.vfork_exec.specs.Procs.{CanRun};
+ghost use Rattle.machine_world.specs.Event.{died};
 ghost use Rattle.machine_world.specs.Turns.{seen_of};
-ghost use Rattle.physical_turns.specs.Physical.{has_stray};
+ghost use Rattle.physical_turns.specs.Physical.{has_stray, died_in};
 ghost use Rattle.kept_parts.specs.Awake.{awake_in};
-ghost use Rattle.kept_parts.specs.InMemory.{without_newest};
+ghost use Rattle.kept_parts.specs.InMemory.{DiesIn, physical_of, with_range, without_newest};
+ghost use Rattle.kept_parts.specs.Regular.{IsRegular};
+ghost use Rattle.kept_parts.specs.Serves.{Dies, NotesStray};
+ghost use Rattle.kept_parts.specs.Stands.{About, world_of};
 ghost use Rattle.syscall_layer.specs.Parts.{halted_at};
 ghost use Rattle.kept_parts.specs.Reach.{is_whole, reach_of};
-ghost use Rattle.kept_parts.specs.Regular.{IsRegular};
 
 use bflt_format::Flat;
 use kept_parts::{KeptParts, Reach, first_stray};
@@ -80,6 +84,18 @@ impl Parts {
         }
     }
 
+    /// Notes the access of a process that strays.
+    pub fn note_stray(&mut self, pid: u32, access: Access) -> Result<(), AllocError>
+        ensures strays { NotesStray pid access self.old.kept self.new.kept result }
+        ensures kept { IfOk result (λ _. self.new ≡ record self.old { kept = with_range pid (Some access) self.old.kept; noted = true }) }
+        ensures sound { IfOk result (λ _. IsRegular (without_newest self.new.kept)) }
+        ensures unchanged { OnErr result (self.new ≡ self.old) }
+    {
+        self.kept.note_stray(pid, access)?;
+        self.noted = true;
+        Ok(())
+    }
+
     /// Takes back the newest note, where the parts are sound without it, and looks through the others for a stray access.
     pub fn take_back(&mut self)
         requires sound { IsRegular (without_newest self.old.kept) }
@@ -87,5 +103,18 @@ impl Parts {
     {
         self.kept.take_back();
         self.noted = self.kept.has_stray();
+    }
+
+    /// Ends a process by a signal: its own space goes, and a note is kept. Those go on that wait on a pipe of which an end closes.
+    pub fn end_by_signal(&mut self, pid: u32, signal: u8) -> Result<(), AllocError>
+        requires { CanRun self.old.kept.procs pid }
+        ensures programs { self.new.programs ≡ self.old.programs }
+        ensures mode { self.new.mode ≡ self.old.mode }
+        ensures noted { self.new.noted ≡ has_stray self.new.kept.notes }
+        ensures dies { (a : About) → Dies a (died (world_of a self.old.kept) pid signal) self.old.kept self.new.kept pid result }
+        ensures memory { (headers : List (List ℕ)) → (a : About) → DiesIn headers a (died_in (physical_of headers a self.old.kept) pid signal) self.old.kept self.new.kept pid result }
+        ensures unchanged { OnErr result (self.new ≡ self.old) }
+    {
+        self.kept.end_by_signal(pid, signal)
     }
 }

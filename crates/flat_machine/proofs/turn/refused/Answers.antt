@@ -1,10 +1,27 @@
 -- Out of reach of its own bytes an access strays, and out of memory it ends its process.
+use Rattle.std.proofs.Common.{sym, ap, ◌∙◌}
+use Rattle.std.proofs.lemmas.Bool.{false≢true}
 use Rattle.physical_turns.specs.Physical.{died_in, outside}
 use Rattle.kept_parts.specs.InMemory.{physical_of}
+use Rattle.syscall_layer.specs.Parts.{RunParts}
+use Rattle.flat_machine.specs.State.{is_whole}
 use Rattle.flat_machine.proofs.EventsIn.{dies_not}
+use Rattle.flat_machine.proofs.TurnsIn.{reach_noted}
 use Rattle.flat_machine.proofs.turn.refused.Goals as goal
 
+pub returns-in-Own-clause-noted : goal.returns-in-Own-clause-noted
+returns-in-Own-clause-noted c = sym (reach_noted c.args.parts.now.noted) ∙ ap is_whole (sym c.reach.ensures.reach) ∙ sym c.reach.ensures.strayed
+
+pub returns-in-Own-clause-memory : goal.returns-in-Own-clause-memory
+returns-in-Own-clause-memory c was = absurd (false≢true (sym (c.reach.ensures.strayed ∙ ap is_whole c.in-Own.is) ∙ was))
+
+pub returns-in_ok-end_by_signal-in-Whole-clause-strays : goal.returns-in_ok-end_by_signal-in-Whole-clause-strays
+returns-in_ok-end_by_signal-in-Whole-clause-strays c quiet = absurd (false≢true (sym quiet ∙ (c.reach.ensures.strayed ∙ ap is_whole c.in-Whole.is)))
+
+pub returns-in_err-end_by_signal-in-Whole-clause-strays : goal.returns-in_err-end_by_signal-in-Whole-clause-strays
+returns-in_err-end_by_signal-in-Whole-clause-strays c quiet = absurd (false≢true (sym quiet ∙ (c.reach.ensures.strayed ∙ ap is_whole c.in-Whole.is)))
+
 pub returns-in_err-end_by_signal-in-Whole-clause-memory : goal.returns-in_err-end_by_signal-in-Whole-clause-memory
-returns-in_err-end_by_signal-in-Whole-clause-memory c whole headers a =
-    dies_not headers a c.args.parts.now c.end_by_signal.new.self c.args.pid (died_in (physical_of headers a c.args.parts.now) c.args.pid outside) c.from_residual.result c.from_residual.ensures.0
-    (c.in_err-end_by_signal-in-Whole.ensures.dies a)
+returns-in_err-end_by_signal-in-Whole-clause-memory c was headers a =
+    dies_not headers a c.args.parts.now.kept c.end_by_signal.new.self.kept c.args.pid (died_in (physical_of headers a c.args.parts.now.kept) c.args.pid outside) c.from_residual.result c.from_residual.ensures.0
+    (ap (λ (p : RunParts). p.kept) c.in_err-end_by_signal-in-Whole.ensures.unchanged)

@@ -11,7 +11,7 @@ use Rattle.kept_parts.specs.Flats.{AreFlats}
 use Rattle.kept_parts.specs.InMemory.{headers_of, physical_of, InReach}
 use Rattle.kept_parts.specs.Reach.{is_whole}
 use Rattle.kept_parts.proofs.Holding.{unstrayed_holds}
-use Rattle.syscall_layer.proofs.CallsOn.{serves_unstrayed, notes_unstrayed, strays_by, notes_noted}
+use Rattle.syscall_layer.proofs.CallsOn.{serves_unstrayed, notes_unstrayed, serves_first, strays_by, strays_first, notes_noted}
 use Rattle.syscall_layer.proofs.answer.serve.Goals as goal
 
 pub returns-in_default : goal.returns-in_default
@@ -43,6 +43,9 @@ returns-in_default g c =
         unnoted = λ is a kind flats.
             notes_unstrayed headers a k c.args.pid c.reach.result strayed new c.in_ok-served.served c.in_default.not-Stray
             (λ own. gives.serves (on goes ∙ own) a kind flats (unstrayed_holds k (strayed ∙ ap is_whole own))) (gives.unnoted is);
+        first = λ quiet a kind flats.
+            serves_first headers a k c.args.pid c.reach.result strayed new c.in_ok-served.served c.in_default.not-Stray
+            (λ own. gives.serves (on goes ∙ own) a kind flats (unstrayed_holds k (strayed ∙ ap is_whole own))) quiet;
       };
       unchanged = tt;
       yields = gives.yields;
@@ -91,4 +94,5 @@ returns-in_ok-served-in-GoOn-clause-goes_on g c =
       unnoted = λ is a kind flats.
           notes_noted headers a k c.args.pid c.in-Stray.access (first goes a kind flats).quiet (first goes a kind flats).is c.serve_within.new.parts c.serve_noted.new.parts same
           (c.in_ok-served-in-GoOn.ensures.unnoted is);
+      first = λ quiet a kind flats. strays_first headers a k c.args.pid c.in-Stray.access c.serve_noted.new.parts c.in_ok-served-in-GoOn.served (first goes a kind flats).is c.in_ok-served-in-GoOn.ensures.strayed;
     })

@@ -1,9 +1,10 @@
 -- The quanta so far, and the next.
-use Rattle.std.proofs.Common.{[], Option, Some, None, Ok, refl, ap, ◌∙◌, arith}
+use Rattle.std.proofs.Common.{◌≡◌, [], Option, Some, None, Ok, refl, sym, ap, ◌∙◌, arith}
 use Rattle.std.proofs.lemmas.List.Sums.{sum_by-drop_more}
 use Rattle.quantum_sched.specs.declared.Quantum.{Quantum}
 use Rattle.machine_world.proofs.RunLaws.{comes_none}
 use Rattle.physical_turns.proofs.TurnsIn.{comes_in_none}
+use Rattle.region_watch.specs.declared.mode.Mode.TheVariants.{Halt}
 use Rattle.flat_machine.specs.declared.run.End.{End as Told}
 use Rattle.flat_machine.specs.LeavesIn.{is_stray}
 use Rattle.flat_machine.specs.State.{world, one_memory}
@@ -28,6 +29,11 @@ loop-quantum-init g c = record {
   hits_in = λ go. come_none (hits_in_memory (kind_of_point c.args.watcher.now.point.now) c.args.watcher.now.spans.now) c.args.hits.now (one_memory c.args.self.now);
   events = omega arith;
 }
+
+pub take_turn-requires-clause-halting : goal.take_turn-requires-clause-halting
+take_turn-requires-clause-halting g c halt =
+    let was : c.args.self.now.mode ≡ Halt = sym c.loop-quantum.invariant.mode ∙ halt in
+    (c.loop-quantum.invariant.halts (record { halts = was; quiet = c.requires.halting was })).quiet
 
 pub returns-in_err-end-clause-leaves : goal.returns-in_err-end-clause-leaves
 returns-in_err-end-clause-leaves g c halting =

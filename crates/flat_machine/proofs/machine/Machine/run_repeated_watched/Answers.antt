@@ -6,7 +6,7 @@ use Rattle.machine_world.specs.Turns.{turns}
 use Rattle.machine_world.proofs.RunLaws.{comes_none}
 use Rattle.physical_turns.proofs.TurnsIn.{comes_in_none}
 use Rattle.physical_turns.specs.Physical.{has_stray}
-use Rattle.region_watch.specs.declared.mode.Mode.TheVariants.{GoOn}
+use Rattle.region_watch.specs.declared.mode.Mode.TheVariants.{Halt, GoOn}
 use Rattle.kept_parts.specs.Stands.{world_of}
 use Rattle.flat_machine.specs.declared.run.End.{End as Told}
 use Rattle.flat_machine.specs.declared.run.End.TheVariants as told
@@ -18,7 +18,8 @@ use Rattle.flat_machine.specs.Inside.{state_of}
 use Rattle.flat_machine.specs.Runs.{repeated, Ends}
 use Rattle.flat_machine.proofs.Rounds.{time_fits, one_more_time, time_on, time_ends, time_fails, machine_ends, runs_fail}
 use Rattle.flat_machine.proofs.RoundsIn.{first_quiet, time_on_in, time_ends_in, time_fails_in, time_first, time_first_ends, all_comes_in, all_first, runs_fail_in, goes_on_fails}
-use Rattle.flat_machine.proofs.ByMode.{halt_runs, none_halted_on}
+use Rattle.flat_machine.proofs.ByMode.{halt_runs, none_halted_on, none_astray}
+use Rattle.flat_machine.proofs.TurnsOf.{noted_state}
 use Rattle.syscall_layer.proofs.Halted.{none_halted}
 use Rattle.watch_points.specs.Points.{kind_of_point}
 use Rattle.flat_machine.specs.Hits.{hits, hits_in_memory}
@@ -48,6 +49,15 @@ round-requires-clause-events g c =
     let fits = time_fits c.loop-time._time c.args.count sum c.loop-time-test.true in
     let events = c.loop-time.invariant.events in
     omega arith
+
+-- a run that ends at its first stray access noted none yet
+pub round-requires-clause-halting : goal.round-requires-clause-halting
+round-requires-clause-halting g c halt =
+    let was : c.args.self.now.mode ≡ Halt = sym c.loop-time.invariant.mode ∙ halt in
+    let here : c.self.inside.parts.mode ≡ Halt = ap (λ (x : State). x.mode) c.self.view_is ∙ was in
+    let none = none_astray c.self.inside.parts.mode c.self.inside.parts.kept.notes c.halted_at.result c.halted_at.ensures c.in_default.is here in
+    let quiet = subst (λ (x : State). has_stray (world x).notes ≡ false) c.self.view_is (noted_state (state_of c.self.inside) ∙ none) in
+    (c.loop-time.invariant.halts (record { halts = was; quiet = quiet })).quiet
 
 pub loop-time-preserved : goal.loop-time-preserved
 loop-time-preserved g c =

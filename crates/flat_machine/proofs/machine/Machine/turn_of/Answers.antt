@@ -1,19 +1,19 @@
 -- The process has its turn, and the machine holds what it held.
-use Rattle.std.proofs.Common.{◌≡◌, length, sym, ap, subst, ◌∙◌}
-use Rattle.std.specs.Prelude.{OnErr}
+use Rattle.std.proofs.Common.{◌≡◌, length, sym, ap, ◌∙◌}
 use Rattle.std.proofs.lemmas.List.{length-map}
-use Rattle.kept_parts.specs.declared.reach.Reach.{Reach}
-use Rattle.kept_parts.specs.declared.reach.Reach.TheVariants.{Own}
-use Rattle.kept_parts.specs.InMemory.{headers_of, physical_of}
-use Rattle.kept_parts.specs.Reach.{reach_of}
-use Rattle.kept_parts.specs.Stands.{later, world_of}
-use Rattle.flat_machine.specs.State.{State, about_of, is_whole}
+use Rattle.page_runs.specs.Choosers.{kind_of}
+use Rattle.kept_parts.specs.Stands.{world_of}
+use Rattle.flat_machine.specs.State.{State, about_of}
 use Rattle.flat_machine.specs.Inside.{state_of}
-use Rattle.flat_machine.specs.LeavesIn.{TurnLeavesIn, reach_behind}
 use Rattle.flat_machine.proofs.Readers.{are_flats, programs_count}
-use Rattle.flat_machine.proofs.HoldFiles.{turn_holds}
-use Rattle.flat_machine.proofs.TurnsOf.{loads_behind, order_behind}
+use Rattle.flat_machine.proofs.TurnsIn.{reach_noted}
+use Rattle.flat_machine.proofs.TurnsOf.{loads_behind, order_behind, turn_holds, noted_state}
 use Rattle.flat_machine.proofs.machine.Machine.turn_of.Goals as goal
+
+pub turn-events-requires-clause-halting : goal.turn-events-requires-clause-halting
+turn-events-requires-clause-halting g c halt =
+    let halting = rw (← c.self.view_is) at c.requires.halting in
+    sym (noted_state (state_of c.self.inside)) ∙ halting halt
 
 pub invariant_of-self : goal.invariant_of-self
 invariant_of-self g c =
@@ -23,26 +23,25 @@ invariant_of-self g c =
     let same : length s.paths ≡ length s.programs = length-map m.paths.items (λ path. path.items) ∙ c.self.invariant.paths in
     let so = ap (λ (x : State). x.kind) c.self.view_is ∙ sym c.requires.kind in
     let are = are_flats s.paths s.programs same in
-    let memory = c.turn-events.ensures.memory a so are in
-    let ready = rw (← c.self.view_is) at c.requires.ready in
+    let v = c.self.view_is in
+    let ready = rw (← v) at c.requires.ready in
+    let halting = rw (← v) at c.requires.halting in
     rw c.turn-events.ensures.programs (record {
       paths = c.self.invariant.paths;
-      loads = loads_behind (reach_of m.parts.noted) (headers_of m.parts.programs) a (length m.parts.programs) c.args.pid c.args.count c.turn-events.result.events m.parts.kept c.turn-events.new.parts.kept c.turn-events.result.end
-          (λ own. c.turn-events.ensures.leaves own a so are) memory (programs_count s.paths s.programs same) c.self.invariant.loads;
-      order = rw (c.from.ensures) (order_behind (reach_of m.parts.noted) (headers_of m.parts.programs) a (length m.parts.programs) c.args.pid c.args.count c.turn-events.result.events m.parts.kept c.turn-events.new.parts.kept c.turn-events.result.end
-          (λ own. c.turn-events.ensures.leaves own a so are) memory ready c.self.invariant.strayed c.turn-events.ensures.notes c.self.invariant.order);
-      strayed = c.turn-events.ensures.notes ∙ ap is_whole (sym c.turn-events.ensures.reach);
+      loads = loads_behind (kind_of c.args.chooser.now) m.parts.programs a so are c.args.pid c.args.count c.turn-events.result.events m.parts.kept c.turn-events.new.parts.kept c.turn-events.result.end m.parts.mode c.turn-events.ensures.halts c.turn-events.ensures.goes_on (length m.parts.programs) (programs_count s.paths s.programs same) c.self.invariant.loads;
+      order = rw c.from.ensures (order_behind (kind_of c.args.chooser.now) m.parts.programs a so are c.args.pid c.args.count c.turn-events.result.events m.parts.kept c.turn-events.new.parts.kept c.turn-events.result.end m.parts.mode c.turn-events.ensures.halts c.turn-events.ensures.goes_on ready (λ halt. sym (noted_state s) ∙ halting halt) c.self.invariant.order);
+      strayed = sym c.turn-events.ensures.noted ∙ sym (reach_noted c.turn-events.new.parts.noted);
     })
 
-pub returns-clause-notes : goal.returns-clause-notes
+pub returns-clause-quiet : goal.returns-clause-quiet
 unfolding world_of
-returns-clause-notes g c = c.turn-events.ensures.notes ∙ ap is_whole (sym c.turn-events.ensures.reach)
+returns-clause-quiet g c halting calm =
+    let v = c.self.view_is in
+    let halt = ap (λ (x : State). x.mode) v ∙ halting.halts in
+    record { halts = c.turn-events.ensures.mode ∙ halt; quiet = (c.turn-events.ensures.halts halt).quiet calm }
 
-pub returns-clause-still : goal.returns-clause-still
-returns-clause-still g c = subst (λ (s : State). OnErr c.turn-events.result.end (c.turn-events.result.events ≡ 0 → c.turn-events.new.parts.kept ≡ s.kept)) c.self.view_is c.turn-events.ensures.still
-
-pub returns-clause-leaves : goal.returns-clause-leaves
-returns-clause-leaves g c own =
+pub returns-clause-copies : goal.returns-clause-copies
+returns-clause-copies g c halting =
     let m = c.self.inside in
     let s = state_of m in
     let a = about_of s in
@@ -50,12 +49,24 @@ returns-clause-leaves g c own =
     let so = ap (λ (x : State). x.kind) c.self.view_is ∙ sym c.requires.kind in
     let are = are_flats s.paths s.programs same in
     let v = c.self.view_is in
-    let here = ap (λ (x : State). x.reach) v ∙ own in
-    let leaves = c.turn-events.ensures.leaves here a so are in
+    let halt = ap (λ (x : State). x.mode) v ∙ halting.halts in
+    turn_holds (kind_of c.args.chooser.now) m.parts.programs a so are c.args.pid c.args.count c.turn-events.result.events m.parts.kept c.turn-events.new.parts.kept c.turn-events.result.end (c.turn-events.ensures.halts halt) c.turn-events.ensures.copies
+
+pub returns-clause-leaves : goal.returns-clause-leaves
+returns-clause-leaves g c halting =
+    let m = c.self.inside in
+    let s = state_of m in
+    let a = about_of s in
+    let same : length s.paths ≡ length s.programs = length-map m.paths.items (λ path. path.items) ∙ c.self.invariant.paths in
+    let so = ap (λ (x : State). x.kind) c.self.view_is ∙ sym c.requires.kind in
+    let are = are_flats s.paths s.programs same in
+    let v = c.self.view_is in
+    let halt = ap (λ (x : State). x.mode) v ∙ halting.halts in
+    let leaves = (c.turn-events.ensures.halts halt).leaves a so are in
     rw (← v, c.from.ensures, c.turn-events.ensures.programs) leaves
 
 pub returns-clause-memory : goal.returns-clause-memory
-returns-clause-memory g c =
+returns-clause-memory g c go =
     let m = c.self.inside in
     let s = state_of m in
     let a = about_of s in
@@ -63,25 +74,12 @@ returns-clause-memory g c =
     let so = ap (λ (x : State). x.kind) c.self.view_is ∙ sym c.requires.kind in
     let are = are_flats s.paths s.programs same in
     let v = c.self.view_is in
-    let memory = c.turn-events.ensures.memory a so are in
+    let goes = ap (λ (x : State). x.mode) v ∙ go in
+    let memory = (c.turn-events.ensures.goes_on goes).memory a so are in
     rw (← v, c.from.ensures, c.turn-events.ensures.programs) memory
 
-pub returns-clause-copies : goal.returns-clause-copies
-returns-clause-copies g c own =
-    let m = c.self.inside in
-    let s = state_of m in
-    let a = about_of s in
-    let same : length s.paths ≡ length s.programs = length-map m.paths.items (λ path. path.items) ∙ c.self.invariant.paths in
-    let so = ap (λ (x : State). x.kind) c.self.view_is ∙ sym c.requires.kind in
-    let are = are_flats s.paths s.programs same in
-    let here : (reach_of m.parts.noted) ≡ Own = ap (λ (x : State). x.reach) c.self.view_is ∙ own in
-    let memory = subst (λ (reach : Reach). TurnLeavesIn reach c.args.pid c.args.count (physical_of (headers_of m.parts.programs) a m.parts.kept) c.turn-events.result.events
-    (physical_of (headers_of m.parts.programs) (later c.turn-events.result.events a) c.turn-events.new.parts.kept) c.turn-events.result.end) here (c.turn-events.ensures.memory a so are) in
-    turn_holds (headers_of m.parts.programs) a (later c.turn-events.result.events a) c.args.pid c.args.count c.turn-events.result.events m.parts.kept c.turn-events.new.parts.kept c.turn-events.result.end memory
-    c.turn-events.ensures.sound (c.turn-events.ensures.notes ∙ ap (λ (reach : Reach). is_whole (reach_behind reach c.turn-events.result.end)) here) c.turn-events.ensures.copies
-
-pub returns-clause-hits : goal.returns-clause-hits
-returns-clause-hits g c own =
+pub returns-clause-first : goal.returns-clause-first
+returns-clause-first g c go quiet =
     let m = c.self.inside in
     let s = state_of m in
     let a = about_of s in
@@ -89,12 +87,26 @@ returns-clause-hits g c own =
     let so = ap (λ (x : State). x.kind) c.self.view_is ∙ sym c.requires.kind in
     let are = are_flats s.paths s.programs same in
     let v = c.self.view_is in
-    let here = ap (λ (x : State). x.reach) v ∙ own in
-    let hits = c.turn-events.ensures.hits here a so are in
+    let goes = ap (λ (x : State). x.mode) v ∙ go in
+    let still = rw (← v) at quiet in
+    let first = (c.turn-events.ensures.goes_on goes).first (sym (noted_state s) ∙ still) a so are in
+    rw (← v, c.from.ensures, c.turn-events.ensures.programs) first
+
+pub returns-clause-hits : goal.returns-clause-hits
+returns-clause-hits g c halting =
+    let m = c.self.inside in
+    let s = state_of m in
+    let a = about_of s in
+    let same : length s.paths ≡ length s.programs = length-map m.paths.items (λ path. path.items) ∙ c.self.invariant.paths in
+    let so = ap (λ (x : State). x.kind) c.self.view_is ∙ sym c.requires.kind in
+    let are = are_flats s.paths s.programs same in
+    let v = c.self.view_is in
+    let halt = ap (λ (x : State). x.mode) v ∙ halting.halts in
+    let hits = c.turn-events.ensures.hits halt a so are in
     rw (← v) hits
 
 pub returns-clause-hits_in : goal.returns-clause-hits_in
-returns-clause-hits_in g c =
+returns-clause-hits_in g c go =
     let m = c.self.inside in
     let s = state_of m in
     let a = about_of s in
@@ -102,5 +114,6 @@ returns-clause-hits_in g c =
     let so = ap (λ (x : State). x.kind) c.self.view_is ∙ sym c.requires.kind in
     let are = are_flats s.paths s.programs same in
     let v = c.self.view_is in
-    let hits = c.turn-events.ensures.hits_in a so are in
-    rw (← v, c.from.ensures, c.turn-events.ensures.programs) hits
+    let goes = ap (λ (x : State). x.mode) v ∙ go in
+    let hits = c.turn-events.ensures.hits_in goes a so are in
+    rw (← v) hits

@@ -1,0 +1,23 @@
+-- Behind the events so far the turn goes on, and its process may run.
+use Rattle.std.proofs.Common.{◌≡◌, ◌-◌, ◌≤◌}
+use Rattle.page_runs.specs.Choosers.{kind_of}
+use Rattle.vfork_exec.specs.Procs.{CanRun}
+use Rattle.physical_turns.specs.Physical.{has_stray}
+use Rattle.region_watch.specs.declared.mode.Mode.TheVariants.{Halt, GoOn}
+use Rattle.watch_points.specs.Points.{kind_of_point}
+use Rattle.flat_machine.proofs.TurnsOn.{HaltReached, GoOnReached}
+use Rattle.flat_machine.proofs.turn.events_of.Given as goal
+
+abbrev pub invariant-loop-events : goal.invariant-loop-events
+invariant-loop-events g l = record {
+  ready : CanRun l.parts.kept.procs l.pid;
+  within : l.events ≤ l.count;
+  programs : l.parts.programs ≡ l.fn.parts.programs;
+  mode : l.parts.mode ≡ l.mode;
+  noted : l.parts.noted ≡ has_stray l.parts.kept.notes;
+  halts : l.mode ≡ Halt → HaltReached (kind_of l.chooser) l.fn.parts.programs (kind_of_point l.watcher.point.now) l.watcher.spans.now l.pid l.fn.hits l.fn.parts.kept l.events l.hits l.parts.kept;
+  goes_on : l.mode ≡ GoOn → GoOnReached (kind_of l.chooser) l.fn.parts.programs (kind_of_point l.watcher.point.now) l.watcher.spans.now l.pid l.fn.hits l.fn.parts.kept l.events l.hits l.parts.kept;
+}
+
+abbrev pub decreases-loop-events : goal.decreases-loop-events
+decreases-loop-events g l = l.count - l.events
