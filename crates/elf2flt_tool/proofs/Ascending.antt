@@ -13,11 +13,11 @@ use Rattle.flat_layout.specs.declared.layout.Layout.{Layout}
 use Rattle.flat_layout.specs.Layout.{layout, off, size_of}
 use Rattle.psabi_relocs.specs.declared.spans.Span.{Span}
 use Rattle.elf2flt_tool.specs.declared.word.Word.{Word}
-use Rattle.elf2flt_tool.specs.declared.found.Found.{Found}
+use Rattle.elf2flt_tool.specs.declared.cover.Cover.{Cover}
 use Rattle.elf2flt_tool.specs.Relocs.{spans_of}
 use Rattle.elf2flt_tool.specs.Image.{bare, word_of}
 use Rattle.elf2flt_tool.specs.Word.{words, places, begins_at, records, word_at, lowest, points_outside, target_outside, recorded_places}
-use Rattle.elf2flt_tool.specs.Cover.{begins}
+use Rattle.elf2flt_tool.specs.Cover.{begins, counted}
 use Rattle.elf2flt_tool.specs.Walk.{all_of, IsFoundIn}
 use Rattle.elf2flt_tool.specs.Converted.{number_patch, body_of}
 use Rattle.elf2flt_tool.proofs.Members.{any-map, map_map, map_same, each-map, each-weaker}
@@ -89,11 +89,11 @@ begins_all l q (ss ∷ es) =
     ∙ ap (λ b. b || list_any (begins l q) (all_of es)) (begins_one l q ss) ∙ ap (λ b. has (recorded_places l ss) q || b) (begins_all l q es)
     ∙ sym (has-append (recorded_places l ss) (flat_map (recorded_places l) es) q)
 
-counted_begins : (e : List ℕ) (f : Found) (q : ℕ) → IsFoundIn e (spans_of e) f → nat_lt 0 (slice_index f.cover.words.items q) ≡ begins_at (words e) q
-counted_begins e f q is =
+counted_begins : (e : List ℕ) (c : Cover) (q : ℕ) → IsFoundIn e (spans_of e) c → nat_lt 0 (slice_index c.words.items q) ≡ begins_at (words e) q
+counted_begins e c q is =
     let l = layout e in
     let all = all_of (spans_of e) in
-    ap (λ n. nat_lt 0 n) (is.cover.words q) ∙ some_two (count_by (begins l q) all) ∙ sym (any_count (begins l q) all)
+    ap (λ n. nat_lt 0 n) (is.words q) ∙ some_two (count_by (begins l q) all) ∙ sym (any_count (begins l q) all)
     ∙ begins_all l q (spans_of e) ∙ ap (λ ps. has ps q) (sym (places_of_spans e l)) ∙ sym (begins_has e q)
 
 -- one number more
@@ -113,23 +113,20 @@ index_past [] i past = refl
 index_past (x ∷ xs) zero past = absurd (omega arith)
 index_past (x ∷ xs) (suc i) past = index_past xs i (omega arith)
 
-places_counted : (e : List ℕ) (f : Found) → IsFoundIn e (spans_of e) f
-    → filter (λ q. nat_lt 0 (slice_index f.cover.words.items q)) (range_with_len 0 (length f.cover.words.items)) ≡ records e
+places_counted : (e : List ℕ) (c : Cover) → IsFoundIn e (spans_of e) c → counted c.words.items ≡ records e
 unfolding records
-places_counted e f is =
-    let tests : (λ q. nat_lt 0 (slice_index f.cover.words.items q)) ≡ begins_at (words e) = λ i q. counted_begins e f q is i in
+places_counted e c is =
+    let tests : (λ q. nat_lt 0 (slice_index c.words.items q)) ≡ begins_at (words e) = λ i q. counted_begins e c q is i in
     let size = (layout e).text + (layout e).data_len in
-    let reached = length f.cover.words.items in
-    let none : (q : ℕ) → reached ≤ q → begins_at (words e) q ≡ false = λ q past. sym (counted_begins e f q is) ∙ ap (λ n. nat_lt 0 n) (index_past f.cover.words.items q past) in
-    let all : reached + (size - reached) ≡ size = omega (arith, is.cover.room.words, is.cover.len) in
+    let reached = length c.words.items in
+    let none : (q : ℕ) → reached ≤ q → begins_at (words e) q ≡ false = λ q past. sym (counted_begins e c q is) ∙ ap (λ n. nat_lt 0 n) (index_past c.words.items q past) in
+    let all : reached + (size - reached) ≡ size = omega (arith, is.room.words, is.len) in
     ap (λ test. filter test (range_with_len 0 reached)) tests ∙ filter_reach (begins_at (words e)) reached (size - reached) none
     ∙ ap (λ n. filter (begins_at (words e)) (range_with_len 0 n)) all
 
 -- the counted places, as the code has them
-pub counted_records : (e : List ℕ) (f : Found) (counts ps : List ℕ) → IsFoundIn e (spans_of e) f → counts ≡ f.cover.words.items
-    → ps ≡ filter (λ q. nat_lt 0 (slice_index counts q)) (range_with_len 0 (length counts)) → ps ≡ records e
-counted_records e f counts ps is same are =
-    are ∙ ap (λ counts. filter (λ q. nat_lt 0 (slice_index counts q)) (range_with_len 0 (length counts))) same ∙ places_counted e f is
+pub counted_records : (e : List ℕ) (c : Cover) (counts ps : List ℕ) → IsFoundIn e (spans_of e) c → counts ≡ c.words.items → ps ≡ counted counts → ps ≡ records e
+counted_records e c counts ps is same are = are ∙ ap counted same ∙ places_counted e c is
 
 -- ---- the words that stand there
 

@@ -1,7 +1,7 @@
 -- Members, Laid, Bare, Putting, Raised, Sound, Held, Stills, Recorded, Apart, Listed, Ascending, Spelled, ImageLaw, Loads: the laws over definitions.
 -- Twins, Slots, Agreed: two files that say the same, or agree on their relocations. Exchanged: two that agree and differ.
 -- Samples: the worked examples, computed.
--- Lowest, Meeting, Kept, Unmet: the least word that meets another relocation, by what the test for overlaps keeps.
+-- Lowest, Meeting, Unmet: the least word that meets another relocation, by what the test for overlaps keeps.
 -- Shapes, Walked, Entries: what the walk over the relocations finds.
 -- Painted, Assembled: the parts of the flat file.
 -- Faults: when each fault comes.
@@ -27,7 +27,6 @@ pub mod Samples
 pub mod Exchanged
 pub mod Lowest
 pub mod Meeting
-pub mod Kept
 pub mod Unmet
 pub mod Shapes
 pub mod Walked

@@ -11,9 +11,9 @@ ghost use Rattle.elf2flt_tool.specs.Word.{records, word_at};
 ghost use Rattle.elf2flt_tool.specs.Converted.{converted, flat};
 ghost use Rattle.elf2flt_tool.specs.Walk.{IsPlaced};
 
-use crate::collect::find_all;
+use crate::collect::cover_all;
 use crate::image::{HEADER_LEN, linked_file, with_numbers};
-use crate::overlap::lowest_met_counted;
+use crate::met::lowest_overlap;
 use crate::places::{places_of, words_at};
 use crate::refusal::Refusal;
 use crate::target::lowest_outside;
@@ -52,11 +52,9 @@ fn find_places(alloc: Global, elf: &Elf<'_>, layout: &Layout) -> Result<Placed, 
         (λ placed. IsPlaced elf.now placed)
         (λ refusal. (refusal ≡ Refusal.Memory) ⊎ (relocs_fault elf.now ≡ Some refusal)) }
 {
-    let found = find_all(alloc, elf, layout)?;
-    let met = lowest_met_counted(&found.cover, &found.words);
-    let most = found.words.len();
-    drop(found.words);
-    let places = places_of(alloc, &found.cover.words, most)?;
+    let cover = cover_all(alloc, elf, layout)?;
+    let places = places_of(alloc, &cover.words)?;
+    let met = lowest_overlap(alloc, &cover, elf, layout, &places)?;
     Ok(Placed { places, met })
 }
 

@@ -1,7 +1,7 @@
 //! The recorded words by place, ascending, and where they point.
 
-ghost use Rattle.std.specs.Prelude.{◌≡◌, ◌+◌, ◌≤◌, ◌<◌, ◌^◌, nat_lt, All, filter, length, map, slice_index, IfOk};
-ghost use Rattle.std.specs.List.{range_with_len};
+ghost use Rattle.std.specs.Prelude.{◌≡◌, ◌+◌, ◌≤◌, ◌<◌, ◌^◌, All, length, map, IfOk};
+ghost use Rattle.elf2flt_tool.specs.Cover.{counted};
 ghost use Rattle.elf2flt_tool.specs.Word.{word_at};
 
 use crate::word::Word;
@@ -9,12 +9,12 @@ use byte_words::word as little_word;
 use flat_layout::Layout;
 use std::alloc::{AllocError, Global};
 
-/// The numbers at which recorded words begin, ascending. They are about `most`.
-pub fn places_of(alloc: Global, counts: &[u8], most: usize) -> Result<Vec<u32>, AllocError>
+/// The numbers at which recorded words begin, ascending.
+pub fn places_of(alloc: Global, counts: &[u8]) -> Result<Vec<u32>, AllocError>
     requires { length counts.now < 2 ^ 32 }
-    ensures { IfOk result (λ places. places.items ≡ filter (λ q. nat_lt 0 (slice_index counts.now q)) (range_with_len 0 (length counts.now))) }
+    ensures { IfOk result (λ places. places.items ≡ counted counts.now) }
 {
-    let mut places = Vec::with_capacity(alloc, most)?;
+    let mut places = Vec::new(alloc);
     for place in 0..counts.len() {
         if counts[place] > 0 {
             places.push(place as u32)?;
