@@ -17,7 +17,7 @@ use crate::found::recorded_of;
 use crate::overlap::{Recorded, is_met, lower, some_plain_met};
 use elf32_reader::Elf;
 use flat_layout::Layout;
-use psabi_relocs::{Pairs, Spans, StoredSections, check};
+use psabi_relocs::{Pairs, Spans, StoredSections, spans_at};
 use std::alloc::{AllocError, Global};
 
 /// The lower of `least` and the number of a relocation's recorded word, if that meets another entry.
@@ -44,7 +44,6 @@ fn lower_in_entry(
     requires accepted { IsAccepted elf.now }
     requires no_fault { layout_fault elf.now ≡ None }
     requires layout { layout.now ≡ layout_of elf.now }
-    requires relocs { relocs_fault elf.now ≡ None }
     requires kept { is_kept elf.now section ≡ true }
     requires entry { entry < rela_count elf.now section }
     requires stored { AreStored elf.now stored.now }
@@ -52,10 +51,12 @@ fn lower_in_entry(
     requires least { least ≡ lowest_met cover.now (recorded_before elf.now section entry) }
     ensures { result ≡ lowest_met cover.now (recorded_before elf.now section (entry + 1)) }
 {
-    match check(elf, stored, pairs, section, entry) {
-        Ok(checked) => lower_of(cover, layout, &checked.spans, least),
-        Err(_) => least,
-    }
+    lower_of(
+        cover,
+        layout,
+        &spans_at(elf, stored, pairs, section, entry),
+        least,
+    )
 }
 
 /// The same of all entries of the kept section `section`.
@@ -71,7 +72,6 @@ fn lower_in_section(
     requires accepted { IsAccepted elf.now }
     requires no_fault { layout_fault elf.now ≡ None }
     requires layout { layout.now ≡ layout_of elf.now }
-    requires relocs { relocs_fault elf.now ≡ None }
     requires stored { AreStored elf.now stored.now }
     requires kept { is_kept elf.now section ≡ true }
     requires before { before ≡ lowest_met cover.now (recorded_before elf.now section 0) }
