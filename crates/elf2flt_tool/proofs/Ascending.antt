@@ -1,13 +1,14 @@
 -- The records: the places of the recorded words, ascending; and the words that stand there.
-use Rattle.std.proofs.Common.{◌≡◌, ℕ, zero, suc, ◌+◌, ◌-◌, ◌≤◌, inl, inr, Bool, true, false, ◌&&◌, ◌||◌, nat_eq, nat_lt, List, [], ◌∷◌, ◌++◌, length, map, flat_map, filter, count_by, slice_index, All, refl, sym, ap, ◌∙◌, arith, add-zero, append-nil}
+use Rattle.std.proofs.Common.{◌≡◌, ℕ, zero, suc, ◌+◌, ◌-◌, ◌≤◌, inl, inr, Bool, true, false, ◌&&◌, ◌||◌, nat_eq, nat_lt, List, [], ◌∷◌, ◌++◌, length, map, flat_map, filter, count_by, get_or, slice_index, All, refl, sym, ap, ◌∙◌, arith, add-zero, append-nil}
 use Rattle.std.specs.List.{list_any, range_with_len, AllByRecursion as Each}
-use Rattle.std.proofs.lemmas.Bool.{cases_Bool, eqb-true}
+use Rattle.std.proofs.lemmas.Bool.{cases_Bool, cases_lt, and_from, lt-ltb, eqb-true}
 use Rattle.std.proofs.lemmas.List.Elements.{All-from_recursion, filter-append}
 use Rattle.std.proofs.lemmas.List.Folds.{list_any-append}
 use Rattle.byte_words.specs.Numbers.{IsBytes, number_at, low_first}
 use Rattle.byte_words.specs.Patches.{painted, bytes_below}
 use Rattle.byte_words.proofs.Painting.{bytes_below_same, byte_below, painted_same}
-use Rattle.bflt_format.proofs.Rising.{has, Rises, all_has, rises_filtered, has_filtered}
+use Rattle.bflt_format.specs.Fault.{is_near}
+use Rattle.bflt_format.proofs.Rising.{has, Rises, has_at, rises_at, all_has, rises_filtered, has_filtered}
 use Rattle.bflt_format.proofs.Links as links
 use Rattle.flat_layout.specs.declared.layout.Layout.{Layout}
 use Rattle.flat_layout.specs.Layout.{layout, off, size_of}
@@ -16,16 +17,16 @@ use Rattle.elf2flt_tool.specs.declared.word.Word.{Word}
 use Rattle.elf2flt_tool.specs.declared.cover.Cover.{Cover}
 use Rattle.elf2flt_tool.specs.Relocs.{spans_of}
 use Rattle.elf2flt_tool.specs.Image.{bare, word_of}
-use Rattle.elf2flt_tool.specs.Word.{words, places, begins_at, records, word_at, lowest, points_outside, target_outside, recorded_places}
+use Rattle.elf2flt_tool.specs.Word.{words, places, begins_at, records, word_at, lowest, points_outside, target_outside, recorded_places, AreApart}
 use Rattle.elf2flt_tool.specs.Cover.{begins, counted}
 use Rattle.elf2flt_tool.specs.Walk.{all_of, IsFoundIn}
 use Rattle.elf2flt_tool.specs.Converted.{number_patch, body_of}
-use Rattle.elf2flt_tool.proofs.Members.{any-map, map_map, map_same, each-map, each-weaker}
+use Rattle.elf2flt_tool.proofs.Members.{any-map, map_map, map_same, each-weaker}
 use Rattle.elf2flt_tool.proofs.Lowest.{has-mapped, lowest_same}
 use Rattle.elf2flt_tool.proofs.Laid.{is_laid}
 use Rattle.elf2flt_tool.proofs.Bare.{number_of_word}
 use Rattle.elf2flt_tool.proofs.Recorded.{IsLinked, IsClear, is_linked}
-use Rattle.elf2flt_tool.proofs.Apart.{places_of_spans}
+use Rattle.elf2flt_tool.proofs.Apart.{places_of_spans, places_apart}
 use Rattle.elf2flt_tool.proofs.Listed.{target_at, places_of, places_are, pointed, words_are, numbers_are, are_words, place_inside}
 use Rattle.elf2flt_tool.proofs.Meeting.{any_count, some_two}
 use Rattle.elf2flt_tool.proofs.Walked.{range-more}
@@ -196,10 +197,23 @@ body-painted e l ws image bytes clear laid linked is =
     ∙ links.same_body (target_at e) (places_of e) (records e) (bare e) n (rw stored (are_words e bytes clear)) (records_has e bytes read)
     ∙ ap (λ ps. bytes_below n (painted ps (bare e))) (sym (numbers_are e bytes read))
 
-pub words_inside : (e : List ℕ) (l : Layout) (image : List ℕ) → IsBytes e → IsLinked e → All (λ w. w.place + 4 ≤ (layout e).text + (layout e).data_len) (map (word_at l image) (records e))
-words_inside e l image bytes is =
-    All-from_recursion (λ w. w.place + 4 ≤ (layout e).text + (layout e).data_len) (map (word_at l image) (records e))
-    (each-map (λ w. w.place + 4 ≤ (layout e).text + (layout e).data_len) (word_at l image) (records e) (records_below e bytes is))
-
 pub places_inside : (e : List ℕ) → IsBytes e → IsLinked e → All (λ p. p + 4 ≤ (layout e).text + (layout e).data_len) (records e)
 places_inside e bytes is = All-from_recursion (λ p. p + 4 ≤ (layout e).text + (layout e).data_len) (records e) (records_below e bytes is)
+
+-- where the file has no fault, no two of them have a common byte
+
+pub are_apart : (e : List ℕ) → IsBytes e → IsClear e → AreApart (records e)
+unfolding is_near
+are_apart e bytes clear = λ j k less below.
+    let read = is_linked e clear in
+    let p = get_or (records e) j 0 in
+    let q = get_or (records e) k 0 in
+    let up = rises_at (records e) j k (records_rise e) less below in
+    let p_in = sym (records_has e bytes read p) ∙ has_at (records e) j (omega arith) in
+    let q_in = sym (records_has e bytes read q) ∙ has_at (records e) k below in
+    elim (cases_lt q (p + 4)) [
+      | inl near ↦ (
+          let same = places_apart e p q clear.apart p_in q_in (and_from (nat_lt p (q + 4)) (nat_lt q (p + 4)) (lt-ltb p (q + 4) (omega (arith, up))) (lt-ltb q (p + 4) near)) in
+          absurd (omega (arith, up, same)))
+      | inr far ↦ far
+    ]

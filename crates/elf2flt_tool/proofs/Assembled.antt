@@ -1,5 +1,5 @@
 -- The parts that the conversion makes are those of the definition.
-use Rattle.std.proofs.Common.{◌≡◌, ℕ, ◌+◌, ◌*◌, ◌/◌, ◌≤◌, List, All, length, map, flat_map, slice_index, None, refl, sym, ap, ◌∙◌}
+use Rattle.std.proofs.Common.{◌≡◌, ℕ, ◌+◌, ◌*◌, ◌/◌, List, length, map, flat_map, slice_index, None, refl, sym, ap, ◌∙◌}
 use Rattle.byte_words.specs.Numbers.{IsBytes}
 use Rattle.byte_words.specs.Patches.{painted, bytes_below}
 use Rattle.byte_words.proofs.Painting.{length-bytes_below}
@@ -17,8 +17,8 @@ use Rattle.elf2flt_tool.specs.Walk.{IsFoundIn}
 use Rattle.elf2flt_tool.specs.Fault.{relocs_fault, fault}
 use Rattle.elf2flt_tool.specs.Converted.{number_patch, converted}
 use Rattle.elf2flt_tool.proofs.Laid.{is_laid}
-use Rattle.elf2flt_tool.proofs.Recorded.{is_clear, is_linked}
-use Rattle.elf2flt_tool.proofs.Ascending.{body-painted, words_inside}
+use Rattle.elf2flt_tool.proofs.Recorded.{is_clear}
+use Rattle.elf2flt_tool.proofs.Ascending.{body-painted}
 use Rattle.elf2flt_tool.proofs.Meeting.{met_words_covered}
 use Rattle.elf2flt_tool.proofs.Shapes.{all_plain, all_entries}
 
@@ -29,13 +29,6 @@ unfolding word_overlap
 overlap-tested e c laid none is =
     let plain = all_plain e (is_laid e laid) none in
     ap lowest (sym (met_words_covered (layout e) ((layout e).text + (layout e).data_len) (spans_of e) c (all_entries (layout e) _ (spans_of e) plain) is))
-
--- the words of an accepted file stand in text and data
-pub words-below : (e : List ℕ) (l : Layout) (image : List ℕ) (ws : List Word) → IsBytes e → fault e ≡ None → l ≡ layout e → image ≡ bytes_below (l.text + l.data_len) (bare e) → ws ≡ map (word_at l image) (records e)
-    → All (λ w. w.place + 4 ≤ length image) ws
-words-below e l image ws bytes none laid linked are =
-    let len : length image ≡ (layout e).text + (layout e).data_len = ap length linked ∙ length-bytes_below (l.text + l.data_len) (bare e) ∙ ap (λ l. l.text + l.data_len) laid in
-    rw (are, len) (words_inside e l image bytes (is_linked e (is_clear e none)))
 
 pub assembled : (e : List ℕ) (l : Layout) (stack rounded : ℕ) (image : List ℕ) (ws : List Word) (body places : List ℕ) → IsBytes e → fault e ≡ None → l ≡ layout e → rounded ≡ (stack + 15) / 16 * 16
     → image ≡ bytes_below (l.text + l.data_len) (bare e) → ws ≡ map (word_at l image) (records e)

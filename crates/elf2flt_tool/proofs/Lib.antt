@@ -3,7 +3,7 @@
 -- Samples: the worked examples, computed.
 -- Lowest, Meeting, Unmet: the least word that meets another relocation, by what the test for overlaps keeps.
 -- Shapes, Walked, Entries: what the walk over the relocations finds.
--- Painted, Assembled: the parts of the flat file.
+-- Painted, Numbered, Assembled: the parts of the flat file.
 -- Faults: when each fault comes.
 pub mod Members
 pub mod Laid
@@ -32,5 +32,6 @@ pub mod Shapes
 pub mod Walked
 pub mod Entries
 pub mod Painted
+pub mod Numbered
 pub mod Assembled
 pub mod Faults

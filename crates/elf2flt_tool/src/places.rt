@@ -1,6 +1,6 @@
-//! The recorded words by place, ascending, and where they point.
+//! The places of the recorded words, ascending, and where a word points.
 
-ghost use Rattle.std.specs.Prelude.{◌≡◌, ◌+◌, ◌≤◌, ◌<◌, ◌^◌, All, length, map, IfOk};
+ghost use Rattle.std.specs.Prelude.{◌≡◌, ◌+◌, ◌≤◌, ◌<◌, ◌^◌, length, IfOk};
 ghost use Rattle.elf2flt_tool.specs.Cover.{counted};
 ghost use Rattle.elf2flt_tool.specs.Word.{word_at};
 
@@ -24,7 +24,7 @@ pub fn places_of(alloc: Global, counts: &[u8]) -> Result<Vec<u32>, AllocError>
 }
 
 /// The word at a number of the linked bytes.
-fn word_at(layout: &Layout, image: &[u8], place: u32) -> Word
+pub fn word_at(layout: &Layout, image: &[u8], place: u32) -> Word
     requires { place + 4 ≤ length image.now }
     ensures { result ≡ word_at layout.now image.now place }
 {
@@ -32,21 +32,4 @@ fn word_at(layout: &Layout, image: &[u8], place: u32) -> Word
         place,
         target: layout.off(little_word(image, place as usize)),
     }
-}
-
-/// The words at the places.
-pub fn words_at(
-    alloc: Global,
-    layout: &Layout,
-    image: &[u8],
-    places: &[u32],
-) -> Result<Vec<Word>, AllocError>
-    requires { All (λ place. place + 4 ≤ length image.now) places.now }
-    ensures { IfOk result (λ words. words.items ≡ map (word_at layout.now image.now) places.now) }
-{
-    let mut words = Vec::with_capacity(alloc, places.len())?;
-    for place in places {
-        words.push(word_at(layout, image, *place))?;
-    }
-    Ok(words)
 }
