@@ -1,31 +1,32 @@
 -- The records: the places of the recorded words, ascending; and the words that stand there.
-use Rattle.std.proofs.Common.{◌≡◌, ℕ, zero, suc, ◌+◌, ◌-◌, ◌≤◌, inl, inr, Bool, true, false, ◌&&◌, ◌||◌, nat_eq, nat_lt, List, [], ◌∷◌, ◌++◌, length, map, flat_map, filter, count_by, slice_index, All, refl, sym, ap, ◌∙◌, arith, add-zero, append-nil}
+use Rattle.std.proofs.Common.{◌≡◌, ℕ, zero, suc, ◌+◌, ◌-◌, ◌≤◌, inl, inr, Bool, true, false, ◌&&◌, ◌||◌, nat_eq, nat_lt, List, [], ◌∷◌, ◌++◌, length, map, flat_map, filter, count_by, get_or, slice_index, All, refl, sym, ap, ◌∙◌, arith, add-zero, append-nil}
 use Rattle.std.specs.List.{list_any, range_with_len, AllByRecursion as Each}
-use Rattle.std.proofs.lemmas.Bool.{cases_Bool, eqb-true}
+use Rattle.std.proofs.lemmas.Bool.{cases_Bool, cases_lt, and_from, lt-ltb, eqb-true}
 use Rattle.std.proofs.lemmas.List.Elements.{All-from_recursion, filter-append}
 use Rattle.std.proofs.lemmas.List.Folds.{list_any-append}
 use Rattle.byte_words.specs.Numbers.{IsBytes, number_at, low_first}
 use Rattle.byte_words.specs.Patches.{painted, bytes_below}
 use Rattle.byte_words.proofs.Painting.{bytes_below_same, byte_below, painted_same}
-use Rattle.bflt_format.proofs.Rising.{has, Rises, all_has, rises_filtered, has_filtered}
+use Rattle.bflt_format.specs.Fault.{is_near}
+use Rattle.bflt_format.proofs.Rising.{has, Rises, has_at, rises_at, all_has, rises_filtered, has_filtered}
 use Rattle.bflt_format.proofs.Links as links
 use Rattle.flat_layout.specs.declared.layout.Layout.{Layout}
 use Rattle.flat_layout.specs.Layout.{layout, off, size_of}
 use Rattle.psabi_relocs.specs.declared.spans.Span.{Span}
 use Rattle.elf2flt_tool.specs.declared.word.Word.{Word}
-use Rattle.elf2flt_tool.specs.declared.found.Found.{Found}
+use Rattle.elf2flt_tool.specs.declared.cover.Cover.{Cover}
 use Rattle.elf2flt_tool.specs.Relocs.{spans_of}
 use Rattle.elf2flt_tool.specs.Image.{bare, word_of}
-use Rattle.elf2flt_tool.specs.Word.{words, places, begins_at, records, word_at, lowest, points_outside, target_outside, recorded_places}
-use Rattle.elf2flt_tool.specs.Cover.{begins}
+use Rattle.elf2flt_tool.specs.Word.{words, places, begins_at, records, word_at, lowest, points_outside, target_outside, recorded_places, AreApart}
+use Rattle.elf2flt_tool.specs.Cover.{begins, counted}
 use Rattle.elf2flt_tool.specs.Walk.{all_of, IsFoundIn}
 use Rattle.elf2flt_tool.specs.Converted.{number_patch, body_of}
-use Rattle.elf2flt_tool.proofs.Members.{any-map, map_map, map_same, each-map, each-weaker}
+use Rattle.elf2flt_tool.proofs.Members.{any-map, map_map, map_same, each-weaker}
 use Rattle.elf2flt_tool.proofs.Lowest.{has-mapped, lowest_same}
 use Rattle.elf2flt_tool.proofs.Laid.{is_laid}
 use Rattle.elf2flt_tool.proofs.Bare.{number_of_word}
 use Rattle.elf2flt_tool.proofs.Recorded.{IsLinked, IsClear, is_linked}
-use Rattle.elf2flt_tool.proofs.Apart.{places_of_spans}
+use Rattle.elf2flt_tool.proofs.Apart.{places_of_spans, places_apart}
 use Rattle.elf2flt_tool.proofs.Listed.{target_at, places_of, places_are, pointed, words_are, numbers_are, are_words, place_inside}
 use Rattle.elf2flt_tool.proofs.Meeting.{any_count, some_two}
 use Rattle.elf2flt_tool.proofs.Walked.{range-more}
@@ -89,11 +90,11 @@ begins_all l q (ss ∷ es) =
     ∙ ap (λ b. b || list_any (begins l q) (all_of es)) (begins_one l q ss) ∙ ap (λ b. has (recorded_places l ss) q || b) (begins_all l q es)
     ∙ sym (has-append (recorded_places l ss) (flat_map (recorded_places l) es) q)
 
-counted_begins : (e : List ℕ) (f : Found) (q : ℕ) → IsFoundIn e (spans_of e) f → nat_lt 0 (slice_index f.cover.words.items q) ≡ begins_at (words e) q
-counted_begins e f q is =
+counted_begins : (e : List ℕ) (c : Cover) (q : ℕ) → IsFoundIn e (spans_of e) c → nat_lt 0 (slice_index c.words.items q) ≡ begins_at (words e) q
+counted_begins e c q is =
     let l = layout e in
     let all = all_of (spans_of e) in
-    ap (λ n. nat_lt 0 n) (is.cover.words q) ∙ some_two (count_by (begins l q) all) ∙ sym (any_count (begins l q) all)
+    ap (λ n. nat_lt 0 n) (is.words q) ∙ some_two (count_by (begins l q) all) ∙ sym (any_count (begins l q) all)
     ∙ begins_all l q (spans_of e) ∙ ap (λ ps. has ps q) (sym (places_of_spans e l)) ∙ sym (begins_has e q)
 
 -- one number more
@@ -113,23 +114,20 @@ index_past [] i past = refl
 index_past (x ∷ xs) zero past = absurd (omega arith)
 index_past (x ∷ xs) (suc i) past = index_past xs i (omega arith)
 
-places_counted : (e : List ℕ) (f : Found) → IsFoundIn e (spans_of e) f
-    → filter (λ q. nat_lt 0 (slice_index f.cover.words.items q)) (range_with_len 0 (length f.cover.words.items)) ≡ records e
+places_counted : (e : List ℕ) (c : Cover) → IsFoundIn e (spans_of e) c → counted c.words.items ≡ records e
 unfolding records
-places_counted e f is =
-    let tests : (λ q. nat_lt 0 (slice_index f.cover.words.items q)) ≡ begins_at (words e) = λ i q. counted_begins e f q is i in
+places_counted e c is =
+    let tests : (λ q. nat_lt 0 (slice_index c.words.items q)) ≡ begins_at (words e) = λ i q. counted_begins e c q is i in
     let size = (layout e).text + (layout e).data_len in
-    let reached = length f.cover.words.items in
-    let none : (q : ℕ) → reached ≤ q → begins_at (words e) q ≡ false = λ q past. sym (counted_begins e f q is) ∙ ap (λ n. nat_lt 0 n) (index_past f.cover.words.items q past) in
-    let all : reached + (size - reached) ≡ size = omega (arith, is.cover.room.words, is.cover.len) in
+    let reached = length c.words.items in
+    let none : (q : ℕ) → reached ≤ q → begins_at (words e) q ≡ false = λ q past. sym (counted_begins e c q is) ∙ ap (λ n. nat_lt 0 n) (index_past c.words.items q past) in
+    let all : reached + (size - reached) ≡ size = omega (arith, is.room.words, is.len) in
     ap (λ test. filter test (range_with_len 0 reached)) tests ∙ filter_reach (begins_at (words e)) reached (size - reached) none
     ∙ ap (λ n. filter (begins_at (words e)) (range_with_len 0 n)) all
 
 -- the counted places, as the code has them
-pub counted_records : (e : List ℕ) (f : Found) (counts ps : List ℕ) → IsFoundIn e (spans_of e) f → counts ≡ f.cover.words.items
-    → ps ≡ filter (λ q. nat_lt 0 (slice_index counts q)) (range_with_len 0 (length counts)) → ps ≡ records e
-counted_records e f counts ps is same are =
-    are ∙ ap (λ counts. filter (λ q. nat_lt 0 (slice_index counts q)) (range_with_len 0 (length counts))) same ∙ places_counted e f is
+pub counted_records : (e : List ℕ) (c : Cover) (counts ps : List ℕ) → IsFoundIn e (spans_of e) c → counts ≡ c.words.items → ps ≡ counted counts → ps ≡ records e
+counted_records e c counts ps is same are = are ∙ ap counted same ∙ places_counted e c is
 
 -- ---- the words that stand there
 
@@ -199,10 +197,23 @@ body-painted e l ws image bytes clear laid linked is =
     ∙ links.same_body (target_at e) (places_of e) (records e) (bare e) n (rw stored (are_words e bytes clear)) (records_has e bytes read)
     ∙ ap (λ ps. bytes_below n (painted ps (bare e))) (sym (numbers_are e bytes read))
 
-pub words_inside : (e : List ℕ) (l : Layout) (image : List ℕ) → IsBytes e → IsLinked e → All (λ w. w.place + 4 ≤ (layout e).text + (layout e).data_len) (map (word_at l image) (records e))
-words_inside e l image bytes is =
-    All-from_recursion (λ w. w.place + 4 ≤ (layout e).text + (layout e).data_len) (map (word_at l image) (records e))
-    (each-map (λ w. w.place + 4 ≤ (layout e).text + (layout e).data_len) (word_at l image) (records e) (records_below e bytes is))
-
 pub places_inside : (e : List ℕ) → IsBytes e → IsLinked e → All (λ p. p + 4 ≤ (layout e).text + (layout e).data_len) (records e)
 places_inside e bytes is = All-from_recursion (λ p. p + 4 ≤ (layout e).text + (layout e).data_len) (records e) (records_below e bytes is)
+
+-- where the file has no fault, no two of them have a common byte
+
+pub are_apart : (e : List ℕ) → IsBytes e → IsClear e → AreApart (records e)
+unfolding is_near
+are_apart e bytes clear = λ j k less below.
+    let read = is_linked e clear in
+    let p = get_or (records e) j 0 in
+    let q = get_or (records e) k 0 in
+    let up = rises_at (records e) j k (records_rise e) less below in
+    let p_in = sym (records_has e bytes read p) ∙ has_at (records e) j (omega arith) in
+    let q_in = sym (records_has e bytes read q) ∙ has_at (records e) k below in
+    elim (cases_lt q (p + 4)) [
+      | inl near ↦ (
+          let same = places_apart e p q clear.apart p_in q_in (and_from (nat_lt p (q + 4)) (nat_lt q (p + 4)) (lt-ltb p (q + 4) (omega (arith, up))) (lt-ltb q (p + 4) near)) in
+          absurd (omega (arith, up, same)))
+      | inr far ↦ far
+    ]

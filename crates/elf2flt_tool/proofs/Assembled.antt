@@ -1,5 +1,5 @@
 -- The parts that the conversion makes are those of the definition.
-use Rattle.std.proofs.Common.{◌≡◌, ℕ, ◌+◌, ◌*◌, ◌/◌, ◌≤◌, List, All, length, map, flat_map, filter, slice_index, None, refl, sym, ap, ◌∙◌}
+use Rattle.std.proofs.Common.{◌≡◌, ℕ, ◌+◌, ◌*◌, ◌/◌, List, length, map, flat_map, slice_index, None, refl, sym, ap, ◌∙◌}
 use Rattle.byte_words.specs.Numbers.{IsBytes}
 use Rattle.byte_words.specs.Patches.{painted, bytes_below}
 use Rattle.byte_words.proofs.Painting.{length-bytes_below}
@@ -7,40 +7,28 @@ use Rattle.bflt_format.specs.Values.{ram_values}
 use Rattle.flat_layout.specs.declared.layout.Layout.{Layout}
 use Rattle.flat_layout.specs.Layout.{layout}
 use Rattle.flat_layout.specs.Fault.{layout_fault}
-use Rattle.elf2flt_tool.specs.declared.found.Found.{Found}
+use Rattle.elf2flt_tool.specs.declared.cover.Cover.{Cover}
 use Rattle.elf2flt_tool.specs.declared.word.Word.{Word}
 use Rattle.elf2flt_tool.specs.Relocs.{spans_of}
 use Rattle.elf2flt_tool.specs.Image.{bare}
 use Rattle.elf2flt_tool.specs.Word.{records, word_at, lowest, word_overlap}
-use Rattle.elf2flt_tool.specs.Cover.{is_met, recorded_of}
+use Rattle.elf2flt_tool.specs.Cover.{recorded_of, lowest_met}
 use Rattle.elf2flt_tool.specs.Walk.{IsFoundIn}
 use Rattle.elf2flt_tool.specs.Fault.{relocs_fault, fault}
 use Rattle.elf2flt_tool.specs.Converted.{number_patch, converted}
 use Rattle.elf2flt_tool.proofs.Laid.{is_laid}
-use Rattle.elf2flt_tool.proofs.Recorded.{is_clear, is_linked}
-use Rattle.elf2flt_tool.proofs.Ascending.{body-painted, words_inside}
-use Rattle.elf2flt_tool.proofs.Lowest.{has-mapped, lowest_same}
+use Rattle.elf2flt_tool.proofs.Recorded.{is_clear}
+use Rattle.elf2flt_tool.proofs.Ascending.{body-painted}
 use Rattle.elf2flt_tool.proofs.Meeting.{met_words_covered}
-use Rattle.elf2flt_tool.proofs.Kept.{kept_met}
 use Rattle.elf2flt_tool.proofs.Shapes.{all_plain, all_entries}
 
--- the test of the kept words is that of all
-pub overlap-tested : (e : List ℕ) (f : Found) → layout_fault e ≡ None → relocs_fault e ≡ None → IsFoundIn e (spans_of e) f
-    → lowest (map (λ r. r.place) (filter (is_met f.cover) f.words.items)) ≡ word_overlap e
+-- the test of the recorded words by what is covered
+pub overlap-tested : (e : List ℕ) (c : Cover) → layout_fault e ≡ None → relocs_fault e ≡ None → IsFoundIn e (spans_of e) c
+    → lowest_met c (flat_map (recorded_of (layout e)) (spans_of e)) ≡ word_overlap e
 unfolding word_overlap
-overlap-tested e f laid none is =
+overlap-tested e c laid none is =
     let plain = all_plain e (is_laid e laid) none in
-    let rs = flat_map (recorded_of (layout e)) (spans_of e) in
-    lowest_same (map (λ r. r.place) (filter (is_met f.cover) f.words.items)) (map (λ r. r.place) (filter (is_met f.cover) rs))
-    (λ q. has-mapped (λ r. r.place) (is_met f.cover) f.words.items q ∙ kept_met f.cover _ _ rs f.words.items is.cover.still is.words q ∙ sym (has-mapped (λ r. r.place) (is_met f.cover) rs q))
-    ∙ ap lowest (sym (met_words_covered (layout e) ((layout e).text + (layout e).data_len) (spans_of e) f.cover (all_entries (layout e) _ (spans_of e) plain) is.cover))
-
--- the words of an accepted file stand in text and data
-pub words-below : (e : List ℕ) (l : Layout) (image : List ℕ) (ws : List Word) → IsBytes e → fault e ≡ None → l ≡ layout e → image ≡ bytes_below (l.text + l.data_len) (bare e) → ws ≡ map (word_at l image) (records e)
-    → All (λ w. w.place + 4 ≤ length image) ws
-words-below e l image ws bytes none laid linked are =
-    let len : length image ≡ (layout e).text + (layout e).data_len = ap length linked ∙ length-bytes_below (l.text + l.data_len) (bare e) ∙ ap (λ l. l.text + l.data_len) laid in
-    rw (are, len) (words_inside e l image bytes (is_linked e (is_clear e none)))
+    ap lowest (sym (met_words_covered (layout e) ((layout e).text + (layout e).data_len) (spans_of e) c (all_entries (layout e) _ (spans_of e) plain) is))
 
 pub assembled : (e : List ℕ) (l : Layout) (stack rounded : ℕ) (image : List ℕ) (ws : List Word) (body places : List ℕ) → IsBytes e → fault e ≡ None → l ≡ layout e → rounded ≡ (stack + 15) / 16 * 16
     → image ≡ bytes_below (l.text + l.data_len) (bare e) → ws ≡ map (word_at l image) (records e)

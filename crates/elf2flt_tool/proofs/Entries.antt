@@ -1,5 +1,5 @@
 -- What a step of the walk over the kept relocations asks and leaves.
-use Rattle.std.proofs.Common.{◌≡◌, ℕ, ◌+◌, true, false, List, ◌++◌, filter, Some, None, refl, ap, ◌∙◌}
+use Rattle.std.proofs.Common.{◌≡◌, ℕ, ◌+◌, true, false, List, ◌++◌, Some, None, refl}
 use Rattle.std.specs.List.{AllByRecursion as Each}
 use Rattle.elf32_reader.specs.Header.{count_of}
 use Rattle.elf32_reader.specs.Relas.{is_kept, rela_count}
@@ -10,9 +10,9 @@ use Rattle.psabi_relocs.specs.declared.fault.RelocFault.{RelocFault}
 use Rattle.psabi_relocs.specs.declared.spans.Span.{Span}
 use Rattle.psabi_relocs.specs.Effect.{spans}
 use Rattle.psabi_relocs.specs.Fault.{reloc_fault}
-use Rattle.elf2flt_tool.specs.declared.found.Found.{Found}
+use Rattle.elf2flt_tool.specs.declared.cover.Cover.{Cover}
 use Rattle.elf2flt_tool.specs.declared.refusal.Refusal.TheVariants as refusals
-use Rattle.elf2flt_tool.specs.Cover.{IsWord, IsInside, IsCover, recorded_of, is_needed}
+use Rattle.elf2flt_tool.specs.Cover.{IsWord, IsInside, IsCover}
 use Rattle.elf2flt_tool.specs.Fault.{first_some, entry_fault, section_fault, relocs_fault}
 use Rattle.elf2flt_tool.proofs.Laid.{is_laid}
 use Rattle.elf2flt_tool.proofs.Meeting.{entry_words}
@@ -52,11 +52,7 @@ entry_inside e i j l n ss laid size are none kept accepted =
 pub entry_lens : (e : List ℕ) (i j : ℕ) (ss : List Span) → spans e i j ≡ ss → Each IsWord ss
 entry_lens e i j ss are = rw (← are) (entry_words (spans e i j) (spans_entry e i j))
 
-pub entry_added : (e : List ℕ) (l : Layout) (ss : List Span) (before after : Found) → l ≡ layout e
-    → after.words.items ≡ before.words.items ++ filter (is_needed before.cover.words.items) (recorded_of l ss)
-    → ((n : ℕ) (all : List Span) → IsCover l n all before.cover → IsCover l n (all ++ ss) after.cover)
+pub entry_added : (e : List ℕ) (l : Layout) (ss : List Span) (before after : Cover) → l ≡ layout e
+    → ((n : ℕ) (all : List Span) → IsCover l n all before → IsCover l n (all ++ ss) after)
     → IsAdded e ss before after
-entry_added e l ss before after laid words cover = record {
-  words = words ∙ ap (λ k. before.words.items ++ filter (is_needed before.cover.words.items) (recorded_of k ss)) laid;
-  cover = rw (← laid) cover;
-}
+entry_added e l ss before after laid cover = rw (← laid) cover

@@ -1,9 +1,9 @@
 -- Members, Laid, Bare, Putting, Raised, Sound, Held, Stills, Recorded, Apart, Listed, Ascending, Spelled, ImageLaw, Loads: the laws over definitions.
 -- Twins, Slots, Agreed: two files that say the same, or agree on their relocations. Exchanged: two that agree and differ.
 -- Samples: the worked examples, computed.
--- Lowest, Meeting, Kept, Unmet: the least word that meets another relocation, by what the test for overlaps keeps.
+-- Lowest, Meeting, Unmet: the least word that meets another relocation, by what the test for overlaps keeps.
 -- Shapes, Walked, Entries: what the walk over the relocations finds.
--- Painted, Assembled: the parts of the flat file.
+-- Painted, Numbered, Assembled: the parts of the flat file.
 -- Faults: when each fault comes.
 pub mod Members
 pub mod Laid
@@ -27,11 +27,11 @@ pub mod Samples
 pub mod Exchanged
 pub mod Lowest
 pub mod Meeting
-pub mod Kept
 pub mod Unmet
 pub mod Shapes
 pub mod Walked
 pub mod Entries
 pub mod Painted
+pub mod Numbered
 pub mod Assembled
 pub mod Faults

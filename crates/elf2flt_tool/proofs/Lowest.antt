@@ -3,7 +3,7 @@ use Rattle.std.proofs.Common.{◌≡◌, ℕ, ◌+◌, ◌<◌, ◌≤◌, inl, 
 use Rattle.std.specs.List.{list_any}
 use Rattle.std.proofs.lemmas.Bool.{cases_Bool, cases_lt, or_cases, or_left, or_right, eq-eqb, eqb-true, false≢true, false_from_ne_true}
 use Rattle.std.proofs.lemmas.List.{map-append}
-use Rattle.std.proofs.lemmas.List.Elements.{filter_more}
+use Rattle.std.proofs.lemmas.List.Elements.{filter_more, filter-append}
 use Rattle.bflt_format.proofs.Rising.{has}
 use Rattle.elf2flt_tool.specs.Word.{lower, lowest}
 
@@ -40,6 +40,16 @@ pub lowest-more_no : {X : Type 0} (f : X → ℕ) (p : X → Bool) (xs : List X)
     → lowest_of f p (take (i + 1) xs) ≡ lowest_of f p (take i xs)
 lowest-more_no f p xs i d below fails =
     ap (λ ys. lowest (map f ys)) (filter_more p xs i d below ∙ ap (λ b. filter p (take i xs) ++ cond b (get_or xs i d ∷ []) []) fails ∙ append-nil _)
+
+-- the same at the end of a list
+pub lowest-last_yes : {X : Type 0} (f : X → ℕ) (p : X → Bool) (xs : List X) (x : X) → p x ≡ true → lowest_of f p (xs ++ x ∷ []) ≡ Some (lower (f x) (lowest_of f p xs))
+lowest-last_yes f p xs x passes =
+    ap (λ ys. lowest (map f ys)) (filter-append p xs (x ∷ []) ∙ ap (λ b. filter p xs ++ cond b (x ∷ []) []) passes)
+    ∙ ap lowest (map-append f (filter p xs) (x ∷ [])) ∙ lowest-push (map f (filter p xs)) (f x)
+
+pub lowest-last_no : {X : Type 0} (f : X → ℕ) (p : X → Bool) (xs : List X) (x : X) → p x ≡ false → lowest_of f p (xs ++ x ∷ []) ≡ lowest_of f p xs
+lowest-last_no f p xs x fails =
+    ap (λ ys. lowest (map f ys)) (filter-append p xs (x ∷ []) ∙ ap (λ b. filter p xs ++ cond b (x ∷ []) []) fails ∙ append-nil _)
 
 -- ---- the least of a list goes by its members
 

@@ -1,5 +1,5 @@
 -- What a walk over the kept relocations has found at each step.
-use Rattle.std.proofs.Common.{◌≡◌, ℕ, zero, suc, ◌+◌, ◌-◌, ◌<◌, true, false, List, [], ◌∷◌, ◌++◌, map, flat_map, filter, count_by, Option, Some, None, refl, sym, ap, subst, ◌∙◌, arith, zero-add, add-zero, add-one, add-suc, append_assoc, append-nil, map-id}
+use Rattle.std.proofs.Common.{◌≡◌, ℕ, zero, suc, ◌+◌, ◌-◌, ◌<◌, true, false, List, [], ◌∷◌, ◌++◌, map, flat_map, Option, Some, None, refl, sym, ap, subst, ◌∙◌, arith, zero-add, add-zero, add-one, add-suc, append_assoc, append-nil, map-id}
 use Rattle.std.specs.List.{range_with_len}
 use Rattle.std.proofs.lemmas.List.Concat.{flat_map-append}
 use Rattle.std.proofs.lemmas.List.FromFn.{map-range_with_len_more}
@@ -8,14 +8,12 @@ use Rattle.elf32_reader.specs.Relas.{is_kept, rela_count}
 use Rattle.flat_layout.specs.Layout.{layout}
 use Rattle.psabi_relocs.specs.declared.spans.Span.{Span}
 use Rattle.psabi_relocs.specs.Effect.{spans}
-use Rattle.elf2flt_tool.specs.declared.found.Found.{Found}
+use Rattle.elf2flt_tool.specs.declared.cover.Cover.{Cover}
 use Rattle.elf2flt_tool.specs.declared.refusal.Refusal.{Refusal}
 use Rattle.elf2flt_tool.specs.Relocs.{spans_in, spans_of}
-use Rattle.elf2flt_tool.specs.Cover.{IsCover, covers, begins, recorded_of, is_needed, IsKept}
-use Rattle.elf2flt_tool.specs.Walk.{spans_before, all_of, IsFoundIn, IsFound}
+use Rattle.elf2flt_tool.specs.Cover.{IsCover, recorded_of}
+use Rattle.elf2flt_tool.specs.Walk.{spans_before, recorded_before, all_of, IsFoundIn, IsFound}
 use Rattle.elf2flt_tool.specs.Fault.{first_some}
-use Rattle.elf2flt_tool.proofs.Meeting.{IsEntry, count-append}
-use Rattle.elf2flt_tool.proofs.Kept.{kept_entry, kept_as}
 
 -- ---- the first that has an answer
 
@@ -61,32 +59,19 @@ flat_map-push : {X Y : Type 0} (f : X → List Y) (xs : List X) (x : X) → flat
 flat_map-push f xs x = flat_map-append f xs (x ∷ []) ∙ ap (λ ys. flat_map f xs ++ ys) (append-nil (f x))
 
 -- what one entry adds
-pub record IsAdded (e : List ℕ) (ss : List Span) (before after : Found) : Type 0 where
-  pub words : after.words.items ≡ before.words.items ++ filter (is_needed before.cover.words.items) (recorded_of (layout e) ss)
-  pub cover : (n : ℕ) (all : List Span) → IsCover (layout e) n all before.cover → IsCover (layout e) n (all ++ ss) after.cover
+abbrev pub IsAdded : List ℕ → List Span → Cover → Cover → Type 0
+IsAdded e ss before after = (n : ℕ) (all : List Span) → IsCover (layout e) n all before → IsCover (layout e) n (all ++ ss) after
 
-one_found : (e : List ℕ) (es : List (List Span)) (ss : List Span) (before after : Found) → IsEntry ss → IsFoundIn e es before → IsAdded e ss before after → IsFoundIn e (es ++ ss ∷ []) after
-one_found e es ss before after entry is added =
-    let l = layout e in
-    let size = l.text + l.data_len in
-    let all = flat_map-push (λ ss. ss) es ss in
-    let still : ℕ → ℕ = λ b. count_by (covers l b) (all_of (es ++ ss ∷ [])) in
-    let words : ℕ → ℕ = λ q. count_by (begins l q) (all_of (es ++ ss ∷ [])) in
-    let rs = flat_map (recorded_of l) es in
-    let kept = kept_as _ _ still words (rs ++ recorded_of l ss) (before.words.items ++ filter (is_needed before.cover.words.items) (recorded_of l ss))
-    (kept_entry l ss _ _ rs before.words.items before.cover.words.items entry is.words is.cover.words)
-    (λ b. sym (ap (count_by (covers l b)) all ∙ count-append (covers l b) (all_of es) ss))
-    (λ q. sym (ap (count_by (begins l q)) all ∙ count-append (begins l q) (all_of es) ss)) in
-    record {
-      cover = subst (λ all. IsCover l size all after.cover) (sym all) (added.cover size (all_of es) is.cover);
-      words =
-          subst (λ rs. IsKept still words rs after.words.items) (sym (flat_map-push (recorded_of l) es ss))
-          (subst (λ ks. IsKept still words (rs ++ recorded_of l ss) ks) (sym added.words) kept);
-    }
+pub entry_found : (e : List ℕ) (i j : ℕ) (before after : Cover) → IsFound e i j before → IsAdded e (spans e i j) before after → IsFound e i (j + 1) after
+entry_found e i j before after is added =
+    let size = (layout e).text + (layout e).data_len in
+    let all = flat_map-push (λ ss. ss) (spans_before e i j) (spans e i j) in
+    subst (λ es. IsFoundIn e es after) (sym (spans-more e i j))
+    (subst (λ all. IsCover (layout e) size all after) (sym all) (added size (all_of (spans_before e i j)) is))
 
-pub entry_found : (e : List ℕ) (i j : ℕ) (before after : Found) → IsEntry (spans e i j) → IsFound e i j before → IsAdded e (spans e i j) before after → IsFound e i (j + 1) after
-entry_found e i j before after entry is added =
-    subst (λ es. IsFoundIn e es after) (sym (spans-more e i j)) (one_found e (spans_before e i j) (spans e i j) before after entry is added)
+-- the recorded words of one entry more
+pub recorded-more : (e : List ℕ) (i j : ℕ) → recorded_before e i (j + 1) ≡ recorded_before e i j ++ recorded_of (layout e) (spans e i j)
+recorded-more e i j = ap (flat_map (recorded_of (layout e))) (spans-more e i j) ∙ flat_map-push (recorded_of (layout e)) (spans_before e i j) (spans e i j)
 
 -- the walk goes on at the next section
 
@@ -98,26 +83,23 @@ spans-other : (e : List ℕ) (i : ℕ) → is_kept e i ≡ false → spans_in e 
 unfolding spans_in
 spans-other e i other = rw other refl
 
-pub section_found : (e : List ℕ) (i : ℕ) (f : Found) → is_kept e i ≡ true → IsFound e i (rela_count e i) f → IsFound e (i + 1) 0 f
-section_found e i f kept is =
-    subst (λ es. IsFoundIn e es f)
-    (ap (λ ss. flat_map (spans_in e) (range_with_len 0 i) ++ ss) (sym (spans-kept e i kept)) ∙ sym (flat_map-more (spans_in e) i) ∙ sym (append-nil _)) is
+pub before-kept : (e : List ℕ) (i : ℕ) → is_kept e i ≡ true → spans_before e i (rela_count e i) ≡ spans_before e (i + 1) 0
+before-kept e i kept = ap (λ ss. flat_map (spans_in e) (range_with_len 0 i) ++ ss) (sym (spans-kept e i kept)) ∙ sym (flat_map-more (spans_in e) i) ∙ sym (append-nil _)
 
-pub section_passed : (e : List ℕ) (i : ℕ) (f : Found) → is_kept e i ≡ false → IsFound e i 0 f → IsFound e (i + 1) 0 f
-section_passed e i f other is =
-    subst (λ es. IsFoundIn e es f)
-    (ap (λ ss. flat_map (spans_in e) (range_with_len 0 i) ++ ss) (sym (spans-other e i other)) ∙ sym (flat_map-more (spans_in e) i) ∙ sym (append-nil _)) is
+pub before-other : (e : List ℕ) (i : ℕ) → is_kept e i ≡ false → spans_before e i 0 ≡ spans_before e (i + 1) 0
+before-other e i other = ap (λ ss. flat_map (spans_in e) (range_with_len 0 i) ++ ss) (sym (spans-other e i other)) ∙ sym (flat_map-more (spans_in e) i) ∙ sym (append-nil _)
 
--- the walk begins
+pub section_found : (e : List ℕ) (i : ℕ) (c : Cover) → is_kept e i ≡ true → IsFound e i (rela_count e i) c → IsFound e (i + 1) 0 c
+section_found e i c kept is = subst (λ es. IsFoundIn e es c) (before-kept e i kept) is
 
-pub none_found : (e : List ℕ) (f : Found) → f.words.items ≡ [] → IsCover (layout e) ((layout e).text + (layout e).data_len) [] f.cover → IsFound e 0 0 f
-none_found e f none cover = record {
-  cover = cover;
-  words = subst (λ ks. IsKept (λ b. 0) (λ q. 0) [] ks) (sym none) (record { some = tt; rest = tt; counts = λ q. refl; own = λ b. omega arith });
-}
+pub section_passed : (e : List ℕ) (i : ℕ) (c : Cover) → is_kept e i ≡ false → IsFound e i 0 c → IsFound e (i + 1) 0 c
+section_passed e i c other is = subst (λ es. IsFoundIn e es c) (before-other e i other) is
 
 -- the walk has ended
 
-pub all_found : (e : List ℕ) (f : Found) → IsFound e (count_of e) 0 f → IsFoundIn e (spans_of e) f
+pub before-all : (e : List ℕ) → spans_before e (count_of e) 0 ≡ spans_of e
 unfolding spans_of
-all_found e f is = subst (λ es. IsFoundIn e es f) (append-nil (flat_map (spans_in e) (range_with_len 0 (count_of e)))) is
+before-all e = append-nil (flat_map (spans_in e) (range_with_len 0 (count_of e)))
+
+pub all_found : (e : List ℕ) (c : Cover) → IsFound e (count_of e) 0 c → IsFoundIn e (spans_of e) c
+all_found e c is = subst (λ es. IsFoundIn e es c) (before-all e) is

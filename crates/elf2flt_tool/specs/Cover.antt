@@ -1,13 +1,14 @@
 -- What the test for overlaps keeps of the spans of relocations, by numbers of the image.
-use Rattle.std.specs.Prelude.{◌≡◌, ℕ, ◌+◌, ◌-◌, ◌<◌, ◌≤◌, ◌⊎◌, Bool, true, not, ◌&&◌, ◌||◌, nat_lt, nat_le, ◌==◌, min, List, [], ◌∷◌, count_by, slice_index, length, Option, Some, None, if◌then◌else◌}
+use Rattle.std.specs.Prelude.{◌≡◌, ℕ, ◌+◌, ◌-◌, ◌<◌, ◌≤◌, Bool, true, not, ◌&&◌, ◌||◌, nat_lt, nat_le, ◌==◌, min, List, [], ◌∷◌, map, filter, count_by, slice_index, length, Option, Some, None, if◌then◌else◌}
 use Rattle.std.specs.Option.{option_to_list}
-use Rattle.std.specs.List.{AllByRecursion, list_any, range_with_len, sum_by}
+use Rattle.std.specs.List.{list_any, range_with_len}
 use Rattle.flat_layout.specs.declared.layout.Layout.{Layout}
 use Rattle.flat_layout.specs.Layout.{off}
 use Rattle.psabi_relocs.specs.declared.spans.Span.{Span}
 use Rattle.psabi_relocs.specs.declared.spans.Spans.{Spans}
 use Rattle.elf2flt_tool.specs.declared.cover.Cover.{Cover}
 use Rattle.elf2flt_tool.specs.declared.overlap.Recorded.{Recorded}
+use Rattle.elf2flt_tool.specs.Word.{lowest}
 
 -- the bytes of one relocation
 abbrev pub listed : Spans → List Span
@@ -60,13 +61,13 @@ is_met c r =
     list_any (λ b. is_shared c.still.items r (r.place + b)) (range_with_len 0 4)
     || list_any (begins_near c.words.items r.place) (range_with_len 1 3)
 
--- a recorded word begins at number q and, if it is no slot, has a byte in common with another entry
+-- a word at number q has a byte in common with another entry, if it is no slot
 unfoldable pub is_plain_met : Cover → ℕ → Bool
-is_plain_met c q = nat_lt 0 (slice_index c.words.items q) && is_met c (record { place = q; instruction = None })
+is_plain_met c q = is_met c (record { place = q; instruction = None })
 
--- some recorded word was counted at the word's place
-abbrev pub is_counted : Cover → Recorded → Type 0
-is_counted c r = 0 < slice_index c.words.items r.place
+-- the numbers at which some recorded word was counted, ascending
+abbrev pub counted : List ℕ → List ℕ
+counted words = filter (λ q. nat_lt 0 (slice_index words q)) (range_with_len 0 (length words))
 
 -- the recorded words of an entry; the word of a second span is a slot, and the first span its instruction
 abbrev pub recorded_of : Layout → List Span → List Recorded
@@ -75,22 +76,6 @@ recorded_of l (own ∷ []) = if own.recorded then record { place = off l own.pla
 recorded_of l (own ∷ slot ∷ rest) =
     if slot.recorded then record { place = off l slot.place; instruction = Some (off l own.place) } ∷ [] else []
 
--- the word stands at number q
-abbrev pub stands_at : ℕ → Recorded → Bool
-stands_at q r = r.place == q
-
--- fewer than two recorded words were counted at the word's place
-abbrev pub is_needed : List ℕ → Recorded → Bool
-is_needed words r = nat_lt (slice_index words r.place) 2
-
--- the word is one of rs: each test that it passes, one of rs passes
-abbrev pub IsOneOf : List Recorded → Recorded → Type 0
-IsOneOf rs r = (test : Recorded → Bool) → test r ≡ true → list_any test rs ≡ true
-
--- ks are some of the recorded words rs, and all but those at whose place two are kept; of all entries, `still b` spans cover
--- byte b, and `words q` recorded words begin at q
-pub record IsKept (still words : ℕ → ℕ) (rs ks : List Recorded) : Type 0 where
-  pub some : AllByRecursion (IsOneOf rs) ks
-  pub rest : AllByRecursion (λ r. IsOneOf ks r ⊎ (2 ≤ count_by (stands_at r.place) ks)) rs
-  pub counts : (q : ℕ) → min 2 (count_by (stands_at q) ks) ≡ min 2 (words q)
-  pub own : (b : ℕ) → sum_by (λ r. own_cover r.instruction b) ks ≤ still b
+-- the least number of one of the words rs that has a byte in common with another entry
+abbrev pub lowest_met : Cover → List Recorded → Option ℕ
+lowest_met c rs = lowest (map (λ r. r.place) (filter (is_met c) rs))

@@ -1,6 +1,6 @@
 -- The words that a flat file records: the pointers and GOT slots whose symbols move, by numbers of the image. Where they may
 -- point, and what they may not meet, is this project's own rule.
-use Rattle.std.specs.Prelude.{ℕ, ◌+◌, Bool, not, ◌&&◌, ◌||◌, nat_lt, ◌==◌, min, max, List, [], ◌∷◌, ◌++◌, map, flat_map, filter, take, drop, length, Option, Some, None}
+use Rattle.std.specs.Prelude.{ℕ, ◌+◌, ◌<◌, ◌≤◌, slice_index, Bool, not, ◌&&◌, ◌||◌, nat_lt, ◌==◌, min, max, List, [], ◌∷◌, ◌++◌, map, flat_map, filter, take, drop, length, Option, Some, None}
 use Rattle.std.specs.List.{list_any, range_with_len, slice_index_or}
 use Rattle.byte_words.specs.Numbers.{low_first, number_at}
 use Rattle.flat_layout.specs.declared.layout.Layout.{Layout}
@@ -33,6 +33,10 @@ records e = filter (begins_at (words e)) (range_with_len 0 ((layout e).text + (l
 -- the word at number p of the image's linked bytes, which already holds the address that it points to
 abbrev pub word_at : Layout → List ℕ → ℕ → Word
 word_at l image p = record { place = p; target = off l (number_at low_first 4 image p) }
+
+-- places whose words have no byte in common, ascending
+abbrev pub AreApart : List ℕ → Type 0
+AreApart ps = (j k : ℕ) → j < k → k < length ps → slice_index ps j + 4 ≤ slice_index ps k
 
 abbrev pub lower : ℕ → Option ℕ → ℕ
 lower n None = n

@@ -10,7 +10,8 @@ ghost use Rattle.psabi_relocs.specs.Index.{AreStored, IsPairs};
 ghost use Rattle.elf2flt_tool.specs.Fault.{entry_fault, section_fault, relocs_fault};
 ghost use Rattle.elf2flt_tool.specs.Walk.{IsFound};
 
-use crate::found::Found;
+use crate::cover::Cover;
+use crate::found::note_spans;
 use crate::refusal::Refusal;
 use elf32_reader::Elf;
 use flat_layout::Layout;
@@ -19,7 +20,7 @@ use std::alloc::Global;
 
 /// Takes in entry `entry` of the kept section `section`.
 fn add_entry(
-    found: &mut Found,
+    cover: &mut Cover,
     elf: &Elf<'_>,
     layout: &Layout,
     stored: &StoredSections,
@@ -34,14 +35,14 @@ fn add_entry(
     requires entry { entry < rela_count elf.now section }
     requires stored { AreStored elf.now stored.now }
     requires pairs { IsPairs elf.now section pairs.now }
-    requires found { IsFound elf.now section entry found.old }
+    requires found { IsFound elf.now section entry cover.old }
     ensures { MatchResult result
-        (λ _. (entry_fault elf.now section entry ≡ None) × IsFound elf.now section (entry + 1) found.new)
+        (λ _. (entry_fault elf.now section entry ≡ None) × IsFound elf.now section (entry + 1) cover.new)
         (λ refusal. (refusal ≡ Refusal.Memory) ⊎ (entry_fault elf.now section entry ≡ Some refusal)) }
 {
     match check(elf, stored, pairs, section, entry) {
         Ok(checked) => {
-            found.note(layout, &checked.spans)?;
+            note_spans(cover, layout, &checked.spans)?;
             Ok(())
         }
         Err(fault) => Err(Refusal::Reloc {
@@ -55,7 +56,7 @@ fn add_entry(
 /// Takes in the entries of the kept section `section`.
 fn add_section(
     alloc: Global,
-    found: &mut Found,
+    cover: &mut Cover,
     elf: &Elf<'_>,
     layout: &Layout,
     stored: &StoredSections,
@@ -66,33 +67,33 @@ fn add_section(
     requires layout { layout.now ≡ layout_of elf.now }
     requires stored { AreStored elf.now stored.now }
     requires kept { is_kept elf.now section ≡ true }
-    requires found { IsFound elf.now section 0 found.old }
+    requires found { IsFound elf.now section 0 cover.old }
     ensures { MatchResult result
-        (λ _. (section_fault elf.now section ≡ None) × IsFound elf.now (section + 1) 0 found.new)
+        (λ _. (section_fault elf.now section ≡ None) × IsFound elf.now (section + 1) 0 cover.new)
         (λ refusal. (refusal ≡ Refusal.Memory) ⊎ (section_fault elf.now section ≡ Some refusal)) }
 {
     let pairs = Pairs::of(alloc, elf, section)?;
     for entry in 0..elf.relas(section) {
-        add_entry(found, elf, layout, stored, &pairs, section, entry)?;
+        add_entry(cover, elf, layout, stored, &pairs, section, entry)?;
     }
     Ok(())
 }
 
-/// All that the kept relocations record, or the first of their faults by section and entry.
-pub fn find_all(alloc: Global, elf: &Elf<'_>, layout: &Layout) -> Result<Found, Refusal>
+/// Which bytes belong to the kept relocations, or the first of their faults by section and entry.
+pub fn cover_all(alloc: Global, elf: &Elf<'_>, layout: &Layout) -> Result<Cover, Refusal>
     requires accepted { IsAccepted elf.now }
     requires no_fault { layout_fault elf.now ≡ None }
     requires layout { layout.now ≡ layout_of elf.now }
     ensures { MatchResult result
-        (λ found. (relocs_fault elf.now ≡ None) × IsFound elf.now (count_of elf.now) 0 found)
+        (λ cover. (relocs_fault elf.now ≡ None) × IsFound elf.now (count_of elf.now) 0 cover)
         (λ refusal. (refusal ≡ Refusal.Memory) ⊎ (relocs_fault elf.now ≡ Some refusal)) }
 {
-    let mut found = Found::new(alloc, (layout.text + layout.data_len) as usize);
+    let mut cover = Cover::new(alloc, (layout.text + layout.data_len) as usize);
     let stored = StoredSections::of(alloc, elf)?;
     for section in 0..elf.sections() {
         if elf.kept(section) {
-            add_section(alloc, &mut found, elf, layout, &stored, section)?;
+            add_section(alloc, &mut cover, elf, layout, &stored, section)?;
         }
     }
-    Ok(found)
+    Ok(cover)
 }

@@ -1,23 +1,21 @@
 //! The conversion.
 
-ghost use Rattle.std.specs.Prelude.{◌≡◌, ◌+◌, ◌≤◌, ◌⊎◌, map, Some, None, MatchResult};
+ghost use Rattle.std.specs.Prelude.{◌≡◌, ◌+◌, ◌≤◌, ◌⊎◌, Some, None, MatchResult};
 ghost use Rattle.elf32_reader.specs.Accepted.{IsAccepted};
 ghost use Rattle.byte_words.specs.Patches.{bytes_below};
 ghost use Rattle.flat_layout.specs.Fault.{layout_fault};
 ghost use Rattle.flat_layout.specs.Layout.{layout as layout_of};
 ghost use Rattle.elf2flt_tool.specs.Fault.{address_of, fault, relocs_fault};
 ghost use Rattle.elf2flt_tool.specs.Image.{bare};
-ghost use Rattle.elf2flt_tool.specs.Word.{records, word_at};
 ghost use Rattle.elf2flt_tool.specs.Converted.{converted, flat};
 ghost use Rattle.elf2flt_tool.specs.Walk.{IsPlaced};
 
-use crate::collect::find_all;
+use crate::collect::cover_all;
 use crate::image::{HEADER_LEN, linked_file, with_numbers};
-use crate::overlap::lowest_met_counted;
-use crate::places::{places_of, words_at};
+use crate::met::lowest_overlap;
+use crate::places::places_of;
 use crate::refusal::Refusal;
 use crate::target::lowest_outside;
-use crate::word::Word;
 use bflt_format::Flat;
 use elf32_reader::Elf;
 use flat_layout::Layout;
@@ -52,34 +50,22 @@ fn find_places(alloc: Global, elf: &Elf<'_>, layout: &Layout) -> Result<Placed, 
         (λ placed. IsPlaced elf.now placed)
         (λ refusal. (refusal ≡ Refusal.Memory) ⊎ (relocs_fault elf.now ≡ Some refusal)) }
 {
-    let found = find_all(alloc, elf, layout)?;
-    let met = lowest_met_counted(&found.cover, &found.words);
-    let most = found.words.len();
-    drop(found.words);
-    let places = places_of(alloc, &found.cover.words, most)?;
+    let cover = cover_all(alloc, elf, layout)?;
+    let places = places_of(alloc, &cover.words)?;
+    let met = lowest_overlap(alloc, &cover, elf, layout, &places)?;
     Ok(Placed { places, met })
 }
 
-/// The recorded words, if each points into the image and none meets another relocation. `image` has the file's linked
-/// bytes.
-fn words_placed(
-    alloc: Global,
-    elf: &Elf<'_>,
-    layout: &Layout,
-    image: &[u8],
-    placed: &Placed,
-) -> Result<Vec<Word>, Refusal>
+/// Whether each recorded word points into the image and none meets another relocation. `image` has the file's linked bytes.
+fn test_words(elf: &Elf<'_>, layout: &Layout, image: &[u8], placed: &Placed) -> Result<(), Refusal>
     requires accepted { IsAccepted elf.now }
     requires no_fault { layout_fault elf.now ≡ None }
     requires layout { layout.now ≡ layout_of elf.now }
     requires image { image.now ≡ bytes_below (layout.now.text + layout.now.data_len) (bare elf.now) }
     requires placed { IsPlaced elf.now placed.now }
-    ensures { MatchResult result
-        (λ words. (fault elf.now ≡ None) × (words.items ≡ map (word_at layout.now image.now) (records elf.now)))
-        (λ refusal. (refusal ≡ Refusal.Memory) ⊎ (fault elf.now ≡ Some refusal)) }
+    ensures { MatchResult result (λ _. fault elf.now ≡ None) (λ refusal. fault elf.now ≡ Some refusal) }
 {
-    let words = words_at(alloc, layout, image, &placed.places)?;
-    if let Some(number) = lowest_outside(layout, &words) {
+    if let Some(number) = lowest_outside(layout, image, &placed.places) {
         return Err(Refusal::TargetOutside {
             place: address_of(layout, number),
         });
@@ -89,7 +75,7 @@ fn words_placed(
             place: address_of(layout, number),
         });
     }
-    Ok(words)
+    Ok(())
 }
 
 /// The flat file of a linked file that was read and laid out.
@@ -109,8 +95,8 @@ fn converted_flat(
 {
     let placed = find_places(alloc, elf, layout)?;
     let linked = linked_file(alloc, elf, layout)?;
-    let words = words_placed(alloc, elf, layout, &linked[HEADER_LEN as usize..], &placed)?;
-    let file = with_numbers(linked, &words);
+    test_words(elf, layout, &linked[HEADER_LEN as usize..], &placed)?;
+    let file = with_numbers(linked, layout, &placed.places);
     let stack = stack.div_ceil(STACK_UNIT) * STACK_UNIT;
     let entry = HEADER_LEN + layout.entry;
     Ok(Flat::of(

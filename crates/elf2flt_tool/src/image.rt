@@ -11,8 +11,9 @@ ghost use Rattle.flat_layout.specs.Fault.{layout_fault};
 ghost use Rattle.flat_layout.specs.Numbering.{has_bytes};
 ghost use Rattle.elf2flt_tool.specs.Image.{section_patch, bare, IsLinkedFile};
 ghost use Rattle.elf2flt_tool.specs.Converted.{number_patch};
+ghost use Rattle.elf2flt_tool.specs.Word.{word_at, AreApart};
 
-use crate::word::Word;
+use crate::places::word_at;
 use elf32_reader::{Elf, Section};
 use flat_layout::{Layout, has_bytes};
 use std::alloc::{AllocError, Global};
@@ -67,23 +68,27 @@ pub fn linked_file(alloc: Global, elf: &Elf<'_>, layout: &Layout) -> Result<Vec<
     Ok(file)
 }
 
-/// Writes each word's number over the bytes at its place, big-endian.
-fn write_numbers(words: &[Word], image: &mut [u8])
-    requires { All (λ word. word.place + 4 ≤ length image.old) words.now }
-    ensures { image.new ≡ bytes_below (length image.old) (painted (map number_patch words.now) (slice_index image.old)) }
+/// Writes the number of each place's word over its bytes, big-endian.
+fn write_numbers(layout: &Layout, places: &[u32], image: &mut [u8])
+    requires inside { All (λ place. place + 4 ≤ length image.old) places.now }
+    requires apart { AreApart places.now }
+    ensures { image.new ≡ bytes_below (length image.old) (painted (map number_patch (map (word_at layout.now image.old) places.now)) (slice_index image.old)) }
 {
-    for word in words {
+    for place in places {
+        let word = word_at(layout, image, *place);
         lay(image, word.place as usize, &word.target.to_be_bytes());
     }
 }
 
-/// The linked bytes with each word's number at its place, big-endian.
-pub fn with_numbers(mut file: Vec<u8>, words: &[Word]) -> Vec<u8>
+/// The linked bytes with the number of each place's word there, big-endian.
+pub fn with_numbers(mut file: Vec<u8>, layout: &Layout, places: &[u32]) -> Vec<u8>
     requires header { 64 ≤ length file.items }
-    requires inside { All (λ word. word.place + 4 ≤ length (behind_header file.items)) words.now }
+    requires inside { All (λ place. place + 4 ≤ length (behind_header file.items)) places.now }
+    requires apart { AreApart places.now }
     ensures { behind_header result.items
-        ≡ bytes_below (length (behind_header file.items)) (painted (map number_patch words.now) (slice_index (behind_header file.items))) }
+        ≡ bytes_below (length (behind_header file.items))
+        (painted (map number_patch (map (word_at layout.now (behind_header file.items)) places.now)) (slice_index (behind_header file.items))) }
 {
-    write_numbers(words, &mut file[HEADER_LEN as usize..]);
+    write_numbers(layout, places, &mut file[HEADER_LEN as usize..]);
     file
 }

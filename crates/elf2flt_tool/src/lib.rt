@@ -9,6 +9,7 @@ mod cover;
 mod found;
 mod image;
 mod laws;
+mod met;
 mod overlap;
 mod places;
 mod refusal;

@@ -1,14 +1,11 @@
 //! The test whether recorded words meet the bytes of other relocations.
 
-ghost use Rattle.std.specs.Prelude.{◌≡◌, ◌+◌, ◌<◌, ◌^◌, map, filter, length, slice_index};
-ghost use Rattle.std.specs.List.{list_any, range_with_len, AllByRecursion};
-ghost use Rattle.elf2flt_tool.specs.Word.{lower, lowest};
-ghost use Rattle.elf2flt_tool.specs.Cover.{own_cover, is_shared, begins_near, is_met, is_counted, is_plain_met};
+ghost use Rattle.std.specs.Prelude.{◌≡◌, ◌+◌, ◌<◌, ◌^◌, slice_index};
+ghost use Rattle.std.specs.List.{list_any, range_with_len};
+ghost use Rattle.elf2flt_tool.specs.Word.{lower};
+ghost use Rattle.elf2flt_tool.specs.Cover.{own_cover, is_shared, begins_near, is_met, is_plain_met};
 
 use crate::cover::Cover;
-
-/// Words are few where less than one of so many numbers has one.
-const FEW: usize = 8;
 
 /// A recorded word, by numbers of the image.
 #[derive(Clone, Copy)]
@@ -83,61 +80,29 @@ fn meets_word(words: &[u8], number: u32) -> bool
 /// Whether a recorded word has a byte in common with the bytes of another entry.
 #[tactic(auto, unfolding(crate::specs::Cover::is_met))]
 #[inline(always)]
-fn is_met(cover: &Cover, word: &Recorded) -> bool
+pub fn is_met(cover: &Cover, word: &Recorded) -> bool
     ensures { result ≡ is_met cover.now word.now }
 {
     meets_still(&cover.still, word) || meets_word(&cover.words, word.place)
 }
 
-/// The least number of a recorded word that meets the bytes of another entry.
-pub fn lowest_met(cover: &Cover, words: &[Recorded]) -> Option<u32>
-    ensures { result ≡ lowest (map (λ r. r.place) (filter (is_met cover.now) words.now)) }
-{
-    let mut least = None;
-    for word in words {
-        if is_met(cover, word) {
-            least = Some(lower(word.place, least));
-        }
-    }
-    least
-}
-
-/// Whether a recorded word begins at a number and, if it is no slot, has a byte in common with the bytes of another entry.
+/// Whether a word at a place has a byte in common with the bytes of another entry, if it is no slot.
 #[tactic(auto, unfolding(crate::specs::Cover::is_plain_met))]
-fn is_plain_met(cover: &Cover, number: u32) -> bool
-    ensures { result ≡ is_plain_met cover.now number }
+fn is_plain_met(cover: &Cover, place: u32) -> bool
+    ensures { result ≡ is_plain_met cover.now place }
 {
-    count_at(&cover.words, number as usize) > 0
-        && is_met(
-            cover,
-            &Recorded {
-                place: number,
-                instruction: None,
-            },
-        )
+    is_met(
+        cover,
+        &Recorded {
+            place,
+            instruction: None,
+        },
+    )
 }
 
-/// Whether there is such a number. The numbers are gone through ascending, whatever the order of the words.
-fn some_plain_met(cover: &Cover) -> bool
-    requires { length cover.now.words.items < 2 ^ 32 }
-    ensures { result ≡ list_any (is_plain_met cover.now) (range_with_len 0 (length cover.now.words.items)) }
+/// Whether one of the words at the places does.
+pub fn some_plain_met(cover: &Cover, places: &[u32]) -> bool
+    ensures { result ≡ list_any (is_plain_met cover.now) places.now }
 {
-    (0..cover.words.len() as u32).any(|number| is_plain_met(cover, number))
-}
-
-/// What `lowest_met` finds, of words that are counted in `cover`. In most files none meets another entry, even where slots are
-/// taken for plain words: then, unless words are few, none is looked at.
-pub fn lowest_met_counted(cover: &Cover, words: &[Recorded]) -> Option<u32>
-    requires small { length cover.now.words.items < 2 ^ 32 }
-    requires counted { AllByRecursion (is_counted cover.now) words.now }
-    ensures { result ≡ lowest (map (λ r. r.place) (filter (is_met cover.now) words.now)) }
-{
-    if words.len() < cover.words.len() / FEW {
-        return lowest_met(cover, words);
-    }
-    if some_plain_met(cover) {
-        lowest_met(cover, words)
-    } else {
-        None
-    }
+    places.iter().any(|place| is_plain_met(cover, *place))
 }

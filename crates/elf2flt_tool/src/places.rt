@@ -1,7 +1,7 @@
-//! The recorded words by place, ascending, and where they point.
+//! The places of the recorded words, ascending, and where a word points.
 
-ghost use Rattle.std.specs.Prelude.{◌≡◌, ◌+◌, ◌≤◌, ◌<◌, ◌^◌, nat_lt, All, filter, length, map, slice_index, IfOk};
-ghost use Rattle.std.specs.List.{range_with_len};
+ghost use Rattle.std.specs.Prelude.{◌≡◌, ◌+◌, ◌≤◌, ◌<◌, ◌^◌, length, IfOk};
+ghost use Rattle.elf2flt_tool.specs.Cover.{counted};
 ghost use Rattle.elf2flt_tool.specs.Word.{word_at};
 
 use crate::word::Word;
@@ -9,12 +9,12 @@ use byte_words::word as little_word;
 use flat_layout::Layout;
 use std::alloc::{AllocError, Global};
 
-/// The numbers at which recorded words begin, ascending. They are about `most`.
-pub fn places_of(alloc: Global, counts: &[u8], most: usize) -> Result<Vec<u32>, AllocError>
+/// The numbers at which recorded words begin, ascending.
+pub fn places_of(alloc: Global, counts: &[u8]) -> Result<Vec<u32>, AllocError>
     requires { length counts.now < 2 ^ 32 }
-    ensures { IfOk result (λ places. places.items ≡ filter (λ q. nat_lt 0 (slice_index counts.now q)) (range_with_len 0 (length counts.now))) }
+    ensures { IfOk result (λ places. places.items ≡ counted counts.now) }
 {
-    let mut places = Vec::with_capacity(alloc, most)?;
+    let mut places = Vec::new(alloc);
     for place in 0..counts.len() {
         if counts[place] > 0 {
             places.push(place as u32)?;
@@ -24,7 +24,7 @@ pub fn places_of(alloc: Global, counts: &[u8], most: usize) -> Result<Vec<u32>, 
 }
 
 /// The word at a number of the linked bytes.
-fn word_at(layout: &Layout, image: &[u8], place: u32) -> Word
+pub fn word_at(layout: &Layout, image: &[u8], place: u32) -> Word
     requires { place + 4 ≤ length image.now }
     ensures { result ≡ word_at layout.now image.now place }
 {
@@ -32,21 +32,4 @@ fn word_at(layout: &Layout, image: &[u8], place: u32) -> Word
         place,
         target: layout.off(little_word(image, place as usize)),
     }
-}
-
-/// The words at the places.
-pub fn words_at(
-    alloc: Global,
-    layout: &Layout,
-    image: &[u8],
-    places: &[u32],
-) -> Result<Vec<Word>, AllocError>
-    requires { All (λ place. place + 4 ≤ length image.now) places.now }
-    ensures { IfOk result (λ words. words.items ≡ map (word_at layout.now image.now) places.now) }
-{
-    let mut words = Vec::with_capacity(alloc, places.len())?;
-    for place in places {
-        words.push(word_at(layout, image, *place))?;
-    }
-    Ok(words)
 }

@@ -1,10 +1,11 @@
 //! Where recorded words point.
 
-ghost use Rattle.std.specs.Prelude.{◌≡◌, ◌<◌, ◌^◌, filter};
+ghost use Rattle.std.specs.Prelude.{◌≡◌, ◌+◌, ◌<◌, ◌≤◌, ◌^◌, All, filter, length, map};
 ghost use Rattle.flat_layout.specs.Layout.{size_of};
-ghost use Rattle.elf2flt_tool.specs.Word.{lowest, places, points_outside};
+ghost use Rattle.elf2flt_tool.specs.Word.{lowest, places as places_of, points_outside, word_at};
 
 use crate::overlap::lower;
+use crate::places::word_at;
 use crate::word::Word;
 use flat_layout::Layout;
 
@@ -14,15 +15,17 @@ fn points_outside(size: u32, word: &Word) -> bool
     word.target == 0 || size < word.target
 }
 
-/// The least number of a word that points to no byte of the image, nor to its end.
-pub fn lowest_outside(layout: &Layout, words: &[Word]) -> Option<u32>
-    requires { size_of layout.now < 2 ^ 32 }
-    ensures { result ≡ lowest (places (filter (points_outside (size_of layout.now)) words.now)) }
+/// The least of the places whose word points to no byte of the image, nor to its end. `image` has the linked bytes.
+pub fn lowest_outside(layout: &Layout, image: &[u8], places: &[u32]) -> Option<u32>
+    requires small { size_of layout.now < 2 ^ 32 }
+    requires inside { All (λ place. place + 4 ≤ length image.now) places.now }
+    ensures { result ≡ lowest (places_of (filter (points_outside (size_of layout.now)) (map (word_at layout.now image.now) places.now))) }
 {
     let size = layout.text + layout.data_len + layout.bss;
     let mut least = None;
-    for word in words {
-        if points_outside(size, word) {
+    for place in places {
+        let word = word_at(layout, image, *place);
+        if points_outside(size, &word) {
             least = Some(lower(word.place, least));
         }
     }

@@ -1,9 +1,10 @@
 //! What an accepted relocation asks of a loader.
 
-ghost use Rattle.std.specs.Prelude.{◌≡◌};
+ghost use Rattle.std.specs.Prelude.{◌≡◌, ℕ, List};
 ghost use Rattle.psabi_relocs.specs.Effect.{effect_of};
 
 use crate::judged::JudgedEntry;
+use crate::reloc::Reloc;
 use crate::row::Row;
 
 /// What a loader has to do for a relocation when the image moves. Addresses are the linked ones.
@@ -15,6 +16,23 @@ pub enum Effect {
     Word { place: u32, target: u32 },
     /// The GOT slot at `place` points to `target`.
     Slot { place: u32, target: u32 },
+}
+
+impl Reloc {
+    /// What a loader has to do for a pointer.
+    pub fn pointer_effect(&self) -> Effect
+        requires { self.now.row ≡ Row.Pointer }
+        ensures { (file : List ℕ) (section : ℕ) → result ≡ effect_of file section self.now }
+    {
+        if self.class.is_moving() {
+            Effect::Word {
+                place: self.place,
+                target: self.absolute(),
+            }
+        } else {
+            Effect::Still
+        }
+    }
 }
 
 impl JudgedEntry<'_, '_> {

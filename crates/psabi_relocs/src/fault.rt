@@ -1,12 +1,16 @@
 //! Why a relocation isn't accepted.
 
-ghost use Rattle.std.specs.Prelude.{◌≡◌, ◌&&◌, not, false, None, if◌then◌else◌};
+ghost use Rattle.std.specs.Prelude.{◌≡◌, ◌&&◌, not, true, false, None, if◌then◌else◌};
 ghost use Rattle.elf32_reader.specs.Relas.{rela_count};
 ghost use Rattle.psabi_relocs.specs.Row.{is_mark, is_absolute, is_relative};
 ghost use Rattle.psabi_relocs.specs.Class.{is_moving};
+ghost use Rattle.psabi_relocs.specs.Reloc.{target_section};
+ghost use Rattle.psabi_relocs.specs.Bytes.{holds};
 ghost use Rattle.psabi_relocs.specs.Group.{sum_below, is_balanced};
+ghost use Rattle.psabi_relocs.specs.Field.{is_mismatch};
 ghost use Rattle.psabi_relocs.specs.Fault.{is_weak, is_fixed, is_place_outside, is_lone_low, is_unpaired, first_fault};
 
+use crate::bytes::WORD_LEN;
 use crate::class::Class;
 use crate::judged::JudgedEntry;
 use crate::kept::KeptSection;
@@ -77,6 +81,40 @@ impl KeptSection<'_, '_> {
     {
         let sum = sums_at(&self.pairs.sums, place).sum(width);
         sum.plus != sum.minus
+    }
+}
+
+impl KeptSection<'_, '_> {
+    /// Whether the word of a pointer, which is in its section, doesn't hold its value.
+    #[tactic(auto, unfolding(crate::specs::Field::is_mismatch, crate::specs::Field::holds_value, crate::specs::Field::ends_of))]
+    fn is_pointer_wrong(&self, reloc: &Reloc) -> bool
+        requires row { reloc.now.row ≡ Row.Pointer }
+        requires holds { holds (target_section self.now.file self.now.section) reloc.now.place 4 ≡ true }
+        ensures { result ≡ is_mismatch self.now.file self.now.section reloc.now }
+    {
+        self.word(reloc.place) != reloc.absolute()
+    }
+
+    /// The first row of `RelocFault` that holds of a pointer. It needs none of the indexes.
+    #[tactic(auto, unfolding(crate::specs::Fault::first_fault, crate::specs::Fault::is_place_outside, crate::specs::Fault::is_lone_low, crate::specs::Fault::is_unpaired))]
+    #[inline(always)]
+    pub fn pointer_fault(&self, reloc: &Reloc) -> Option<RelocFault>
+        requires { reloc.now.row ≡ Row.Pointer }
+        ensures { result ≡ first_fault self.now.file self.now.section reloc.now }
+    {
+        if matches!(reloc.class, Class::Bad) {
+            return Some(RelocFault::BadSymbol);
+        }
+        if matches!(reloc.class, Class::Undefined) {
+            return Some(RelocFault::Undefined);
+        }
+        if !self.holds(reloc.place, WORD_LEN) {
+            return Some(RelocFault::PlaceOutside);
+        }
+        if self.is_pointer_wrong(reloc) {
+            return Some(RelocFault::FieldMismatch);
+        }
+        None
     }
 }
 

@@ -59,6 +59,7 @@ impl<'a, 'b> KeptSection<'a, 'b> {
     }
 
     /// An entry with what the indexes say of it.
+    #[inline(always)]
     pub fn judged(self, reloc: Reloc) -> JudgedEntry<'a, 'b>
         ensures { result ≡ record { file = self.entry.file; section = self.entry.section; reloc = reloc } }
     {

@@ -29,7 +29,7 @@ mod types;
 pub use class::{Class, class_of};
 pub use effect::Effect;
 pub use fault::RelocFault;
-pub use judgement::{Checked, check};
+pub use judgement::{Checked, check, spans_at};
 pub use laws::differences_law;
 pub use pairs::Pairs;
 pub use reloc::{Reloc, reloc_at};

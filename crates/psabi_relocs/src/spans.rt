@@ -1,6 +1,6 @@
 //! The linked bytes that a relocation has.
 
-ghost use Rattle.std.specs.Prelude.{◌≡◌};
+ghost use Rattle.std.specs.Prelude.{◌≡◌, ℕ, List};
 ghost use Rattle.psabi_relocs.specs.Effect.{own_span, spans_of, listed};
 
 use crate::bytes::WORD_LEN;
@@ -34,6 +34,23 @@ impl Reloc {
             place: self.place,
             len: self.row.field_len(),
             recorded: matches!(self.row, Row::Pointer) && self.class.is_moving(),
+        }
+    }
+}
+
+impl Reloc {
+    /// The bytes that a pointer has.
+    pub fn pointer_spans(&self) -> Spans
+        requires { self.now.row ≡ Row.Pointer }
+        ensures { (file : List ℕ) (section : ℕ) → listed result ≡ spans_of file section self.now }
+    {
+        Spans {
+            own: Span {
+                place: self.place,
+                len: WORD_LEN,
+                recorded: self.class.is_moving(),
+            },
+            slot: None,
         }
     }
 }

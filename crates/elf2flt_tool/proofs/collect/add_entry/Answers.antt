@@ -1,31 +1,29 @@
 use Rattle.std.proofs.Common.{◌∷◌, inr, sym}
 use Rattle.std.specs.Option.{option_to_list}
 use Rattle.elf2flt_tool.proofs.Entries.{entry_accepted, entry_refused, entry_inside, entry_lens, entry_added}
-use Rattle.elf2flt_tool.proofs.Shapes.{spans_entry}
 use Rattle.elf2flt_tool.proofs.Walked.{entry_found}
 use Rattle.elf2flt_tool.proofs.collect.add_entry.Goals as goal
 
-pub note-requires-clause-inside : goal.note-requires-clause-inside
-note-requires-clause-inside c =
+pub note_spans-requires-clause-inside : goal.note_spans-requires-clause-inside
+note_spans-requires-clause-inside c =
     let spans = c.in-Ok.checked.spans in
-    entry_inside c.args.elf.now c.args.section c.args.entry c.args.layout.now _ (spans.own ∷ option_to_list spans.slot) c.requires.layout c.requires.found.cover.len (sym c.in-Ok.ensures.2)
+    entry_inside c.args.elf.now c.args.section c.args.entry c.args.layout.now _ (spans.own ∷ option_to_list spans.slot) c.requires.layout c.requires.found.len (sym c.in-Ok.ensures.2)
     c.requires.no_fault c.requires.kept c.in-Ok.ensures.0
 
-pub note-requires-clause-words : goal.note-requires-clause-words
-note-requires-clause-words c =
+pub note_spans-requires-clause-words : goal.note_spans-requires-clause-words
+note_spans-requires-clause-words c =
     let spans = c.in-Ok.checked.spans in
     entry_lens c.args.elf.now c.args.section c.args.entry (spans.own ∷ option_to_list spans.slot) (sym c.in-Ok.ensures.2)
 
-pub returns-in_ok-note-in-Ok : goal.returns-in_ok-note-in-Ok
-returns-in_ok-note-in-Ok c =
+pub returns-in_ok-note_spans-in-Ok : goal.returns-in_ok-note_spans-in-Ok
+returns-in_ok-note_spans-in-Ok c =
     let e = c.args.elf.now in
     let i = c.args.section in
     let j = c.args.entry in
-    let spans = c.in-Ok.checked.spans in
-    let added = c.in_ok-note-in-Ok.ensures in (
+    let spans = c.in-Ok.checked.spans in (
       entry_accepted e i j c.in-Ok.ensures.0,
-      entry_found e i j c.args.found.now c.note.new.self (spans_entry e i j) c.requires.found
-          (rw (sym c.in-Ok.ensures.2) (entry_added e c.args.layout.now (spans.own ∷ option_to_list spans.slot) c.args.found.now c.note.new.self c.requires.layout added.words added.cover)),
+      entry_found e i j c.args.cover.now c.note_spans.new.cover c.requires.found
+          (rw (sym c.in-Ok.ensures.2) (entry_added e c.args.layout.now (spans.own ∷ option_to_list spans.slot) c.args.cover.now c.note_spans.new.cover c.requires.layout c.in_ok-note_spans-in-Ok.ensures)),
     )
 
 pub returns-in-Err : goal.returns-in-Err

@@ -32,7 +32,7 @@ returns c =
     let e = c.args.elf.now in
     let i = c.args.section in
     let all : c.loop-entry.entry ≡ rela_count e i = omega (arith, c.relas-entry-end.ensures.count) in
-    let P : ℕ → Type 0 = λ j. IsFound e i j c.loop-entry.found in (
+    let P : ℕ → Type 0 = λ j. IsFound e i j c.loop-entry.cover in (
       section_fault-kept e i c.requires.kept ∙ (rw all at c.loop-entry.invariant.none),
-      section_found e i c.loop-entry.found c.requires.kept (subst P all c.loop-entry.invariant.found),
+      section_found e i c.loop-entry.cover c.requires.kept (subst P all c.loop-entry.invariant.found),
     )

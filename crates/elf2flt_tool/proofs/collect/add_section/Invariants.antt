@@ -7,5 +7,5 @@ use Rattle.elf2flt_tool.proofs.collect.add_section.Given as goal
 abbrev pub invariant-loop-entry : goal.invariant-loop-entry
 invariant-loop-entry l = record {
   none : first_some (entry_fault l.elf l.section) l.entry ≡ None;
-  found : IsFound l.elf l.section l.entry l.found;
+  found : IsFound l.elf l.section l.entry l.cover;
 }

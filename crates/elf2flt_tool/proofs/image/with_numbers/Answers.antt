@@ -7,7 +7,7 @@ use Rattle.elf2flt_tool.proofs.image.with_numbers.Goals as goal
 pub write_numbers-requires : goal.write_numbers-requires
 write_numbers-requires c =
     let lent = take_rest c.deref_mut.result.now 64 ∙ ap behind_header c.deref_mut.ensures.value in
-    λ k d below. rw (ap length lent) (c.requires.inside k d below)
+    record { inside = λ k d below. rw (ap length lent) (c.requires.inside k d below); apart = c.requires.apart }
 
 pub returns : goal.returns
 returns c =

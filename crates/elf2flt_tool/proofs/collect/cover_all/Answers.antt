@@ -7,9 +7,9 @@ use Rattle.flat_layout.proofs.Facts.{size_le}
 use Rattle.elf2flt_tool.specs.Fault.{section_fault}
 use Rattle.elf2flt_tool.specs.Walk.{IsFound}
 use Rattle.elf2flt_tool.proofs.Entries.{section_fault-other, relocs_fault-is}
-use Rattle.elf2flt_tool.proofs.Walked.{first_zero, first_more, first_found, section_passed, none_found}
-use Rattle.elf2flt_tool.proofs.collect.find_all.Goals as goal
-use Rattle.elf2flt_tool.proofs.collect.find_all.Goals.{then-kept+in_ok-add_section, else-kept}
+use Rattle.elf2flt_tool.proofs.Walked.{first_zero, first_more, first_found, section_passed}
+use Rattle.elf2flt_tool.proofs.collect.cover_all.Goals as goal
+use Rattle.elf2flt_tool.proofs.collect.cover_all.Goals.{then-kept+in_ok-add_section, else-kept}
 
 pub overflow_add-layout : goal.overflow_add-layout
 overflow_add-layout c =
@@ -19,8 +19,7 @@ overflow_add-layout c =
 pub loop-section-init : goal.loop-section-init
 loop-section-init c = record {
   none = first_zero _;
-  found =
-      none_found c.args.elf.now c.new-found.result c.new-found.ensures.words (rw c.requires.layout at (c.new-found.ensures.cover (layout c.args.elf.now)));
+  found = rw c.requires.layout at (c.new-cover.ensures (layout c.args.elf.now));
 }
 
 pub returns-in_err-add_section : goal.returns-in_err-add_section
@@ -40,13 +39,13 @@ loop-section-preserved c =
     elim c.if-kept.branch [
       | then-kept+in_ok-add_section w ↦ record {
         none = first_more (section_fault e) i c.loop-section.invariant.none w.in_ok-add_section.ensures.0;
-        found = rw w.found-is w.in_ok-add_section.ensures.1;
+        found = rw w.cover-is w.in_ok-add_section.ensures.1;
       }
       | else-kept w ↦ (
           let other : is_kept e i ≡ false = sym c.kept.ensures ∙ w.if-kept.false in
           record {
             none = first_more (section_fault e) i c.loop-section.invariant.none (section_fault-other e i other);
-            found = rw w.found-is (section_passed e i c.loop-section.found other c.loop-section.invariant.found);
+            found = rw w.cover-is (section_passed e i c.loop-section.cover other c.loop-section.invariant.found);
           })
     ]
 
@@ -54,5 +53,5 @@ pub returns : goal.returns
 returns c =
     let e = c.args.elf.now in
     let all : c.loop-section.section ≡ count_of e = omega (arith, c.sections-section-end.ensures.count) in
-    let P : ℕ → Type 0 = λ i. IsFound e i 0 c.loop-section.found in
+    let P : ℕ → Type 0 = λ i. IsFound e i 0 c.loop-section.cover in
     (relocs_fault-is e ∙ (rw all at c.loop-section.invariant.none), subst P all c.loop-section.invariant.found)
