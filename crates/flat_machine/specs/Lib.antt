@@ -3,7 +3,7 @@
 -- Runs      what a run leaves, and why it stops
 -- Leaves    what an event, a turn and some quanta leave
 -- RunsIn    the same of a run that goes on behind its first stray access, over one memory
--- ByMode    both as what a run leaves, by its mode
+-- ByMode    what an event, a turn and a run leave, by the run's mode
 -- LeavesIn  and of its events and turns
 -- Hits      which accesses of a run hit what is watched
 -- HitsLeft  and what is kept of those of a turn and of a run
