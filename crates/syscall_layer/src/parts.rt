@@ -17,6 +17,7 @@ use bflt_format::Flat;
 use kept_parts::{KeptParts, Reach, first_stray};
 use region_watch::Mode;
 use rv32im_step::Access;
+use std::alloc::AllocError;
 use std::marker::Model;
 
 /// What the events of a run change, and beside it what they are carried out by.

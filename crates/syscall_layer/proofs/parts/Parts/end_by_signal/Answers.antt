@@ -1,6 +1,5 @@
--- An end by a signal notes no stray access, and none that was noted goes; there are as many pages, and no pipe is marked.
-use Rattle.std.proofs.Common.{sym, ap, ◌∙◌}
-use Rattle.kept_parts.specs.Reach.{whole_table}
+-- An end by a signal notes no stray access, and none that was noted goes, and no pipe is marked.
+use Rattle.std.proofs.Common.{sym, ◌∙◌}
 use Rattle.kept_parts.proofs.Abouts.{some_about}
 use Rattle.syscall_layer.proofs.CallsKeep.{signal_same, signal_unchanged}
 use Rattle.syscall_layer.proofs.parts.Parts.end_by_signal.Goals as goal
@@ -10,7 +9,6 @@ invariant_of-self c =
     let same = signal_same some_about c.self.inside.kept c.end_by_signal.new.self c.args.pid c.args.signal c.end_by_signal.result (c.end_by_signal.ensures.dies some_about) in
     record {
       noted = c.self.invariant.noted ∙ sym same.0;
-      whole = c.self.invariant.whole ∙ ap whole_table (sym same.1);
       unmarked = c.end_by_signal.ensures.marks c.self.invariant.unmarked;
     }
 
